@@ -1,0 +1,10 @@
+//! The script that says what the domains do: its lines, one after another from a source, and the event that each
+//! line spells. The journal and the world stand on it. A line gives an event exactly where it spells one.
+#![tactic(auto)]
+
+mod event;
+mod names;
+
+pub use event::{DiskDecl, Event, Lane, LineFault, Name};
+pub use names::Names;
+pub use vdisk_msg::{Fill, Request};
