@@ -1,5 +1,6 @@
 ghost use Rattle.std.specs.Prelude.{◌≡◌, ℕ, ◌≤◌, List, Option, Some, IfOk, OnErr, OnOk, replicate, codes};
 ghost use Rattle.vio_io.specs.Causes.{Rose};
+ghost use Rattle.vio_io.specs.declared.host.AttachFault.TheVariants.{Memory};
 
 use crate::{NoMemory, Store};
 use std::alloc::Global;
@@ -13,6 +14,8 @@ pub enum AttachFault {
 }
 
 impl From<NoMemory> for AttachFault {
+    ghost from_gives = { λ _ fault. fault ≡ Memory };
+
     fn from(_: NoMemory) -> Self {
         AttachFault::Memory
     }
