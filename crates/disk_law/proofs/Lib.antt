@@ -1,0 +1,4 @@
+pub mod Counted
+pub mod OnceInOrder
+pub mod Ranges
+pub mod Repeated
