@@ -1,5 +1,5 @@
 -- What the lists of accepted and completed requests have to do with a disk's state.
-use Rattle.std.proofs.Common.{◌≡◌, ℕ, ◌+◌, ◌-◌, List, [], ◌∷◌, ◌++◌, length, refl, sym, ◌∙◌, ap, subst, arith, append_assoc, length-append, Option}
+use Rattle.std.proofs.Common.{◌≡◌, ℕ, ◌+◌, List, [], ◌∷◌, ◌++◌, length, refl, sym, ◌∙◌, ap, subst, arith, append_assoc, length-append, Option}
 use Rattle.std.proofs.lemmas.List.{append-nil}
 use Rattle.vdisk_msg.specs.declared.request.Request.{Request}
 use Rattle.runs.specs.Run.{Run}
@@ -68,7 +68,7 @@ pub counted_run : (blocks ring : ℕ) (before es : List DiskEvent) (s t : ListSt
 counted_run blocks ring before [] s t c run = subst (λ (x : ListState). Counted blocks ring (before ++ []) x) run (subst (λ (l : List DiskEvent). Counted blocks ring l s) (sym (append-nil before)) c)
 counted_run blocks ring before (e ∷ es) s t c run =
     subst (λ (l : List DiskEvent). Counted blocks ring l t) (append_assoc before (e ∷ []) es)
-      (counted_run blocks ring (before ++ e ∷ []) es run.0 t (counted_step blocks ring before e s run.0 c run.1) run.2)
+    (counted_run blocks ring (before ++ e ∷ []) es run.0 t (counted_step blocks ring before e s run.0 c run.1) run.2)
 
 pub counted_fresh : (blocks ring : ℕ) (told : Option (List ℕ)) (faults : ℕ) → Counted blocks ring [] (fresh blocks ring told faults)
 counted_fresh blocks ring told faults = record { blocks_are = refl; ring_is = refl; counts = refl; finished = []; split = refl; long = refl }

@@ -2,3 +2,4 @@ pub mod Counted
 pub mod OnceInOrder
 pub mod Ranges
 pub mod Repeated
+pub mod Sound

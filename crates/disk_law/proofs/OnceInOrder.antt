@@ -1,12 +1,11 @@
 -- Requests on a plain list complete once and in order, and each is admitted by what is pending.
-use Rattle.std.proofs.Common.{◌≡◌, ℕ, ◌+◌, ◌<◌, List, [], ◌∷◌, ◌++◌, length, refl, sym, ◌∙◌, ap, subst, arith, Option, Some, None, slice_get}
-use Rattle.std.proofs.lemmas.List.{append-nil}
+use Rattle.std.proofs.Common.{◌≡◌, ℕ, List, [], ◌∷◌, ◌++◌, length, refl, sym, ◌∙◌, ap, subst, arith, Option, Some, None, slice_get}
 use Rattle.vdisk_msg.specs.declared.request.Request.{Request}
 use Rattle.runs.specs.Run.{Run, run_split}
 use Rattle.disk_law.specs.Requests.{defect}
 use Rattle.disk_law.specs.ListState.{ListState, fresh}
 use Rattle.disk_law.specs.ListStep.{DiskEvent, Accepted, Full, Refused, Done, Rested, ListStep}
-use Rattle.disk_law.specs.Issued.{issued, completed, pending_count, CompletesNext, CompletesOnceInOrder, Admits, Admission}
+use Rattle.disk_law.specs.Issued.{CompletesOnceInOrder, Admits, Admission}
 use Rattle.disk_law.proofs.Counted.{Counted, counted_run, counted_fresh, counted_pending, counted_next}
 
 -- the state before an event of a run from the beginning, and the event's step
@@ -38,7 +37,7 @@ once_in_order blocks ring faults told t es run before after id operation status 
       next = b.step.id_is ∙ sym b.counted.counts;
       request = b.step.request;
       accepted_before = ap (λ (l : List Request). slice_get l id) (b.counted.split ∙ ap (λ (l : List Request). b.counted.finished ++ l) b.step.front)
-        ∙ get_behind b.counted.finished b.next.pending b.step.request id (b.counted.long ∙ sym b.step.id_is);
+          ∙ get_behind b.counted.finished b.next.pending b.step.request id (b.counted.long ∙ sym b.step.id_is);
       operation_is = b.step.operation_is;
     }
 

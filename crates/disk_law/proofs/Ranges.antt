@@ -1,5 +1,5 @@
 -- Ranges of a told content that are read or written one behind the other.
-use Rattle.std.proofs.Common.{◌≡◌, ℕ, ◌+◌, ◌-◌, ◌≤◌, List, [], ◌++◌, length, take, drop, refl, sym, ◌∙◌, ap, subst, arith, append_assoc, length-append, Option, Some, None, IfSome}
+use Rattle.std.proofs.Common.{◌≡◌, ℕ, ◌+◌, ◌-◌, ◌≤◌, List, [], ◌++◌, length, take, drop, refl, sym, ◌∙◌, ap, arith, append_assoc, length-append, Option, Some, None, IfSome}
 use Rattle.std.proofs.lemmas.List.{take-append-drop, take_at, drop_at, drop-drop, length-take-le, length-drop, append-nil, take-append-le}
 use Rattle.std.proofs.Math.Seq.{take-add}
 use Rattle.vio_io.specs.Stores.{overwritten, ReadsRange, WritesRange, KeepsOutside}
@@ -79,3 +79,7 @@ keeps_more (Some a) (Some b) (Some c) at n total xs within fits first second =
       front_of at (at + k) c (omega (arith, second.0, same)) (omega arith) ∙ ap (λ (l : List ℕ). take at l) second.1 ∙ sym (front_of at (at + k) b (omega (arith, same)) (omega arith)) ∙ begins,
       later (at + k + n) (at + total) b c (omega arith) second.2 ∙ later (at + k) (at + total) a b (omega arith) ends,
     )
+
+pub reads_none : (told : Option (List ℕ)) (at : ℕ) → ReadsRange told at []
+reads_none None at = tt
+reads_none (Some content) at = refl

@@ -1,7 +1,7 @@
 -- The requests that were accepted and those that were completed, as lists over what happened to a disk.
-use Rattle.std.specs.Prelude.{◌≡◌, ℕ, ◌+◌, ◌-◌, ◌<◌, List, [], ◌∷◌, ◌++◌, length, Option, Some, None, slice_get}
+use Rattle.std.specs.Prelude.{◌≡◌, ℕ, ◌-◌, ◌<◌, List, [], ◌∷◌, ◌++◌, length, Some, None, slice_get}
 use Rattle.vdisk_msg.specs.declared.request.Request.{Request}
-use Rattle.disk_law.specs.Requests.{Defect, defect, operation_of}
+use Rattle.disk_law.specs.Requests.{defect, operation_of}
 use Rattle.disk_law.specs.ListStep.{DiskEvent, Accepted, Full, Refused, Done, Rested}
 
 -- the accepted requests: the i-th, from 0, has the id i

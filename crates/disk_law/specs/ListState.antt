@@ -1,5 +1,5 @@
 -- A disk whose requests are a plain list: what is pending, and the image that it is served from.
-use Rattle.std.specs.Prelude.{◌≡◌, ℕ, ◌+◌, List, [], length, Option}
+use Rattle.std.specs.Prelude.{ℕ, ◌+◌, List, [], length, Option}
 use Rattle.vdisk_msg.specs.declared.request.Request.{Request}
 
 pub record ListState : Type 0 where

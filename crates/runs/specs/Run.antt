@@ -1,7 +1,6 @@
 -- A run of a step relation: events one after another lead from one state to another.
-use Rattle.std.specs.Prelude.{◌≡◌, ◌+◌, List, [], ◌∷◌, ◌++◌, refl}
-use Rattle.std.proofs.Common.{sym, subst, ap}
-use Rattle.std.proofs.lemmas.List.{append-nil}
+use Rattle.std.specs.Prelude.{◌≡◌, List, [], ◌∷◌, ◌++◌, refl}
+use Rattle.std.proofs.Common.{sym, subst}
 
 abbrev pub Run : {S E : Type 0} → (S → E → S → Type 0) → S → List E → S → Type 0
 Run Step s [] t = s ≡ t
