@@ -8,6 +8,7 @@ mod entry;
 mod journal;
 mod kept_request;
 mod status;
+mod text;
 
 pub use bytes::Bytes;
 pub use domain_script::{Fill, Lane, LineFault, Name, Names, Request};
