@@ -1,9 +1,11 @@
 -- What is written of a text, and what is still gathered.
-use Rattle.std.proofs.Common.{◌≡◌, refl, ℕ, ◌+◌, ◌≤◌, List, [], ◌∷◌, ◌++◌, take, drop, Option, Some, None, Result, Ok, Err, OnErr, OnOk, sym, subst, ap, ◌∙◌, append_assoc, append-nil}
+use Rattle.std.proofs.Common.{◌≡◌, refl, ℕ, ◌+◌, ◌≤◌, List, [], ◌∷◌, ◌++◌, take, drop, Option, Some, None, Result, Ok, Err, OnErr, OnOk, sym, subst, ap, ◌∙◌, append_assoc, append-nil, ◌<◌, inl, inr, arith}
+use Rattle.std.proofs.lemmas.Bool.{cases_lt}
 use Rattle.std.proofs.lemmas.List.{take-append-drop}
 use Rattle.std.proofs.Math.Seq.{take-add}
 use Rattle.std.proofs.KnownBytes.{Appends-trans, Appends-kept, Appends-nil}
 use Rattle.std.specs.Io.KnownBytes.{Appends, Keeps}
+use Rattle.vio_io.specs.Causes.{Rose, last_count}
 use Rattle.ldom_journal.specs.Gathered.{Gathers, WroteFront}
 
 pub on_err : {T E : Type 0} (r : Result T E) (P : Type 0) → P → OnErr r P
@@ -75,3 +77,29 @@ wrote_front_of_more a b text more whole is p = record {
 pub appends_gathered : (a b : Option (List ℕ)) (gathered text : List ℕ) → gathered ≡ [] → Gathers a b gathered text → Appends a b text
 appends_gathered a b gathered text none p =
     subst (λ (l : List ℕ). Appends a b l) (sym (p.whole ∙ ap (λ (l : List ℕ). p.front ++ l) none ∙ append-nil p.front)) p.written
+
+-- one step behind another, of a text in two parts
+pub gathers_behind : (a b c : Option (List ℕ)) (first second text so_far bytes : List ℕ) → Gathers a b first (text ++ so_far) → Gathers b c second (first ++ bytes) → Gathers a c second (text ++ (so_far ++ bytes))
+gathers_behind a b c first second text so_far bytes p q =
+    subst (λ (l : List ℕ). Gathers a c second l) (append_assoc text so_far bytes) (gathers_then a b c first second (text ++ so_far) bytes p q)
+
+-- a step that failed behind another, and what was still to come
+pub wrote_front_behind : (a b c : Option (List ℕ)) (first text so_far more whole : List ℕ) → whole ≡ so_far ++ more → Gathers a b first (text ++ so_far) → WroteFront b c first → WroteFront a c (text ++ whole)
+wrote_front_behind a b c first text so_far more whole is p q = record {
+  front = p.front ++ q.front;
+  rest = q.rest ++ more;
+  whole =
+      ap (λ (l : List ℕ). text ++ l) is
+      ∙ sym (append_assoc text so_far more)
+      ∙ ap (λ (l : List ℕ). l ++ more) (p.whole ∙ ap (λ (l : List ℕ). p.front ++ l) q.whole ∙ sym (append_assoc p.front q.front q.rest))
+      ∙ append_assoc (p.front ++ q.front) q.rest more;
+  written = Appends-trans a b c p.front q.front p.written q.written;
+}
+
+-- a count that rose behind another
+pub rose_later : (a b c : ℕ) → a ≤ b → b ≤ c → Rose b c → Rose a c
+rose_later a b c ab bc rose =
+    λ lt. elim (cases_lt b last_count) [
+      inl below ↦ let up : b < c = rose below in omega arith
+      | inr last ↦ omega arith
+    ]

@@ -29,10 +29,13 @@ disk_name disks k = declared_name (slice_get disks k)
 abbrev pub who_name : List DiskDecl → Who → List ℕ
 who_name disks (OfLane (Disk k)) = disk_name disks k
 
--- what a request asks: a write's word in hexadecimal digits
+abbrev pub range_text : ℕ → ℕ → List ℕ
+range_text block count = decimal block ++ codes " " ++ decimal count
+
+-- what a request asks, a write's word in hexadecimal digits
 abbrev pub request_text : Request → List ℕ
-request_text (Read block count) = codes " read " ++ decimal block ++ codes " " ++ decimal count
-request_text (Write block count fill) = codes " write " ++ decimal block ++ codes " " ++ decimal count ++ codes " " ++ encode_lower (take fill.len fill.bytes)
+request_text (Read block count) = codes " read " ++ range_text block count
+request_text (Write block count fill) = codes " write " ++ range_text block count ++ codes " " ++ encode_lower (take fill.len fill.bytes)
 request_text Flush = codes " flush"
 
 abbrev pub why_text : Why → List ℕ

@@ -3,10 +3,12 @@
 //! written is exactly the report of the entries.
 #![tactic(auto)]
 
+mod block_words;
 mod bytes;
 mod entry;
 mod journal;
 mod kept_request;
+mod lines;
 mod status;
 mod text;
 
