@@ -103,3 +103,29 @@ rose_later a b c ab bc rose =
       inl below ↦ let up : b < c = rose below in omega arith
       | inr last ↦ omega arith
     ]
+
+-- nothing more was gathered
+pub gathers_same : (a b c : Option (List ℕ)) (first second text : List ℕ) → Gathers a b first text → Gathers b c second first → Gathers a c second text
+gathers_same a b c first second text p q = record {
+  front = p.front ++ q.front;
+  whole = p.whole ∙ ap (λ (l : List ℕ). p.front ++ l) q.whole ∙ sym (append_assoc p.front q.front second);
+  written = Appends-trans a b c p.front q.front p.written q.written;
+}
+
+-- what was gathered is written at last
+pub appends_last : (a b c : Option (List ℕ)) (gathered text : List ℕ) → Gathers a b gathered text → Appends b c gathered → Appends a c text
+appends_last a b c gathered text p q =
+    subst (λ (l : List ℕ). Appends a c l) (sym p.whole) (Appends-trans a b c p.front gathered p.written q)
+
+-- a last step that failed
+pub wrote_front_last : (a b c : Option (List ℕ)) (gathered text : List ℕ) → Gathers a b gathered text → WroteFront b c gathered → WroteFront a c text
+wrote_front_last a b c gathered text p q = record {
+  front = p.front ++ q.front;
+  rest = q.rest;
+  whole = p.whole ∙ ap (λ (l : List ℕ). p.front ++ l) q.whole ∙ sym (append_assoc p.front q.front q.rest);
+  written = Appends-trans a b c p.front q.front p.written q.written;
+}
+
+-- bytes that were put last, and others behind them
+pub pushed_behind : (text first second middle last : List ℕ) → middle ≡ text ++ first → last ≡ middle ++ second → last ≡ text ++ (first ++ second)
+pushed_behind text first second middle last p q = q ∙ ap (λ (l : List ℕ). l ++ second) p ∙ append_assoc text first second

@@ -1,2 +1,3 @@
 pub mod BlockWords
 pub mod GatheredText
+pub mod ReportLines
