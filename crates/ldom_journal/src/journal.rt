@@ -1,10 +1,13 @@
 ghost use Rattle.std.specs.Prelude.{◌≡◌, ◌+◌, ◌^◌, ◌<◌, ◌==◌, max, [], ◌∷◌, ◌++◌, length, slice_get, OnOk, OnErr};
 ghost use Rattle.std.specs.Option.{option_copied};
 
-use crate::Entry;
+use crate::lines::write_entries;
+use crate::{Entry, Mode};
+use domain_script::Names;
 use std::alloc::Global;
 use std::marker::Model;
 use vio_bytes::NoMemory;
+use vio_io::{Failed, Sink};
 
 /// The entries of a run in the order in which they came, and the room that is left for more of them.
 #[derive(Drop)]
@@ -25,6 +28,13 @@ impl Model for Journal {
 }
 
 impl Journal {
+    ghost use Rattle.std.specs.Prelude.{◌≤◌, All};
+    ghost use Rattle.std.specs.Io.KnownBytes.{Appends};
+    ghost use Rattle.vio_io.specs.Causes.{Rose};
+    ghost use Rattle.ldom_journal.specs.EntryText.{report_entries};
+    ghost use Rattle.ldom_journal.specs.Gathered.{WroteFront};
+    ghost use Rattle.ldom_journal.specs.HasWords.{HasWords};
+
     /// No entries, and no room. It takes no memory.
     pub fn new(alloc: Global) -> Self
         ensures { result ≡ record { entries = []; room = 0 } }
@@ -80,5 +90,23 @@ impl Journal {
         ensures { option_copied result ≡ slice_get self.now.entries k }
     {
         self.entries.get(k)
+    }
+
+    /// The entries in the order in which they came.
+    pub(crate) fn entries(&self) -> &[Entry]
+        ensures { result.now ≡ self.now.entries }
+    {
+        self.entries.as_slice()
+    }
+
+    /// Writes the lines of the entries that the mode shows. After `Failed` a front of their text was written.
+    pub fn write_text<K: Sink>(&self, mode: Mode, names: &Names, out: &mut K) -> Result<(), Failed>
+        requires words { All (HasWords names.now.disks) self.now.entries }
+        ensures ok { OnOk result (Appends (K.written out.old) (K.written out.new) (report_entries mode names.now.disks self.now.entries)) }
+        ensures err { OnErr result (WroteFront (K.written out.old) (K.written out.new) (report_entries mode names.now.disks self.now.entries)) }
+        ensures count { K.faults out.old ≤ K.faults out.new }
+        ensures cause { OnErr result (Rose (K.faults out.old) (K.faults out.new)) }
+    {
+        write_entries(self.entries(), mode, names, out)
     }
 }

@@ -3,14 +3,19 @@
 //! written is exactly the report of the entries.
 #![tactic(auto)]
 
+mod block_words;
 mod bytes;
+mod end_line;
 mod entry;
 mod journal;
 mod kept_request;
+mod lines;
 mod status;
+mod text;
 
 pub use bytes::Bytes;
 pub use domain_script::{Fill, Lane, LineFault, Name, Names, Request};
+pub use end_line::write_end;
 pub use entry::{Entry, VD_OP_BREAD, VD_OP_BWRITE, VD_OP_FLUSH, Who, Why};
 pub use journal::Journal;
 pub use kept_request::KeptRequest;
