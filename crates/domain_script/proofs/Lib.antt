@@ -1,1 +1,4 @@
 pub mod Disks
+pub mod PieceLemmas
+pub mod Feeds
+pub mod ScriptLemmas

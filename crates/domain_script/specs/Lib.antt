@@ -1,2 +1,5 @@
 pub mod Declarations
 pub mod NamesState
+pub mod ScriptLines
+pub mod LinesState
+pub mod Pieces

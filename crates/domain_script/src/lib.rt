@@ -3,8 +3,11 @@
 #![tactic(auto)]
 
 mod event;
+mod lines;
 mod names;
+mod piece;
 
 pub use event::{DiskDecl, Event, Lane, LineFault, Name};
+pub use lines::LinesFault;
 pub use names::Names;
 pub use vdisk_msg::{Fill, Request};

@@ -1,0 +1,34 @@
+-- What moves between a source, the piece that was read last and the line that is being read.
+use Rattle.std.specs.Prelude.{◌≡◌, ℕ, ◌+◌, ◌<◌, ◌≤◌, ◌≢◌, Bool, true, false, List, [], ◌∷◌, ◌++◌, length, Result, Ok, Err, ⊤}
+use Rattle.domain_script.specs.declared.lines.LinesFault.{LinesFault}
+use Rattle.domain_script.specs.declared.lines.LinesFault.TheVariants.{Source, Long, Many, Memory}
+
+-- no byte is a line feed
+abbrev pub HasNoFeed : List ℕ → Type 0
+HasNoFeed [] = ⊤
+HasNoFeed (b ∷ bs) = (b ≢ 10) × HasNoFeed bs
+
+-- more than 3,100 bytes come before any line feed
+pub record IsTooLong (bytes : List ℕ) : Type 0 where
+  pub front : List ℕ
+  pub behind : List ℕ
+  pub is : bytes ≡ front ++ behind
+  pub no_feed : HasNoFeed front
+  pub long : 3100 < length front
+
+-- bytes were added to a line, which has at most 3,100 of them
+abbrev pub Extends : List ℕ → List ℕ → Result (Unit {0}) LinesFault → List ℕ → Type 0
+Extends old more (Ok _) new = (new ≡ old ++ more) × (length new ≤ 3100)
+Extends old more (Err Long) new = (new ≡ old) × (3100 < length old + length more)
+Extends old more (Err Memory) new = new ≡ old
+Extends old more (Err Source) new = ⊥
+Extends old more (Err Many) new = ⊥
+
+-- the bytes before the first line feed of a piece were moved behind a line, or all where it has none
+abbrev pub MovesPart : List ℕ → List ℕ → Result Bool LinesFault → List ℕ → List ℕ → Type 0
+MovesPart piece line (Ok true) piece_after line_after = (line ++ piece ≡ line_after ++ 10 ∷ piece_after) × HasNoFeed line_after × (length line_after ≤ 3100)
+MovesPart piece line (Ok false) piece_after line_after = (line_after ≡ line ++ piece) × (piece_after ≡ []) × HasNoFeed line_after × (length line_after ≤ 3100)
+MovesPart piece line (Err Long) piece_after line_after = (piece_after ≡ piece) × (line_after ≡ line) × IsTooLong (line ++ piece)
+MovesPart piece line (Err Memory) piece_after line_after = (piece_after ≡ piece) × (line_after ≡ line)
+MovesPart piece line (Err Source) piece_after line_after = ⊥
+MovesPart piece line (Err Many) piece_after line_after = ⊥
