@@ -2,3 +2,4 @@ pub mod Disks
 pub mod PieceLemmas
 pub mod Feeds
 pub mod ScriptLemmas
+pub mod Reading

@@ -1,7 +1,10 @@
 -- What moves between a source, the piece that was read last and the line that is being read.
 use Rattle.std.specs.Prelude.{◌≡◌, ℕ, ◌+◌, ◌<◌, ◌≤◌, ◌≢◌, Bool, true, false, List, [], ◌∷◌, ◌++◌, length, Result, Ok, Err, ⊤}
+use Rattle.std.specs.Prelude.{Option, IfSome}
+use Rattle.std.specs.Io.KnownBytes.{Keeps, IsAtEnd, prepend_known}
 use Rattle.domain_script.specs.declared.lines.LinesFault.{LinesFault}
 use Rattle.domain_script.specs.declared.lines.LinesFault.TheVariants.{Source, Long, Many, Memory}
+use Rattle.domain_script.specs.ScriptLines.{TakesLine, BeginsWithLonger}
 
 -- no byte is a line feed
 abbrev pub HasNoFeed : List ℕ → Type 0
@@ -32,3 +35,12 @@ MovesPart piece line (Err Long) piece_after line_after = (piece_after ≡ piece)
 MovesPart piece line (Err Memory) piece_after line_after = (piece_after ≡ piece) × (line_after ≡ line)
 MovesPart piece line (Err Source) piece_after line_after = ⊥
 MovesPart piece line (Err Many) piece_after line_after = ⊥
+
+-- a line was read: `rest` is to come before the call; behind it a line, a piece, and what the source has left
+abbrev pub ReadsLine : Option (List ℕ) → Result Bool LinesFault → List ℕ → List ℕ → Option (List ℕ) → Type 0
+ReadsLine rest (Ok true) line piece left = TakesLine rest (prepend_known piece left) line
+ReadsLine rest (Ok false) line piece left = Keeps rest (prepend_known (line ++ piece) left) × (line ≡ []) × IsAtEnd rest
+ReadsLine rest (Err Source) line piece left = Keeps rest (prepend_known (line ++ piece) left)
+ReadsLine rest (Err Memory) line piece left = Keeps rest (prepend_known (line ++ piece) left)
+ReadsLine rest (Err Long) line piece left = Keeps rest (prepend_known (line ++ piece) left) × IfSome rest (BeginsWithLonger 3100)
+ReadsLine rest (Err Many) line piece left = ⊥

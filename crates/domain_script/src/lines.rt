@@ -1,6 +1,7 @@
-ghost use Rattle.std.specs.Prelude.{◌≡◌, ◌≢◌, ℕ, ◌<◌, ◌≤◌, [], true, length, IfOk};
+ghost use Rattle.std.specs.Prelude.{◌≡◌, ◌≢◌, ℕ, ◌<◌, ◌≤◌, [], ◌++◌, true, length, IfOk};
+ghost use Rattle.std.specs.Io.KnownBytes.{prepend_known};
 ghost use Rattle.vio_io.specs.Causes.{Rose};
-ghost use Rattle.domain_script.specs.Pieces.{Extends, HasNoFeed, MovesPart};
+ghost use Rattle.domain_script.specs.Pieces.{Extends, HasNoFeed, MovesPart, ReadsLine};
 
 use crate::piece::Piece;
 use memchr::memchr;
@@ -97,4 +98,22 @@ fn take_part(piece: &mut Piece, line: &mut Vec<u8>) -> Result<bool, LinesFault>
             Ok(false)
         }
     }
+}
+
+/// Reads on until a line is whole. False at the source's end where nothing of a line is there.
+fn read_line<S: Source>(piece: &mut Piece, line: &mut Vec<u8>, source: &mut S) -> Result<bool, LinesFault>
+    requires short { length line.old.items ≤ 3100 }
+    requires no_feed { HasNoFeed line.old.items }
+    ensures reads { ReadsLine (prepend_known (line.old.items ++ piece.old) (S.left source.old)) result line.new.items piece.new (S.left source.new) }
+    ensures short { length line.new.items ≤ 3100 }
+    ensures no_feed { HasNoFeed line.new.items }
+    ensures count { S.faults source.old ≤ S.faults source.new }
+    ensures cause { result ≡ Err LinesFault.Source → Rose (S.faults source.old) (S.faults source.new) }
+{
+    while piece.fill(source)? {
+        if take_part(piece, line)? {
+            return Ok(true);
+        }
+    }
+    Ok(!line.is_empty())
 }
