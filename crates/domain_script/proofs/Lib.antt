@@ -2,4 +2,5 @@ pub mod Disks
 pub mod PieceLemmas
 pub mod Feeds
 pub mod ScriptLemmas
-pub mod Reading
+pub mod ToCome
+pub mod Readers

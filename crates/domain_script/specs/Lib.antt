@@ -3,3 +3,4 @@ pub mod NamesState
 pub mod ScriptLines
 pub mod LinesState
 pub mod Pieces
+pub mod Reader

@@ -6,8 +6,9 @@ mod event;
 mod lines;
 mod names;
 mod piece;
+mod reading;
 
 pub use event::{DiskDecl, Event, Lane, LineFault, Name};
-pub use lines::LinesFault;
+pub use lines::{Lines, LinesFault};
 pub use names::Names;
 pub use vdisk_msg::{Fill, Request};

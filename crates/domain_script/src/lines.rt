@@ -1,18 +1,13 @@
-ghost use Rattle.std.specs.Prelude.{◌≡◌, ◌≢◌, ℕ, ◌<◌, ◌≤◌, [], ◌++◌, true, length, IfOk};
-ghost use Rattle.std.specs.Io.KnownBytes.{prepend_known};
+ghost use Rattle.std.specs.Prelude.{◌≡◌, ◌≢◌, ℕ, ◌<◌, [], true, IfOk};
 ghost use Rattle.vio_io.specs.Causes.{Rose};
-ghost use Rattle.domain_script.specs.Pieces.{Extends, HasNoFeed, MovesPart, ReadsLine};
 
 use crate::piece::Piece;
-use memchr::memchr;
+use crate::reading::{read_line, MOST_BYTES};
 use std::alloc::{AllocError, Global};
 use std::marker::Model;
 use thiserror::Error;
 use vio_bytes::NoMemory;
 use vio_io::{Failed, Source};
-
-/// The most bytes that a line has, without its line feed.
-const MOST_BYTES: usize = 3100;
 
 /// The most lines.
 const MOST_LINES: u32 = 20_000;
@@ -66,54 +61,154 @@ enum LinesStop {
     TooMany,
 }
 
-/// Adds bytes to a line, unless it had more than 3,100 then.
-fn extend(line: &mut Vec<u8>, more: &[u8]) -> Result<(), LinesFault>
-    requires { length line.old.items ≤ 3100 }
-    ensures { Extends line.old.items more.now result line.new.items }
-{
-    if more.len() > MOST_BYTES - line.len() {
-        return Err(LinesFault::Long);
-    }
-    line.extend_from_slice(more)?;
-    Ok(())
+
+/// The lines of a script, one after another from a source that stays with the caller. Each read asks for at most
+/// 4,096 bytes; those behind a line are kept for the next. Behind the end, a line that is too long or one too many
+/// nothing more is read.
+#[derive(Drop)]
+pub struct Lines {
+    piece: Piece,
+
+    /// The line that was given, or else the beginning of the next.
+    line: Vec<u8>,
+    given: bool,
+
+    /// How many lines were given.
+    number: u32,
+    stop: LinesStop,
 }
 
-/// Moves the bytes before the first line feed from a piece to a line, and takes the line feed away. False where the
-/// piece has none and was moved whole.
-fn take_part(piece: &mut Piece, line: &mut Vec<u8>) -> Result<bool, LinesFault>
-    requires short { length line.old.items ≤ 3100 }
-    requires no_feed { HasNoFeed line.old.items }
-    ensures { MovesPart piece.old line.old.items result piece.new line.new.items }
-{
-    let rest = piece.rest();
-    match memchr(b'\n', rest) {
-        Some(feed) => {
-            extend(line, &rest[..feed])?;
-            piece.skip(feed + 1);
-            Ok(true)
+impl Model for Lines {
+    ghost use Rattle.domain_script.specs.LinesState.{LinesState};
+
+    ghost Value = { LinesState };
+
+    ghost use Rattle.domain_script.specs.Reader.{reader_state, IsReader};
+
+    ghost view = { reader_state };
+
+    ghost invariant = { IsReader };
+}
+
+impl Lines {
+    ghost use Rattle.std.specs.Prelude.{◌≡◌, ◌≢◌, ℕ, ◌<◌, ◌≤◌, [], true, length, IfOk};
+    ghost use Rattle.vio_io.specs.Causes.{Rose};
+    ghost use Rattle.domain_script.specs.LinesState.{Advances, Reads, to_come};
+
+    /// Nothing was read.
+    pub fn new(alloc: Global) -> Result<Self, NoMemory>
+        ensures { IfOk result (λ lines. lines ≡ record { held = []; line = []; number = 0; stop = LinesStop.Going }) }
+    {
+        Ok(Lines {
+            piece: Piece::new(alloc)?,
+            line: Vec::with_capacity(alloc, MOST_BYTES + 1)?,
+            given: false,
+            number: 0,
+            stop: LinesStop::Going,
+        })
+    }
+
+    /// Reads the next line. False at the end, where no line is left.
+    pub fn advance<S: Source>(&mut self, source: &mut S) -> Result<bool, LinesFault>
+        ensures advances { Advances (to_come self.old (S.left source.old)) (to_come self.new (S.left source.new)) self.old result self.new }
+        ensures empty { result ≢ Ok true → self.new.line ≡ [] }
+
+        // Behind a stop the source isn't asked.
+        ensures stays { self.old.stop ≢ LinesStop.Going → source.new ≡ source.old }
+        ensures count { S.faults source.old ≤ S.faults source.new }
+        ensures cause { result ≡ Err LinesFault.Source → Rose (S.faults source.old) (S.faults source.new) }
+    {
+        match self.stop {
+            LinesStop::Going => self.go_on(source),
+            LinesStop::Ended => Ok(false),
+            LinesStop::TooLong => Err(LinesFault::Long),
+            LinesStop::TooMany => Err(LinesFault::Many),
         }
-        None => {
-            extend(line, rest)?;
-            piece.clear();
+    }
+
+    /// The line that the last call gave, without its line feed. Empty where that call gave none.
+    pub fn line(&self) -> &[u8]
+        ensures { result.now ≡ self.now.line }
+    {
+        if self.given { &self.line } else { &[] }
+    }
+
+    /// How many lines were given.
+    pub fn number(&self) -> u32
+        ensures { result ≡ self.now.number }
+    {
+        self.number
+    }
+
+    /// Reads the next line of a script that goes on.
+    fn go_on<S: Source>(&mut self, source: &mut S) -> Result<bool, LinesFault>
+        requires { self.old.stop ≡ LinesStop.Going }
+        ensures reads { Reads (to_come self.old (S.left source.old)) (to_come self.new (S.left source.new)) self.old result self.new }
+        ensures count { S.faults source.old ≤ S.faults source.new }
+        ensures cause { result ≡ Err LinesFault.Source → Rose (S.faults source.old) (S.faults source.new) }
+    {
+        self.forget_line();
+        if self.number < MOST_LINES {
+            self.read_next(source)
+        } else {
+            self.read_behind_last(source)
+        }
+    }
+
+    /// The line that was given is no longer needed.
+    fn forget_line(&mut self)
+        ensures { self.new ≡ record self.old { line = [] } }
+    {
+        if self.given {
+            self.line.clear();
+            self.given = false;
+        }
+    }
+
+    /// Reads a line of which there may still be one.
+    fn read_next<S: Source>(&mut self, source: &mut S) -> Result<bool, LinesFault>
+        requires going { self.old.stop ≡ LinesStop.Going }
+        requires forgotten { self.old.line ≡ [] }
+        requires few { self.old.number < 20000 }
+        ensures reads { Reads (to_come self.old (S.left source.old)) (to_come self.new (S.left source.new)) self.old result self.new }
+        ensures count { S.faults source.old ≤ S.faults source.new }
+        ensures cause { result ≡ Err LinesFault.Source → Rose (S.faults source.old) (S.faults source.new) }
+    {
+        self.given = false;
+        match read_line(&mut self.piece, &mut self.line, source) {
+            Ok(true) => {
+                self.given = true;
+                self.number += 1;
+                Ok(true)
+            }
+            Ok(false) => {
+                self.stop = LinesStop::Ended;
+                Ok(false)
+            }
+            Err(LinesFault::Long) => {
+                self.stop = LinesStop::TooLong;
+                Err(LinesFault::Long)
+            }
+            Err(fault) => Err(fault),
+        }
+    }
+
+    /// Looks whether there is a byte behind the last line that there may be.
+    fn read_behind_last<S: Source>(&mut self, source: &mut S) -> Result<bool, LinesFault>
+        requires going { self.old.stop ≡ LinesStop.Going }
+        requires forgotten { self.old.line ≡ [] }
+        requires all { self.old.number ≡ 20000 }
+        ensures reads { Reads (to_come self.old (S.left source.old)) (to_come self.new (S.left source.new)) self.old result self.new }
+        ensures count { S.faults source.old ≤ S.faults source.new }
+        ensures cause { result ≡ Err LinesFault.Source → Rose (S.faults source.old) (S.faults source.new) }
+    {
+        self.given = false;
+        if self.piece.fill(source)? {
+            self.stop = LinesStop::TooMany;
+            Err(LinesFault::Many)
+        } else {
+            self.stop = LinesStop::Ended;
             Ok(false)
         }
     }
-}
-
-/// Reads on until a line is whole. False at the source's end where nothing of a line is there.
-fn read_line<S: Source>(piece: &mut Piece, line: &mut Vec<u8>, source: &mut S) -> Result<bool, LinesFault>
-    requires short { length line.old.items ≤ 3100 }
-    requires no_feed { HasNoFeed line.old.items }
-    ensures reads { ReadsLine (prepend_known (line.old.items ++ piece.old) (S.left source.old)) result line.new.items piece.new (S.left source.new) }
-    ensures short { length line.new.items ≤ 3100 }
-    ensures no_feed { HasNoFeed line.new.items }
-    ensures count { S.faults source.old ≤ S.faults source.new }
-    ensures cause { result ≡ Err LinesFault.Source → Rose (S.faults source.old) (S.faults source.new) }
-{
-    while piece.fill(source)? {
-        if take_part(piece, line)? {
-            return Ok(true);
-        }
-    }
-    Ok(!line.is_empty())
 }

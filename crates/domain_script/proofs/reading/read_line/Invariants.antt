@@ -1,7 +1,7 @@
 use Rattle.std.proofs.Common.{ℕ, ◌-◌, ◌≤◌, ◌++◌, length}
 use Rattle.std.specs.Io.KnownBytes.{Keeps, prepend_known}
 use Rattle.domain_script.specs.Pieces.{HasNoFeed}
-use Rattle.domain_script.proofs.lines.read_line.Given as goal
+use Rattle.domain_script.proofs.reading.read_line.Given as goal
 
 abbrev pub invariant-loop-piece : goal.invariant-loop-piece
 invariant-loop-piece g l = record {

@@ -2,8 +2,8 @@ use Rattle.std.proofs.Common.{◌≡◌, ◌≢◌, ℕ, Bool, true, false, [], 
 use Rattle.std.specs.Io.KnownBytes.{Keeps, prepend_known}
 use Rattle.std.proofs.lemmas.Result.{err_from_is_err_and}
 use Rattle.domain_script.specs.Pieces.{MovesPart, ReadsLine}
-use Rattle.domain_script.proofs.Reading.{keeps_on, takes_line, read_to_end, read_refused, none_there, empty_tells}
-use Rattle.domain_script.proofs.lines.read_line.Goals as goal
+use Rattle.domain_script.proofs.ToCome.{keeps_on, takes_line, read_to_end, read_refused, none_there, empty_tells}
+use Rattle.domain_script.proofs.reading.read_line.Goals as goal
 
 pub returns-in_err-take_part-clause-reads : goal.returns-in_err-take_part-clause-reads
 returns-in_err-take_part-clause-reads g c =

@@ -3,7 +3,7 @@ use Rattle.std.proofs.lemmas.List.{take-append-drop}
 use Rattle.std.proofs.lemmas.Result.{err_from_is_err_and}
 use Rattle.domain_script.specs.Pieces.{HasNoFeed, MovesPart}
 use Rattle.domain_script.proofs.Feeds.{part_moved, part_refused, no_feed_all, no_feed_append, no_feed_take}
-use Rattle.domain_script.proofs.lines.take_part.Goals as goal
+use Rattle.domain_script.proofs.reading.take_part.Goals as goal
 
 pub returns-in_err-extend-in-Some : goal.returns-in_err-extend-in-Some
 returns-in_err-extend-in-Some c =
