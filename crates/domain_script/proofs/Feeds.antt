@@ -1,46 +1,46 @@
--- Line feeds in a list of bytes.
+-- Bytes that a list doesn't have, line feeds above all.
 use Rattle.std.proofs.Common.{◌≡◌, ◌≢◌, ℕ, ◌+◌, ◌<◌, ◌≤◌, zero, suc, Bool, true, eqb, List, [], ◌∷◌, ◌++◌, length, get_or, take, drop, Ok, Err, refl, sym, ◌∙◌, ap, subst, arith, add-one, append_assoc}
 use Rattle.std.proofs.lemmas.Bool.{eq-eqb, eqb-true}
 use Rattle.std.proofs.lemmas.List.{take-append-drop, drop_more, length-take-le, length-append}
 use Rattle.domain_script.specs.declared.lines.LinesFault.{LinesFault}
 use Rattle.domain_script.specs.declared.lines.LinesFault.TheVariants.{Source, Long, Many, Memory}
-use Rattle.domain_script.specs.Pieces.{HasNoFeed, IsTooLong, Extends, MovesPart}
+use Rattle.domain_script.specs.Pieces.{HasNo, HasNoFeed, IsTooLong, Extends, MovesPart}
 
--- none of the first n bytes is a line feed
-pub no_feed_take : (xs : List ℕ) (n : ℕ) → ((k : ℕ) → 0 ≤ k → k < n → eqb (get_or xs k 0) 10 ≡ true → ⊥) → HasNoFeed (take n xs)
-no_feed_take xs zero none = tt
-no_feed_take [] (suc n) none = tt
-no_feed_take (x ∷ xs) (suc n) none = (
-    λ is. none zero (omega arith) (omega arith) (eq-eqb x 10 is),
-    no_feed_take xs n (λ k low lt is. none (suc k) (omega arith) (omega arith) is),
+-- none of the first n bytes is c
+pub has_no_take : (c : ℕ) (xs : List ℕ) (n : ℕ) → ((k : ℕ) → 0 ≤ k → k < n → eqb (get_or xs k 0) c ≡ true → ⊥) → HasNo c (take n xs)
+has_no_take c xs zero none = tt
+has_no_take c [] (suc n) none = tt
+has_no_take c (x ∷ xs) (suc n) none = (
+    λ is. none zero (omega arith) (omega arith) (eq-eqb x c is),
+    has_no_take c xs n (λ k low lt is. none (suc k) (omega arith) (omega arith) is),
 )
 
-pub no_feed_all : (xs : List ℕ) → ((k : ℕ) → 0 ≤ k → k < length xs → eqb (get_or xs k 0) 10 ≡ true → ⊥) → HasNoFeed xs
-no_feed_all [] none = tt
-no_feed_all (x ∷ xs) none = (
-    λ is. none zero (omega arith) (omega arith) (eq-eqb x 10 is),
-    no_feed_all xs (λ k low lt is. none (suc k) (omega arith) (omega arith) is),
+pub has_no_all : (c : ℕ) (xs : List ℕ) → ((k : ℕ) → 0 ≤ k → k < length xs → eqb (get_or xs k 0) c ≡ true → ⊥) → HasNo c xs
+has_no_all c [] none = tt
+has_no_all c (x ∷ xs) none = (
+    λ is. none zero (omega arith) (omega arith) (eq-eqb x c is),
+    has_no_all c xs (λ k low lt is. none (suc k) (omega arith) (omega arith) is),
 )
 
-pub no_feed_append : (xs ys : List ℕ) → HasNoFeed xs → HasNoFeed ys → HasNoFeed (xs ++ ys)
-no_feed_append [] ys first second = second
-no_feed_append (x ∷ xs) ys first second = (first.0, no_feed_append xs ys first.1 second)
+pub has_no_append : (c : ℕ) (xs ys : List ℕ) → HasNo c xs → HasNo c ys → HasNo c (xs ++ ys)
+has_no_append c [] ys first second = second
+has_no_append c (x ∷ xs) ys first second = (first.0, has_no_append c xs ys first.1 second)
 
--- a list is cut at a line feed
-pub cut_at_feed : (xs : List ℕ) (n : ℕ) → n < length xs → eqb (get_or xs n 0) 10 ≡ true → xs ≡ take n xs ++ 10 ∷ drop (n + 1) xs
-cut_at_feed xs n lt is =
+-- a list is cut at the byte c
+pub cut_at : (c : ℕ) (xs : List ℕ) (n : ℕ) → n < length xs → eqb (get_or xs n 0) c ≡ true → xs ≡ take n xs ++ c ∷ drop (n + 1) xs
+cut_at c xs n lt is =
     sym (take-append-drop n xs)
-    ∙ ap (λ (l : List ℕ). take n xs ++ l) (drop_more xs n 0 lt ∙ ap (λ (b : ℕ). b ∷ drop (n + 1) xs) (eqb-true (get_or xs n 0) 10 is))
+    ∙ ap (λ (l : List ℕ). take n xs ++ l) (drop_more xs n 0 lt ∙ ap (λ (b : ℕ). b ∷ drop (n + 1) xs) (eqb-true (get_or xs n 0) c is))
 
 -- the bytes up to the line feed at n were moved
 pub part_moved : (piece line line_after : List ℕ) (n : ℕ) → n < length piece → eqb (get_or piece n 0) 10 ≡ true
     → ((k : ℕ) → 0 ≤ k → k < n → eqb (get_or piece k 0) 10 ≡ true → ⊥) → HasNoFeed line → Extends line (take n piece) (Ok tt) line_after
     → MovesPart piece line (Ok true) (drop (n + 1) piece) line_after
 part_moved piece line line_after n lt is none clean extends = (
-    ap (λ (l : List ℕ). line ++ l) (cut_at_feed piece n lt is)
+    ap (λ (l : List ℕ). line ++ l) (cut_at 10 piece n lt is)
     ∙ sym (append_assoc line (take n piece) (10 ∷ drop (n + 1) piece))
     ∙ ap (λ (l : List ℕ). l ++ 10 ∷ drop (n + 1) piece) (sym extends.0),
-    subst (λ (l : List ℕ). HasNoFeed l) (sym extends.0) (no_feed_append line (take n piece) clean (no_feed_take piece n none)),
+    subst (λ (l : List ℕ). HasNoFeed l) (sym extends.0) (has_no_append 10 line (take n piece) clean (has_no_take 10 piece n none)),
     extends.1,
 )
 
@@ -51,7 +51,7 @@ part_refused piece line part behind line_after Long is clean clean_part extends 
   front = line ++ part;
   behind = behind;
   is = ap (λ (l : List ℕ). line ++ l) is ∙ sym (append_assoc line part behind);
-  no_feed = no_feed_append line part clean clean_part;
+  no_feed = has_no_append 10 line part clean clean_part;
   long = omega (arith, extends.1, length-append line part);
 })
 part_refused piece line part behind line_after Memory is clean clean_part extends = (refl, extends)

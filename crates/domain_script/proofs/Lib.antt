@@ -4,3 +4,5 @@ pub mod Feeds
 pub mod ScriptLemmas
 pub mod ToCome
 pub mod Readers
+pub mod WordLemmas
+pub mod NumberLemmas

@@ -4,3 +4,6 @@ pub mod ScriptLines
 pub mod LinesState
 pub mod Pieces
 pub mod Reader
+pub mod Fills
+pub mod Words
+pub mod Spells

@@ -6,10 +6,14 @@ use Rattle.domain_script.specs.declared.lines.LinesFault.{LinesFault}
 use Rattle.domain_script.specs.declared.lines.LinesFault.TheVariants.{Source, Long, Many, Memory}
 use Rattle.domain_script.specs.ScriptLines.{TakesLine, BeginsWithLonger}
 
+-- no byte is c
+abbrev pub HasNo : ℕ → List ℕ → Type 0
+HasNo c [] = ⊤
+HasNo c (b ∷ bs) = (b ≢ c) × HasNo c bs
+
 -- no byte is a line feed
 abbrev pub HasNoFeed : List ℕ → Type 0
-HasNoFeed [] = ⊤
-HasNoFeed (b ∷ bs) = (b ≢ 10) × HasNoFeed bs
+HasNoFeed bytes = HasNo 10 bytes
 
 -- more than 3,100 bytes come before any line feed
 pub record IsTooLong (bytes : List ℕ) : Type 0 where

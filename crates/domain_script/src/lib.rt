@@ -5,8 +5,10 @@
 mod event;
 mod lines;
 mod names;
+mod numbers;
 mod piece;
 mod reading;
+mod words;
 
 pub use event::{DiskDecl, Event, Lane, LineFault, Name};
 pub use lines::{Lines, LinesFault};

@@ -2,7 +2,7 @@ use Rattle.std.proofs.Common.{◌≡◌, ◌+◌, ℕ, [], List, ◌∷◌, ◌+
 use Rattle.std.proofs.lemmas.List.{take-append-drop}
 use Rattle.std.proofs.lemmas.Result.{err_from_is_err_and}
 use Rattle.domain_script.specs.Pieces.{HasNoFeed, MovesPart}
-use Rattle.domain_script.proofs.Feeds.{part_moved, part_refused, no_feed_all, no_feed_append, no_feed_take}
+use Rattle.domain_script.proofs.Feeds.{part_moved, part_refused, has_no_all, has_no_append, has_no_take}
 use Rattle.domain_script.proofs.reading.take_part.Goals as goal
 
 pub returns-in_err-extend-in-Some : goal.returns-in_err-extend-in-Some
@@ -13,7 +13,7 @@ returns-in_err-extend-in-Some c =
     let cut : c.args.piece.now ≡ take n rest ++ drop n rest = sym c.rest-rest.ensures.value ∙ sym (take-append-drop n rest) in
     rw (p.1, p.2)
         (part_refused c.args.piece.now c.args.line.now.items (take n rest) (drop n rest) c.extend.new.line.items
-            c.in_err-extend-in-Some.field-0.0 cut c.requires.no_feed (no_feed_take rest n c.in-Some.ensures.0.before)
+            c.in_err-extend-in-Some.field-0.0 cut c.requires.no_feed (has_no_take 10 rest n c.in-Some.ensures.0.before)
             c.in_err-extend-in-Some.ensures)
 
 pub returns-in_err-extend-in-None : goal.returns-in_err-extend-in-None
@@ -23,7 +23,7 @@ returns-in_err-extend-in-None c =
     let cut : c.args.piece.now ≡ rest ++ [] = sym c.rest-rest.ensures.value ∙ sym (append-nil rest) in
     rw (p.1, p.2)
         (part_refused c.args.piece.now c.args.line.now.items rest [] c.extend-in-None.new.line.items
-            c.in_err-extend-in-None.field-0.0 cut c.requires.no_feed (no_feed_all rest c.in-None.ensures)
+            c.in_err-extend-in-None.field-0.0 cut c.requires.no_feed (has_no_all 10 rest c.in-None.ensures)
             c.in_err-extend-in-None.ensures)
 
 pub returns-in_ok-extend-in-Some : goal.returns-in_ok-extend-in-Some
@@ -44,6 +44,6 @@ returns-in_ok-extend-in-None c =
       is ∙ ap (λ (l : List ℕ). c.args.line.now.items ++ l) c.rest-rest.ensures.value,
       c.clear.ensures,
       subst (λ (l : List ℕ). HasNoFeed l) (sym is)
-          (no_feed_append c.args.line.now.items rest c.requires.no_feed (no_feed_all rest c.in-None.ensures)),
+          (has_no_append 10 c.args.line.now.items rest c.requires.no_feed (has_no_all 10 rest c.in-None.ensures)),
       c.in_ok-extend-in-None.ensures.1,
     )
