@@ -3,8 +3,14 @@
 #![tactic(auto)]
 
 mod event;
+mod lines;
 mod names;
+mod numbers;
+mod piece;
+mod reading;
+mod words;
 
 pub use event::{DiskDecl, Event, Lane, LineFault, Name};
+pub use lines::{Lines, LinesFault};
 pub use names::Names;
 pub use vdisk_msg::{Fill, Request};
