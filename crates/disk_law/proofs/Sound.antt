@@ -3,9 +3,10 @@ use Rattle.std.proofs.Common.{◌≡◌, ℕ, ◌≤◌, List, [], ◌∷◌, �
 use Rattle.std.proofs.lemmas.Bool.Decides.{nat_tests}
 use Rattle.vdisk_msg.specs.declared.request.Request.{Request}
 use Rattle.vdisk_msg.specs.declared.request.Request.TheVariants.{Read, Write, Flush}
-use Rattle.disk_law.specs.Requests.{AreSound, HasFill, defect, blocks_defect}
+use Rattle.disk_law.specs.Requests.{AreSound, defect, blocks_defect}
+use Rattle.vdisk_msg.specs.Fills.{IsRequest}
 
-pub sound_push : (blocks : ℕ) (requests : List Request) (request : Request) → AreSound blocks requests → defect blocks request ≡ None → HasFill request → AreSound blocks (requests ++ request ∷ [])
+pub sound_push : (blocks : ℕ) (requests : List Request) (request : Request) → AreSound blocks requests → defect blocks request ≡ None → IsRequest request → AreSound blocks (requests ++ request ∷ [])
 sound_push blocks [] request sound admitted fill = (admitted, fill, tt)
 sound_push blocks (first ∷ requests) request sound admitted fill = (sound.0, sound.1, sound_push blocks requests request sound.2 admitted fill)
 

@@ -2,6 +2,7 @@
 use Rattle.std.specs.Prelude.{◌≡◌, ℕ, ◌+◌, ◌*◌, ◌%◌, ◌<◌, ◌≤◌, List, [], ◌∷◌, length, map, Option, Some, None, nat_le, ◌&&◌, if◌then◌else◌, slice_index}
 use Rattle.std.specs.List.{range_with_len}
 use Rattle.vio_io.specs.Stores.{overwritten}
+use Rattle.vdisk_msg.specs.Fills.{IsRequest}
 use Rattle.vdisk_msg.specs.declared.request.Fill.{Fill}
 use Rattle.vdisk_msg.specs.declared.request.Request.{Request}
 use Rattle.vdisk_msg.specs.declared.request.Request.TheVariants.{Read, Write, Flush}
@@ -41,22 +42,10 @@ after_request content (Read block count) = content
 after_request content (Write block count fill) = overwritten content (512 * block) (written fill count)
 after_request content Flush = content
 
--- a fill holds a word of 1 to 1,024 bytes
-pub record IsFill (fill : Fill) : Type 0 where
-  pub some : 0 < fill.len
-  pub most : fill.len ≤ 1024
-  pub long : length fill.bytes ≡ 1024
-
--- a write's fill is one
-abbrev pub HasFill : Request → Type 0
-HasFill (Read block count) = Unit {0}
-HasFill (Write block count fill) = IsFill fill
-HasFill Flush = Unit {0}
-
 -- all of them are within a disk of so many blocks, and their fills are fills
 abbrev pub AreSound : ℕ → List Request → Type 0
 AreSound blocks [] = Unit {0}
-AreSound blocks (request ∷ requests) = (defect blocks request ≡ None) × HasFill request × AreSound blocks requests
+AreSound blocks (request ∷ requests) = (defect blocks request ≡ None) × IsRequest request × AreSound blocks requests
 
 -- how many bytes a request gives where it succeeds
 abbrev pub given_count : Request → ℕ

@@ -1,6 +1,7 @@
 ghost use Rattle.std.specs.Prelude.{◌≡◌, ◌+◌, ◌-◌, ◌*◌, ◌^◌, ◌<◌, ◌≤◌, ◌≢◌, ◌↔◌, [], Some, None, length, IfOk, IfErr, OnOk, IsTrue};
 ghost use Rattle.circular_buffer.specs.Buffer.{buffer};
-ghost use Rattle.disk_law.specs.Requests.{BadCount, BadRange, HasFill, defect, operation_of};
+ghost use Rattle.disk_law.specs.Requests.{BadCount, BadRange, defect, operation_of};
+ghost use Rattle.vdisk_msg.specs.Fills.{IsRequest};
 ghost use Rattle.disk_law.specs.ListState.{fresh, next_id};
 ghost use Rattle.disk_law.specs.ListStep.{Accepted, Done, ListStep};
 
@@ -103,7 +104,7 @@ impl<D: Store> PlainDisk<D> {
 
     /// Takes a request up and answers its id, or says why not.
     pub fn issue(&mut self, request: &Request) -> Result<u64, IssueFault>
-        requires fill { HasFill request.now }
+        requires fill { IsRequest request.now }
         requires few { next_id self.old.list < 2 ^ 64 - 1 }
         ensures accepted { IfOk result (λ id. ListStep self.old.list (Accepted id request.now) self.new.list) }
         ensures refused { IfErr result (λ fault. ListStep self.old.list (refusal fault request.now) self.new.list) }

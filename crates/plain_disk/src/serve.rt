@@ -1,7 +1,8 @@
 // One request over an image.
 ghost use Rattle.std.specs.Prelude.{◌≡◌, ◌+◌, ◌*◌, ◌%◌, ◌<◌, ◌≤◌, ◌^◌, None, length, take, IfOk, OnErr, OnOk};
 ghost use Rattle.vio_io.specs.Causes.{Rose};
-ghost use Rattle.disk_law.specs.Requests.{HasFill, IsFill, defect, repeated};
+ghost use Rattle.disk_law.specs.Requests.{defect, repeated};
+ghost use Rattle.vdisk_msg.specs.Fills.{IsFill, IsRequest};
 ghost use Rattle.vio_io.specs.Stores.{KeepsOutside, WritesRange};
 ghost use Rattle.disk_law.specs.ListStep.{CutOff, Succeeds};
 
@@ -27,7 +28,7 @@ pub fn serve<D: Store>(
     pattern: &mut [u8],
 ) -> Result<usize, Failed>
     requires admitted { defect blocks request.now ≡ None }
-    requires fill { HasFill request.now }
+    requires fill { IsRequest request.now }
     requires small { blocks ≤ 65536 }
     requires image { 512 * blocks ≤ D.size image.old }
     requires buffer { length buffer.old ≡ 32768 }
