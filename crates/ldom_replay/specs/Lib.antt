@@ -1,3 +1,4 @@
 pub mod Happened
 pub mod Parts
+pub mod Script
 pub mod Worlds
