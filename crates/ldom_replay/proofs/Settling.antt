@@ -45,5 +45,6 @@ settles s t old mid new so_far rests grew = record {
     (so_far.part, refl, so_far.begun),
     subst (λ (l : List DiskEvent). Run ListStep s l t) (sym (filter_map-append (disk_event 0 line.Settle) so_far.part (entry.Settled ∷ [])))
       (run_push ListStep s t t (happened 0 line.Settle so_far.part) Rested so_far.run (rests, refl)),
+    tt,
   );
 }

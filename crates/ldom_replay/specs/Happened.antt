@@ -38,3 +38,7 @@ disk_event x asked entry.Settled = Some Rested
 -- what happened to the disk x in the part of a line
 abbrev pub happened : ℕ → Event → List Entry → List DiskEvent
 happened x asked part = filter_map (disk_event x asked) part
+
+-- what the journal tells of the disk x, whatever its lines asked: which requests were accepted and completed
+abbrev pub history : ℕ → List Entry → List DiskEvent
+history x entries = happened x line.Blank entries

@@ -42,9 +42,16 @@ abbrev pub BeginsPart : Event → List Entry → Type 0
 BeginsPart line.Settle part = AreDone part
 BeginsPart other part = part ≡ []
 
--- A line with its part leads the disk from one state to another.
+-- the event asks the one disk, with a fill that is one
+abbrev pub IsForDisk : Event → Type 0
+IsForDisk line.Blank = Unit {0}
+IsForDisk (line.Disk disk) = Unit {0}
+IsForDisk (line.Issue disk request) = (disk ≡ 0) × IsRequest request
+IsForDisk line.Settle = Unit {0}
+
+-- A line with its part leads the one disk from one state to another.
 abbrev pub LineStep : ListState → Event × List Entry → ListState → Type 0
-LineStep s step t = PartOf step.0 step.1 × Run ListStep s (happened 0 step.0 step.1) t
+LineStep s step t = PartOf step.0 step.1 × Run ListStep s (happened 0 step.0 step.1) t × IsForDisk step.0
 
 -- the journal grew by exactly the part of this line
 pub record Fits (s : ListState) (event : Event) (old new : List Entry) (t : ListState) : Type 0 where
@@ -58,10 +65,3 @@ pub record FitsSoFar (s : ListState) (event : Event) (old new : List Entry) (t :
   pub grew : new ≡ old ++ part
   pub begun : BeginsPart event part
   pub run : Run ListStep s (happened 0 event part) t
-
--- the event asks the one disk, with a fill that is one
-abbrev pub IsForDisk : Event → Type 0
-IsForDisk line.Blank = Unit {0}
-IsForDisk (line.Disk disk) = Unit {0}
-IsForDisk (line.Issue disk request) = (disk ≡ 0) × IsRequest request
-IsForDisk line.Settle = Unit {0}
