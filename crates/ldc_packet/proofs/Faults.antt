@@ -1,8 +1,8 @@
 -- Bytes have a packet or one first fault, and not both.
-use Rattle.std.proofs.Common.{◌≡◌, ◌≢◌, ℕ, ◌<◌, ◌≤◌, ◌%◌, ◌⊎◌, Bool, true, false, inl, inr, List, Ok, Err, refl, sym, ap, ◌∙◌, arith}
+use Rattle.std.proofs.Common.{◌≡◌, ℕ, ◌<◌, ◌%◌, Bool, true, false, inl, inr, List, Ok, Err, refl, ap, ◌∙◌, arith}
 use Rattle.std.specs.Prelude.{Result, IfErr, IfOk}
 use Rattle.ldc_packet.specs.declared.packet.Body.{Body}
-use Rattle.ldc_packet.specs.declared.packet.Body.TheVariants.{Vers, Rts, Rtr, Rdx, Part}
+use Rattle.ldc_packet.specs.declared.packet.Body.TheVariants.{Part}
 use Rattle.ldc_packet.specs.declared.packet.Packet.{Packet}
 use Rattle.ldc_packet.specs.declared.packet.PacketFault.{PacketFault}
 use Rattle.ldc_packet.specs.declared.packet.PacketFault.TheVariants.{Kind, Subtype, Ctrl, Length}
@@ -10,7 +10,7 @@ use Rattle.ldc_packet.specs.declared.packet.Subtype.{Subtype as Subtype_}
 use Rattle.ldc_packet.specs.declared.packet.Subtype.TheVariants.{Info, Ack, Nack}
 use Rattle.ldc_packet.specs.Fault.{HasFault, IsFirstFault}
 use Rattle.ldc_packet.specs.Form.{HasForm, IsWellFormed}
-use Rattle.ldc_packet.specs.Spelling.{SpellsBody, SpellsPacket, ctrl_at, env_at, part_env, subtype_at, subtype_code, type_at, type_code}
+use Rattle.ldc_packet.specs.Spelling.{SpellsBody, SpellsPacket, env_at, part_env, subtype_at, subtype_code, type_at, type_code}
 use Rattle.ldc_packet.proofs.Same.{same_packet}
 
 -- a first fault is a fault
