@@ -6,3 +6,5 @@ pub mod ToCome
 pub mod Readers
 pub mod WordLemmas
 pub mod NumberLemmas
+pub mod HexWords
+pub mod SameName

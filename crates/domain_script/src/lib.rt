@@ -8,6 +8,7 @@ mod names;
 mod numbers;
 mod piece;
 mod reading;
+mod spellings;
 mod words;
 
 pub use event::{DiskDecl, Event, Lane, LineFault, Name};
