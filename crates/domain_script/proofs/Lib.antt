@@ -8,3 +8,6 @@ pub mod WordLemmas
 pub mod NumberLemmas
 pub mod HexWords
 pub mod SameName
+pub mod RowLemmas
+pub mod Naming
+pub mod PowersOfTwo

@@ -1,4 +1,4 @@
-ghost use Rattle.std.specs.Prelude.{◌≡◌, ℕ, ◌<◌, ◌≤◌, [], false, length, take, slice_get, IfSome, MatchOption};
+ghost use Rattle.std.specs.Prelude.{◌≡◌, ℕ, ◌<◌, ◌≤◌, [], false, length, take, slice_get, IfSome, IsTrue, MatchOption, ◌↔◌};
 ghost use Rattle.domain_script.specs.Declarations.{IsDisk};
 
 use crate::{DiskDecl, Event, Name};
@@ -58,6 +58,13 @@ impl Names {
         } else {
             None
         }
+    }
+
+    /// Whether every line so far was blank.
+    pub fn is_untouched(&self) -> bool
+        ensures { IsTrue result ↔ ((self.now.disks ≡ []) × (self.now.ended ≡ false)) }
+    {
+        self.count == 0 && !self.ended
     }
 
     /// The number of the disk with this name. None exactly where no disk has it.
