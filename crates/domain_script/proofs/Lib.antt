@@ -11,3 +11,5 @@ pub mod SameName
 pub mod RowLemmas
 pub mod Naming
 pub mod PowersOfTwo
+pub mod Spelling
+pub mod OneEvent

@@ -253,3 +253,12 @@ no_long_row row fields names (Issue disk Flush) long some spells =
 no_long_row row fields names Settle long some spells =
     let none = ap (λ (l : List (List ℕ)). length l) (behind row (codes "settle") fields [] spells.is) in
     omega (arith, none, some)
+
+-- each row begins with a letter
+pub first_letter : (ws : List (List ℕ)) (names : NamesState) (event : Event) → SpellsWords ws names event → 97 ≤ get_or (get_or ws 0 []) 0 0
+first_letter ws names Blank spells = absurd spells
+first_letter ws names (Disk disk) spells = let is = ap (λ (l : List (List ℕ)). get_or (get_or l 0 []) 0 0) spells.is in omega (arith, is)
+first_letter ws names (Issue disk (Read block count)) spells = let is = ap (λ (l : List (List ℕ)). get_or (get_or l 0 []) 0 0) spells.is in omega (arith, is)
+first_letter ws names (Issue disk (Write block count fill)) spells = let is = ap (λ (l : List (List ℕ)). get_or (get_or l 0 []) 0 0) spells.is in omega (arith, is)
+first_letter ws names (Issue disk Flush) spells = let is = ap (λ (l : List (List ℕ)). get_or (get_or l 0 []) 0 0) spells.is in omega (arith, is)
+first_letter ws names Settle spells = let is = ap (λ (l : List (List ℕ)). get_or (get_or l 0 []) 0 0) spells.is in omega (arith, is)

@@ -16,5 +16,5 @@ mod words;
 pub use event::{DiskDecl, Event, Lane, LineFault, Name};
 pub use lines::{Lines, LinesFault};
 pub use names::Names;
-pub use parser::parse;
+pub use parser::{parse, spells_at_most_one};
 pub use vdisk_msg::{Fill, Request};

@@ -1,7 +1,7 @@
-ghost use Rattle.std.specs.Prelude.{◌≡◌, ◌↔◌, IfErr, IfNone, IfOk, IfSome, IsTrue};
+ghost use Rattle.std.specs.Prelude.{◌≡◌, ◌↔◌, ℕ, List, IfErr, IfNone, IfOk, IfSome, IsTrue};
 ghost use Rattle.std.specs.List.{list_all};
 ghost use Rattle.domain_script.specs.declared.event.Event.{Event as event_data};
-ghost use Rattle.domain_script.specs.NamesState.{CanNote};
+ghost use Rattle.domain_script.specs.NamesState.{CanNote, NamesState};
 ghost use Rattle.domain_script.specs.Spells.{is_printable, IsBlank, IsDeclared, Spells};
 
 use crate::rows::{row_with_fields, settle_row};
@@ -49,4 +49,10 @@ fn are_printable(bytes: &[u8]) -> bool
     ensures { result ≡ list_all is_printable bytes.now }
 {
     bytes.iter().all(|b| *b >= b' ' && *b <= b'~')
+}
+
+/// A line spells at most one event.
+pub fn spells_at_most_one()
+    ensures { (line : List ℕ) (names : NamesState) (a b : event_data) → Spells line names a → Spells line names b → a ≡ b }
+{
 }
