@@ -6,3 +6,10 @@ pub mod ToCome
 pub mod Readers
 pub mod WordLemmas
 pub mod NumberLemmas
+pub mod HexWords
+pub mod SameName
+pub mod RowLemmas
+pub mod Naming
+pub mod PowersOfTwo
+pub mod Spelling
+pub mod OneEvent

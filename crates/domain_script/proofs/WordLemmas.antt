@@ -36,3 +36,11 @@ words_cut text n clean lt is =
 -- there is at least one word
 pub words_some : (text : List ℕ) → 0 < length (words text)
 words_some text = omega (arith, length-slice_split (λ b. eqb b 32) text)
+
+front_of : (b : ℕ) (ws : List (List ℕ)) → get_or (get_or (onto_first b ws) 0 []) 0 0 ≡ b
+front_of b [] = refl
+front_of b (w ∷ ws) = refl
+
+-- the first word begins as the text does
+pub first_of_words : (b : ℕ) (bs : List ℕ) → b ≢ 32 → get_or (get_or (words (b ∷ bs)) 0 []) 0 0 ≡ b
+first_of_words b bs other = ap (λ (ws : List (List ℕ)). get_or (get_or ws 0 []) 0 0) (words_cons b bs other) ∙ front_of b (words bs)

@@ -1,5 +1,5 @@
 -- The names that a script has declared so far.
-use Rattle.std.specs.Prelude.{◌≡◌, ◌≢◌, ℕ, ◌<◌, Bool, true, false, List, [], ◌∷◌, ◌++◌, length}
+use Rattle.std.specs.Prelude.{◌≡◌, ◌≢◌, ℕ, zero, suc, ◌<◌, Bool, true, false, List, [], ◌∷◌, ◌++◌, length}
 use Rattle.domain_script.specs.declared.event.DiskDecl.{DiskDecl}
 use Rattle.domain_script.specs.declared.event.Event.{Event}
 use Rattle.domain_script.specs.declared.event.Event.TheVariants.{Blank, Disk, Issue, Settle}
@@ -16,6 +16,12 @@ pub record NamesState : Type 0 where
 abbrev pub IsFree : Name → List DiskDecl → Type 0
 IsFree name [] = Unit {0}
 IsFree name (disk ∷ disks) = (disk.name ≢ name) × IsFree name disks
+
+-- the k-th disk has this name, and none before it
+abbrev pub IsDiskNamed : Name → List DiskDecl → ℕ → Type 0
+IsDiskNamed name [] k = ⊥
+IsDiskNamed name (disk ∷ disks) zero = disk.name ≡ name
+IsDiskNamed name (disk ∷ disks) (suc k) = (disk.name ≢ name) × IsDiskNamed name disks k
 
 -- a disk may still be declared
 pub record CanDeclare (names : NamesState) (disk : DiskDecl) : Type 0 where

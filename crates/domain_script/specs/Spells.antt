@@ -1,5 +1,6 @@
 -- The rows of a script: which event a line spells.
-use Rattle.std.specs.Prelude.{◌≡◌, ℕ, ◌<◌, ◌≤◌, Bool, false, List, [], ◌∷◌, length, codes, ⊤}
+use Rattle.std.specs.Prelude.{◌≡◌, ℕ, ◌<◌, ◌≤◌, nat_le, ◌&&◌, Bool, false, IsTrue, List, [], ◌∷◌, length, codes, ⊤}
+use Rattle.std.specs.List.{list_all}
 use Rattle.vdisk_msg.specs.declared.request.Fill.{Fill}
 use Rattle.vdisk_msg.specs.declared.request.Request.{Request}
 use Rattle.vdisk_msg.specs.declared.request.Request.TheVariants.{Read, Write, Flush}
@@ -9,18 +10,17 @@ use Rattle.domain_script.specs.declared.event.Event.TheVariants.{Blank, Disk, Is
 use Rattle.domain_script.specs.declared.event.Name.{Name}
 use Rattle.domain_script.specs.Declarations.{IsDisk}
 use Rattle.domain_script.specs.Fills.{IsRequest}
-use Rattle.domain_script.specs.NamesState.{NamesState}
-use Rattle.domain_script.specs.Words.{words, SpellsNumber, SpellsName, SpellsFill, IsDiskNamed}
+use Rattle.domain_script.specs.NamesState.{NamesState, IsDiskNamed}
+use Rattle.domain_script.specs.Words.{words, SpellsNumber, SpellsName, SpellsFill}
 
--- bytes from the space to the tilde
-abbrev pub ArePrintable : List ℕ → Type 0
-ArePrintable [] = ⊤
-ArePrintable (b ∷ bs) = ((32 ≤ b) × (b ≤ 126)) × ArePrintable bs
+-- from the space to the tilde
+abbrev pub is_printable : ℕ → Bool
+is_printable b = nat_le 32 b && nat_le b 126
 
 -- an empty line, or a comment: # and printable bytes
 abbrev pub IsBlank : List ℕ → Type 0
 IsBlank [] = ⊤
-IsBlank (b ∷ bs) = (b ≡ 35) × ArePrintable bs
+IsBlank (b ∷ bs) = (b ≡ 35) × IsTrue (list_all is_printable bs)
 
 -- the word names the declared disk with this number
 pub record NamesDisk (names : NamesState) (word : List ℕ) (disk : ℕ) : Type 0 where

@@ -1,9 +1,9 @@
 -- The words of a line, and what a single word spells.
-use Rattle.std.specs.Prelude.{◌≡◌, ℕ, zero, suc, ◌-◌, ◌^◌, ◌<◌, ◌≤◌, ◌≢◌, ◌⊎◌, ◌==◌, List, [], ◌∷◌, ◌++◌, length, take, replicate, decimal, ⊤, Result, Ok}
-use Rattle.std.specs.List.{slice_split}
+use Rattle.std.specs.Prelude.{◌≡◌, ℕ, ◌-◌, ◌^◌, ◌<◌, ◌≤◌, ◌==◌, ◌||◌, Bool, IsTrue, List, [], ◌∷◌, ◌++◌, length, take, replicate, decimal, Result, Ok}
+use Rattle.std.specs.Char.{is_ascii_lowercase, is_ascii_digit}
+use Rattle.std.specs.List.{slice_split, list_all}
 use Rattle.hex.specs.Hex.{decode_of, encode_lower}
 use Rattle.vdisk_msg.specs.declared.request.Fill.{Fill}
-use Rattle.domain_script.specs.declared.event.DiskDecl.{DiskDecl}
 use Rattle.domain_script.specs.declared.event.Name.{Name}
 use Rattle.domain_script.specs.Fills.{IsFill}
 
@@ -15,22 +15,14 @@ words text = slice_split (λ b. b == 32) text
 abbrev pub SpellsNumber : List ℕ → ℕ → Type 0
 SpellsNumber word n = (word ≡ decimal n) × (n < 2 ^ 64)
 
--- a letter a to z
-abbrev pub IsLetter : ℕ → Type 0
-IsLetter b = (97 ≤ b) × (b ≤ 122)
-
 -- a letter a to z or a digit
-abbrev pub IsNameByte : ℕ → Type 0
-IsNameByte b = IsLetter b ⊎ ((48 ≤ b) × (b ≤ 57))
+abbrev pub is_name_byte : ℕ → Bool
+is_name_byte b = is_ascii_lowercase b || is_ascii_digit b
 
-abbrev pub AreNameBytes : List ℕ → Type 0
-AreNameBytes [] = ⊤
-AreNameBytes (b ∷ bs) = IsNameByte b × AreNameBytes bs
-
--- a letter and any letters or digits behind it
+-- a letter a to z, and letters or digits behind it
 abbrev pub IsNameWord : List ℕ → Type 0
 IsNameWord [] = ⊥
-IsNameWord (b ∷ bs) = IsLetter b × AreNameBytes bs
+IsNameWord (b ∷ bs) = IsTrue (is_ascii_lowercase b) × IsTrue (list_all is_name_byte bs)
 
 -- a name: its bytes, at most eight, and zeros behind them
 pub record SpellsName (word : List ℕ) (name : Name) : Type 0 where
@@ -44,9 +36,3 @@ pub record SpellsFill (word : List ℕ) (fill : Fill) : Type 0 where
   pub limits : IsFill fill
   pub reads : decode_of word ≡ Ok (take fill.len fill.bytes)
   pub lower : word ≡ encode_lower (take fill.len fill.bytes)
-
--- the k-th disk has this name, and none before it
-abbrev pub IsDiskNamed : Name → List DiskDecl → ℕ → Type 0
-IsDiskNamed name [] k = ⊥
-IsDiskNamed name (disk ∷ disks) zero = disk.name ≡ name
-IsDiskNamed name (disk ∷ disks) (suc k) = (disk.name ≢ name) × IsDiskNamed name disks k

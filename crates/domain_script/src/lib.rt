@@ -6,11 +6,15 @@ mod event;
 mod lines;
 mod names;
 mod numbers;
+mod parser;
 mod piece;
 mod reading;
+mod rows;
+mod spellings;
 mod words;
 
 pub use event::{DiskDecl, Event, Lane, LineFault, Name};
 pub use lines::{Lines, LinesFault};
 pub use names::Names;
+pub use parser::{parse, spells_at_most_one};
 pub use vdisk_msg::{Fill, Request};

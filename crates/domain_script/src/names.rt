@@ -1,4 +1,4 @@
-ghost use Rattle.std.specs.Prelude.{◌≡◌, ℕ, ◌<◌, ◌≤◌, [], false, length, take, slice_get, IfSome};
+ghost use Rattle.std.specs.Prelude.{◌≡◌, ℕ, ◌<◌, ◌≤◌, [], false, length, take, slice_get, IfSome, IsTrue, MatchOption, ◌↔◌};
 ghost use Rattle.domain_script.specs.Declarations.{IsDisk};
 
 use crate::{DiskDecl, Event, Name};
@@ -35,7 +35,7 @@ impl Model for Names {
 }
 
 impl Names {
-    ghost use Rattle.domain_script.specs.NamesState.{CanNote, noted};
+    ghost use Rattle.domain_script.specs.NamesState.{CanNote, IsDiskNamed, IsFree, noted};
 
     /// Nothing is declared.
     pub fn new() -> Self
@@ -58,6 +58,25 @@ impl Names {
         } else {
             None
         }
+    }
+
+    /// Whether every line so far was blank.
+    pub fn is_untouched(&self) -> bool
+        ensures { IsTrue result ↔ ((self.now.disks ≡ []) × (self.now.ended ≡ false)) }
+    {
+        self.count == 0 && !self.ended
+    }
+
+    /// The number of the disk with this name. None exactly where no disk has it.
+    pub fn find(&self, name: &Name) -> Option<u32>
+        ensures { MatchOption result (IsFree name.now self.now.disks) (IsDiskNamed name.now self.now.disks) }
+    {
+        for (k, disk) in self.disks[..self.count as usize].iter().enumerate() {
+            if disk.name == *name {
+                return Some(k as u32);
+            }
+        }
+        None
     }
 
     /// Notes an event of the script. A declaration is added; any other event but a blank ends the declarations.

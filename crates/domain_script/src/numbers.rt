@@ -1,7 +1,21 @@
-ghost use Rattle.std.specs.Prelude.{◌≡◌, ℕ, ◌<◌, ◌≤◌, IfNone, IfSome};
+ghost use Rattle.std.specs.Prelude.{◌≡◌, ◌↔◌, ℕ, ◌<◌, ◌≤◌, IfNone, IfSome, IsTrue};
+ghost use Rattle.domain_script.specs.Declarations.{IsDisk, IsPowerOfTwo};
 ghost use Rattle.domain_script.specs.Words.{SpellsNumber};
 
+use crate::DiskDecl;
 use itoa::Buffer;
+
+/// The most blocks of a disk.
+pub const MOST_BLOCKS: u32 = 65_536;
+
+/// The fewest slots of a ring.
+const LEAST_RING: u32 = 2;
+
+/// The fewest entries of a channel's queue.
+const LEAST_QUEUE: u32 = 8;
+
+/// The most slots of a ring, and entries of a channel's queue.
+pub const MOST_SIZE: u32 = 256;
 
 /// The number that a word spells: it is that number's own decimal text.
 pub fn number(word: &[u8]) -> Option<u64>
@@ -21,4 +35,21 @@ pub fn number_up_to(word: &[u8], most: u32) -> Option<u32>
 {
     let n = number(word)?;
     if n <= most as u64 { Some(n as u32) } else { None }
+}
+
+/// Whether a disk is within the limits.
+pub fn is_within_limits(disk: &DiskDecl) -> bool
+    ensures { IsTrue result ↔ IsDisk disk.now }
+{
+    disk.blocks >= 1
+        && disk.blocks <= MOST_BLOCKS
+        && is_size(disk.ring, LEAST_RING)
+        && is_size(disk.queue, LEAST_QUEUE)
+}
+
+/// Whether a number of slots or entries is a power of two from `least` on.
+fn is_size(n: u32, least: u32) -> bool
+    ensures { IsTrue result ↔ ((least ≤ n) × (n ≤ 256) × IsPowerOfTwo n) }
+{
+    n >= least && n <= MOST_SIZE && n.is_power_of_two()
 }

@@ -11,15 +11,22 @@ pub fn split_once(text: &[u8]) -> Option<(&[u8], &[u8])>
     Some((&text[..space], &text[space + 1..]))
 }
 
+/// The word where there is one.
+pub fn one_word(text: &[u8]) -> Option<&[u8]>
+    ensures { MatchOption result (length (words text.now) ≢ 1) (λ word. words text.now ≡ word.now ∷ []) }
+{
+    match split_once(text) {
+        Some(_) => None,
+        None => Some(text),
+    }
+}
+
 /// The words where there are two.
 pub fn two_words(text: &[u8]) -> Option<(&[u8], &[u8])>
     ensures { MatchOption result (length (words text.now) ≢ 2) (λ p. words text.now ≡ p.0.now ∷ p.1.now ∷ []) }
 {
-    let (first, second) = split_once(text)?;
-    match split_once(second) {
-        Some(_) => None,
-        None => Some((first, second)),
-    }
+    let (first, rest) = split_once(text)?;
+    Some((first, one_word(rest)?))
 }
 
 /// The words where there are three.
