@@ -1,2 +1,5 @@
 mod Settling
 mod History
+mod ReadLemmas
+mod RunLemmas
+mod Assembly

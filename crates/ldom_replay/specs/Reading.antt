@@ -5,6 +5,8 @@ use Rattle.domain_script.specs.declared.event.Event.{Event}
 use Rattle.domain_script.specs.declared.event.Event.TheVariants as line
 use Rattle.domain_script.specs.declared.event.LineFault.{LineFault}
 use Rattle.domain_script.specs.declared.event.LineFault.TheVariants.{Word}
+use Rattle.domain_script.specs.declared.lines.LinesFault.{LinesFault}
+use Rattle.domain_script.specs.declared.lines.LinesFault.TheVariants.{Source, Long, Many, Memory}
 use Rattle.domain_script.specs.NamesState.{NamesState, noted}
 use Rattle.domain_script.specs.ScriptLines.{TakesLine, BeginsWithLonger}
 use Rattle.domain_script.specs.Spells.{Spells}
@@ -49,3 +51,10 @@ StopsAt status.SinkFault rest names count = ⊥
 abbrev pub counted_lines : Status → ℕ → ℕ
 counted_lines (status.Script at fault) count = count + 1
 counted_lines other count = count
+
+-- a fault of the reader as a status, behind so many lines
+abbrev pub stopped : LinesFault → ℕ → Status
+stopped Source count = status.SourceFault
+stopped Memory count = status.NoMemory
+stopped Long count = status.Limit (count + 1) Bytes
+stopped Many count = status.Limit (count + 1) Lines

@@ -2,7 +2,7 @@ ghost use Rattle.std.specs.Prelude.{◌≡◌, ◌*◌, ◌<◌, ◌≤◌, ◌�
 ghost use Rattle.vdisk_msg.specs.Fills.{IsRequest};
 ghost use Rattle.disk_law.specs.ListState.{ListState, fresh, next_id};
 ghost use Rattle.ldom_journal.specs.Report.{accepted_count};
-ghost use Rattle.ldom_replay.specs.Worlds.{refusal_entry};
+ghost use Rattle.ldom_replay.specs.Worlds.{blocks_of, refusal_entry};
 ghost use Rattle.ldom_replay.specs.Parts.{Fits, FitsSoFar, IsForDisk};
 
 use domain_script::{Event, Names, Request};
@@ -29,7 +29,7 @@ impl<D: Store> Model for World<D> {
 }
 
 impl<D: Store> World<D> {
-    ghost use Rattle.ldom_replay.specs.Worlds.{AddsDone, blocks_of, ring_of};
+    ghost use Rattle.ldom_replay.specs.Worlds.{AddsDone, ring_of};
 
     /// The world of these declarations over an image that holds all their blocks. Where memory is wanted the image is
     /// given back.
@@ -134,6 +134,17 @@ impl<D: Store> World<D> {
             bytes,
         });
         Ok(())
+    }
+}
+
+/// How many blocks the disks have together.
+pub fn blocks_declared(names: &Names) -> u64
+    ensures blocks { result ≡ blocks_of names.now.disks }
+    ensures few { result ≤ 65536 }
+{
+    match names.disk(0) {
+        Some(disk) => disk.blocks as u64,
+        None => 0,
     }
 }
 

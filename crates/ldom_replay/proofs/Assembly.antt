@@ -1,0 +1,321 @@
+-- A whole run, put together from its declarations and its other lines.
+use Rattle.std.proofs.Common.{◌≡◌, inl, inr, ℕ, ◌+◌, ◌*◌, ◌<◌, Bool, true, false, List, [], ◌∷◌, ◌++◌, length, map, refl, sym, ◌∙◌, ap, subst, append_assoc, length-append, arith, Option, Some, None, IfSome, IsTrue, ◌↔◌, zero, suc}
+use Rattle.std.specs.List.{flat_map}
+use Rattle.std.proofs.lemmas.List.{append-nil, map-append}
+use Rattle.std.proofs.lemmas.List.Concat.{flat_map-append}
+use Rattle.runs.specs.Run.{Run, run_append}
+use Rattle.vio_io.specs.declared.host.AttachFault.{AttachFault}
+use Rattle.vio_io.specs.declared.host.AttachFault.TheVariants.{Failed, Memory}
+use Rattle.domain_script.specs.declared.event.Event.{Event}
+use Rattle.domain_script.specs.declared.event.Event.TheVariants as line
+use Rattle.domain_script.specs.LinesState.{LinesState, to_come}
+use Rattle.domain_script.specs.NamesState.{NamesState, noted}
+use Rattle.domain_script.specs.ScriptLines.{script_lines}
+use Rattle.domain_script.specs.Spells.{Spells}
+use Rattle.ldom_journal.specs.declared.entry.Entry.{Entry}
+use Rattle.ldom_journal.specs.declared.status.Status.{Status}
+use Rattle.ldom_journal.specs.declared.status.Status.TheVariants as status
+use Rattle.disk_law.specs.ListState.{ListState}
+use Rattle.ldom_replay.specs.Going.{Grew, IsReaders, RunsAll, RunsLines}
+use Rattle.ldom_replay.specs.Opening.{AreOpening, Opened, Opens, OpensAndStops}
+use Rattle.ldom_replay.specs.Parts.{Fits, FitsSoFar, LineStep}
+use Rattle.ldom_replay.specs.Reading.{StopsAt, counted_lines}
+use Rattle.ldom_replay.specs.Replayed.{FaultsAre, JournalIs, Replayed, Stopped, attach_status, ended_status, start_of}
+use Rattle.ldom_replay.specs.Script.{AllSpell, TakesLines, ReadSoFar, FitsScript, FitsCutOff, no_names}
+use Rattle.ldom_replay.proofs.ReadLemmas.{read_none}
+use Rattle.ldom_replay.proofs.RunLemmas.{fits_more, fits_none}
+
+takes_append : (start mid left : Option (List ℕ)) (xs ys : List (List ℕ)) → TakesLines start mid xs → TakesLines mid left ys → TakesLines start left (xs ++ ys)
+takes_append None mid left xs ys first second = tt
+takes_append (Some bytes) None left xs ys first second = absurd first
+takes_append (Some bytes) (Some rest) None xs ys first second = absurd second
+takes_append (Some bytes) (Some rest) (Some left) xs ys first second = first ∙ ap (λ (l : List (List ℕ)). xs ++ l) second ∙ sym (append_assoc xs ys (script_lines left))
+
+spell_append : (xs ys : List (List ℕ)) (a b c : NamesState) (es fs : List Event) → AllSpell xs a es b → AllSpell ys b fs c → AllSpell (xs ++ ys) a (es ++ fs) c
+spell_append [] ys a b c [] fs first second = subst (λ (n : NamesState). AllSpell ys n fs c) first second
+spell_append [] ys a b c (e ∷ es) fs first second = absurd first
+spell_append (x ∷ xs) ys a b c [] fs first second = absurd first
+spell_append (x ∷ xs) ys a b c (e ∷ es) fs first second = (first.0, spell_append xs ys (noted a e) b c es fs first.1 second)
+
+-- behind the declarations no disk is declared
+same_disks : (texts : List (List ℕ)) (before after : NamesState) (events : List Event) → before.ended ≡ true → AllSpell texts before events after → after.disks ≡ before.disks
+same_disks [] before after [] ended spell = ap (λ (n : NamesState). n.disks) spell
+same_disks [] before after (e ∷ es) ended spell = absurd spell
+same_disks (x ∷ xs) before after [] ended spell = absurd spell
+same_disks (x ∷ xs) before after (line.Blank ∷ es) ended spell = same_disks xs before after es ended spell.1
+same_disks (x ∷ xs) before after (line.Disk disk ∷ es) ended spell = absurd (cc (ended, spell.0.still_open))
+same_disks (x ∷ xs) before after (line.Issue disk request ∷ es) ended spell = same_disks xs (noted before (line.Issue disk request)) after es refl spell.1
+same_disks (x ∷ xs) before after (line.Settle ∷ es) ended spell = same_disks xs (noted before line.Settle) after es refl spell.1
+
+-- before a line was read, what is to come is what the source has left
+pub from_start : (lines : LinesState) (left : Option (List ℕ)) → lines.held ≡ [] → to_come lines left ≡ left
+from_start lines None none = refl
+from_start lines (Some bytes) none = ap (λ (l : List ℕ). Some (l ++ bytes)) none
+
+-- declarations give no entry
+fits_opening : (s : ListState) (events : List Event) → AreOpening events → FitsScript s events [] s
+fits_opening s [] are = fits_none s
+fits_opening s (line.Blank ∷ events) are = blank_first (fits_opening s events are)
+  where
+    blank_first : FitsScript s events [] s → FitsScript s (line.Blank ∷ events) [] s
+    blank_first fits = record {
+      lines = (line.Blank, []) ∷ fits.lines;
+      events_are = ap (λ (l : List Event). line.Blank ∷ l) fits.events_are;
+      parts = fits.parts;
+      run = (s, (refl, refl, tt), fits.run);
+    }
+fits_opening s (line.Disk disk ∷ events) are = disk_first (fits_opening s events are)
+  where
+    disk_first : FitsScript s events [] s → FitsScript s (line.Disk disk ∷ events) [] s
+    disk_first fits = record {
+      lines = (line.Disk disk, []) ∷ fits.lines;
+      events_are = ap (λ (l : List Event). line.Disk disk ∷ l) fits.events_are;
+      parts = fits.parts;
+      run = (s, (refl, refl, tt), fits.run);
+    }
+fits_opening s (line.Issue disk request ∷ events) are = absurd are
+fits_opening s (line.Settle ∷ events) are = absurd are
+
+fits_append : (s m t : ListState) (es fs : List Event) (xs ys : List Entry) → FitsScript s es xs m → FitsScript m fs ys t → FitsScript s (es ++ fs) (xs ++ ys) t
+fits_append s m t es fs xs ys first second = record {
+  lines = first.lines ++ second.lines;
+  events_are = map-append (λ (l : Event × List Entry). l.0) first.lines second.lines ∙ ap (λ (l : List Event). l ++ map (λ (x : Event × List Entry). x.0) second.lines) first.events_are ∙ ap (λ (l : List Event). es ++ l) second.events_are;
+  parts = flat_map-append (λ (l : Event × List Entry). l.1) first.lines second.lines ∙ ap (λ (l : List Entry). l ++ flat_map (λ (x : Event × List Entry). x.1) second.lines) first.parts ∙ ap (λ (l : List Entry). xs ++ l) second.parts;
+  run = run_append LineStep s m t first.lines second.lines first.run second.run;
+}
+
+cut_append : (s m t : ListState) (es fs : List Event) (xs ys : List Entry) → FitsScript s es xs m → FitsCutOff m fs ys t → FitsCutOff s (es ++ fs) (xs ++ ys) t
+cut_append s m t es fs xs ys first second = record {
+  before = es ++ second.before;
+  last = second.last;
+  events_are = ap (λ (l : List Event). es ++ l) second.events_are ∙ sym (append_assoc es second.before (second.last ∷ []));
+  front = xs ++ second.front;
+  middle = second.middle;
+  fits = fits_append s m second.middle es second.before xs second.front first second.fits;
+  so_far = record {
+    part = second.so_far.part;
+    grew = ap (λ (l : List Entry). xs ++ l) second.so_far.grew ∙ sym (append_assoc xs second.front second.so_far.part);
+    begun = second.so_far.begun;
+    run = second.so_far.run;
+  };
+}
+
+grew_append : (why : Status) (s m t : ListState) (es fs : List Event) (xs ys : List Entry) → FitsScript s es xs m → Grew why m fs ys t → Grew why s (es ++ fs) (xs ++ ys) t
+grew_append status.NoMemory s m t es fs xs ys first (inl second) = inl (fits_append s m t es fs xs ys first second)
+grew_append status.NoMemory s m t es fs xs ys first (inr second) = inr (cut_append s m t es fs xs ys first second)
+grew_append status.Done s m t es fs xs ys first second = fits_append s m t es fs xs ys first second
+grew_append status.Usage s m t es fs xs ys first second = fits_append s m t es fs xs ys first second
+grew_append (status.Script at fault) s m t es fs xs ys first second = fits_append s m t es fs xs ys first second
+grew_append status.SourceFault s m t es fs xs ys first second = fits_append s m t es fs xs ys first second
+grew_append status.SinkFault s m t es fs xs ys first second = fits_append s m t es fs xs ys first second
+grew_append status.HostFault s m t es fs xs ys first second = fits_append s m t es fs xs ys first second
+grew_append status.StoreFault s m t es fs xs ys first second = fits_append s m t es fs xs ys first second
+grew_append (status.Limit at kind) s m t es fs xs ys first second = fits_append s m t es fs xs ys first second
+
+-- the first event that isn't a declaration, and the lines behind it
+pub runs_all : (start rest : Option (List ℕ)) (event : Event) (names after : NamesState) (s m t : ListState) (journal new : List Entry) (number lines : ℕ) (why : Status)
+    → Opens start rest event names number → Fits s event [] journal m → RunsLines rest names journal m number why after new t lines → RunsAll start names s why after new t lines
+runs_all start rest event names after s m t journal new number lines why opens fits runs =
+    let first : FitsScript s (opens.opening ++ event ∷ []) journal m =
+    subst (λ (l : List Entry). FitsScript s (opens.opening ++ event ∷ []) l m) (sym fits.grew) (fits_more s s m opens.opening event [] fits.part (fits_opening s opens.opening opens.are) fits.step) in
+    let count : number + length runs.texts ≡ length (opens.read.texts ++ runs.texts) = omega (arith, opens.read.counts, length-append opens.read.texts runs.texts) in
+    record {
+      events = (opens.opening ++ event ∷ []) ++ runs.events;
+      stopped = record {
+        left = runs.left;
+        count = number + length runs.texts;
+        read = record {
+          texts = opens.read.texts ++ runs.texts;
+          taken = takes_append start rest runs.left opens.read.texts runs.texts opens.read.taken runs.taken;
+          spell = spell_append opens.read.texts runs.texts no_names names after (opens.opening ++ event ∷ []) runs.events opens.read.spell runs.spell;
+          counts = count;
+        };
+        stop = runs.stop;
+        lines_are = runs.lines_are;
+      };
+      fits = subst (λ (l : List Entry). Grew why s ((opens.opening ++ event ∷ []) ++ runs.events) l t) (sym runs.grew) (grew_append why s m t (opens.opening ++ event ∷ []) runs.events journal runs.part first runs.fits);
+      disks = same_disks runs.texts names after runs.events opens.ended runs.spell;
+    }
+
+-- memory was wanted in the midst of that first event
+pub runs_first_cut : (start rest : Option (List ℕ)) (event : Event) (names : NamesState) (s t : ListState) (journal : List Entry) (number : ℕ)
+    → Opens start rest event names number → FitsSoFar s event [] journal t → RunsAll start names s status.NoMemory names journal t number
+runs_first_cut start rest event names s t journal number opens fits = record {
+  events = opens.opening ++ event ∷ [];
+  stopped = record { left = rest; count = number; read = opens.read; stop = tt; lines_are = refl };
+  fits = inr (record { before = opens.opening; last = event; events_are = refl; front = []; middle = s; fits = fits_opening s opens.opening opens.are; so_far = fits });
+  disks = refl;
+}
+
+-- nothing but declarations
+pub runs_none_more : (start : Option (List ℕ)) (names : NamesState) (s : ListState) (lines : ℕ) → OpensAndStops start status.Done names lines → RunsAll start names s status.Done names [] s lines
+runs_none_more start names s lines opens = record { events = opens.opening; stopped = opens.stopped; fits = fits_opening s opens.opening opens.are; disks = refl }
+
+-- what the status of a run says is so whether the image failed or not
+ended_stop : (why : Status) (faulty : Bool) (names : NamesState) (left : Option (List ℕ)) (count : ℕ) → IsReaders why → StopsAt why left names count → StopsAt (ended_status why faulty) left names count
+ended_stop status.Done true names left count readers stop = stop
+ended_stop status.Done false names left count readers stop = stop
+ended_stop (status.Script at fault) faulty names left count readers stop = stop
+ended_stop status.SourceFault faulty names left count readers stop = stop
+ended_stop (status.Limit at kind) faulty names left count readers stop = stop
+ended_stop status.NoMemory faulty names left count readers stop = stop
+ended_stop status.Usage faulty names left count readers stop = absurd readers
+ended_stop status.SinkFault faulty names left count readers stop = absurd readers
+ended_stop status.HostFault faulty names left count readers stop = absurd readers
+ended_stop status.StoreFault faulty names left count readers stop = absurd readers
+
+ended_count : (why : Status) (faulty : Bool) (count : ℕ) → IsReaders why → counted_lines why count ≡ counted_lines (ended_status why faulty) count
+ended_count status.Done true count readers = refl
+ended_count status.Done false count readers = refl
+ended_count (status.Script at fault) faulty count readers = refl
+ended_count status.SourceFault faulty count readers = refl
+ended_count (status.Limit at kind) faulty count readers = refl
+ended_count status.NoMemory faulty count readers = refl
+ended_count status.Usage faulty count readers = absurd readers
+ended_count status.SinkFault faulty count readers = absurd readers
+ended_count status.HostFault faulty count readers = absurd readers
+ended_count status.StoreFault faulty count readers = absurd readers
+
+ended_journal : (why : Status) (faulty : Bool) (s t : ListState) (events : List Event) (journal : List Entry) → IsReaders why → Grew why s events journal t → JournalIs (ended_status why faulty) s events journal t
+ended_journal status.Done true s t events journal readers grew = grew
+ended_journal status.Done false s t events journal readers grew = grew
+ended_journal (status.Script at fault) faulty s t events journal readers grew = grew
+ended_journal status.SourceFault faulty s t events journal readers grew = grew
+ended_journal (status.Limit at kind) faulty s t events journal readers grew = grew
+ended_journal status.NoMemory faulty s t events journal readers grew = grew
+ended_journal status.Usage faulty s t events journal readers grew = absurd readers
+ended_journal status.SinkFault faulty s t events journal readers grew = absurd readers
+ended_journal status.HostFault faulty s t events journal readers grew = absurd readers
+ended_journal status.StoreFault faulty s t events journal readers grew = absurd readers
+
+ended_faults : (why : Status) (faulty : Bool) (faults : ℕ) → IsReaders why → (IsTrue faulty ↔ (0 < faults)) → FaultsAre (ended_status why faulty) faults
+ended_faults status.Done true faults readers tells = tells.0 refl
+ended_faults status.Done false zero readers tells = refl
+ended_faults status.Done false (suc n) readers tells = absurd (cc (tells.1 (omega arith)))
+ended_faults (status.Script at fault) faulty faults readers tells = tt
+ended_faults status.SourceFault faulty faults readers tells = tt
+ended_faults (status.Limit at kind) faulty faults readers tells = tt
+ended_faults status.NoMemory faulty faults readers tells = tt
+ended_faults status.Usage faulty faults readers tells = absurd readers
+ended_faults status.SinkFault faulty faults readers tells = absurd readers
+ended_faults status.HostFault faulty faults readers tells = absurd readers
+ended_faults status.StoreFault faulty faults readers tells = absurd readers
+
+opening_journal : (why : Status) (s : ListState) (events : List Event) → IsReaders why → FitsScript s events [] s → JournalIs why s events [] s
+opening_journal status.Done s events readers fits = fits
+opening_journal status.NoMemory s events readers fits = inl fits
+opening_journal (status.Script at fault) s events readers fits = fits
+opening_journal status.SourceFault s events readers fits = fits
+opening_journal (status.Limit at kind) s events readers fits = fits
+opening_journal status.Usage s events readers fits = absurd readers
+opening_journal status.SinkFault s events readers fits = absurd readers
+opening_journal status.HostFault s events readers fits = absurd readers
+opening_journal status.StoreFault s events readers fits = absurd readers
+
+opening_faults : (why : Status) (faults : ℕ) → IsReaders why → faults ≡ 0 → FaultsAre why faults
+opening_faults status.Done faults readers none = none
+opening_faults (status.Script at fault) faults readers none = tt
+opening_faults status.SourceFault faults readers none = tt
+opening_faults (status.Limit at kind) faults readers none = tt
+opening_faults status.NoMemory faults readers none = tt
+opening_faults status.Usage faults readers none = absurd readers
+opening_faults status.SinkFault faults readers none = absurd readers
+opening_faults status.HostFault faults readers none = absurd readers
+opening_faults status.StoreFault faults readers none = absurd readers
+
+-- none of a line's steps were made
+none_of : (s : ListState) (event : Event) → FitsSoFar s event [] [] s
+none_of s line.Blank = record { part = []; grew = refl; begun = refl; run = refl }
+none_of s (line.Disk disk) = record { part = []; grew = refl; begun = refl; run = refl }
+none_of s (line.Issue disk request) = record { part = []; grew = refl; begun = refl; run = refl }
+none_of s line.Settle = record { part = []; grew = refl; begun = tt; run = refl }
+
+module _ {D : Type 0} (content : D → Option (List ℕ)) (faults : D → ℕ) (start : Option (List ℕ)) (gives : ℕ → Option (List ℕ)) where
+  -- a run in a world that ended
+  pub replayed_of : (why : Status) (faulty : Bool) (names after : NamesState) (s t : ListState) (journal : List Entry) (lines : ℕ) (image : D) → IsReaders why → RunsAll start names s why after journal t lines → s ≡ start_of names gives
+      → content image ≡ t.told → faults image ≡ t.faults → (IsTrue faulty ↔ (0 < t.faults)) → Replayed content faults start gives (ended_status why faulty) lines after journal (Some image)
+  replayed_of why faulty names after s t journal lines image readers runs begins told failed tells =
+      let begin : s ≡ start_of after gives = begins ∙ ap (λ (disks : List _). start_of (record { disks = disks; ended = true }) gives) (sym runs.disks) in
+      let fits : Grew why (start_of after gives) runs.events journal t = subst (λ (x : ListState). Grew why x runs.events journal t) begin runs.fits in
+      record {
+        events = runs.events;
+        stopped = record {
+          left = runs.stopped.left;
+          count = runs.stopped.count;
+          read = runs.stopped.read;
+          stop = ended_stop why faulty after runs.stopped.left runs.stopped.count readers runs.stopped.stop;
+          lines_are = runs.stopped.lines_are ∙ ended_count why faulty runs.stopped.count readers;
+        };
+        final = t;
+        journal_is = ended_journal why faulty (start_of after gives) t runs.events journal readers fits;
+        image_is = (told, failed);
+        faults_are = ended_faults why faulty t.faults readers tells;
+      }
+
+  -- a run that ended before an image was attached: in its declarations
+  pub replayed_unattached : (why : Status) (names : NamesState) (lines : ℕ) → IsReaders why → OpensAndStops start why names lines → Replayed content faults start gives why lines names [] None
+  replayed_unattached why names lines readers opens = record {
+    events = opens.opening;
+    stopped = opens.stopped;
+    final = start_of names gives;
+    journal_is = opening_journal why (start_of names gives) opens.opening readers (fits_opening (start_of names gives) opens.opening opens.are);
+    image_is = tt;
+    faults_are = opening_faults why (start_of names gives).faults readers refl;
+  }
+
+  -- the image couldn't be attached, or there was no memory for its world
+  pub replayed_refused : (fault : AttachFault) (left : Option (List ℕ)) (first : Option Event) (names : NamesState) (lines : ℕ) (image : Option D) → IfSome image (λ disk. (content disk ≡ (start_of names gives).told) × (faults disk ≡ 0))
+      → Opened start left first names lines → Replayed content faults start gives (attach_status fault) lines names [] image
+  replayed_refused Failed left None names lines image is opened =
+      record { events = opened.opening; stopped = no_reason status.HostFault opened tt; final = start_of names gives; journal_is = refl; image_is = is; faults_are = tt }
+    where
+      no_reason : (why : Status) → (o : OpensAndStops start status.Done names lines) → StopsAt why o.stopped.left names o.stopped.count → Stopped start status.HostFault o.opening names lines
+      no_reason why o stop = record { left = o.stopped.left; count = o.stopped.count; read = o.stopped.read; stop = tt; lines_are = o.stopped.lines_are }
+  replayed_refused Failed left (Some event) names lines image is opened =
+      record { events = opened.opening ++ event ∷ []; stopped = record { left = left; count = lines; read = opened.read; stop = tt; lines_are = refl }; final = start_of names gives; journal_is = refl; image_is = is; faults_are = tt }
+  replayed_refused Memory left None names lines image is opened =
+      record {
+        events = opened.opening;
+        stopped = record { left = opened.stopped.left; count = opened.stopped.count; read = opened.stopped.read; stop = tt; lines_are = opened.stopped.lines_are };
+        final = start_of names gives;
+        journal_is = inl (fits_opening (start_of names gives) opened.opening opened.are);
+        image_is = is;
+        faults_are = tt;
+      }
+  replayed_refused Memory left (Some event) names lines image is opened =
+      record {
+        events = opened.opening ++ event ∷ [];
+        stopped = record { left = left; count = lines; read = opened.read; stop = tt; lines_are = refl };
+        final = start_of names gives;
+        journal_is = inr (record {
+          before = opened.opening;
+          last = event;
+          events_are = refl;
+          front = [];
+          middle = start_of names gives;
+          fits = fits_opening (start_of names gives) opened.opening opened.are;
+          so_far = none_of (start_of names gives) event;
+        });
+        image_is = is;
+        faults_are = tt;
+      }
+
+  -- there was no memory to read a line
+  pub replayed_none : (names : NamesState) → names ≡ no_names → Replayed content faults start gives status.NoMemory 0 names [] None
+  replayed_none names is = record {
+    events = [];
+    stopped = record { left = start; count = 0; read = read_none start names 0 is refl; stop = tt; lines_are = refl };
+    final = start_of names gives;
+    journal_is = inl (fits_none (start_of names gives));
+    image_is = tt;
+    faults_are = tt;
+  }
+
+  -- the same run, its parts said otherwise
+  pub replayed_as : (why now : Status) (lines number : ℕ) (names : NamesState) (journal entries : List Entry) (image disk : Option D) → now ≡ why → number ≡ lines → entries ≡ journal → disk ≡ image
+      → Replayed content faults start gives why lines names journal image → Replayed content faults start gives now number names entries disk
+  replayed_as why now lines number names journal entries image disk status_is lines_are journal_is image_is replayed =
+      subst (λ (w : Status). Replayed content faults start gives w number names entries disk) (sym status_is)
+        (subst (λ (n : ℕ). Replayed content faults start gives why n names entries disk) (sym lines_are)
+          (subst (λ (l : List Entry). Replayed content faults start gives why lines names l disk) (sym journal_is)
+            (subst (λ (d : Option D). Replayed content faults start gives why lines names journal d) (sym image_is) replayed)))

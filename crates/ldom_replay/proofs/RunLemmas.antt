@@ -1,0 +1,120 @@
+-- A script's lines run one after another.
+use Rattle.std.proofs.Common.{◌≡◌, inl, inr, ℕ, ◌+◌, ◌<◌, ◌≤◌, List, [], ◌∷◌, ◌++◌, length, map, refl, sym, ◌∙◌, ap, subst, append_assoc, length-append, arith, Option, Some, None}
+use Rattle.std.specs.List.{flat_map}
+use Rattle.std.proofs.lemmas.List.{append-nil, map-append}
+use Rattle.std.proofs.lemmas.List.Concat.{flat_map-append}
+use Rattle.runs.specs.Run.{Run, run_push}
+use Rattle.domain_script.specs.declared.event.Event.{Event}
+use Rattle.domain_script.specs.declared.event.Event.TheVariants as line
+use Rattle.domain_script.specs.NamesState.{NamesState, noted}
+use Rattle.domain_script.specs.Spells.{IsDeclared}
+use Rattle.ldom_journal.specs.declared.entry.Entry.{Entry}
+use Rattle.ldom_journal.specs.declared.status.Status.{Status}
+use Rattle.ldom_journal.specs.declared.status.Status.TheVariants as status
+use Rattle.disk_law.specs.ListState.{ListState}
+use Rattle.ldom_replay.specs.Going.{Grew, RunsLines}
+use Rattle.ldom_replay.specs.Parts.{Fits, FitsSoFar, IsForDisk, LineStep}
+use Rattle.ldom_replay.specs.Reading.{ReadsEvent, StopsAt, counted_lines}
+use Rattle.ldom_replay.specs.Script.{AllSpell, TakesLines, FitsScript, FitsCutOff}
+use Rattle.ldom_replay.proofs.ReadLemmas.{takes_more, spell_more}
+
+-- no line yet
+pub fits_none : (s : ListState) → FitsScript s [] [] s
+fits_none s = record { lines = []; events_are = refl; parts = refl; run = refl }
+
+-- one more line with its part
+pub fits_more : (s m t : ListState) (events : List Event) (event : Event) (journal part : List Entry) → FitsScript s events journal m → LineStep m (event, part) t → FitsScript s (events ++ event ∷ []) (journal ++ part) t
+fits_more s m t events event journal part fits step =
+    let last : List (Event × List Entry) = (event, part) ∷ [] in
+    record {
+      lines = fits.lines ++ last;
+      events_are = map-append (λ (l : Event × List Entry). l.0) fits.lines last ∙ ap (λ (l : List Event). l ++ event ∷ []) fits.events_are;
+      parts = flat_map-append (λ (l : Event × List Entry). l.1) fits.lines last ∙ ap (λ (l : List Entry). flat_map (λ (x : Event × List Entry). x.1) fits.lines ++ l) (append-nil part) ∙ ap (λ (l : List Entry). l ++ part) fits.parts;
+      run = run_push LineStep s m t fits.lines (event, part) fits.run step;
+    }
+
+-- the lines that were run so far
+pub record RunsSoFar (start : Option (List ℕ)) (before : NamesState) (old : List Entry) (s : ListState) (number : ℕ) (rest : Option (List ℕ)) (names : NamesState) (new : List Entry) (t : ListState) (count : ℕ) : Type 0 where
+  pub events : List Event
+  pub texts : List (List ℕ)
+  pub taken : TakesLines start rest texts
+  pub spell : AllSpell texts before events names
+  pub part : List Entry
+  pub grew : new ≡ old ++ part
+  pub fits : FitsScript s events part t
+  pub counts : count ≡ number + length texts
+
+pub runs_none : (start : Option (List ℕ)) (names : NamesState) (old : List Entry) (s : ListState) (number : ℕ) → RunsSoFar start names old s number start names old s number
+runs_none None names old s number = record { events = []; texts = []; taken = tt; spell = refl; part = []; grew = sym (append-nil old); fits = fits_none s; counts = omega arith }
+runs_none (Some bytes) names old s number = record { events = []; texts = []; taken = refl; spell = refl; part = []; grew = sym (append-nil old); fits = fits_none s; counts = omega arith }
+
+pub runs_more : (start rest left : Option (List ℕ)) (before names after : NamesState) (old mid new : List Entry) (s m t : ListState) (number count next : ℕ) (event : Event)
+    → RunsSoFar start before old s number rest names mid m count → ReadsEvent rest left names event after → next ≡ count + 1 → Fits m event mid new t → RunsSoFar start before old s number left after new t next
+runs_more start rest left before names after old mid new s m t number count next event so_far reads is fits = record {
+  events = so_far.events ++ event ∷ [];
+  texts = so_far.texts ++ reads.text ∷ [];
+  taken = takes_more start rest left so_far.texts reads.text so_far.taken reads.taken;
+  spell = spell_more so_far.texts reads.text before names after so_far.events event so_far.spell reads.spells reads.noted_is;
+  part = so_far.part ++ fits.part;
+  grew = fits.grew ∙ ap (λ (l : List Entry). l ++ fits.part) so_far.grew ∙ append_assoc old so_far.part fits.part;
+  fits = fits_more s m t so_far.events event so_far.part fits.part so_far.fits fits.step;
+  counts = omega (arith, is, so_far.counts, length-append so_far.texts (reads.text ∷ []));
+}
+
+grew_whole : (why : Status) (s : ListState) (events : List Event) (part : List Entry) (t : ListState) → FitsScript s events part t → Grew why s events part t
+grew_whole status.NoMemory s events part t fits = inl fits
+grew_whole status.Done s events part t fits = fits
+grew_whole status.Usage s events part t fits = fits
+grew_whole (status.Script line fault) s events part t fits = fits
+grew_whole status.SourceFault s events part t fits = fits
+grew_whole status.SinkFault s events part t fits = fits
+grew_whole status.HostFault s events part t fits = fits
+grew_whole status.StoreFault s events part t fits = fits
+grew_whole (status.Limit line kind) s events part t fits = fits
+
+-- no further line is taken up
+pub runs_stop : (start rest : Option (List ℕ)) (before names after : NamesState) (old new : List Entry) (s t : ListState) (number count lines : ℕ) (why : Status)
+    → RunsSoFar start before old s number rest names new t count → StopsAt why rest names count → lines ≡ counted_lines why count → after ≡ names → RunsLines start before old s number why after new t lines
+runs_stop start rest before names after old new s t number count lines why so_far stop is same = subst (λ (n : NamesState). RunsLines start before old s number why n new t lines) (sym same) (record {
+  events = so_far.events;
+  texts = so_far.texts;
+  left = rest;
+  taken = so_far.taken;
+  spell = so_far.spell;
+  part = so_far.part;
+  grew = so_far.grew;
+  fits = grew_whole why s so_far.events so_far.part t so_far.fits;
+  stop = subst (λ (n : ℕ). StopsAt why rest names n) so_far.counts stop;
+  lines_are = is ∙ ap (λ (n : ℕ). counted_lines why n) so_far.counts;
+})
+
+-- memory was wanted in the midst of a line
+pub runs_cut : (start rest left : Option (List ℕ)) (before names after : NamesState) (old mid new : List Entry) (s m t : ListState) (number count next : ℕ) (event : Event)
+    → RunsSoFar start before old s number rest names mid m count → ReadsEvent rest left names event after → next ≡ count + 1 → FitsSoFar m event mid new t → RunsLines start before old s number status.NoMemory after new t next
+runs_cut start rest left before names after old mid new s m t number count next event so_far reads is fits = record {
+  events = so_far.events ++ event ∷ [];
+  texts = so_far.texts ++ reads.text ∷ [];
+  left = left;
+  taken = takes_more start rest left so_far.texts reads.text so_far.taken reads.taken;
+  spell = spell_more so_far.texts reads.text before names after so_far.events event so_far.spell reads.spells reads.noted_is;
+  part = so_far.part ++ fits.part;
+  grew = fits.grew ∙ ap (λ (l : List Entry). l ++ fits.part) so_far.grew ∙ append_assoc old so_far.part fits.part;
+  fits = inr (record {
+    before = so_far.events;
+    last = event;
+    events_are = refl;
+    front = so_far.part;
+    middle = m;
+    fits = so_far.fits;
+    so_far = record { part = fits.part; grew = refl; begun = fits.begun; run = fits.run };
+  });
+  stop = tt;
+  lines_are = omega (arith, is, so_far.counts, length-append so_far.texts (reads.text ∷ []));
+}
+
+-- the event is for the one disk
+pub for_one : (names : NamesState) (event : Event) → length names.disks ≤ 1 → IsDeclared names event → IsForDisk event
+for_one names line.Blank one declared_as = tt
+for_one names (line.Disk disk) one declared_as = tt
+for_one names (line.Issue disk request) one declared_as = (omega (arith, declared_as.0), declared_as.1)
+for_one names line.Settle one declared_as = tt

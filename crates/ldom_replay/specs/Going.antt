@@ -1,0 +1,49 @@
+-- The lines of a script behind its declarations.
+use Rattle.std.specs.Prelude.{◌≡◌, ℕ, ◌+◌, ◌⊎◌, List, [], ◌∷◌, ◌++◌, length, Option, ⊤}
+use Rattle.domain_script.specs.declared.event.Event.{Event}
+use Rattle.domain_script.specs.NamesState.{NamesState}
+use Rattle.ldom_journal.specs.declared.entry.Entry.{Entry}
+use Rattle.ldom_journal.specs.declared.status.Status.{Status}
+use Rattle.ldom_journal.specs.declared.status.Status.TheVariants as status
+use Rattle.disk_law.specs.ListState.{ListState}
+use Rattle.ldom_replay.specs.Reading.{StopsAt, counted_lines}
+use Rattle.ldom_replay.specs.Replayed.{Stopped}
+use Rattle.ldom_replay.specs.Script.{AllSpell, TakesLines, FitsScript, FitsCutOff}
+
+-- what the journal got by how it ended: after want of memory the last line's part may be cut off
+abbrev pub Grew : Status → ListState → List Event → List Entry → ListState → Type 0
+Grew status.NoMemory s events part t = FitsScript s events part t ⊎ FitsCutOff s events part t
+Grew other s events part t = FitsScript s events part t
+
+-- From the bytes that are still to come these lines were read and run, and then no further one was taken up.
+pub record RunsLines (start : Option (List ℕ)) (before : NamesState) (old : List Entry) (s : ListState) (number : ℕ)
+  (why : Status) (after : NamesState) (new : List Entry) (t : ListState) (lines : ℕ) : Type 0 where
+  pub events : List Event
+  pub texts : List (List ℕ)
+  pub left : Option (List ℕ)
+  pub taken : TakesLines start left texts
+  pub spell : AllSpell texts before events after
+  pub part : List Entry
+  pub grew : new ≡ old ++ part
+  pub fits : Grew why s events part t
+  pub stop : StopsAt why left after (number + length texts)
+  pub lines_are : lines ≡ counted_lines why (number + length texts)
+
+-- a status with which reading a script ends
+abbrev pub IsReaders : Status → Type 0
+IsReaders status.Done = ⊤
+IsReaders (status.Script line fault) = ⊤
+IsReaders status.SourceFault = ⊤
+IsReaders (status.Limit line kind) = ⊤
+IsReaders status.NoMemory = ⊤
+IsReaders status.Usage = ⊥
+IsReaders status.SinkFault = ⊥
+IsReaders status.HostFault = ⊥
+IsReaders status.StoreFault = ⊥
+
+-- From its first line on the script was read and run, and then no further line was taken up.
+pub record RunsAll (start : Option (List ℕ)) (before : NamesState) (s : ListState) (why : Status) (after : NamesState) (journal : List Entry) (t : ListState) (lines : ℕ) : Type 0 where
+  pub events : List Event
+  pub stopped : Stopped start why events after lines
+  pub fits : Grew why s events journal t
+  pub disks : after.disks ≡ before.disks

@@ -1,0 +1,68 @@
+// The events of a script, one after another.
+ghost use Rattle.std.specs.Prelude.{◌≡◌, ◌+◌, ◌-◌, ◌^◌, ◌<◌, ◌≤◌, IfOk, IfErr};
+ghost use Rattle.vio_io.specs.Causes.{Rose};
+ghost use Rattle.domain_script.specs.declared.lines.LinesStop.TheVariants.{Going};
+ghost use Rattle.domain_script.specs.LinesState.{to_come};
+ghost use Rattle.domain_script.specs.Spells.{IsDeclared};
+ghost use Rattle.ldom_replay.specs.Going.{IsReaders};
+ghost use Rattle.ldom_replay.specs.Reading.{ReadsEvent, StopsAt, counted_lines, stopped};
+
+use domain_script::{Event, Lines, LinesFault, Names, parse};
+use ldom_journal::{LimitKind, Status};
+use vio_io::Source;
+
+/// The event of the next line, which is noted in the names; else why no line was taken up, `Done` at the end.
+pub fn read_event<S: Source>(
+    lines: &mut Lines,
+    source: &mut S,
+    names: &mut Names,
+) -> Result<Event, Status>
+    requires going { lines.old.stop ≡ Going }
+    requires few { lines.old.number ≤ 20000 }
+
+    ensures event { IfOk result (λ event. ReadsEvent (to_come lines.old (S.left source.old)) (to_come lines.new (S.left source.new)) names.old event names.new) }
+    ensures declared { IfOk result (IsDeclared names.new) }
+    ensures next { IfOk result (λ _. (lines.new.number ≡ lines.old.number + 1) × (lines.new.number ≤ 20000) × (lines.new.stop ≡ Going)) }
+    ensures most { lines.new.number ≤ 20000 }
+
+    ensures stop { IfErr result (λ status. StopsAt status (to_come lines.old (S.left source.old)) names.old lines.old.number) }
+    ensures readers { IfErr result IsReaders }
+    ensures lines { IfErr result (λ status. (lines.new.number ≡ counted_lines status lines.old.number) × (names.new ≡ names.old)) }
+    ensures count { S.faults source.old ≤ S.faults source.new }
+    ensures cause { result ≡ Err Status.SourceFault → Rose (S.faults source.old) (S.faults source.new) }
+{
+    match lines.advance(source) {
+        Ok(true) => {}
+        Ok(false) => return Err(Status::Done),
+        Err(fault) => return Err(stop_of(fault, lines.number())),
+    }
+    match parse(lines.line(), names) {
+        Ok(event) => {
+            names.note(&event);
+            Ok(event)
+        }
+        Err(fault) => Err(Status::Script {
+            line: lines.number(),
+            fault,
+        }),
+    }
+}
+
+// What a fault of the reader is as a status, behind so many lines.
+fn stop_of(fault: LinesFault, number: u32) -> Status
+    requires { number < 2 ^ 32 - 1 }
+    ensures { result ≡ stopped fault number }
+{
+    match fault {
+        LinesFault::Source => Status::SourceFault,
+        LinesFault::Memory => Status::NoMemory,
+        LinesFault::Long => Status::Limit {
+            line: number + 1,
+            kind: LimitKind::Bytes,
+        },
+        LinesFault::Many => Status::Limit {
+            line: number + 1,
+            kind: LimitKind::Lines,
+        },
+    }
+}
