@@ -107,7 +107,7 @@ dones_none x (entry.Full of ∷ dones) other are = absurd are
 dones_none x (entry.Refused of why ∷ dones) other are = absurd are
 dones_none x (entry.Settled ∷ dones) other are = absurd are
 
-history_none-append : (x : ℕ) (xs ys : List Entry) → completed (history x xs) ≡ [] → completed (history x ys) ≡ [] → completed (history x (xs ++ ys)) ≡ []
+pub history_none-append : (x : ℕ) (xs ys : List Entry) → completed (history x xs) ≡ [] → completed (history x ys) ≡ [] → completed (history x (xs ++ ys)) ≡ []
 history_none-append x xs ys first second = ap completed (history-append x xs ys) ∙ completed-append (history x xs) (history x ys) ∙ ap (λ (l : List ℕ). l ++ completed (history x ys)) first ∙ second
 
 part_none : (x : ℕ) (asked : Event) (part : List Entry) → x ≢ 0 → PartOf asked part → completed (history x part) ≡ []
@@ -128,18 +128,18 @@ part_none x (line.Issue disk request) part other is =
     any_answer y of r entry.Settled answers = absurd answers
 part_none x line.Settle part other is = ap (λ (l : List Entry). completed (history x l)) is.1 ∙ history_none-append x is.0 (entry.Settled ∷ []) (dones_none x is.0 other is.2) refl
 
-lines_none : (x : ℕ) (s t : ListState) (lines : List (Event × List Entry)) → x ≢ 0 → Run LineStep s lines t → completed (history x (flat_map (λ l. l.1) lines)) ≡ []
+pub lines_none : (x : ℕ) (s t : ListState) (lines : List (Event × List Entry)) → x ≢ 0 → Run LineStep s lines t → completed (history x (flat_map (λ l. l.1) lines)) ≡ []
 lines_none x s t [] other run = refl
 lines_none x s t (step ∷ lines) other run = history_none-append x step.1 (flat_map (λ l. l.1) lines) (part_none x step.0 step.1 other run.1.0) (lines_none x run.0 t lines other run.2)
 
-begun_none : (x : ℕ) (asked : Event) (part : List Entry) → x ≢ 0 → BeginsPart asked part → completed (history x part) ≡ []
+pub begun_none : (x : ℕ) (asked : Event) (part : List Entry) → x ≢ 0 → BeginsPart asked part → completed (history x part) ≡ []
 begun_none x line.Settle part other begun = dones_none x part other begun
 begun_none x line.Blank part other begun = ap (λ (l : List Entry). completed (history x l)) begun
 begun_none x (line.Disk disk) part other begun = ap (λ (l : List Entry). completed (history x l)) begun
 begun_none x (line.Issue disk request) part other begun = ap (λ (l : List Entry). completed (history x l)) begun
 
 -- where nothing completes, all that completes does so in order
-none_once : (es : List DiskEvent) → completed es ≡ [] → CompletesOnceInOrder es
+pub none_once : (es : List DiskEvent) → completed es ≡ [] → CompletesOnceInOrder es
 none_once es none before after id operation status bytes is =
     absurd (no_front (completed before) id (completed after) (sym none ∙ ap completed is ∙ completed-append before (Done id operation status bytes ∷ after)))
   where

@@ -3,3 +3,5 @@ mod History
 mod ReadLemmas
 mod RunLemmas
 mod Assembly
+mod Worded
+mod RunFacts

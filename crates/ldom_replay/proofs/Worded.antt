@@ -1,0 +1,114 @@
+-- Each entry of a run has the words of its line.
+use Rattle.std.proofs.Common.{◌≡◌, ◌⊎◌, inl, inr, ℕ, zero, suc, ◌+◌, ◌*◌, ◌%◌, ◌==◌, if◌then◌else◌, ◌<◌, ◌≤◌, List, [], ◌∷◌, ◌++◌, length, refl, sym, ◌∙◌, ap, subst, arith, Option, Some, None}
+use Rattle.std.specs.List.{All, flat_map, cons_option}
+use Rattle.std.proofs.lemmas.List.Elements.{All-append, All-cons, All-nil, All-same, filter_map-append}
+use Rattle.std.proofs.lemmas.List.{append-nil}
+use Rattle.std.proofs.lemmas.Bool.Decides.{nat_tests}
+use Rattle.runs.specs.Run.{Run, run_split}
+use Rattle.vdisk_msg.specs.declared.request.Request.{Request}
+use Rattle.vdisk_msg.specs.declared.request.Request.TheVariants.{Read, Write, Flush}
+use Rattle.domain_script.specs.declared.event.DiskDecl.{DiskDecl}
+use Rattle.domain_script.specs.declared.event.Event.{Event}
+use Rattle.domain_script.specs.declared.event.Event.TheVariants as line
+use Rattle.domain_script.specs.declared.event.Lane.TheVariants.{Disk}
+use Rattle.ldom_journal.specs.Bytes.{BytesState}
+use Rattle.ldom_journal.specs.HasWords.{HasWords, IsDeclared, IsCompletion}
+use Rattle.ldom_journal.specs.declared.entry.Entry.{Entry}
+use Rattle.ldom_journal.specs.declared.entry.Entry.TheVariants as entry
+use Rattle.ldom_journal.specs.declared.entry.Who.{Who}
+use Rattle.ldom_journal.specs.declared.entry.Who.TheVariants.{Lane}
+use Rattle.disk_law.specs.Requests.{defect, blocks_defect, operation_of}
+use Rattle.disk_law.specs.ListState.{ListState}
+use Rattle.disk_law.specs.ListStep.{DiskEvent, Accepted, Full, Refused, Done, Rested, Completes, Ends, ListStep}
+use Rattle.ldom_replay.specs.Happened.{disk_event, for_disk, happened}
+use Rattle.ldom_replay.specs.Parts.{Answers, AreDone, BeginsPart, IsForDisk, LineStep, PartOf}
+
+-- what is pending was admitted
+abbrev pub AreAdmitted : ℕ → List Request → Type 0
+AreAdmitted blocks [] = Unit {0}
+AreAdmitted blocks (request ∷ requests) = (defect blocks request ≡ None) × AreAdmitted blocks requests
+
+abbrev pub IsAdmitted : ListState → Type 0
+IsAdmitted s = AreAdmitted s.blocks s.pending
+
+admitted_push : (blocks : ℕ) (requests : List Request) (request : Request) → AreAdmitted blocks requests → defect blocks request ≡ None → AreAdmitted blocks (requests ++ request ∷ [])
+admitted_push blocks [] request are is = (is, tt)
+admitted_push blocks (first ∷ requests) request are is = (are.0, admitted_push blocks requests request are.1 is)
+
+admitted_front : (s : ListState) (request : Request) (rest : List Request) → s.pending ≡ request ∷ rest → IsAdmitted s → (defect s.blocks request ≡ None) × AreAdmitted s.blocks rest
+admitted_front s request rest is are = subst (λ (l : List Request). AreAdmitted s.blocks l) is are
+
+admitted_step : (s t : ListState) (e : DiskEvent) → ListStep s e t → IsAdmitted s → IsAdmitted t
+admitted_step s t (Accepted id request) step are = subst IsAdmitted (sym step.3) (admitted_push s.blocks s.pending request are step.0)
+admitted_step s t (Full request) step are = subst IsAdmitted (sym step.2) are
+admitted_step s t (Refused why request) step are = subst IsAdmitted (sym step.1) are
+admitted_step s t (Done id operation status bytes) step are =
+    subst (λ (n : ℕ). AreAdmitted n t.pending) (sym step.blocks) (admitted_front s step.request t.pending step.front are).1
+admitted_step s t Rested step are = subst IsAdmitted (sym step.1) are
+
+admitted_run : (s t : ListState) (es : List DiskEvent) → Run ListStep s es t → IsAdmitted s → IsAdmitted t
+admitted_run s t [] run are = subst IsAdmitted run are
+admitted_run s t (e ∷ es) run are = admitted_run run.0 t es run.2 (admitted_step s run.0 e run.1 are)
+
+some_count : (blocks block count : ℕ) → blocks_defect blocks block count ≡ None → 1 ≤ count
+some_count blocks block count is = grind (arith, nat_tests)
+
+read_gives : (blocks block count : ℕ) (bytes : List ℕ) → blocks_defect blocks block count ≡ None → length bytes ≡ 512 * count → (0 < length bytes) × (length bytes % 512 ≡ 0)
+read_gives blocks block count bytes is long = let some = some_count blocks block count is in (omega arith, omega arith)
+
+completion : (blocks : ℕ) (request : Request) (operation status : ℕ) (bytes : List ℕ) (s t : ListState) → defect blocks request ≡ None → operation ≡ operation_of request → Ends request status bytes s t → IsCompletion operation status bytes
+completion blocks (Read block count) operation status bytes s t is same (inl ok) =
+    let gives = read_gives blocks block count bytes is ok.1.0 in record { least = omega arith; most = omega arith; some = λ _ _. gives.0; blocks = λ _ _. gives.1 }
+completion blocks (Read block count) operation status bytes s t is same (inr cut) = record { least = omega arith; most = omega arith; some = λ _ zero_is. absurd (omega (arith, zero_is, cut.0)); blocks = λ _ zero_is. absurd (omega (arith, zero_is, cut.0)) }
+completion blocks (Write block count fill) operation status bytes s t is same ends = record { least = omega arith; most = omega arith; some = λ one _. absurd (omega (arith, one, same)); blocks = λ one _. absurd (omega (arith, one, same)) }
+completion blocks Flush operation status bytes s t is same ends = record { least = omega arith; most = omega arith; some = λ one _. absurd (omega (arith, one, same)); blocks = λ one _. absurd (omega (arith, one, same)) }
+
+answer_worded : (disks : List DiskDecl) (request : Request) (e : Entry) → 0 < length disks → Answers 0 request e → HasWords disks e
+answer_worded disks request (entry.Accepted of id kept) some answers = omega (arith, answers.0)
+answer_worded disks request (entry.Full who) some answers = subst (λ (w : Who). IsDeclared disks w) (sym answers) some
+answer_worded disks request (entry.Refused who why) some answers = subst (λ (w : Who). IsDeclared disks w) (sym answers) some
+answer_worded disks request (entry.Done of id operation status bytes) some answers = absurd answers
+answer_worded disks request entry.Settled some answers = absurd answers
+
+dones_worded : (disks : List DiskDecl) (dones rest : List Entry) (s t : ListState) → 0 < length disks → AreDone dones → Run ListStep s (happened 0 line.Settle (dones ++ rest)) t → IsAdmitted s → All (HasWords disks) dones
+dones_worded disks [] rest s t some are run admitted = All-nil (HasWords disks)
+dones_worded disks (entry.Done of id operation status bytes ∷ dones) rest s t some are run admitted =
+    let first : Run ListStep s (Done id operation status bytes.items ∷ happened 0 line.Settle (dones ++ rest)) t =
+    subst (λ (k : ℕ). Run ListStep s (cons_option (for_disk 0 k (Done id operation status bytes.items)) (happened 0 line.Settle (dones ++ rest))) t) are.0 run in
+    let front = admitted_front s first.1.request first.0.pending first.1.front admitted in
+    All-cons (HasWords disks) (entry.Done of id operation status bytes) dones
+      (omega (arith, are.0), completion s.blocks first.1.request operation status bytes.items s first.0 front.0 first.1.operation_is first.1.ends)
+      (dones_worded disks dones rest first.0 t some are.1 first.2 (admitted_step s first.0 (Done id operation status bytes.items) first.1 admitted))
+dones_worded disks (entry.Accepted of id request ∷ dones) rest s t some are run admitted = absurd are
+dones_worded disks (entry.Full who ∷ dones) rest s t some are run admitted = absurd are
+dones_worded disks (entry.Refused who why ∷ dones) rest s t some are run admitted = absurd are
+dones_worded disks (entry.Settled ∷ dones) rest s t some are run admitted = absurd are
+
+part_worded : (disks : List DiskDecl) (s t : ListState) (step : Event × List Entry) → 0 < length disks → LineStep s step t → IsAdmitted s → All (HasWords disks) step.1
+part_worded disks s t (line.Blank, part) some step admitted = All-same (HasWords disks) part [] step.0 (All-nil (HasWords disks))
+part_worded disks s t (line.Disk disk, part) some step admitted = All-same (HasWords disks) part [] step.0 (All-nil (HasWords disks))
+part_worded disks s t (line.Issue disk request, part) some step admitted =
+    All-same (HasWords disks) part (step.0.0 ∷ []) step.0.1
+      (All-cons (HasWords disks) step.0.0 [] (answer_worded disks request step.0.0 some (subst (λ (k : ℕ). Answers k request step.0.0) step.2.0 step.0.2)) (All-nil (HasWords disks)))
+part_worded disks s t (line.Settle, part) some step admitted =
+    All-same (HasWords disks) part (step.0.0 ++ entry.Settled ∷ []) step.0.1
+      (All-append (HasWords disks) step.0.0 (entry.Settled ∷ [])
+        (dones_worded disks step.0.0 (entry.Settled ∷ []) s t some step.0.2 (subst (λ (l : List Entry). Run ListStep s (happened 0 line.Settle l) t) step.0.1 step.1) admitted)
+        (All-cons (HasWords disks) entry.Settled [] tt (All-nil (HasWords disks))))
+
+pub lines_worded : (disks : List DiskDecl) (s t : ListState) (lines : List (Event × List Entry)) → 0 < length disks → Run LineStep s lines t → IsAdmitted s → All (HasWords disks) (flat_map (λ l. l.1) lines)
+lines_worded disks s t [] some run admitted = All-nil (HasWords disks)
+lines_worded disks s t (step ∷ lines) some run admitted =
+    All-append (HasWords disks) step.1 (flat_map (λ l. l.1) lines) (part_worded disks s run.0 step some run.1 admitted)
+      (lines_worded disks run.0 t lines some run.2 (admitted_run s run.0 (happened 0 step.0 step.1) run.1.1 admitted))
+
+pub lines_admitted : (s t : ListState) (lines : List (Event × List Entry)) → Run LineStep s lines t → IsAdmitted s → IsAdmitted t
+lines_admitted s t [] run admitted = subst IsAdmitted run admitted
+lines_admitted s t (step ∷ lines) run admitted = lines_admitted run.0 t lines run.2 (admitted_run s run.0 (happened 0 step.0 step.1) run.1.1 admitted)
+
+pub cut_worded : (disks : List DiskDecl) (s t : ListState) (event : Event) (part : List Entry) → 0 < length disks → BeginsPart event part → Run ListStep s (happened 0 event part) t → IsAdmitted s → All (HasWords disks) part
+cut_worded disks s t line.Blank part some begun run admitted = All-same (HasWords disks) part [] begun (All-nil (HasWords disks))
+cut_worded disks s t (line.Disk disk) part some begun run admitted = All-same (HasWords disks) part [] begun (All-nil (HasWords disks))
+cut_worded disks s t (line.Issue disk request) part some begun run admitted = All-same (HasWords disks) part [] begun (All-nil (HasWords disks))
+cut_worded disks s t line.Settle part some begun run admitted =
+    dones_worded disks part [] s t some begun (subst (λ (l : List Entry). Run ListStep s (happened 0 line.Settle l) t) (sym (append-nil part)) run) admitted
