@@ -5,3 +5,5 @@ mod RunLemmas
 mod Assembly
 mod Worded
 mod RunFacts
+mod ReportText
+mod Words

@@ -1,5 +1,5 @@
 -- What holds of the journal of every run.
-use Rattle.std.proofs.Common.{◌≡◌, ◌≢◌, inl, inr, ℕ, zero, suc, ◌+◌, ◌<◌, ◌≤◌, List, [], ◌∷◌, ◌++◌, length, map, refl, sym, ◌∙◌, ap, subst, arith, append_assoc, length-append, Option, Some, None}
+use Rattle.std.proofs.Common.{◌≡◌, ◌≢◌, inl, inr, ℕ, zero, suc, ◌+◌, ◌*◌, ◌<◌, ◌≤◌, List, [], ◌∷◌, ◌++◌, length, map, refl, sym, ◌∙◌, ap, subst, arith, append_assoc, length-append, Option, Some, None}
 use Rattle.std.specs.List.{All, flat_map}
 use Rattle.std.proofs.lemmas.List.Elements.{All-append, All-nil, All-same}
 use Rattle.runs.specs.Run.{Run}
@@ -19,6 +19,7 @@ use Rattle.ldom_replay.specs.Happened.{happened, history}
 use Rattle.ldom_replay.specs.Opening.{AreOpening}
 use Rattle.ldom_replay.specs.Parts.{BeginsPart, FitsSoFar, LineStep}
 use Rattle.ldom_replay.specs.Replayed.{JournalIs, Replayed, start_of}
+use Rattle.ldom_replay.specs.Worlds.{blocks_of, ring_of}
 use Rattle.ldom_replay.specs.Script.{AllSpell, FitsScript, FitsCutOff, no_names}
 use Rattle.ldom_replay.proofs.History.{begun_none, history_none-append, history_run, lines_none, none_once, once_of_run, so_far_run}
 use Rattle.ldom_replay.proofs.Worded.{IsAdmitted, cut_worded, lines_admitted, lines_worded}
@@ -111,3 +112,26 @@ module _ {D : Type 0} (content : D → Option (List ℕ)) (faults : D → ℕ) (
           let some : 0 < length names.disks = omega (arith, ap length is) in
           journal_is (λ (l : List Entry). All (HasWords names.disks) l) why (start_of names gives) run.final run.events journal
             (script_worded names.disks (start_of names gives) run.final run.events journal some tt) (cut_off_worded names.disks (start_of names gives) run.final run.events journal some tt) (All-nil (HasWords names.disks)) run.journal_is
+
+  -- completions in order, for every disk
+  pub once : (disk : ℕ) → CompletesOnceInOrder (history disk journal)
+  once disk =
+      journal_is (λ (l : List Entry). CompletesOnceInOrder (history disk l)) why (start_of names gives) run.final run.events journal
+        (λ fits. once_of_run disk (blocks_of names.disks) (ring_of names.disks) 0 (gives (512 * blocks_of names.disks)) run.final journal (script_run fits) (script_none fits))
+        (λ cut. once_of_run disk (blocks_of names.disks) (ring_of names.disks) 0 (gives (512 * blocks_of names.disks)) run.final journal (cut_run cut) (cut_none cut)) (none_once [] refl) run.journal_is
+    where
+      script_run : FitsScript (start_of names gives) run.events journal run.final → Run ListStep (start_of names gives) (history 0 journal) run.final
+      script_run fits = subst (λ (l : List Entry). Run ListStep (start_of names gives) (history 0 l) run.final) fits.parts (history_run (start_of names gives) run.final fits.lines fits.run)
+
+      script_none : FitsScript (start_of names gives) run.events journal run.final → disk ≢ 0 → completed (history disk journal) ≡ []
+      script_none fits other = subst (λ (l : List Entry). completed (history disk l) ≡ []) fits.parts (lines_none disk (start_of names gives) run.final fits.lines other fits.run)
+
+      cut_run : FitsCutOff (start_of names gives) run.events journal run.final → Run ListStep (start_of names gives) (history 0 journal) run.final
+      cut_run cut = so_far_run (start_of names gives) cut.middle run.final cut.last cut.front journal
+        (subst (λ (l : List Entry). Run ListStep (start_of names gives) (history 0 l) cut.middle) cut.fits.parts (history_run (start_of names gives) cut.middle cut.fits.lines cut.fits.run)) cut.so_far
+
+      cut_none : FitsCutOff (start_of names gives) run.events journal run.final → disk ≢ 0 → completed (history disk journal) ≡ []
+      cut_none cut other = ap (λ (l : List Entry). completed (history disk l)) cut.so_far.grew
+        ∙ history_none-append disk cut.front cut.so_far.part
+          (subst (λ (l : List Entry). completed (history disk l) ≡ []) cut.fits.parts (lines_none disk (start_of names gives) cut.middle cut.fits.lines other cut.fits.run))
+          (begun_none disk cut.last cut.so_far.part other cut.so_far.begun)

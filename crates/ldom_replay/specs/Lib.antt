@@ -1,6 +1,7 @@
 pub mod Going
 pub mod Happened
 pub mod Opening
+pub mod Outcomes
 pub mod Parts
 pub mod Reading
 pub mod Replayed

@@ -3,6 +3,9 @@
 
 mod reading;
 mod run;
+mod top_call;
 mod world;
 
+pub use ldom_journal::{LimitKind, Status};
+pub use top_call::{Outcome, replay};
 pub use world::World;

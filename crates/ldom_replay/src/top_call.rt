@@ -1,0 +1,137 @@
+ghost use Rattle.std.specs.Prelude.{◌≡◌, ◌≢◌, ◌≤◌, ◌↔◌, ℕ, IsTrue, [], ◌∷◌, map, codes, string_bytes, Option, List, IsNone, OnErr, OnOk};
+ghost use Rattle.std.specs.List.{All};
+ghost use Rattle.std.specs.Io.KnownBytes.{Appends};
+ghost use Rattle.vio_io.specs.Causes.{Rose};
+ghost use Rattle.disk_law.specs.Issued.{CompletesOnceInOrder};
+ghost use Rattle.ldom_journal.specs.Gathered.{WroteFront};
+ghost use Rattle.ldom_journal.specs.HasWords.{HasWords};
+ghost use Rattle.ldom_journal.specs.Report.{report, usage_line};
+ghost use Rattle.ldom_replay.specs.Happened.{history};
+ghost use Rattle.ldom_replay.specs.Outcomes.{Reports, RunsScript};
+ghost use Rattle.ldom_replay.specs.Replayed.{Replayed};
+
+use crate::run::{Run, run_script};
+use domain_script::Names;
+use ldom_journal::{Journal, Mode, Status, write_end};
+use std::alloc::Global;
+use vio_io::{Failed, Host, Sink, Source, Store};
+
+/// What became of a script: how its run ended, what happened in it, and the image that was attached, if one was.
+#[derive(Drop)]
+pub struct Outcome<D: Store> {
+    pub status: Status,
+    pub journal: Journal,
+    pub image: Option<D>,
+}
+
+/// Does what the words of a command line say, without the program's name: `run -` runs the script that the source
+/// gives over an image of zeros, and writes the short report to the sink. Other words are answered by the usage line.
+pub fn replay<H: Host, S: Source, K: Sink>(
+    alloc: Global,
+    words: &[String],
+    host: &mut H,
+    script: &mut S,
+    out: &mut K,
+) -> Outcome<H::Disk>
+    // The script is run up to where it stops, the journal is one part for each line, and the report is the journal's.
+    ensures runs { map string_bytes words.now ≡ codes "run" ∷ codes "-" ∷ []
+        → RunsScript H.Disk.content H.Disk.faults (S.left script.old) (H.gives host.old (codes "-")) result.status result.journal.entries result.image (K.written out.old) (K.written out.new) }
+
+    // Other words are no command.
+    ensures usage { map string_bytes words.now ≢ codes "run" ∷ codes "-" ∷ [] → Reports Status.Usage result.status (K.written out.old) (K.written out.new) usage_line }
+    ensures nothing { map string_bytes words.now ≢ codes "run" ∷ codes "-" ∷ [] → (result.journal.entries ≡ []) × IsNone result.image }
+
+    // For every disk: completions are in the order of issue, each request's at most once.
+    ensures once { (disk : ℕ) → CompletesOnceInOrder (history disk result.journal.entries) }
+
+    // A fault of the outside is answered only where its count rose.
+    ensures source_fault { result.status ≡ Status.SourceFault → Rose (S.faults script.old) (S.faults script.new) }
+    ensures sink_fault { result.status ≡ Status.SinkFault → Rose (K.faults out.old) (K.faults out.new) }
+    ensures host_fault { result.status ≡ Status.HostFault → Rose (H.faults host.old) (H.faults host.new) }
+    ensures source_count { S.faults script.old ≤ S.faults script.new }
+    ensures sink_count { K.faults out.old ≤ K.faults out.new }
+    ensures host_count { H.faults host.old ≤ H.faults host.new }
+{
+    if is_run(words) {
+        report_run(run_script(alloc, host, script), out)
+    } else {
+        report_usage(Journal::new(alloc), out)
+    }
+}
+
+// Whether the words are `run` and the image's name `-`.
+fn is_run(words: &[String]) -> bool
+    ensures { IsTrue result ↔ (map string_bytes words.now ≡ codes "run" ∷ codes "-" ∷ []) }
+{
+    match words {
+        [command, image] => command.as_str() == "run" && image.as_str() == "-",
+        _ => false,
+    }
+}
+
+// Writes the report of a run.
+fn report_run<D: Store, K: Sink>(run: Run<D>, out: &mut K) -> Outcome<D>
+    requires words { All (HasWords run.names.disks) run.journal.entries }
+    requires ran { run.status ≢ Status.Usage }
+    ensures reports { Reports run.status result.status (K.written out.old) (K.written out.new) (report Mode.Run run.names.disks run.lines run.journal.entries run.status) }
+    ensures journal { result.journal ≡ run.journal }
+    ensures image { result.image ≡ run.image }
+    ensures sink_fault { result.status ≡ Status.SinkFault → (run.status ≢ Status.SinkFault) → Rose (K.faults out.old) (K.faults out.new) }
+    ensures other { result.status ≢ Status.SinkFault → result.status ≡ run.status }
+    ensures sink_count { K.faults out.old ≤ K.faults out.new }
+{
+    let Run {
+        status,
+        lines,
+        names,
+        journal,
+        image,
+    } = run;
+    let status = match write_report(&journal, &names, lines, &status, out) {
+        Ok(()) => status,
+        Err(Failed) => Status::SinkFault,
+    };
+    Outcome {
+        status,
+        journal,
+        image,
+    }
+}
+
+fn write_report<K: Sink>(
+    journal: &Journal,
+    names: &Names,
+    lines: u32,
+    status: &Status,
+    out: &mut K,
+) -> Result<(), Failed>
+    requires words { All (HasWords names.now.disks) journal.now.entries }
+    requires ran { status.now ≢ Status.Usage }
+    ensures ok { OnOk result (Appends (K.written out.old) (K.written out.new) (report Mode.Run names.now.disks lines journal.now.entries status.now)) }
+    ensures err { OnErr result (WroteFront (K.written out.old) (K.written out.new) (report Mode.Run names.now.disks lines journal.now.entries status.now)) }
+    ensures count { K.faults out.old ≤ K.faults out.new }
+    ensures cause { OnErr result (Rose (K.faults out.old) (K.faults out.new)) }
+{
+    journal.write_text(Mode::Run, names, out)?;
+    write_end(journal, lines, status, out)
+}
+
+// Writes the usage line.
+fn report_usage<D: Store, K: Sink>(journal: Journal, out: &mut K) -> Outcome<D>
+    requires { journal.entries ≡ [] }
+    ensures reports { Reports Status.Usage result.status (K.written out.old) (K.written out.new) usage_line }
+    ensures journal { result.journal ≡ journal }
+    ensures image { IsNone result.image }
+    ensures sink_fault { result.status ≡ Status.SinkFault → Rose (K.faults out.old) (K.faults out.new) }
+    ensures sink_count { K.faults out.old ≤ K.faults out.new }
+{
+    let status = match write_end(&journal, 0, &Status::Usage, out) {
+        Ok(()) => Status::Usage,
+        Err(Failed) => Status::SinkFault,
+    };
+    Outcome {
+        status,
+        journal,
+        image: None,
+    }
+}
