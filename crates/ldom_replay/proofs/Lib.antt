@@ -1,1 +1,5 @@
+mod FaultsRise
+mod PlainAgrees
+mod PlainLaw
+mod PlainLines
 mod Settling

@@ -1,4 +1,6 @@
 pub mod Happened
 pub mod Parts
+pub mod PlainRun
+pub mod Quiet
 pub mod Script
 pub mod Worlds
