@@ -1,4 +1,6 @@
+pub mod Failures
 pub mod Happened
+pub mod Outside
 pub mod Parts
 pub mod PlainRun
 pub mod Quiet
