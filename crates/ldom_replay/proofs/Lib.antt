@@ -3,5 +3,6 @@ mod OutsideKept
 mod PlainAgrees
 mod PlainLaw
 mod PlainLines
+mod ScriptLaws
 mod Settling
 mod WholeRun

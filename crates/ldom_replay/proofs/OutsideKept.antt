@@ -1,29 +1,18 @@
 -- An image outside of what the accepted requests write is as it was attached.
 use Rattle.std.proofs.Common.{◌≡◌, ℕ, ◌+◌, ◌-◌, ◌*◌, ◌≤◌, ◌<◌, Bool, true, false, List, [], ◌∷◌, ◌++◌, length, take, drop, refl, sym, ◌∙◌, ap, subst, arith, append_assoc, Option, Some, None, ◌⊎◌, inl, inr, slice_index, get_or}
-use Rattle.std.specs.Prelude.{◌==◌, if◌then◌else◌}
-use Rattle.std.specs.List.{flat_map, filter_map, cons_option}
 use Rattle.std.proofs.lemmas.List.{append-nil, get_or-take, get_or-drop}
-use Rattle.std.proofs.lemmas.List.Concat.{flat_map-append}
 use Rattle.std.proofs.lemmas.Bool.Decides.{nat_tests}
 use Rattle.vio_io.specs.Stores.{KeepsOutside, WritesRange}
-use Rattle.runs.specs.Run.{Run, run_append}
+use Rattle.runs.specs.Run.{Run}
 use Rattle.vdisk_msg.specs.declared.request.Request.{Request}
 use Rattle.vdisk_msg.specs.declared.request.Request.TheVariants.{Read, Write, Flush}
-use Rattle.domain_script.specs.declared.event.Event.{Event}
-use Rattle.domain_script.specs.declared.event.Event.TheVariants as line
-use Rattle.domain_script.specs.declared.event.Lane.TheVariants.{Disk}
-use Rattle.ldom_journal.specs.declared.entry.Entry.{Entry}
-use Rattle.ldom_journal.specs.declared.entry.Entry.TheVariants as entry
-use Rattle.ldom_journal.specs.declared.entry.Who.{Who}
-use Rattle.ldom_journal.specs.declared.entry.Who.TheVariants.{Lane}
 use Rattle.disk_law.specs.Requests.{defect, blocks_defect, written}
 use Rattle.disk_law.proofs.Ranges.{keeps_more}
 use Rattle.disk_law.proofs.Repeated.{length-repeated}
 use Rattle.disk_law.specs.ListState.{ListState, fresh}
 use Rattle.disk_law.specs.ListStep.{DiskEvent, ListStep, Succeeds, CutOff, Ends, Completes, Accepted, Full, Refused, Done, Rested}
 use Rattle.disk_law.specs.Issued.{issued}
-use Rattle.ldom_replay.specs.Happened.{happened, disk_event, defect_of}
-use Rattle.ldom_replay.specs.Outside.{IsOutside, IsOutsideAll, accepted_requests, KeepsOthers}
+use Rattle.ldom_replay.specs.Outside.{IsOutside, IsOutsideAll, KeepsOthers}
 
 kept_place : (old new : List ℕ) (at n place : ℕ) → KeepsOutside (Some old) (Some new) at n → (place < at) ⊎ (at + n ≤ place) → slice_index new place ≡ slice_index old place
 kept_place old new at n place keeps outside = elim outside [

@@ -172,3 +172,62 @@ part_tells s t asked part are run = record {
   failed = part_failed asked part are;
   statuses = part_statuses asked part are;
 }
+
+accepted-append : (xs ys : List Entry) → accepted_requests (xs ++ ys) ≡ accepted_requests xs ++ accepted_requests ys
+accepted-append [] ys = refl
+accepted-append (entry.Accepted disk id request ∷ xs) ys = ap (λ (l : List Request). request ∷ l) (accepted-append xs ys)
+accepted-append (entry.Full who ∷ xs) ys = accepted-append xs ys
+accepted-append (entry.Refused who why ∷ xs) ys = accepted-append xs ys
+accepted-append (entry.Done disk id operation status bytes ∷ xs) ys = accepted-append xs ys
+accepted-append (entry.Settled ∷ xs) ys = accepted-append xs ys
+
+outside_split : (place : ℕ) (xs ys : List Request) → IsOutsideAll place (xs ++ ys) → IsOutsideAll place xs × IsOutsideAll place ys
+outside_split place [] ys outside = (tt, outside)
+outside_split place (request ∷ xs) ys outside = let rest = outside_split place xs ys outside.1 in ((outside.0, rest.0), rest.1)
+
+outside_join : (place : ℕ) (xs ys : List Request) → IsOutsideAll place xs → IsOutsideAll place ys → IsOutsideAll place (xs ++ ys)
+outside_join place [] ys first second = second
+outside_join place (request ∷ xs) ys first second = (first.0, outside_join place xs ys first.1 second)
+
+statuses_split : (xs ys : List DiskEvent) → Statuses (xs ++ ys) → Statuses xs × Statuses ys
+statuses_split [] ys have = (tt, have)
+statuses_split (Accepted id request ∷ xs) ys have = statuses_split xs ys have
+statuses_split (Full request ∷ xs) ys have = statuses_split xs ys have
+statuses_split (Refused why request ∷ xs) ys have = statuses_split xs ys have
+statuses_split (Done id operation status bytes ∷ xs) ys have = let rest = statuses_split xs ys have.1 in ((have.0, rest.0), rest.1)
+statuses_split (Rested ∷ xs) ys have = statuses_split xs ys have
+
+statuses_join : (xs ys : List Entry) → SucceedOrFail xs → SucceedOrFail ys → SucceedOrFail (xs ++ ys)
+statuses_join [] ys first second = second
+statuses_join (entry.Accepted disk id request ∷ xs) ys first second = statuses_join xs ys first second
+statuses_join (entry.Full who ∷ xs) ys first second = statuses_join xs ys first second
+statuses_join (entry.Refused who why ∷ xs) ys first second = statuses_join xs ys first second
+statuses_join (entry.Done disk id operation status bytes ∷ xs) ys first second = (first.0, statuses_join xs ys first.1 second)
+statuses_join (entry.Settled ∷ xs) ys first second = statuses_join xs ys first second
+
+-- two parts of a journal, one behind the other
+tells_append : (s m t : ListState) (first second : List Entry) → Tells s first m → Tells m second t → Tells s (first ++ second) t
+tells_append s m t first second a b = record {
+  events = a.events ++ b.events;
+  run = run_append ListStep s m t a.events b.events a.run b.run;
+  outside = λ place outside.
+    let parts = outside_split place (accepted_requests first) (accepted_requests second) (subst (λ (l : List Request). IsOutsideAll place l) (accepted-append first second) outside) in
+    subst (λ (l : List Request). IsOutsideAll place l) (sym (issued-append a.events b.events))
+      (outside_join place (issued a.events) (issued b.events) (a.outside place parts.0) (b.outside place parts.1));
+  failed = sum_by-append _ first second ∙ ap (λ (n : ℕ). n + failed_count second) a.failed ∙ ap (λ (n : ℕ). count_by event_failed a.events + n) b.failed ∙ sym (sum_by-append _ a.events b.events);
+  statuses = λ have. let parts = statuses_split a.events b.events have in statuses_join first second (a.statuses parts.0) (b.statuses parts.1);
+}
+
+lines_tell : (s t : ListState) (lines : List (Event × List Entry)) → Run LineStep s lines t → Tells s (flat_map (λ (l : Event × List Entry). l.1) lines) t
+lines_tell s t [] run = record { events = []; run = run; outside = λ place outside. tt; failed = refl; statuses = λ have. tt }
+lines_tell s t (step ∷ lines) run =
+    tells_append s run.0 t step.1 (flat_map (λ (l : Event × List Entry). l.1) lines) (part_tells s run.0 step.0 step.1 (part_first step.0 step.1 run.1.0) run.1.1) (lines_tell run.0 t lines run.2)
+
+pub script_tells : (s t : ListState) (events : List Event) (journal : List Entry) → FitsScript s events journal t → Tells s journal t
+script_tells s t events journal fits = subst (λ (l : List Entry). Tells s l t) fits.parts (lines_tell s t fits.lines fits.run)
+
+pub cut_off_tells : (s t : ListState) (events : List Event) (journal : List Entry) → FitsCutOff s events journal t → Tells s journal t
+cut_off_tells s t events journal cut =
+    subst (λ (l : List Entry). Tells s l t) (sym cut.so_far.grew)
+      (tells_append s cut.middle t cut.front cut.so_far.part (script_tells s cut.middle cut.before cut.front cut.fits)
+        (part_tells cut.middle t cut.last cut.so_far.part (begun_first cut.last cut.so_far.part cut.so_far.begun) cut.so_far.run))
