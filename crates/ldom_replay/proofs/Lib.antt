@@ -3,6 +3,7 @@ mod OutsideKept
 mod PlainAgrees
 mod PlainLaw
 mod PlainLines
+mod PlainRows
 mod ScriptLaws
 mod Settling
 mod WholeRun
