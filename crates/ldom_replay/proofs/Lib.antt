@@ -4,6 +4,7 @@ mod PlainAgrees
 mod PlainLaw
 mod PlainLines
 mod PlainRows
+mod QuietNames
 mod ScriptLaws
 mod Settling
 mod WholeRun
