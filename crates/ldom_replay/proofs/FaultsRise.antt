@@ -1,5 +1,5 @@
 -- The count of an image's faults never falls, and rises with each request that failed.
-use Rattle.std.proofs.Common.{◌≡◌, ℕ, ◌+◌, ◌≤◌, ◌<◌, List, [], ◌∷◌, refl, sym, ap, arith, ◌⊎◌, inl, inr, subst}
+use Rattle.std.proofs.Common.{◌≡◌, ℕ, ◌+◌, ◌≤◌, List, [], ◌∷◌, sym, ap, arith, ◌⊎◌, inl, inr, subst}
 use Rattle.std.specs.Prelude.{cond, ◌==◌}
 use Rattle.std.specs.List.{count_by}
 use Rattle.std.proofs.lemmas.List.Sums.{sum_by-cons}
@@ -34,7 +34,7 @@ failed_one e = cond {A = ℕ} (event_failed e) 1 0
 
 rises : (before now : ℕ) → before ≤ now → Rose before now → Reaches before 1 now
 rises before now most rose = elim (cases_lt before last_count) [
-  inl below ↦ inl (omega (arith, rose below))
+  | inl below ↦ inl (omega (arith, rose below))
   | inr last ↦ inr (omega arith)
 ]
 
@@ -52,7 +52,7 @@ failed_step s t (Accepted id request) step = inl (omega (arith, ap (λ (x : List
 failed_step s t (Full request) step = stays s t step.2
 failed_step s t (Refused why request) step = stays s t step.1
 failed_step s t (Done id operation status bytes) step = elim step.ends [
-  inl well ↦ subst (λ (n : ℕ). Reaches s.faults n t.faults) (sym (failed_zero id operation status bytes well.0)) (inl (omega (arith, well.2)))
+  | inl well ↦ subst (λ (n : ℕ). Reaches s.faults n t.faults) (sym (failed_zero id operation status bytes well.0)) (inl (omega (arith, well.2)))
   | inr failed ↦ subst (λ (n : ℕ). Reaches s.faults n t.faults) (sym (failed_five id operation status bytes failed.0)) (rises s.faults t.faults failed.3 failed.4)
 ]
 failed_step s t Rested step = stays s t step.1
@@ -63,8 +63,8 @@ failed_run s t (e ∷ es) run =
     let more : count_by event_failed (e ∷ es) ≡ failed_one e + count_by event_failed es = sum_by-cons _ e es in
     let later : run.0.faults ≤ t.faults = faults_run run.0 t es run.2 in
     elim (failed_step s run.0 e run.1) [
-      inl first ↦ elim (failed_run run.0 t es run.2) [
-        inl second ↦ inl (omega (arith, first, second, more))
+      | inl first ↦ elim (failed_run run.0 t es run.2) [
+        | inl second ↦ inl (omega (arith, first, second, more))
         | inr last ↦ inr last
       ]
       | inr last ↦ inr (omega (arith, last, later))

@@ -1,19 +1,15 @@
 -- A disk on a plain list, its journal so far, and what the plain run has kept and written agree.
-use Rattle.std.proofs.Common.{◌≡◌, ℕ, ◌+◌, ◌*◌, ◌≤◌, ◌<◌, Bool, true, false, List, [], ◌∷◌, ◌++◌, length, take, drop, refl, sym, ◌∙◌, ap, subst, arith, append_assoc, length-append, Option, Some, None, ◌⊎◌, inl, inr}
-use Rattle.std.specs.Prelude.{nat_le, codes, decimal}
-use Rattle.std.specs.List.{count_by, filter_map}
+use Rattle.std.proofs.Common.{◌≡◌, ℕ, ◌+◌, ◌*◌, ◌<◌, Bool, List, [], ◌∷◌, ◌++◌, length, take, drop, refl, sym, ◌∙◌, ap, subst, arith, append_assoc, Option, Some, None, inl, inr}
+use Rattle.std.specs.Prelude.{codes, decimal}
+use Rattle.std.specs.List.{count_by}
 use Rattle.std.proofs.lemmas.List.{append-nil}
 use Rattle.std.proofs.lemmas.List.Concat.{flat_map-append}
 use Rattle.std.proofs.lemmas.List.Sums.{sum_by-append}
 use Rattle.std.proofs.lemmas.Fmt.{decimal_digit}
-use Rattle.std.proofs.lemmas.Bool.Decides.{nat_tests}
-use Rattle.runs.specs.Run.{Run}
-use Rattle.vio_io.specs.Causes.{last_count, Rose}
+use Rattle.vio_io.specs.Causes.{last_count}
 use Rattle.vdisk_msg.specs.declared.request.Request.{Request}
 use Rattle.vdisk_msg.specs.declared.request.Request.TheVariants.{Read, Write, Flush}
 use Rattle.domain_script.specs.declared.event.DiskDecl.{DiskDecl}
-use Rattle.domain_script.specs.declared.event.Event.{Event}
-use Rattle.domain_script.specs.declared.event.Event.TheVariants as line
 use Rattle.domain_script.specs.declared.event.Lane.TheVariants.{Disk}
 use Rattle.ldom_journal.specs.Bytes.{BytesState}
 use Rattle.ldom_journal.specs.BlockWord.{blocks_text}
@@ -21,16 +17,13 @@ use Rattle.ldom_journal.specs.EntryText.{report_entries, entry_lines}
 use Rattle.ldom_journal.specs.Report.{is_accepted, is_done, accepted_count, done_count}
 use Rattle.ldom_journal.specs.declared.entry.Entry.{Entry}
 use Rattle.ldom_journal.specs.declared.entry.Entry.TheVariants as entry
-use Rattle.ldom_journal.specs.declared.entry.Who.{Who}
 use Rattle.ldom_journal.specs.declared.entry.Who.TheVariants.{Lane}
-use Rattle.ldom_journal.specs.declared.entry.Why.{Why}
 use Rattle.ldom_journal.specs.declared.entry.Why.TheVariants.{Count, Range}
 use Rattle.ldom_journal.specs.declared.status.Mode.TheVariants as mode
-use Rattle.disk_law.specs.Requests.{Defect, BadCount, BadRange, defect, operation_of, after_request}
+use Rattle.disk_law.specs.Requests.{operation_of, after_request}
 use Rattle.disk_law.specs.ListState.{ListState}
-use Rattle.disk_law.specs.ListStep.{DiskEvent, ListStep, Succeeds, Ends, Completes, Accepted, Full, Refused, Done, Rested}
-use Rattle.ldom_replay.specs.Happened.{disk_event, happened, defect_of}
-use Rattle.ldom_replay.specs.PlainRun.{Plain, name_text, refusal_line, asked, operation_word, given_text, done_line, complete, complete_all, settled, plain_line, plain_run}
+use Rattle.disk_law.specs.ListStep.{Succeeds, Ends, Completes}
+use Rattle.ldom_replay.specs.PlainRun.{Plain, name_text, done_line, complete}
 
 pub record Agrees (disk : DiskDecl) (s : ListState) (journal : List Entry) (p : Plain) : Type 0 where
   pub blocks_are : s.blocks ≡ disk.blocks
@@ -100,7 +93,7 @@ pub record Went (request : Request) (status : ℕ) (bytes : List ℕ) (before no
 
 went : (request : Request) (status : ℕ) (bytes : List ℕ) (s t : ListState) → Ends request status bytes s t → t.faults ≡ 0 → Went request status bytes s.told t.told
 went request status bytes s t ends none = elim ends [
-  inl good ↦ record { status_is = good.0; succeeds = good.1 }
+  | inl good ↦ record { status_is = good.0; succeeds = good.1 }
   | inr failed ↦ absurd (let some : s.faults < last_count = omega (arith, failed.3, none) in omega (arith, failed.4 some, failed.3, none))
 ]
 
@@ -110,10 +103,10 @@ done_agrees disk s t journal p id operation status bytes agrees c none =
     let well = went c.request status bytes.items s t c.ends none in
     let succeeds : Succeeds c.request bytes.items (Some p.content) t.told = subst (λ (told : Option (List ℕ)). Succeeds c.request bytes.items told t.told) agrees.content_is well.succeeds in
     let shown : entry_lines mode.Run (disk ∷ []) (entry.Done 0 id operation status bytes) ≡ done_line disk p.completed p.content c.request =
-      ap (λ (n : ℕ). entry_lines mode.Run (disk ∷ []) (entry.Done 0 n operation status bytes)) (c.id_is ∙ agrees.completed_are)
-      ∙ ap (λ (n : ℕ). entry_lines mode.Run (disk ∷ []) (entry.Done 0 p.completed n status bytes)) c.operation_is
-      ∙ ap (λ (n : ℕ). entry_lines mode.Run (disk ∷ []) (entry.Done 0 p.completed (operation_of c.request) n bytes)) well.status_is
-      ∙ done_text disk p.completed c.request p.content t.told bytes succeeds in
+    ap (λ (n : ℕ). entry_lines mode.Run (disk ∷ []) (entry.Done 0 n operation status bytes)) (c.id_is ∙ agrees.completed_are)
+    ∙ ap (λ (n : ℕ). entry_lines mode.Run (disk ∷ []) (entry.Done 0 p.completed n status bytes)) c.operation_is
+    ∙ ap (λ (n : ℕ). entry_lines mode.Run (disk ∷ []) (entry.Done 0 p.completed (operation_of c.request) n bytes)) well.status_is
+    ∙ done_text disk p.completed c.request p.content t.told bytes succeeds in
     record {
       blocks_are = c.blocks ∙ agrees.blocks_are;
       ring_is = c.ring ∙ agrees.ring_is;
@@ -122,6 +115,6 @@ done_agrees disk s t journal p id operation status bytes agrees c none =
       content_is = left_content c.request p.content bytes.items t.told succeeds;
       text_is = text_push disk journal (entry.Done 0 id operation status bytes) p.text (done_line disk p.completed p.content c.request) agrees.text_is shown;
       accepted_are = count_push is_accepted journal (entry.Done 0 id operation status bytes) (s.done + length s.pending) 0 agrees.accepted_are refl
-        ∙ omega (arith, c.counts, ap length c.front);
+          ∙ omega (arith, c.counts, ap length c.front);
       done_are = count_push is_done journal (entry.Done 0 id operation status bytes) s.done 1 agrees.done_are refl ∙ sym c.counts;
     }

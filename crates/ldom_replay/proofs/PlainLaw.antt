@@ -1,20 +1,17 @@
 -- A quiet script that fits its journal without a fault is what the plain run makes of it.
-use Rattle.std.proofs.Common.{◌≡◌, ℕ, ◌+◌, ◌-◌, ◌≤◌, List, [], ◌∷◌, ◌++◌, length, map, refl, sym, ◌∙◌, ap, subst, arith, append_assoc, Option, Some}
+use Rattle.std.proofs.Common.{◌≡◌, ℕ, ◌+◌, ◌-◌, ◌≤◌, List, [], ◌∷◌, ◌++◌, length, map, refl, sym, ◌∙◌, ap, subst, arith, append_assoc, Some}
 use Rattle.std.specs.Prelude.{codes, decimal}
 use Rattle.std.specs.List.{flat_map}
-use Rattle.std.proofs.lemmas.Fmt.{decimal_digit}
 use Rattle.std.proofs.lemmas.List.{append-nil}
 use Rattle.runs.specs.Run.{Run}
 use Rattle.domain_script.specs.declared.event.DiskDecl.{DiskDecl}
 use Rattle.domain_script.specs.declared.event.Event.{Event}
 use Rattle.domain_script.specs.declared.event.Event.TheVariants as line
-use Rattle.ldom_journal.specs.EntryText.{report_entries}
 use Rattle.ldom_journal.specs.Report.{accepted_count, done_count, end_line, report}
 use Rattle.ldom_journal.specs.declared.entry.Entry.{Entry}
 use Rattle.ldom_journal.specs.declared.status.Mode.TheVariants as mode
 use Rattle.ldom_journal.specs.declared.status.Status.TheVariants as status
 use Rattle.disk_law.specs.ListState.{ListState, fresh}
-use Rattle.disk_law.specs.ListStep.{DiskEvent, ListStep}
 use Rattle.ldom_replay.specs.Happened.{happened}
 use Rattle.ldom_replay.specs.Parts.{LineStep}
 use Rattle.ldom_replay.specs.PlainRun.{Plain, untouched, plain_line, plain_run, plain_end, plain_text, plain_content}
@@ -49,7 +46,7 @@ lines_faults s t [] run = omega (arith, ap (λ (x : ListState). x.faults) run)
 lines_faults s t (step ∷ lines) run = omega (arith, faults_run s run.0 (happened 0 step.0 step.1) run.1.1, lines_faults run.0 t lines run.2)
 
 lines_agree : (disk : DiskDecl) (s t : ListState) (journal : List Entry) (p : Plain) (lines : List (Event × List Entry)) → AllAsk (map (λ (l : Event × List Entry). l.0) lines) → Agrees disk s journal p → Run LineStep s lines t → t.faults ≡ 0
-  → Agrees disk t (journal ++ flat_map (λ (l : Event × List Entry). l.1) lines) (plain_run disk p (map (λ (l : Event × List Entry). l.0) lines))
+    → Agrees disk t (journal ++ flat_map (λ (l : Event × List Entry). l.1) lines) (plain_run disk p (map (λ (l : Event × List Entry). l.0) lines))
 lines_agree disk s t journal p [] ask agrees run none =
     subst (λ (l : List Entry). Agrees disk t l p) (sym (append-nil journal)) (subst (λ (x : ListState). Agrees disk x journal p) run agrees)
 lines_agree disk s t journal p (step ∷ lines) ask agrees run none =
@@ -83,10 +80,10 @@ ends_agree disk t journal p lines agrees =
     ∙ ap (λ (l : List ℕ). front lines ++ counts (p.completed + length p.waiting) p.completed (length p.waiting) ++ tail ++ l ++ [] ++ codes "\n") zero_text
     ∙ close (front lines ++ counts (p.completed + length p.waiting) p.completed (length p.waiting)) tail (codes "0") (codes "\n") (codes " resets=0 frames=0 status=0\n") refl
     ∙ ap (λ (l : List ℕ). l ++ codes " resets=0 frames=0 status=0\n")
-      (regroup (front lines) (codes " accepted=") (decimal (p.completed + length p.waiting)) (codes " done=") (decimal p.completed) (codes " pending=") (decimal (length p.waiting)))
+    (regroup (front lines) (codes " accepted=") (decimal (p.completed + length p.waiting)) (codes " done=") (decimal p.completed) (codes " pending=") (decimal (length p.waiting)))
 
 pub plain_law : (disk : DiskDecl) (content : List ℕ) (events : List Event) (journal : List Entry) (t : ListState) → IsQuiet disk events → FitsScript (fresh (blocks_of (disk ∷ [])) (ring_of (disk ∷ [])) (Some content) 0) events journal t → t.faults ≡ 0
-  → (report mode.Run (disk ∷ []) (length events) journal status.Done ≡ plain_text disk content events) × (t.told ≡ Some (plain_content disk content events))
+    → (report mode.Run (disk ∷ []) (length events) journal status.Done ≡ plain_text disk content events) × (t.told ≡ Some (plain_content disk content events))
 plain_law disk content events journal t quiet fits none =
     let s = fresh disk.blocks disk.ring (Some content) 0 in
     let start : Agrees disk s [] (untouched content) = record { blocks_are = refl; ring_is = refl; completed_are = refl; waiting_are = refl; content_is = refl; text_is = refl; accepted_are = refl; done_are = refl } in

@@ -1,5 +1,5 @@
 -- What a line of a quiet script does to a disk, it does to the plain run.
-use Rattle.std.proofs.Common.{◌≡◌, ℕ, zero, suc, ◌+◌, ◌≤◌, ◌<◌, Bool, true, false, List, [], ◌∷◌, ◌++◌, length, refl, sym, ◌∙◌, ap, subst, arith, append_assoc, length-append, Option, Some, None}
+use Rattle.std.proofs.Common.{◌≡◌, ℕ, ◌+◌, ◌≤◌, ◌<◌, Bool, true, false, List, [], ◌∷◌, ◌++◌, length, refl, sym, ◌∙◌, ap, subst, arith, append_assoc, length-append, Option, Some, None}
 use Rattle.std.specs.Prelude.{nat_le, codes, cond}
 use Rattle.std.specs.List.{count_by}
 use Rattle.std.proofs.lemmas.List.{append-nil}
@@ -17,13 +17,12 @@ use Rattle.ldom_journal.specs.declared.entry.Entry.{Entry}
 use Rattle.ldom_journal.specs.declared.entry.Entry.TheVariants as entry
 use Rattle.ldom_journal.specs.declared.entry.Who.{Who}
 use Rattle.ldom_journal.specs.declared.entry.Who.TheVariants.{Lane}
-use Rattle.ldom_journal.specs.declared.entry.Why.{Why}
 use Rattle.ldom_journal.specs.declared.entry.Why.TheVariants.{Count, Range}
 use Rattle.disk_law.specs.Requests.{Defect, BadCount, BadRange, defect}
 use Rattle.disk_law.specs.ListState.{ListState}
-use Rattle.disk_law.specs.ListStep.{DiskEvent, ListStep, Completes, Accepted, Full, Refused, Done, Rested}
-use Rattle.ldom_replay.specs.Happened.{happened, defect_of}
-use Rattle.ldom_replay.specs.Parts.{Answers, AreDone, PartOf, LineStep}
+use Rattle.disk_law.specs.ListStep.{ListStep, Completes, Accepted}
+use Rattle.ldom_replay.specs.Happened.{happened}
+use Rattle.ldom_replay.specs.Parts.{Answers, AreDone, LineStep}
 use Rattle.ldom_replay.specs.PlainRun.{Plain, name_text, refusal_line, asked, complete, complete_all, settled, plain_line}
 use Rattle.ldom_replay.proofs.FaultsRise.{faults_run}
 use Rattle.ldom_replay.proofs.PlainAgrees.{Agrees, text_push, count_push, refused_count, refused_range, full_line, settled_line, done_agrees}
@@ -54,10 +53,10 @@ settle_agrees disk (entry.Done number id operation status bytes ∷ dones) s t j
     let c : Completes s id operation status bytes.items first.0 = first.1 in
     let still : first.0.faults ≡ 0 = omega (arith, faults_run first.0 t (happened 0 line.Settle (dones ++ entry.Settled ∷ [])) first.2, none) in
     let next = settle_agrees disk dones first.0 t (journal ++ e ∷ []) (complete disk p c.request first.0.pending) are.1
-      (subst (λ (n : ℕ). Agrees disk first.0 (journal ++ entry.Done n id operation status bytes ∷ []) (complete disk p c.request first.0.pending)) (sym are.0) (done_agrees disk s first.0 journal p id operation status bytes agrees c still))
-      first.2 none in
+    (subst (λ (n : ℕ). Agrees disk first.0 (journal ++ entry.Done n id operation status bytes ∷ []) (complete disk p c.request first.0.pending)) (sym are.0) (done_agrees disk s first.0 journal p id operation status bytes agrees c still))
+    first.2 none in
     subst (λ (l : List Request). Agrees disk t (journal ++ (e ∷ dones ++ entry.Settled ∷ [])) (settled (complete_all disk p l))) (sym c.front ∙ agrees.waiting_are)
-      (subst (λ (l : List Entry). Agrees disk t l (settled (complete_all disk (complete disk p c.request first.0.pending) first.0.pending))) (append_assoc journal (e ∷ []) (dones ++ entry.Settled ∷ [])) next)
+    (subst (λ (l : List Entry). Agrees disk t l (settled (complete_all disk (complete disk p c.request first.0.pending) first.0.pending))) (append_assoc journal (e ∷ []) (dones ++ entry.Settled ∷ [])) next)
 settle_agrees disk (entry.Accepted number id request ∷ dones) s t journal p are agrees run none = absurd are
 settle_agrees disk (entry.Full who ∷ dones) s t journal p are agrees run none = absurd are
 settle_agrees disk (entry.Refused who why ∷ dones) s t journal p are agrees run none = absurd are
@@ -98,7 +97,7 @@ to_line disk s journal p request why full t after agrees why_is full_is goal =
     let whys : why ≡ defect disk.blocks request = sym why_is ∙ ap (λ (n : ℕ). defect n request) agrees.blocks_are in
     let fulls : full ≡ nat_le disk.ring (length p.waiting) = sym full_is ∙ ap (λ (n : ℕ). nat_le n (length s.pending)) agrees.ring_is ∙ ap (λ (l : List Request). nat_le disk.ring (length l)) agrees.waiting_are in
     subst (λ (b : Bool). Agrees disk t after (asked p request (refusal_line disk (defect disk.blocks request) b))) fulls
-      (subst (λ (w : Option Defect). Agrees disk t after (asked p request (refusal_line disk w full))) whys goal)
+    (subst (λ (w : Option Defect). Agrees disk t after (asked p request (refusal_line disk w full))) whys goal)
 
 room_left : (ring n : ℕ) → n < ring → nat_le ring n ≡ false
 room_left ring n less = grind (arith, nat_tests)
@@ -114,25 +113,25 @@ issue_agrees disk s t journal p request (entry.Accepted number id kept) answers 
     (let first = subst (λ (n : ℕ). Run ListStep s (happened 0 (line.Issue 0 request) (entry.Accepted n id kept ∷ [])) t) answers.0 run in
     let step = subst (λ (r : Request). ListStep s (Accepted id r) first.0) answers.1 first.1 in
     to_line disk s journal p request None false t (journal ++ entry.Accepted 0 id request ∷ []) agrees step.0 (room_left s.ring (length s.pending) step.1)
-      (waits_agrees disk s t journal p id request agrees (sym first.2 ∙ step.3))))
+    (waits_agrees disk s t journal p id request agrees (sym first.2 ∙ step.3))))
 issue_agrees disk s t journal p request (entry.Full who) answers agrees run =
     subst (λ (w : Who). Agrees disk t (journal ++ entry.Full w ∷ []) (plain_line disk p (line.Issue 0 request))) (sym answers)
     (let first = subst (λ (w : Who). Run ListStep s (happened 0 (line.Issue 0 request) (entry.Full w ∷ [])) t) answers run in
     subst (λ (x : ListState). Agrees disk x (journal ++ entry.Full (Lane (Disk 0)) ∷ []) (plain_line disk p (line.Issue 0 request))) (sym first.1.2 ∙ first.2)
     (to_line disk s journal p request None true s (journal ++ entry.Full (Lane (Disk 0)) ∷ []) agrees first.1.0 (no_room s.ring (length s.pending) first.1.1)
-      (refused_agrees disk s journal p request (entry.Full (Lane (Disk 0))) (codes "full " ++ name_text disk ++ codes "\n") agrees (full_line disk) refl refl)))
+    (refused_agrees disk s journal p request (entry.Full (Lane (Disk 0))) (codes "full " ++ name_text disk ++ codes "\n") agrees (full_line disk) refl refl)))
 issue_agrees disk s t journal p request (entry.Refused who Count) answers agrees run =
     subst (λ (w : Who). Agrees disk t (journal ++ entry.Refused w Count ∷ []) (plain_line disk p (line.Issue 0 request))) (sym answers)
     (let first = subst (λ (w : Who). Run ListStep s (happened 0 (line.Issue 0 request) (entry.Refused w Count ∷ [])) t) answers run in
     subst (λ (x : ListState). Agrees disk x (journal ++ entry.Refused (Lane (Disk 0)) Count ∷ []) (plain_line disk p (line.Issue 0 request))) (sym first.1.1 ∙ first.2)
     (to_line disk s journal p request (Some BadCount) (nat_le s.ring (length s.pending)) s (journal ++ entry.Refused (Lane (Disk 0)) Count ∷ []) agrees first.1.0 refl
-      (refused_agrees disk s journal p request (entry.Refused (Lane (Disk 0)) Count) (codes "refused " ++ name_text disk ++ codes " count\n") agrees (refused_count disk) refl refl)))
+    (refused_agrees disk s journal p request (entry.Refused (Lane (Disk 0)) Count) (codes "refused " ++ name_text disk ++ codes " count\n") agrees (refused_count disk) refl refl)))
 issue_agrees disk s t journal p request (entry.Refused who Range) answers agrees run =
     subst (λ (w : Who). Agrees disk t (journal ++ entry.Refused w Range ∷ []) (plain_line disk p (line.Issue 0 request))) (sym answers)
     (let first = subst (λ (w : Who). Run ListStep s (happened 0 (line.Issue 0 request) (entry.Refused w Range ∷ [])) t) answers run in
     subst (λ (x : ListState). Agrees disk x (journal ++ entry.Refused (Lane (Disk 0)) Range ∷ []) (plain_line disk p (line.Issue 0 request))) (sym first.1.1 ∙ first.2)
     (to_line disk s journal p request (Some BadRange) (nat_le s.ring (length s.pending)) s (journal ++ entry.Refused (Lane (Disk 0)) Range ∷ []) agrees first.1.0 refl
-      (refused_agrees disk s journal p request (entry.Refused (Lane (Disk 0)) Range) (codes "refused " ++ name_text disk ++ codes " range\n") agrees (refused_range disk) refl refl)))
+    (refused_agrees disk s journal p request (entry.Refused (Lane (Disk 0)) Range) (codes "refused " ++ name_text disk ++ codes " range\n") agrees (refused_range disk) refl refl)))
 issue_agrees disk s t journal p request (entry.Done number id operation status bytes) answers agrees run = absurd answers
 issue_agrees disk s t journal p request entry.Settled answers agrees run = absurd answers
 

@@ -1,14 +1,13 @@
 -- The plain run on scripts whose text is known.
-use Rattle.std.proofs.Common.{◌≡◌, ℕ, ◌+◌, ◌*◌, List, [], ◌∷◌, ◌++◌, replicate, refl, arith}
+use Rattle.std.proofs.Common.{◌≡◌, ℕ, List, [], ◌∷◌, arith}
 use Rattle.std.specs.Prelude.{codes, decimal}
 use Rattle.std.proofs.lemmas.Fmt.{decimal_digit}
 use Rattle.vdisk_msg.specs.declared.request.Fill.{Fill}
-use Rattle.vdisk_msg.specs.declared.request.Request.TheVariants.{Read, Write, Flush}
+use Rattle.vdisk_msg.specs.declared.request.Request.TheVariants.{Write}
 use Rattle.domain_script.specs.declared.event.DiskDecl.{DiskDecl}
 use Rattle.domain_script.specs.declared.event.Event.{Event}
-use Rattle.domain_script.specs.declared.event.Event.TheVariants.{Blank, Disk, Issue, Settle}
+use Rattle.domain_script.specs.declared.event.Event.TheVariants.{Disk, Issue, Settle}
 use Rattle.ldom_replay.specs.PlainRun.{plain_text}
-use Rattle.ldom_replay.specs.Quiet.{IsQuiet}
 
 -- `disk d0 64 RING QUEUE`
 abbrev first_disk : ℕ → ℕ → DiskDecl

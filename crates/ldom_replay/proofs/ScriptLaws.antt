@@ -1,12 +1,9 @@
 -- What a script's journal says of the image: what stays, and what failed.
-use Rattle.std.proofs.Common.{◌≡◌, ℕ, ◌*◌, ◌^◌, ◌≤◌, ◌<◌, List, length, arith, subst, Option, Some, ◌⊎◌, inl, inr}
+use Rattle.std.proofs.Common.{◌≡◌, ℕ, ◌*◌, ◌^◌, ◌≤◌, ◌<◌, List, length, arith, Some, inl, inr}
 use Rattle.std.proofs.lemmas.List.Sums.{count_by-le-length}
-use Rattle.vio_io.specs.Causes.{last_count}
-use Rattle.vdisk_msg.specs.declared.request.Request.{Request}
 use Rattle.domain_script.specs.declared.event.Event.{Event}
 use Rattle.ldom_journal.specs.declared.entry.Entry.{Entry}
 use Rattle.disk_law.specs.ListState.{ListState, fresh}
-use Rattle.disk_law.specs.Issued.{issued}
 use Rattle.ldom_replay.specs.Failures.{has_failed, failed_count, SucceedOrFail}
 use Rattle.ldom_replay.specs.Outside.{accepted_requests, KeepsOthers}
 use Rattle.ldom_replay.specs.Script.{FitsScript, FitsCutOff}
@@ -27,7 +24,7 @@ cut_off_kept blocks ring faults content events journal t within cut = tells_kept
 
 tells_failed : (s t : ListState) (journal : List Entry) → s.faults ≡ 0 → length journal < 2 ^ 63 → Tells s journal t → failed_count journal ≤ t.faults
 tells_failed s t journal none short tells = elim (failed_run s t tells.events tells.run) [
-  inl reached ↦ omega (arith, reached, tells.failed)
+  | inl reached ↦ omega (arith, reached, tells.failed)
   | inr last ↦ omega (arith, last, count_by-le-length has_failed journal)
 ]
 

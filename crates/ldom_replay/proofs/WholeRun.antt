@@ -2,8 +2,7 @@
 use Rattle.std.proofs.Common.{◌≡◌, ℕ, Bool, true, false, List, [], ◌∷◌, ◌++◌, refl, sym, ◌∙◌, ap, subst, Option, Some, None, ◌⊎◌, ◌+◌, zero-add}
 use Rattle.std.proofs.lemmas.List.Sums.{sum_by-cons, sum_by-append}
 use Rattle.std.specs.Prelude.{cond, ◌==◌, if◌then◌else◌}
-use Rattle.std.specs.List.{flat_map, filter_map, cons_option, count_by}
-use Rattle.std.proofs.lemmas.List.Concat.{flat_map-append}
+use Rattle.std.specs.List.{flat_map, cons_option, count_by}
 use Rattle.runs.specs.Run.{Run, run_append}
 use Rattle.vdisk_msg.specs.declared.request.Request.{Request}
 use Rattle.domain_script.specs.declared.event.Event.{Event}
@@ -15,12 +14,12 @@ use Rattle.ldom_journal.specs.declared.entry.Who.{Who}
 use Rattle.ldom_journal.specs.declared.entry.Who.TheVariants.{Lane}
 use Rattle.disk_law.specs.ListState.{ListState}
 use Rattle.disk_law.specs.ListStep.{DiskEvent, ListStep, Accepted, Full, Refused, Done, Rested}
-use Rattle.ldom_replay.specs.Happened.{happened, disk_event, answer_event, defect_of}
+use Rattle.ldom_replay.specs.Happened.{happened, answer_event, defect_of}
 use Rattle.disk_law.specs.Issued.{issued}
 use Rattle.disk_law.proofs.Counted.{issued-append}
 use Rattle.ldom_replay.specs.Failures.{has_failed, failed_count, SucceedOrFail}
-use Rattle.ldom_replay.specs.Outside.{IsOutside, IsOutsideAll, accepted_requests}
-use Rattle.ldom_replay.specs.Parts.{Answers, AreDone, PartOf, BeginsPart, LineStep, FitsSoFar}
+use Rattle.ldom_replay.specs.Outside.{IsOutsideAll, accepted_requests}
+use Rattle.ldom_replay.specs.Parts.{Answers, AreDone, PartOf, BeginsPart, LineStep}
 use Rattle.ldom_replay.specs.Script.{FitsScript, FitsCutOff}
 
 -- how many completions failed
@@ -99,20 +98,20 @@ part_failed asked (entry.Accepted disk id request ∷ part) are =
     let e = entry.Accepted disk id request in
     let rest = part_failed asked part are in
     if_either (λ (o : Option DiskEvent). failed_count (e ∷ part) ≡ count_by event_failed (cons_option o (happened 0 asked part))) (disk == 0) (Accepted id request)
-      (one_more e part (happened 0 asked part) refl rest) (both_more e (Accepted id request) part (happened 0 asked part) refl rest)
+    (one_more e part (happened 0 asked part) refl rest) (both_more e (Accepted id request) part (happened 0 asked part) refl rest)
 part_failed asked (entry.Full who ∷ part) are =
     let e = entry.Full who in
     let rest = part_failed asked part are in
     answered (λ (o : Option DiskEvent). failed_count (e ∷ part) ≡ count_by event_failed (cons_option o (happened 0 asked part))) asked who Full
-      (one_more e part (happened 0 asked part) refl rest) (λ request. both_more e (Full request) part (happened 0 asked part) refl rest)
+    (one_more e part (happened 0 asked part) refl rest) (λ request. both_more e (Full request) part (happened 0 asked part) refl rest)
 part_failed asked (entry.Refused who why ∷ part) are =
     let e = entry.Refused who why in
     let rest = part_failed asked part are in
     answered (λ (o : Option DiskEvent). failed_count (e ∷ part) ≡ count_by event_failed (cons_option o (happened 0 asked part))) asked who (Refused (defect_of why))
-      (one_more e part (happened 0 asked part) refl rest) (λ request. both_more e (Refused (defect_of why) request) part (happened 0 asked part) refl rest)
+    (one_more e part (happened 0 asked part) refl rest) (λ request. both_more e (Refused (defect_of why) request) part (happened 0 asked part) refl rest)
 part_failed asked (entry.Done disk id operation status bytes ∷ part) are =
     subst (λ (n : ℕ). failed_count (entry.Done n id operation status bytes ∷ part) ≡ count_by event_failed (happened 0 asked (entry.Done n id operation status bytes ∷ part))) (sym are.0)
-      (both_more (entry.Done 0 id operation status bytes) (Done id operation status bytes.items) part (happened 0 asked part) refl (part_failed asked part are.1))
+    (both_more (entry.Done 0 id operation status bytes) (Done id operation status bytes.items) part (happened 0 asked part) refl (part_failed asked part are.1))
 part_failed asked (entry.Settled ∷ part) are = both_more entry.Settled Rested part (happened 0 asked part) refl (part_failed asked part are)
 
 part_statuses : (asked : Event) (part : List Entry) → AreOfFirst part → Statuses (happened 0 asked part) → SucceedOrFail part
@@ -211,8 +210,8 @@ tells_append s m t first second a b = record {
   events = a.events ++ b.events;
   run = run_append ListStep s m t a.events b.events a.run b.run;
   outside = λ place outside.
-    let parts = outside_split place (accepted_requests first) (accepted_requests second) (subst (λ (l : List Request). IsOutsideAll place l) (accepted-append first second) outside) in
-    subst (λ (l : List Request). IsOutsideAll place l) (sym (issued-append a.events b.events))
+      let parts = outside_split place (accepted_requests first) (accepted_requests second) (subst (λ (l : List Request). IsOutsideAll place l) (accepted-append first second) outside) in
+      subst (λ (l : List Request). IsOutsideAll place l) (sym (issued-append a.events b.events))
       (outside_join place (issued a.events) (issued b.events) (a.outside place parts.0) (b.outside place parts.1));
   failed = sum_by-append _ first second ∙ ap (λ (n : ℕ). n + failed_count second) a.failed ∙ ap (λ (n : ℕ). count_by event_failed a.events + n) b.failed ∙ sym (sum_by-append _ a.events b.events);
   statuses = λ have. let parts = statuses_split a.events b.events have in statuses_join first second (a.statuses parts.0) (b.statuses parts.1);
@@ -229,5 +228,5 @@ script_tells s t events journal fits = subst (λ (l : List Entry). Tells s l t) 
 pub cut_off_tells : (s t : ListState) (events : List Event) (journal : List Entry) → FitsCutOff s events journal t → Tells s journal t
 cut_off_tells s t events journal cut =
     subst (λ (l : List Entry). Tells s l t) (sym cut.so_far.grew)
-      (tells_append s cut.middle t cut.front cut.so_far.part (script_tells s cut.middle cut.before cut.front cut.fits)
-        (part_tells cut.middle t cut.last cut.so_far.part (begun_first cut.last cut.so_far.part cut.so_far.begun) cut.so_far.run))
+    (tells_append s cut.middle t cut.front cut.so_far.part (script_tells s cut.middle cut.before cut.front cut.fits)
+    (part_tells cut.middle t cut.last cut.so_far.part (begun_first cut.last cut.so_far.part cut.so_far.begun) cut.so_far.run))

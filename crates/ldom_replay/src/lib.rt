@@ -4,5 +4,8 @@
 mod laws;
 mod world;
 
-pub use laws::{a_quiet_script_runs_plainly, bytes_outside_of_writes_stay, completions_succeed_or_fail, failed_completions_are_counted};
+pub use laws::{
+    a_quiet_script_runs_plainly, bytes_outside_of_writes_stay, completions_succeed_or_fail,
+    failed_completions_are_counted,
+};
 pub use world::World;
