@@ -1,8 +1,12 @@
+pub mod Failures
 pub mod Going
 pub mod Happened
 pub mod Opening
 pub mod Outcomes
+pub mod Outside
 pub mod Parts
+pub mod PlainRun
+pub mod Quiet
 pub mod Reading
 pub mod Replayed
 pub mod Script

@@ -1,0 +1,21 @@
+-- Scripts without disturbance: one disk is declared, and then it is asked and settled.
+use Rattle.std.specs.Prelude.{◌≡◌, List, [], ◌∷◌}
+use Rattle.domain_script.specs.declared.event.DiskDecl.{DiskDecl}
+use Rattle.domain_script.specs.declared.event.Event.{Event}
+use Rattle.domain_script.specs.declared.event.Event.TheVariants.{Blank, Disk, Issue, Settle}
+
+-- each line is blank, asks the one disk or settles
+abbrev pub AreQuiet : List Event → Type 0
+AreQuiet [] = Unit {0}
+AreQuiet (Blank ∷ events) = AreQuiet events
+AreQuiet (Disk disk ∷ events) = ⊥
+AreQuiet (Issue disk request ∷ events) = (disk ≡ 0) × AreQuiet events
+AreQuiet (Settle ∷ events) = AreQuiet events
+
+-- the first line that isn't blank declares this disk
+abbrev pub IsQuiet : DiskDecl → List Event → Type 0
+IsQuiet disk [] = ⊥
+IsQuiet disk (Blank ∷ events) = IsQuiet disk events
+IsQuiet disk (Disk declared ∷ events) = (declared ≡ disk) × AreQuiet events
+IsQuiet disk (Issue number request ∷ events) = ⊥
+IsQuiet disk (Settle ∷ events) = ⊥
