@@ -3,7 +3,7 @@ ghost use Rattle.domain_script.specs.declared.event.Event.{Event as event_data};
 ghost use Rattle.domain_script.specs.Spells.{NamesDisk, SpellsWords};
 ghost use Rattle.domain_script.specs.Words.{words};
 
-use crate::numbers::{is_within_limits, number, number_up_to, MOST_BLOCKS, MOST_SIZE};
+use crate::numbers::{MOST_BLOCKS, MOST_SIZE, is_within_limits, number, number_up_to};
 use crate::spellings::{fill, name};
 use crate::words::{four_words, one_word, three_words};
 use crate::{DiskDecl, Event, Names, Request};
@@ -27,10 +27,10 @@ fn disk_row(fields: &[u8], names: &Names) -> Option<Event>
     ensures some { IfSome result (SpellsWords (codes "disk" ∷ words fields.now) names.now) }
     ensures none { IfNone result ((event : event_data) → SpellsWords (codes "disk" ∷ words fields.now) names.now event → ⊥) }
 {
-    let (word, blocks, ring, queue) = four_words(fields)?;
+    let (word, size, ring, queue) = four_words(fields)?;
     let disk = DiskDecl {
         name: name(word)?,
-        blocks: number_up_to(blocks, MOST_BLOCKS)?,
+        blocks: number_up_to(size, MOST_BLOCKS)?,
         ring: number_up_to(ring, MOST_SIZE)?,
         queue: number_up_to(queue, MOST_SIZE)?,
     };
