@@ -88,11 +88,11 @@ pub fn settle_row(line: &[u8], names: &Names) -> Option<Event>
     ensures some { IfSome result (SpellsWords (words line.now) names.now) }
     ensures none { IfNone result ((event : event_data) → SpellsWords (words line.now) names.now event → ⊥) }
 {
-    if line != b"settle".as_slice() {
-        return None;
+    if line == b"settle".as_slice() && names.has_disk() {
+        Some(Event::Settle)
+    } else {
+        None
     }
-    names.disk(0)?;
-    Some(Event::Settle)
 }
 
 /// The number of the disk that a word names.
