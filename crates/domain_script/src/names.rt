@@ -67,6 +67,7 @@ impl Names {
         self.count == 0 && !self.ended
     }
 
+    /// Whether a disk is declared.
     pub fn has_disk(&self) -> bool
         ensures { IsTrue result ↔ (0 < length self.now.disks) }
     {
