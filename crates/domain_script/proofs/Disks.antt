@@ -1,6 +1,6 @@
 -- Disks within the limits, one by one.
 use Rattle.std.proofs.Common.{◌≡◌, ℕ, ◌+◌, ◌<◌, ◌≤◌, zero, suc, List, [], ◌∷◌, ◌++◌, length, get_or, take, set, sym, subst, arith}
-use Rattle.std.proofs.lemmas.List.{get_or-take, length-take-le, length-set, take_more_set}
+use Rattle.std.proofs.lemmas.List.{get_or-take, length-take-le, take_more_set}
 use Rattle.domain_script.specs.declared.event.DiskDecl.{DiskDecl}
 use Rattle.domain_script.specs.declared.event.Name.{Name}
 use Rattle.domain_script.specs.Declarations.{IsDisk, AreDisks}
@@ -32,8 +32,8 @@ pub is_named_at : (disks : List DiskDecl) (name : Name) (k : ℕ) (d : DiskDecl)
 is_named_at [] name k d lt is before = absurd (omega arith)
 is_named_at (x ∷ xs) name zero d lt is before = is
 is_named_at (x ∷ xs) name (suc k) d lt is before = (
-    before zero x (omega arith),
-    is_named_at xs name k d (omega arith) is (λ j e below. before (suc j) e (omega arith)),
+  before zero x (omega arith),
+  is_named_at xs name k d (omega arith) is (λ j e below. before (suc j) e (omega arith)),
 )
 
 -- a name that no place has is free

@@ -40,8 +40,8 @@ names_no_disk names word name spelled free k named =
 pub names_one_disk : (names : NamesState) (word : List ℕ) (j k : ℕ) → NamesDisk names word j → NamesDisk names word k → j ≡ k
 names_one_disk names word j k first second =
     one_disk names.disks second.name j k
-        (subst (λ (n : Name). IsDiskNamed n names.disks j) (one_name word first.name second.name first.spelled second.spelled) first.declared_as)
-        second.declared_as
+    (subst (λ (n : Name). IsDiskNamed n names.disks j) (one_name word first.name second.name first.spelled second.spelled) first.declared_as)
+    second.declared_as
 
 -- what `find` says, for the word
 pub none_named : (names : NamesState) (word : List ℕ) (name : Name) (found : Option ℕ) → SpellsName word name

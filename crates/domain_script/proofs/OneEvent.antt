@@ -1,9 +1,6 @@
 -- A line spells at most one event.
-use Rattle.std.proofs.Common.{◌≡◌, ◌≢◌, ℕ, ◌<◌, ◌≤◌, Bool, true, false, List, [], ◌∷◌, length, get_or, take, codes, Ok, refl, sym, ◌∙◌, ap, subst, arith}
-use Rattle.std.specs.List.{slice_split, onto_first}
-use Rattle.hex.specs.Hex.{decode_of}
+use Rattle.std.proofs.Common.{◌≡◌, ℕ, List, [], ◌∷◌, refl, sym, ◌∙◌, ap, subst, arith}
 use Rattle.vdisk_msg.specs.declared.request.Fill.{Fill}
-use Rattle.vdisk_msg.specs.declared.request.Request.{Request}
 use Rattle.vdisk_msg.specs.declared.request.Request.TheVariants.{Read, Write, Flush}
 use Rattle.domain_script.specs.declared.event.DiskDecl.{DiskDecl}
 use Rattle.domain_script.specs.declared.event.Event.{Event}
@@ -11,7 +8,7 @@ use Rattle.domain_script.specs.declared.event.Event.TheVariants.{Blank, Disk, Is
 use Rattle.domain_script.specs.declared.event.Name.{Name}
 use Rattle.domain_script.specs.NamesState.{NamesState}
 use Rattle.domain_script.specs.Spells.{IsBlank, NamesDisk, Spells, SpellsWords}
-use Rattle.domain_script.specs.Words.{words, SpellsFill, SpellsName, SpellsNumber}
+use Rattle.domain_script.specs.Words.{words, SpellsFill, SpellsName}
 use Rattle.domain_script.proofs.HexWords.{one_fill}
 use Rattle.domain_script.proofs.Naming.{one_name, names_one_disk}
 use Rattle.domain_script.proofs.RowLemmas.{behind, same_first, one_number, SameFour, same_four, first_letter, disk_parts, read_parts, write_parts, flush_parts, settle_parts, DiskParts, ReadParts, WriteParts, FlushParts, SettleParts}
@@ -47,10 +44,10 @@ one_event ws names (Disk disk) b first second =
     same_four first.name first.blocks first.ring first.queue parts.name parts.blocks parts.ring parts.queue parts.is in
     let equal : disk ≡ parts.disk =
     same_disk disk parts.disk
-        (one_name parts.name disk.name parts.disk.name (subst (λ (w : List ℕ). SpellsName w disk.name) same.one first.name_spelled) parts.name_spelled)
-        (one_number first.blocks parts.blocks disk.blocks parts.disk.blocks same.two first.blocks_spelled parts.blocks_spelled)
-        (one_number first.ring parts.ring disk.ring parts.disk.ring same.three first.ring_spelled parts.ring_spelled)
-        (one_number first.queue parts.queue disk.queue parts.disk.queue same.four first.queue_spelled parts.queue_spelled) in
+    (one_name parts.name disk.name parts.disk.name (subst (λ (w : List ℕ). SpellsName w disk.name) same.one first.name_spelled) parts.name_spelled)
+    (one_number first.blocks parts.blocks disk.blocks parts.disk.blocks same.two first.blocks_spelled parts.blocks_spelled)
+    (one_number first.ring parts.ring disk.ring parts.disk.ring same.three first.ring_spelled parts.ring_spelled)
+    (one_number first.queue parts.queue disk.queue parts.disk.queue same.four first.queue_spelled parts.queue_spelled) in
     ap (λ (d : DiskDecl). Disk d) equal ∙ sym parts.spelled
 one_event ws names (Issue disk (Read block count)) b first second =
     let tail : List (List ℕ) = first.name ∷ first.place ∷ first.size ∷ [] in

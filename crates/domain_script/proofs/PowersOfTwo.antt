@@ -1,5 +1,5 @@
 -- The powers of two up to 256, told by their one bit.
-use Rattle.std.proofs.Common.{◌≡◌, ℕ, ◌+◌, ◌^◌, ◌<◌, ◌≤◌, ◌⊎◌, inl, inr, zero, suc, Bool, true, false, ◌&&◌, ◌||◌, not, cond, eqb, refl, sym, ◌∙◌, ap, subst, arith}
+use Rattle.std.proofs.Common.{◌≡◌, ℕ, ◌^◌, ◌<◌, ◌≤◌, inl, inr, zero, suc, Bool, true, false, ◌&&◌, ◌||◌, not, cond, eqb, refl, sym, ◌∙◌, subst, arith}
 use Rattle.std.proofs.lemmas.Bool.{and_parts, cases_lt, eqb-true}
 use Rattle.std.specs.Int.RustNames.{count_ones}
 use Rattle.std.specs.Int.{is_power_of_two}
@@ -10,7 +10,7 @@ use lib.Pow.{pow_mono}
 abbrev power_of : ℕ → ℕ
 power_of n =
     cond (eqb n 1) 0 (cond (eqb n 2) 1 (cond (eqb n 4) 2 (cond (eqb n 8) 3 (cond (eqb n 16) 4
-        (cond (eqb n 32) 5 (cond (eqb n 64) 6 (cond (eqb n 128) 7 8)))))))
+    (cond (eqb n 32) 5 (cond (eqb n 64) 6 (cond (eqb n 128) 7 8)))))))
 
 -- a number with one bit is that power
 abbrev is_its_power : ℕ → Bool
@@ -77,6 +77,6 @@ bit_from_power n le power =
 pub size_tells : (n least : ℕ) (one : Bool) → least ≤ n → n ≤ 256 → one ≡ is_power_of_two n
     → (one ≡ true → (least ≤ n) × (n ≤ 256) × IsPowerOfTwo n) × ((least ≤ n) × (n ≤ 256) × IsPowerOfTwo n → one ≡ true)
 size_tells n least one low high is = (
-    λ yes. (low, high, power_from_bit n high (sym is ∙ yes)),
-    λ size. is ∙ bit_from_power n high size.2,
+  λ yes. (low, high, power_from_bit n high (sym is ∙ yes)),
+  λ size. is ∙ bit_from_power n high size.2,
 )

@@ -1,8 +1,7 @@
 -- What a row asks of its words: the first word alone says which row it is.
-use Rattle.std.proofs.Common.{◌≡◌, ◌≢◌, ℕ, ◌<◌, ◌≤◌, List, [], ◌∷◌, length, get_or, codes, Bool, false, refl, sym, ◌∙◌, ap, subst, arith}
+use Rattle.std.proofs.Common.{◌≡◌, ℕ, ◌<◌, ◌≤◌, List, [], ◌∷◌, length, get_or, codes, false, refl, sym, ◌∙◌, ap, subst, arith}
 use Rattle.std.proofs.lemmas.Fmt.{decimal_injective}
 use Rattle.vdisk_msg.specs.declared.request.Fill.{Fill}
-use Rattle.vdisk_msg.specs.declared.request.Request.{Request}
 use Rattle.vdisk_msg.specs.declared.request.Request.TheVariants.{Read, Write, Flush}
 use Rattle.domain_script.specs.declared.event.DiskDecl.{DiskDecl}
 use Rattle.domain_script.specs.declared.event.Event.{Event}
@@ -230,10 +229,10 @@ disk_within fields names event parts word blocks ring queue disk is b r q =
     let same : SameFour parts.name parts.blocks parts.ring parts.queue word blocks ring queue =
     same_four parts.name parts.blocks parts.ring parts.queue word blocks ring queue (sym parts.is ∙ is) in
     is_disk_by parts.disk disk
-        (one_number parts.blocks blocks parts.disk.blocks disk.blocks same.two parts.blocks_spelled b)
-        (one_number parts.ring ring parts.disk.ring disk.ring same.three parts.ring_spelled r)
-        (one_number parts.queue queue parts.disk.queue disk.queue same.four parts.queue_spelled q)
-        parts.limits
+    (one_number parts.blocks blocks parts.disk.blocks disk.blocks same.two parts.blocks_spelled b)
+    (one_number parts.ring ring parts.disk.ring disk.ring same.three parts.ring_spelled r)
+    (one_number parts.queue queue parts.disk.queue disk.queue same.four parts.queue_spelled q)
+    parts.limits
 
 -- a first word of six bytes or more is that of no row with further words
 pub no_long_row : (row : List ℕ) (fields : List (List ℕ)) (names : NamesState) (event : Event) → 6 ≤ length row → 0 < length fields → SpellsWords (row ∷ fields) names event → ⊥

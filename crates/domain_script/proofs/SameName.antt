@@ -24,5 +24,5 @@ both_true false y first second = first
 pub not_from_test : (a b : Name) → false ≡ (eqb a.len b.len && bytes_eq a.bytes b.bytes) → a ≡ b → ⊥
 not_from_test a b other is =
     let equal = both_true (eqb a.len b.len) (bytes_eq a.bytes b.bytes) (eq-eqb a.len b.len (ap (λ (n : Name). n.len) is))
-        ((bytes_eq-Decides a.bytes b.bytes).1 (ap (λ (n : Name). n.bytes) is)) in
+    ((bytes_eq-Decides a.bytes b.bytes).1 (ap (λ (n : Name). n.bytes) is)) in
     let both : false ≡ true = other ∙ equal in cc

@@ -1,6 +1,5 @@
 -- From the words of a line to the line, and what a line that spells an event says of the names.
-use Rattle.std.proofs.Common.{◌≡◌, ◌<◌, ℕ, Bool, true, false, List, [], ◌∷◌, length, Option, Some, None, Result, IfNone, IfSome, IfOk, sym, ◌∙◌, ap, subst, arith}
-use Rattle.vdisk_msg.specs.declared.request.Request.{Request}
+use Rattle.std.proofs.Common.{◌≡◌, ℕ, true, false, List, Option, Some, None, Result, IfNone, IfSome, IfOk, sym, subst}
 use Rattle.vdisk_msg.specs.declared.request.Request.TheVariants.{Read, Write, Flush}
 use Rattle.domain_script.specs.declared.event.Event.{Event}
 use Rattle.domain_script.specs.declared.event.Event.TheVariants.{Blank, Disk, Issue, Settle}

@@ -1,9 +1,8 @@
 -- What is still to come while a line is read.
-use Rattle.std.proofs.Common.{◌≡◌, ◌≢◌, ℕ, ◌+◌, ◌-◌, ◌<◌, ◌≤◌, zero, suc, eqb, not, Bool, true, false, List, [], ◌∷◌, ◌++◌, length, Option, Some, None, Result, Ok, Err, IfSome, refl, sym, ◌∙◌, ap, subst, arith, append-nil, append_assoc}
+use Rattle.std.proofs.Common.{◌≡◌, ◌≢◌, ℕ, eqb, not, Bool, true, false, List, [], ◌∷◌, ◌++◌, length, Option, Some, None, Ok, Err, IfSome, refl, sym, ◌∙◌, ap, subst, append-nil, append_assoc}
 use Rattle.std.proofs.Math.Dec.{eqb-suc-zero}
 use Rattle.std.proofs.KnownBytes.{Keeps-trans}
 use Rattle.std.specs.Io.KnownBytes.{Keeps, IsAtEnd, prepend_known}
-use Rattle.std.proofs.lemmas.List.{length-append}
 use Rattle.domain_script.specs.declared.lines.LinesFault.{LinesFault}
 use Rattle.domain_script.specs.declared.lines.LinesFault.TheVariants.{Source, Long, Many, Memory}
 use Rattle.domain_script.specs.ScriptLines.{script_lines, TakesLine, BeginsWithLonger}
@@ -68,9 +67,10 @@ longer_to_come (Some all) (Some x) bytes told long = begins_longer all (record {
 -- a part was refused, so the line is
 pub read_refused : (rest left : Option (List ℕ)) (line piece line_after piece_after : List ℕ) (fault : LinesFault) → Keeps rest (prepend_known (line ++ piece) left)
     → MovesPart piece line (Err fault) piece_after line_after → ReadsLine rest (Err fault) line_after piece_after left
-read_refused rest left line piece line_after piece_after Long told moves =
-    (subst (λ (l : List ℕ). Keeps rest (prepend_known l left)) (sym (ap (λ (l : List ℕ). l ++ piece_after) moves.1 ∙ ap (λ (l : List ℕ). line ++ l) moves.0)) told,
-    longer_to_come rest left (line ++ piece) told moves.2)
+read_refused rest left line piece line_after piece_after Long told moves = (
+  subst (λ (l : List ℕ). Keeps rest (prepend_known l left)) (sym (ap (λ (l : List ℕ). l ++ piece_after) moves.1 ∙ ap (λ (l : List ℕ). line ++ l) moves.0)) told,
+  longer_to_come rest left (line ++ piece) told moves.2,
+)
 read_refused rest left line piece line_after piece_after Memory told moves =
     subst (λ (l : List ℕ). Keeps rest (prepend_known l left)) (sym (ap (λ (l : List ℕ). l ++ piece_after) moves.1 ∙ ap (λ (l : List ℕ). line ++ l) moves.0)) told
 read_refused rest left line piece line_after piece_after Source told moves = absurd moves

@@ -1,5 +1,5 @@
 -- A reader of lines, and what each of its answers says.
-use Rattle.std.specs.Prelude.{◌≡◌, ◌≢◌, ℕ, ◌+◌, ◌<◌, ◌≤◌, Bool, true, false, List, [], length, Option, IfSome, Result, Ok, Err, ⊤}
+use Rattle.std.specs.Prelude.{◌≡◌, ◌≢◌, ℕ, ◌+◌, ◌<◌, ◌≤◌, Bool, true, false, List, [], length, Option, IfSome, Result, Ok, Err}
 use Rattle.std.specs.Io.KnownBytes.{Keeps, IsAtEnd, prepend_known}
 use Rattle.domain_script.specs.declared.lines.LinesFault.{LinesFault}
 use Rattle.domain_script.specs.declared.lines.LinesFault.TheVariants.{Source, Long, Many, Memory}

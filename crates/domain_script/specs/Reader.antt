@@ -1,6 +1,5 @@
 -- What a reader of lines keeps, and how it is seen.
-use Rattle.std.specs.Prelude.{◌≡◌, ℕ, ◌≤◌, Bool, true, false, List, [], ◌++◌, length, if◌then◌else◌}
-use Rattle.domain_script.specs.declared.lines.LinesStop.{LinesStop}
+use Rattle.std.specs.Prelude.{◌≡◌, ◌≤◌, true, false, [], ◌++◌, length, if◌then◌else◌}
 use Rattle.domain_script.specs.declared.lines.LinesStop.TheVariants.{Going}
 use Rattle.domain_script.specs.declared.lines.Lines.TheInside.{Inside}
 use Rattle.domain_script.specs.LinesState.{LinesState}

@@ -1,5 +1,5 @@
 -- The rows of a script: which event a line spells.
-use Rattle.std.specs.Prelude.{◌≡◌, ℕ, ◌<◌, ◌≤◌, nat_le, ◌&&◌, Bool, false, IsTrue, List, [], ◌∷◌, length, codes, ⊤}
+use Rattle.std.specs.Prelude.{◌≡◌, ℕ, ◌<◌, nat_le, ◌&&◌, Bool, false, IsTrue, List, [], ◌∷◌, length, codes, ⊤}
 use Rattle.std.specs.List.{list_all}
 use Rattle.vdisk_msg.specs.declared.request.Fill.{Fill}
 use Rattle.vdisk_msg.specs.declared.request.Request.{Request}

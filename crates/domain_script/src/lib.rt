@@ -11,6 +11,8 @@ mod piece;
 mod reading;
 mod rows;
 mod spellings;
+#[cfg(test)]
+mod tests;
 mod words;
 
 pub use event::{DiskDecl, Event, Lane, LineFault, Name};

@@ -2,7 +2,7 @@ ghost use Rattle.std.specs.Prelude.{◌≡◌, ◌≢◌, ℕ, ◌<◌, [], true
 ghost use Rattle.vio_io.specs.Causes.{Rose};
 
 use crate::piece::Piece;
-use crate::reading::{read_line, MOST_BYTES};
+use crate::reading::{MOST_BYTES, read_line};
 use std::alloc::{AllocError, Global};
 use std::marker::Model;
 use thiserror::Error;
@@ -60,7 +60,6 @@ enum LinesStop {
     TooLong,
     TooMany,
 }
-
 
 /// The lines of a script, one after another from a source that stays with the caller. Each read asks for at most
 /// 4,096 bytes; those behind a line are kept for the next. Behind the end, a line that is too long or one too many

@@ -67,6 +67,13 @@ impl Names {
         self.count == 0 && !self.ended
     }
 
+    /// Whether a disk is declared.
+    pub fn has_disk(&self) -> bool
+        ensures { IsTrue result ↔ (0 < length self.now.disks) }
+    {
+        self.count > 0
+    }
+
     /// The number of the disk with this name. None exactly where no disk has it.
     pub fn find(&self, name: &Name) -> Option<u32>
         ensures { MatchOption result (IsFree name.now self.now.disks) (IsDiskNamed name.now self.now.disks) }

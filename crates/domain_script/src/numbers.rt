@@ -24,7 +24,11 @@ pub fn number(word: &[u8]) -> Option<u64>
 {
     let n: u64 = str::from_utf8(word).ok()?.parse().ok()?;
     let mut buffer = Buffer::new();
-    if buffer.format(n).as_bytes() == word { Some(n) } else { None }
+    if buffer.format(n).as_bytes() == word {
+        Some(n)
+    } else {
+        None
+    }
 }
 
 /// The number that a word spells, where it is at most `most`.
@@ -34,7 +38,11 @@ pub fn number_up_to(word: &[u8], most: u32) -> Option<u32>
     ensures none { IfNone result ((n : ℕ) → SpellsNumber word.now n → n ≤ most → ⊥) }
 {
     let n = number(word)?;
-    if n <= most as u64 { Some(n as u32) } else { None }
+    if n <= most as u64 {
+        Some(n as u32)
+    } else {
+        None
+    }
 }
 
 /// Whether a disk is within the limits.

@@ -54,5 +54,4 @@ fn are_printable(bytes: &[u8]) -> bool
 /// A line spells at most one event.
 pub fn spells_at_most_one()
     ensures { (line : List ℕ) (names : NamesState) (a b : event_data) → Spells line names a → Spells line names b → a ≡ b }
-{
-}
+{}

@@ -46,7 +46,11 @@ fn take_part(piece: &mut Piece, line: &mut Vec<u8>) -> Result<bool, LinesFault>
 }
 
 /// Reads on until a line is whole. False at the source's end where nothing of a line is there.
-pub fn read_line<S: Source>(piece: &mut Piece, line: &mut Vec<u8>, source: &mut S) -> Result<bool, LinesFault>
+pub fn read_line<S: Source>(
+    piece: &mut Piece,
+    line: &mut Vec<u8>,
+    source: &mut S,
+) -> Result<bool, LinesFault>
     requires short { length line.old.items ≤ 3100 }
     requires no_feed { HasNoFeed line.old.items }
     ensures reads { ReadsLine (prepend_known (line.old.items ++ piece.old) (S.left source.old)) result line.new.items piece.new (S.left source.new) }

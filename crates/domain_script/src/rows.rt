@@ -3,7 +3,7 @@ ghost use Rattle.domain_script.specs.declared.event.Event.{Event as event_data};
 ghost use Rattle.domain_script.specs.Spells.{NamesDisk, SpellsWords};
 ghost use Rattle.domain_script.specs.Words.{words};
 
-use crate::numbers::{is_within_limits, number, number_up_to, MOST_BLOCKS, MOST_SIZE};
+use crate::numbers::{MOST_BLOCKS, MOST_SIZE, is_within_limits, number, number_up_to};
 use crate::spellings::{fill, name};
 use crate::words::{four_words, one_word, three_words};
 use crate::{DiskDecl, Event, Names, Request};
@@ -27,10 +27,10 @@ fn disk_row(fields: &[u8], names: &Names) -> Option<Event>
     ensures some { IfSome result (SpellsWords (codes "disk" ∷ words fields.now) names.now) }
     ensures none { IfNone result ((event : event_data) → SpellsWords (codes "disk" ∷ words fields.now) names.now event → ⊥) }
 {
-    let (word, blocks, ring, queue) = four_words(fields)?;
+    let (word, size, ring, queue) = four_words(fields)?;
     let disk = DiskDecl {
         name: name(word)?,
-        blocks: number_up_to(blocks, MOST_BLOCKS)?,
+        blocks: number_up_to(size, MOST_BLOCKS)?,
         ring: number_up_to(ring, MOST_SIZE)?,
         queue: number_up_to(queue, MOST_SIZE)?,
     };
@@ -88,11 +88,11 @@ pub fn settle_row(line: &[u8], names: &Names) -> Option<Event>
     ensures some { IfSome result (SpellsWords (words line.now) names.now) }
     ensures none { IfNone result ((event : event_data) → SpellsWords (words line.now) names.now event → ⊥) }
 {
-    if line != b"settle".as_slice() {
-        return None;
+    if line == b"settle".as_slice() && names.has_disk() {
+        Some(Event::Settle)
+    } else {
+        None
     }
-    names.disk(0)?;
-    Some(Event::Settle)
 }
 
 /// The number of the disk that a word names.

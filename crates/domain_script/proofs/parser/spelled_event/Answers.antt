@@ -1,4 +1,4 @@
-use Rattle.std.proofs.Common.{◌∷◌, [], refl}
+use Rattle.std.proofs.Common.{◌∷◌, refl}
 use Rattle.domain_script.specs.Words.{words}
 use Rattle.domain_script.proofs.Spelling.{none_spelled}
 use Rattle.domain_script.proofs.parser.spelled_event.Goals as goal
@@ -6,7 +6,7 @@ use Rattle.domain_script.proofs.parser.spelled_event.Goals as goal
 pub returns-in-Some-clause-none : goal.returns-in-Some-clause-none
 returns-in-Some-clause-none c =
     none_spelled c.args.line.now (c.in-Some.row.now ∷ words c.in-Some.fields.now) c.args.names.now c.row_with_fields.result c.in-Some.ensures
-        c.if-is_blank.ensures.1 c.row_with_fields.ensures.none
+    c.if-is_blank.ensures.1 c.row_with_fields.ensures.none
 
 pub returns-in-None-clause-none : goal.returns-in-None-clause-none
 returns-in-None-clause-none c =

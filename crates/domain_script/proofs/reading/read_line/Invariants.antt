@@ -1,4 +1,4 @@
-use Rattle.std.proofs.Common.{ℕ, ◌-◌, ◌≤◌, ◌++◌, length}
+use Rattle.std.proofs.Common.{◌-◌, ◌≤◌, ◌++◌, length}
 use Rattle.std.specs.Io.KnownBytes.{Keeps, prepend_known}
 use Rattle.domain_script.specs.Pieces.{HasNoFeed}
 use Rattle.domain_script.proofs.reading.read_line.Given as goal

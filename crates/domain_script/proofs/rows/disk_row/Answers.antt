@@ -1,6 +1,6 @@
-use Rattle.std.proofs.Common.{◌≡◌, ℕ, List, [], ◌∷◌, true, false, sym, ◌∙◌, subst}
+use Rattle.std.proofs.Common.{◌≡◌, ℕ, List, true, false, sym, ◌∙◌, subst}
 use Rattle.domain_script.specs.Words.{words, SpellsName}
-use Rattle.domain_script.proofs.RowLemmas.{DiskParts, disk_parts, disk_within, same_first}
+use Rattle.domain_script.proofs.RowLemmas.{disk_parts, disk_within, same_first}
 use Rattle.domain_script.proofs.rows.disk_row.Goals as goal
 use Rattle.domain_script.proofs.rows.disk_row.Goals.{else-is_untouched-via-then-is_untouched+else-is_within_limits, else-is_untouched-via-else-is_untouched}
 
@@ -16,9 +16,9 @@ returns-else-is_untouched-clause-none c = λ event spells.
     elim c.else-is_untouched.branch [
       | else-is_untouched-via-then-is_untouched+else-is_within_limits w ↦
           let limits =
-          disk_within (words c.args.fields.now) c.args.names.now event parts c.in_ok-word.word.now c.in_ok-word.blocks.now c.in_ok-word.ring.now c.in_ok-word.queue.now
-              (record { name = c.in_ok-name.field-0; blocks = c.in_ok-number_up_to.field-0; ring = c.in_ok-number_up_to-2.field-0; queue = c.in_ok-number_up_to-3.field-0 })
-              c.in_ok-word.ensures c.in_ok-number_up_to.ensures.some c.in_ok-number_up_to-2.ensures.some c.in_ok-number_up_to-3.ensures.some in
+          disk_within (words c.args.fields.now) c.args.names.now event parts c.in_ok-word.word.now c.in_ok-word.size.now c.in_ok-word.ring.now c.in_ok-word.queue.now
+          (record { name = c.in_ok-name.field-0; blocks = c.in_ok-number_up_to.field-0; ring = c.in_ok-number_up_to-2.field-0; queue = c.in_ok-number_up_to-3.field-0 })
+          c.in_ok-word.ensures c.in_ok-number_up_to.ensures.some c.in_ok-number_up_to-2.ensures.some c.in_ok-number_up_to-3.ensures.some in
           let both : false ≡ true = sym w.if-is_within_limits.false ∙ w.is_within_limits.ensures.1 limits in cc
       | else-is_untouched-via-else-is_untouched w ↦
           let both : false ≡ true = sym w.if-is_untouched.false ∙ c.is_untouched.ensures.1 (parts.first, parts.still_open) in cc

@@ -1,4 +1,4 @@
-use Rattle.std.proofs.Common.{◌≡◌, ℕ, List, [], ◌∷◌, sym, ◌∙◌, subst}
+use Rattle.std.proofs.Common.{◌≡◌, ℕ, List, sym, ◌∙◌, subst}
 use Rattle.domain_script.specs.Spells.{NamesDisk}
 use Rattle.domain_script.specs.Words.{words}
 use Rattle.domain_script.proofs.RowLemmas.{write_parts, same_first}

@@ -1,4 +1,4 @@
-use Rattle.std.proofs.Common.{◌≡◌, List, ℕ, length, arith, ap}
+use Rattle.std.proofs.Common.{List, ℕ, length, arith, ap}
 use Rattle.domain_script.proofs.WordLemmas.{words_some}
 use Rattle.domain_script.proofs.words.one_word.Goals as goal
 

@@ -1,4 +1,4 @@
-use Rattle.std.proofs.Common.{◌≡◌, length, take, arith, ap, sym, ◌∙◌}
+use Rattle.std.proofs.Common.{◌≡◌, length, take, arith, ap, sym}
 use Rattle.std.proofs.lemmas.List.{length-take-le}
 use Rattle.std.proofs.lemmas.Option.{slice_get_past}
 use Rattle.domain_script.proofs.Disks.{is_disk_within}
