@@ -16,7 +16,7 @@ on_err (Err e) P p = p
 pub appends_piece : (a b c : Option (List ℕ)) (xs rest : List ℕ) (at n : ℕ) → rest ≡ drop at xs → Appends a b (take at xs) → Appends b c (take n rest) → Appends a c (take (at + n) xs)
 appends_piece a b c xs rest at n is p q =
     subst (λ (l : List ℕ). Appends a c l) (ap (λ (r : List ℕ). take at xs ++ take n r) is ∙ sym (take-add at n xs))
-        (Appends-trans a b c (take at xs) (take n rest) p q)
+    (Appends-trans a b c (take at xs) (take n rest) p q)
 
 -- a call that failed wrote nothing behind the front that was written
 pub wrote_front_kept : (a b c : Option (List ℕ)) (xs : List ℕ) (at : ℕ) → Appends a b (take at xs) → Keeps b c → WroteFront a c xs
@@ -100,7 +100,7 @@ wrote_front_behind a b c first text so_far more whole is p q = record {
 pub rose_later : (a b c : ℕ) → a ≤ b → b ≤ c → Rose b c → Rose a c
 rose_later a b c ab bc rose =
     λ lt. elim (cases_lt b last_count) [
-      inl below ↦ let up : b < c = rose below in omega arith
+      | inl below ↦ let up : b < c = rose below in omega arith
       | inr last ↦ omega arith
     ]
 

@@ -17,7 +17,7 @@ use Rattle.ldom_journal.specs.declared.status.Mode.{Mode}
 use Rattle.ldom_journal.specs.declared.status.Mode.TheVariants.{Run, Trace, EndOnly}
 use Rattle.ldom_journal.specs.BlockWord.{blocks_text}
 
--- a declared disk's name, none where there is no disk
+-- a disk's name
 abbrev pub declared_name : Option DiskDecl → List ℕ
 declared_name (Some disk) = take disk.name.len disk.name.bytes
 declared_name None = []

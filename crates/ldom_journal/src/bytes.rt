@@ -6,7 +6,7 @@ use std::marker::Model;
 use vio_bytes::NoMemory;
 
 /// The bytes of an entry, as those that a read gave, and the room that is left for more of them.
-#[derive(Drop)]
+#[derive(Debug, Drop)]
 pub struct Bytes {
     bytes: Vec<u8>,
     room: usize,

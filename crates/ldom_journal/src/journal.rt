@@ -10,7 +10,7 @@ use vio_bytes::NoMemory;
 use vio_io::{Failed, Sink};
 
 /// The entries of a run in the order in which they came, and the room that is left for more of them.
-#[derive(Drop)]
+#[derive(Debug, Drop)]
 pub struct Journal {
     entries: Vec<Entry>,
     room: usize,

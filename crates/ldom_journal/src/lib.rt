@@ -11,6 +11,8 @@ mod journal;
 mod kept_request;
 mod lines;
 mod status;
+#[cfg(test)]
+mod tests;
 mod text;
 
 pub use bytes::Bytes;

@@ -31,4 +31,4 @@ returns-clause-ok g c =
     let i = c.loop-block.invariant in
     let short = c.in_default.ensures.cases in
     subst (λ (l : List ℕ). Gathers (g.K.Sink.written c.args.out.now) (g.K.Sink.written c.loop-block.out) c.loop-block.text (c.args.text.now ++ l))
-        (sym (blocks_text_end i.so_far (blocks_text c.args.bytes.now) c.loop-block.rest.now i.whole short)) i.gathers
+    (sym (blocks_text_end i.so_far (blocks_text c.args.bytes.now) c.loop-block.rest.now i.whole short)) i.gathers

@@ -17,9 +17,9 @@ returns-in_err-put_read-clause-err g c =
     let read : List ℕ = read_text c.args.entry.now in
     let headed = gathers_more _ _ c.make_room.new.self c.push_head.new.text text head c.in_ok-make_room.ensures.ok c.push_head.ensures in
     on_err c.from_residual-in_err-put_read.result _
-        (wrote_front_of_more _ _ (text ++ head ++ read) (10 ∷ []) (text ++ (head ++ read ++ 10 ∷ []))
-            (sym (ap (λ (l : List ℕ). l ++ 10 ∷ []) (append_assoc text head read) ∙ append_assoc text (head ++ read) (10 ∷ [])))
-            (wrote_front_then _ _ _ c.push_head.new.text (text ++ head) read headed c.in_err-put_read.ensures.err))
+    (wrote_front_of_more _ _ (text ++ head ++ read) (10 ∷ []) (text ++ (head ++ read ++ 10 ∷ []))
+    (sym (ap (λ (l : List ℕ). l ++ 10 ∷ []) (append_assoc text head read) ∙ append_assoc text (head ++ read) (10 ∷ [])))
+    (wrote_front_then _ _ _ c.push_head.new.text (text ++ head) read headed c.in_err-put_read.ensures.err))
 
 pub returns-in_err-make_room-2-clause-err : goal.returns-in_err-make_room-2-clause-err
 returns-in_err-make_room-2-clause-err g c =
@@ -29,7 +29,7 @@ returns-in_err-make_room-2-clause-err g c =
     let headed = gathers_more _ _ c.make_room.new.self c.push_head.new.text text head c.in_ok-make_room.ensures.ok c.push_head.ensures in
     let worded = gathers_behind _ _ _ c.push_head.new.text c.put_read.new.text text head read headed c.in_ok-put_read.ensures.ok in
     on_err c.from_residual-in_err-make_room-2.result _
-        (wrote_front_behind _ _ _ c.put_read.new.text text (head ++ read) (10 ∷ []) (head ++ read ++ 10 ∷ []) refl worded c.in_err-make_room-2.ensures.err)
+    (wrote_front_behind _ _ _ c.put_read.new.text text (head ++ read) (10 ∷ []) (head ++ read ++ 10 ∷ []) refl worded c.in_err-make_room-2.ensures.err)
 
 pub returns-clause-ok : goal.returns-clause-ok
 returns-clause-ok g c =
@@ -40,5 +40,5 @@ returns-clause-ok g c =
     let worded = gathers_behind _ _ _ c.push_head.new.text c.put_read.new.text text head read headed c.in_ok-put_read.ensures.ok in
     let roomy = gathers_same _ _ _ c.put_read.new.text c.make_room-2.new.self (text ++ (head ++ read)) worded c.in_ok-make_room-2.ensures.ok in
     subst (λ (l : List ℕ). Gathers (g.K.Sink.written c.args.out.now) (g.K.Sink.written c.make_room-2.new.out) c.push.new.self l)
-        (append_assoc text (head ++ read) (10 ∷ []))
-        (gathers_more _ _ c.make_room-2.new.self c.push.new.self (text ++ (head ++ read)) (10 ∷ []) roomy c.push.ensures.text)
+    (append_assoc text (head ++ read) (10 ∷ []))
+    (gathers_more _ _ c.make_room-2.new.self c.push.new.self (text ++ (head ++ read)) (10 ∷ []) roomy c.push.ensures.text)
