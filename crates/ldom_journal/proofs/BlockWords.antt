@@ -1,5 +1,5 @@
 -- The word that a block repeats.
-use Rattle.std.proofs.Common.{◌≡◌, refl, ℕ, zero, suc, ◌+◌, ◌-◌, ◌/◌, ◌%◌, ◌<◌, ◌≤◌, Bool, true, false, cond, Option, Some, find, unwrap_or, List, [], ◌∷◌, ◌++◌, append_assoc, append-nil, map, length, get_or, take, drop, sym, ap, ◌∙◌, arith, ◌⊎◌, inl, inr, Decides}
+use Rattle.std.proofs.Common.{◌≡◌, ℕ, zero, suc, ◌+◌, ◌-◌, ◌/◌, ◌%◌, ◌<◌, ◌≤◌, Bool, true, false, cond, Option, Some, find, unwrap_or, List, [], ◌∷◌, ◌++◌, append_assoc, append-nil, length, get_or, take, drop, sym, ap, ◌∙◌, arith, inl, inr, Decides}
 use Rattle.std.proofs.Math.Nat.{mod-eq_of_lt, mod-eq-sub-mod}
 use Rattle.std.proofs.lemmas.Bool.{cases_lt}
 use Rattle.std.proofs.lemmas.Bool.Decides.{same_from_decides}

@@ -1,5 +1,5 @@
 -- What is written of a text, and what is still gathered.
-use Rattle.std.proofs.Common.{◌≡◌, refl, ℕ, ◌+◌, ◌≤◌, List, [], ◌∷◌, ◌++◌, take, drop, Option, Some, None, Result, Ok, Err, OnErr, OnOk, sym, subst, ap, ◌∙◌, append_assoc, append-nil, ◌<◌, inl, inr, arith}
+use Rattle.std.proofs.Common.{◌≡◌, refl, ℕ, ◌+◌, ◌≤◌, List, [], ◌++◌, take, drop, Option, Result, Ok, Err, OnErr, sym, subst, ap, ◌∙◌, append_assoc, append-nil, ◌<◌, inl, inr, arith}
 use Rattle.std.proofs.lemmas.Bool.{cases_lt}
 use Rattle.std.proofs.lemmas.List.{take-append-drop}
 use Rattle.std.proofs.Math.Seq.{take-add}

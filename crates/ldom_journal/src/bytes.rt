@@ -1,4 +1,4 @@
-ghost use Rattle.std.specs.Prelude.{◌≡◌, ◌+◌, ◌-◌, ◌≤◌, ◌==◌, [], ◌++◌, length, vec_capacity, IfOk};
+ghost use Rattle.std.specs.Prelude.{◌≡◌, ◌↔◌, ◌+◌, ◌-◌, ◌≤◌, [], ◌++◌, length, IsTrue, vec_capacity, IfOk};
 ghost use Rattle.ldom_journal.specs.Bytes.{filled};
 
 use std::alloc::Global;
@@ -80,7 +80,7 @@ impl Bytes {
     }
 
     pub fn is_empty(&self) -> bool
-        ensures { result ≡ (length self.now.items == 0) }
+        ensures { IsTrue result ↔ (length self.now.items ≡ 0) }
     {
         self.bytes.is_empty()
     }

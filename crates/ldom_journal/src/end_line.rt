@@ -115,8 +115,8 @@ pub fn write_end<K: Sink>(
     status: &Status,
     out: &mut K,
 ) -> Result<(), Failed>
-    ensures ok { OnOk result (Appends (K.written out.old) (K.written out.new) (last_line lines journal.now.entries status.now)) }
-    ensures err { OnErr result (WroteFront (K.written out.old) (K.written out.new) (last_line lines journal.now.entries status.now)) }
+    ensures told { OnOk result (Appends (K.written out.old) (K.written out.new) (last_line lines journal.now.entries status.now)) }
+    ensures front { OnErr result (WroteFront (K.written out.old) (K.written out.new) (last_line lines journal.now.entries status.now)) }
     ensures count { K.faults out.old ≤ K.faults out.new }
     ensures cause { OnErr result (Rose (K.faults out.old) (K.faults out.new)) }
 {

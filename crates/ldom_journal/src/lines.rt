@@ -1,6 +1,6 @@
 ghost use Rattle.std.specs.Prelude.{◌≡◌, ◌+◌, ◌≤◌, ◌<◌, ◌++◌, length, take, All, OnOk, OnErr};
 ghost use Rattle.std.specs.Io.KnownBytes.{Appends};
-ghost use Rattle.ldom_journal.specs.EntryText.{disk_name, entry_lines, head_text, id_text, line_text, operation_text, range_text, read_text, report_entries, request_text, shows, who_name, why_text};
+ghost use Rattle.ldom_journal.specs.EntryText.{disk_name, entry_lines, head_text, id_text, line_text, operation_word, range_text, read_text, report_entries, request_text, shows, who_name, why_word};
 ghost use Rattle.ldom_journal.specs.Gathered.{Gathers, WroteFront};
 ghost use Rattle.ldom_journal.specs.HasWords.{HasWords, IsDeclared};
 ghost use Rattle.vio_io.specs.Causes.{Rose};
@@ -105,26 +105,26 @@ fn push_request(text: &mut Text, request: &Request)
     }
 }
 
-fn why_bytes(why: Why) -> &'static [u8]
-    ensures bytes { result.now ≡ why_text why }
-    ensures short { length result.now ≤ 6 }
+fn why_word(why: Why) -> &'static [u8]
+    ensures bytes { result.now ≡ why_word why }
+    ensures short { length result.now ≤ 5 }
 {
     match why {
-        Why::Count => b" count",
-        Why::Range => b" range",
+        Why::Count => b"count",
+        Why::Range => b"range",
     }
 }
 
-fn operation_bytes(operation: u8) -> &'static [u8]
+fn operation_word(operation: u8) -> &'static [u8]
     requires least { 1 ≤ operation }
     requires most { operation ≤ 3 }
-    ensures bytes { result.now ≡ operation_text operation }
-    ensures short { length result.now ≤ 7 }
+    ensures bytes { result.now ≡ operation_word operation }
+    ensures short { length result.now ≤ 5 }
 {
     match operation {
-        VD_OP_BREAD => b" read ",
-        VD_OP_BWRITE => b" write ",
-        VD_OP_FLUSH => b" flush ",
+        VD_OP_BREAD => b"read",
+        VD_OP_BWRITE => b"write",
+        VD_OP_FLUSH => b"flush",
         _ => unreachable!(),
     }
 }
@@ -147,7 +147,8 @@ fn push_head(text: &mut Text, entry: &Entry, names: &Names)
         Entry::Refused { who, why } => {
             text.push(b"refused ");
             push_who(text, *who, names);
-            text.push(why_bytes(*why));
+            text.push(b" ");
+            text.push(why_word(*why));
         }
         Entry::Done {
             disk,
@@ -157,7 +158,9 @@ fn push_head(text: &mut Text, entry: &Entry, names: &Names)
             ..
         } => {
             push_id(text, b"done ", *disk, *id, names);
-            text.push(operation_bytes(*operation));
+            text.push(b" ");
+            text.push(operation_word(*operation));
+            text.push(b" ");
             text.push_number(u64::from(*status));
         }
         Entry::Settled => text.push(b"settled"),
@@ -166,8 +169,8 @@ fn push_head(text: &mut Text, entry: &Entry, names: &Names)
 
 /// The words of a read with status 0.
 fn put_read<K: Sink>(text: &mut Text, entry: &Entry, out: &mut K) -> Result<(), Failed>
-    ensures ok { OnOk result (Gathers (K.written out.old) (K.written out.new) text.new (text.old ++ read_text entry.now)) }
-    ensures err { OnErr result (WroteFront (K.written out.old) (K.written out.new) (text.old ++ read_text entry.now)) }
+    ensures told { OnOk result (Gathers (K.written out.old) (K.written out.new) text.new (text.old ++ read_text entry.now)) }
+    ensures front { OnErr result (WroteFront (K.written out.old) (K.written out.new) (text.old ++ read_text entry.now)) }
     ensures count { K.faults out.old ≤ K.faults out.new }
     ensures cause { OnErr result (Rose (K.faults out.old) (K.faults out.new)) }
 {
@@ -190,8 +193,8 @@ fn put_line<K: Sink>(
     out: &mut K,
 ) -> Result<(), Failed>
     requires words { HasWords names.now.disks entry.now }
-    ensures ok { OnOk result (Gathers (K.written out.old) (K.written out.new) text.new (text.old ++ line_text names.now.disks entry.now)) }
-    ensures err { OnErr result (WroteFront (K.written out.old) (K.written out.new) (text.old ++ line_text names.now.disks entry.now)) }
+    ensures told { OnOk result (Gathers (K.written out.old) (K.written out.new) text.new (text.old ++ line_text names.now.disks entry.now)) }
+    ensures front { OnErr result (WroteFront (K.written out.old) (K.written out.new) (text.old ++ line_text names.now.disks entry.now)) }
     ensures count { K.faults out.old ≤ K.faults out.new }
     ensures cause { OnErr result (Rose (K.faults out.old) (K.faults out.new)) }
 {
@@ -212,8 +215,8 @@ fn put_entry<K: Sink>(
     out: &mut K,
 ) -> Result<(), Failed>
     requires words { HasWords names.now.disks entry.now }
-    ensures ok { OnOk result (Gathers (K.written out.old) (K.written out.new) text.new (text.old ++ entry_lines mode names.now.disks entry.now)) }
-    ensures err { OnErr result (WroteFront (K.written out.old) (K.written out.new) (text.old ++ entry_lines mode names.now.disks entry.now)) }
+    ensures told { OnOk result (Gathers (K.written out.old) (K.written out.new) text.new (text.old ++ entry_lines mode names.now.disks entry.now)) }
+    ensures front { OnErr result (WroteFront (K.written out.old) (K.written out.new) (text.old ++ entry_lines mode names.now.disks entry.now)) }
     ensures count { K.faults out.old ≤ K.faults out.new }
     ensures cause { OnErr result (Rose (K.faults out.old) (K.faults out.new)) }
 {
@@ -232,8 +235,8 @@ pub fn write_entries<K: Sink>(
     out: &mut K,
 ) -> Result<(), Failed>
     requires words { All (HasWords names.now.disks) entries.now }
-    ensures ok { OnOk result (Appends (K.written out.old) (K.written out.new) (report_entries mode names.now.disks entries.now)) }
-    ensures err { OnErr result (WroteFront (K.written out.old) (K.written out.new) (report_entries mode names.now.disks entries.now)) }
+    ensures told { OnOk result (Appends (K.written out.old) (K.written out.new) (report_entries mode names.now.disks entries.now)) }
+    ensures front { OnErr result (WroteFront (K.written out.old) (K.written out.new) (report_entries mode names.now.disks entries.now)) }
     ensures count { K.faults out.old ≤ K.faults out.new }
     ensures cause { OnErr result (Rose (K.faults out.old) (K.faults out.new)) }
 {

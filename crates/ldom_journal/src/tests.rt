@@ -3,7 +3,7 @@ ghost use Rattle.domain_script.specs.declared.event.DiskDecl.{DiskDecl};
 ghost use Rattle.ldom_journal.specs.HasWords.{HasWords};
 
 use crate::*;
-use domain_script::{DiskDecl, Event};
+use domain_script::{DiskDecl, Event, Fill, Name};
 use std::alloc::Global;
 use std::test::Fail;
 use vio_io::ListSink;

@@ -1,4 +1,4 @@
-use Rattle.std.proofs.Common.{◌≡◌, refl, false, sym, subst, [], lit<, lit≤}
+use Rattle.std.proofs.Common.{refl, false, sym, subst, [], lit<, lit≤}
 use Rattle.domain_script.specs.declared.event.DiskDecl.{DiskDecl}
 use Rattle.domain_script.specs.Declarations.{IsDisk}
 use Rattle.domain_script.specs.NamesState.{NamesState, CanDeclare}
