@@ -16,7 +16,7 @@ use Rattle.ldom_journal.specs.declared.status.Mode.{Mode}
 use Rattle.ldom_journal.specs.declared.status.Mode.TheVariants.{Run, Trace, EndOnly}
 use Rattle.ldom_journal.specs.BlockWord.{blocks_text}
 
--- a disk's name
+-- a disk's name, nothing where there is no disk
 abbrev pub declared_name : Option DiskDecl → List ℕ
 declared_name (Some disk) = take disk.name.len disk.name.bytes
 declared_name None = []
@@ -25,9 +25,11 @@ declared_name None = []
 abbrev pub disk_name : List DiskDecl → ℕ → List ℕ
 disk_name disks k = declared_name (slice_get disks k)
 
+-- the name of whom an entry is about
 abbrev pub who_name : List DiskDecl → Who → List ℕ
 who_name disks (OfLane (Disk k)) = disk_name disks k
 
+-- a range of blocks: the first, and how many
 abbrev pub range_text : ℕ → ℕ → List ℕ
 range_text block count = decimal block ++ codes " " ++ decimal count
 
@@ -37,6 +39,7 @@ request_text (Read block count) = codes " read " ++ range_text block count
 request_text (Write block count fill) = codes " write " ++ range_text block count ++ codes " " ++ encode_lower (take fill.len fill.bytes)
 request_text Flush = codes " flush"
 
+-- why a request was refused
 abbrev pub why_word : Why → List ℕ
 why_word Count = codes "count"
 why_word Range = codes "range"

@@ -62,4 +62,5 @@ pub enum Entry {
     Settled,
 }
 
+// A journal holds millions of entries.
 const _: () = prove!(size_of::<Entry>() <= 200);
