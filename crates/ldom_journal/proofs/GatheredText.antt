@@ -129,3 +129,12 @@ wrote_front_last a b c gathered text p q = record {
 -- bytes that were put last, and others behind them
 pub pushed_behind : (text first second middle last : List ℕ) → middle ≡ text ++ first → last ≡ middle ++ second → last ≡ text ++ (first ++ second)
 pushed_behind text first second middle last p q = q ∙ ap (λ (l : List ℕ). l ++ second) p ∙ append_assoc text first second
+
+-- a front of a text was written behind another that was written whole
+pub wrote_front_appended : (a b c : Option (List ℕ)) (first second : List ℕ) → Appends a b first → WroteFront b c second → WroteFront a c (first ++ second)
+wrote_front_appended a b c first second p q = record {
+  front = first ++ q.front;
+  rest = q.rest;
+  whole = ap (λ (l : List ℕ). first ++ l) q.whole ∙ sym (append_assoc first q.front q.rest);
+  written = Appends-trans a b c first q.front p q.written;
+}
