@@ -1,5 +1,5 @@
 -- The word that a block repeats.
-use Rattle.std.proofs.Common.{◌≡◌, refl, ℕ, zero, suc, ◌+◌, ◌-◌, ◌/◌, ◌%◌, ◌<◌, ◌≤◌, Bool, true, false, cond, Option, Some, find, unwrap_or, List, [], ◌∷◌, ◌++◌, append_assoc, append-nil, map, length, get_or, take, drop, sym, ap, ◌∙◌, arith, ◌⊎◌, inl, inr, Decides}
+use Rattle.std.proofs.Common.{◌≡◌, ℕ, zero, suc, ◌+◌, ◌-◌, ◌/◌, ◌%◌, ◌<◌, ◌≤◌, Bool, true, false, cond, Option, Some, find, unwrap_or, List, [], ◌∷◌, ◌++◌, append_assoc, append-nil, length, get_or, take, drop, sym, ap, ◌∙◌, arith, inl, inr, Decides}
 use Rattle.std.proofs.Math.Nat.{mod-eq_of_lt, mod-eq-sub-mod}
 use Rattle.std.proofs.lemmas.Bool.{cases_lt}
 use Rattle.std.proofs.lemmas.Bool.Decides.{same_from_decides}
@@ -26,11 +26,11 @@ shifted_mod : (fuel : ℕ) (xs : List ℕ) (n k : ℕ) → k < fuel → 0 < n �
 shifted_mod zero xs n k small some is lt = absurd (omega arith)
 shifted_mod (suc fuel) xs n k small some is lt =
     elim (cases_lt k n) [
-      inl below ↦ ap (λ (i : ℕ). get_or xs i 0) (sym (mod-eq_of_lt below))
+      | inl below ↦ ap (λ (i : ℕ). get_or xs i 0) (sym (mod-eq_of_lt below))
       | inr above ↦
-        shifted_at xs n k is above lt
-        ∙ shifted_mod fuel xs n (k - n) (omega arith) some is (omega arith)
-        ∙ ap (λ (i : ℕ). get_or xs i 0) (sym (mod-eq-sub-mod above))
+          shifted_at xs n k is above lt
+          ∙ shifted_mod fuel xs n (k - n) (omega arith) some is (omega arith)
+          ∙ ap (λ (i : ℕ). get_or xs i 0) (sym (mod-eq-sub-mod above))
     ]
 
 repetition_at : (xs : List ℕ) (n k : ℕ) → k < length xs → get_or (repetition xs n) k 0 ≡ get_or xs (k % n) 0
@@ -45,7 +45,7 @@ length-repetition xs n = length-map (range_with_len 0 (length xs)) (λ (i : ℕ)
 repeats_from_shift : (xs : List ℕ) (n : ℕ) → 0 < n → IsShifted xs n → xs ≡ repetition xs n
 repeats_from_shift xs n some is =
     ext_get_or 0 xs (repetition xs n) (sym (length-repetition xs n))
-        (λ k lt. shifted_mod (suc k) xs n k (omega arith) some is lt ∙ sym (repetition_at xs n k lt))
+    (λ k lt. shifted_mod (suc k) xs n k (omega arith) some is lt ∙ sym (repetition_at xs n k lt))
 
 -- each byte of a repetition is the one n places before it
 repeated_at : (xs : List ℕ) (n k : ℕ) → xs ≡ repetition xs n → n + k < length xs → get_or xs (n + k) 0 ≡ get_or xs k 0
@@ -61,7 +61,7 @@ shift_from_repeats xs n is =
     let front : length (drop n xs) ≡ length xs - n = length-drop n xs in
     let back : length (take (length xs - n) xs) ≡ length xs - n = length-take (length xs - n) xs ∙ omega arith in
     ext_get_or 0 (drop n xs) (take (length xs - n) xs) (front ∙ sym back)
-        (λ k lt. get_or-drop n xs k 0 ∙ repeated_at xs n k is (omega arith) ∙ sym (get_or-take (length xs - n) xs k 0 (omega arith)))
+    (λ k lt. get_or-drop n xs k 0 ∙ repeated_at xs n k is (omega arith) ∙ sym (get_or-take (length xs - n) xs k 0 (omega arith)))
 
 -- moving a block by n places tells whether it repeats its first n bytes
 pub repeats_is : (xs : List ℕ) (n : ℕ) (r : Bool) → 0 < n → Decides r (IsShifted xs n) → r ≡ repeats xs n
@@ -69,7 +69,7 @@ unfolding repeats
 repeats_is xs n r some decides =
     let test : Decides (repeats xs n) (xs ≡ repetition xs n) = bytes_eq-Decides xs (repetition xs n) in
     same_from_decides r (repeats xs n) decides
-        (λ e. shift_from_repeats xs n (test.0 e), λ is. test.1 (repeats_from_shift xs n some is))
+    (λ e. shift_from_repeats xs n (test.0 e), λ is. test.1 (repeats_from_shift xs n some is))
 
 -- the lengths of words that are shorter than a block
 abbrev shorter_lengths : List ℕ
@@ -97,7 +97,7 @@ found_later block i r lt is fails from =
 pub found_here : (block : List ℕ) (i : ℕ) (r : Bool) → i < 9 → r ≡ repeats block (get_or shorter_lengths i 0) → r ≡ true → IsFoundFrom block i → get_or shorter_lengths i 0 ≡ word_length block
 found_here block i r lt is holds from =
     sym (found_step block i lt from
-        ∙ ap (λ (b : Bool). unwrap_or (cond b (Some (get_or shorter_lengths i 0)) (find (repeats block) (drop (i + 1) word_lengths))) 512) (sym is ∙ holds))
+    ∙ ap (λ (b : Bool). unwrap_or (cond b (Some (get_or shorter_lengths i 0)) (find (repeats block) (drop (i + 1) word_lengths))) 512) (sym is ∙ holds))
 
 -- the first block of a list, and the blocks behind it
 pub blocks_text_more : (so_far whole rest block behind : List ℕ) → whole ≡ so_far ++ blocks_text rest → block ≡ take 512 rest → behind ≡ drop 512 rest → length behind + 512 ≡ length rest

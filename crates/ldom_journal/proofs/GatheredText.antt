@@ -1,5 +1,5 @@
 -- What is written of a text, and what is still gathered.
-use Rattle.std.proofs.Common.{◌≡◌, refl, ℕ, ◌+◌, ◌≤◌, List, [], ◌∷◌, ◌++◌, take, drop, Option, Some, None, Result, Ok, Err, OnErr, OnOk, sym, subst, ap, ◌∙◌, append_assoc, append-nil, ◌<◌, inl, inr, arith}
+use Rattle.std.proofs.Common.{◌≡◌, refl, ℕ, ◌+◌, ◌≤◌, List, [], ◌++◌, take, drop, Option, Result, Ok, Err, OnErr, sym, subst, ap, ◌∙◌, append_assoc, append-nil, ◌<◌, inl, inr, arith}
 use Rattle.std.proofs.lemmas.Bool.{cases_lt}
 use Rattle.std.proofs.lemmas.List.{take-append-drop}
 use Rattle.std.proofs.Math.Seq.{take-add}
@@ -16,7 +16,7 @@ on_err (Err e) P p = p
 pub appends_piece : (a b c : Option (List ℕ)) (xs rest : List ℕ) (at n : ℕ) → rest ≡ drop at xs → Appends a b (take at xs) → Appends b c (take n rest) → Appends a c (take (at + n) xs)
 appends_piece a b c xs rest at n is p q =
     subst (λ (l : List ℕ). Appends a c l) (ap (λ (r : List ℕ). take at xs ++ take n r) is ∙ sym (take-add at n xs))
-        (Appends-trans a b c (take at xs) (take n rest) p q)
+    (Appends-trans a b c (take at xs) (take n rest) p q)
 
 -- a call that failed wrote nothing behind the front that was written
 pub wrote_front_kept : (a b c : Option (List ℕ)) (xs : List ℕ) (at : ℕ) → Appends a b (take at xs) → Keeps b c → WroteFront a c xs
@@ -100,7 +100,7 @@ wrote_front_behind a b c first text so_far more whole is p q = record {
 pub rose_later : (a b c : ℕ) → a ≤ b → b ≤ c → Rose b c → Rose a c
 rose_later a b c ab bc rose =
     λ lt. elim (cases_lt b last_count) [
-      inl below ↦ let up : b < c = rose below in omega arith
+      | inl below ↦ let up : b < c = rose below in omega arith
       | inr last ↦ omega arith
     ]
 
@@ -129,3 +129,12 @@ wrote_front_last a b c gathered text p q = record {
 -- bytes that were put last, and others behind them
 pub pushed_behind : (text first second middle last : List ℕ) → middle ≡ text ++ first → last ≡ middle ++ second → last ≡ text ++ (first ++ second)
 pushed_behind text first second middle last p q = q ∙ ap (λ (l : List ℕ). l ++ second) p ∙ append_assoc text first second
+
+-- a front of a text was written behind another that was written whole
+pub wrote_front_appended : (a b c : Option (List ℕ)) (first second : List ℕ) → Appends a b first → WroteFront b c second → WroteFront a c (first ++ second)
+wrote_front_appended a b c first second p q = record {
+  front = first ++ q.front;
+  rest = q.rest;
+  whole = ap (λ (l : List ℕ). first ++ l) q.whole ∙ sym (append_assoc first q.front q.rest);
+  written = Appends-trans a b c first q.front p q.written;
+}

@@ -1,5 +1,5 @@
 -- The word that a block of 512 bytes repeats, and its text.
-use Rattle.std.specs.Prelude.{ℕ, ◌+◌, ◌/◌, ◌%◌, zero, suc, Bool, List, [], ◌∷◌, ◌++◌, length, take, drop, map, find, unwrap_or, slice_index, codes}
+use Rattle.std.specs.Prelude.{ℕ, ◌/◌, ◌%◌, zero, suc, Bool, List, [], ◌∷◌, ◌++◌, length, take, drop, map, find, unwrap_or, slice_index, codes}
 use Rattle.std.specs.List.{range_with_len}
 use Rattle.std.specs.Str.{bytes_eq}
 use Rattle.hex.specs.Hex.{encode_lower}

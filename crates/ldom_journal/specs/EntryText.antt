@@ -3,7 +3,6 @@ use Rattle.std.specs.Prelude.{ℕ, Bool, true, false, ◌==◌, ◌&&◌, if◌t
 use Rattle.std.specs.List.{flat_map}
 use Rattle.hex.specs.Hex.{encode_lower}
 use Rattle.domain_script.specs.declared.event.DiskDecl.{DiskDecl}
-use Rattle.domain_script.specs.declared.event.Lane.{Lane}
 use Rattle.domain_script.specs.declared.event.Lane.TheVariants.{Disk}
 use Rattle.vdisk_msg.specs.declared.request.Request.{Request}
 use Rattle.vdisk_msg.specs.declared.request.Request.TheVariants.{Read, Write, Flush}
@@ -17,7 +16,7 @@ use Rattle.ldom_journal.specs.declared.status.Mode.{Mode}
 use Rattle.ldom_journal.specs.declared.status.Mode.TheVariants.{Run, Trace, EndOnly}
 use Rattle.ldom_journal.specs.BlockWord.{blocks_text}
 
--- a declared disk's name, none where there is no disk
+-- a disk's name, nothing where there is no disk
 abbrev pub declared_name : Option DiskDecl → List ℕ
 declared_name (Some disk) = take disk.name.len disk.name.bytes
 declared_name None = []
@@ -26,9 +25,11 @@ declared_name None = []
 abbrev pub disk_name : List DiskDecl → ℕ → List ℕ
 disk_name disks k = declared_name (slice_get disks k)
 
+-- the name of whom an entry is about
 abbrev pub who_name : List DiskDecl → Who → List ℕ
 who_name disks (OfLane (Disk k)) = disk_name disks k
 
+-- a range of blocks: the first, and how many
 abbrev pub range_text : ℕ → ℕ → List ℕ
 range_text block count = decimal block ++ codes " " ++ decimal count
 
@@ -38,13 +39,14 @@ request_text (Read block count) = codes " read " ++ range_text block count
 request_text (Write block count fill) = codes " write " ++ range_text block count ++ codes " " ++ encode_lower (take fill.len fill.bytes)
 request_text Flush = codes " flush"
 
-abbrev pub why_text : Why → List ℕ
-why_text Count = codes " count"
-why_text Range = codes " range"
+-- why a request was refused
+abbrev pub why_word : Why → List ℕ
+why_word Count = codes "count"
+why_word Range = codes "range"
 
 -- 1 reads, 2 writes, 3 flushes
-abbrev pub operation_text : ℕ → List ℕ
-operation_text operation = if operation == 1 then codes " read " else if operation == 2 then codes " write " else codes " flush "
+abbrev pub operation_word : ℕ → List ℕ
+operation_word operation = if operation == 1 then codes "read" else if operation == 2 then codes "write" else codes "flush"
 
 -- what stands behind a completion: the words of its blocks behind a read with status 0
 abbrev pub read_text : Entry → List ℕ
@@ -59,8 +61,8 @@ id_text kind disks disk id = kind ++ disk_name disks disk ++ codes " " ++ decima
 abbrev pub head_text : List DiskDecl → Entry → List ℕ
 head_text disks (Accepted disk id request) = id_text (codes "accepted ") disks disk id ++ request_text request
 head_text disks (Full who) = codes "full " ++ who_name disks who
-head_text disks (Refused who why) = codes "refused " ++ who_name disks who ++ why_text why
-head_text disks (Done disk id operation status bytes) = id_text (codes "done ") disks disk id ++ operation_text operation ++ decimal status
+head_text disks (Refused who why) = codes "refused " ++ who_name disks who ++ codes " " ++ why_word why
+head_text disks (Done disk id operation status bytes) = id_text (codes "done ") disks disk id ++ codes " " ++ operation_word operation ++ codes " " ++ decimal status
 head_text disks Settled = codes "settled"
 
 -- an entry's line

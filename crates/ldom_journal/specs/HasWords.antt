@@ -1,7 +1,6 @@
 -- What an entry needs so that its line can be written.
 use Rattle.std.specs.Prelude.{◌≡◌, ℕ, ◌%◌, ◌<◌, ◌≤◌, List, length}
 use Rattle.domain_script.specs.declared.event.DiskDecl.{DiskDecl}
-use Rattle.domain_script.specs.declared.event.Lane.{Lane}
 use Rattle.domain_script.specs.declared.event.Lane.TheVariants.{Disk}
 use Rattle.ldom_journal.specs.declared.entry.Who.{Who}
 use Rattle.ldom_journal.specs.declared.entry.Who.TheVariants.{Lane as OfLane}

@@ -13,10 +13,12 @@ use Rattle.ldom_journal.specs.declared.status.Status.TheVariants.{Usage, Script,
 use Rattle.ldom_journal.specs.EntryText.{report_entries}
 use Rattle.ldom_journal.specs.Status.{status_number}
 
+-- whether a request was taken up
 abbrev pub is_accepted : Entry → Bool
 is_accepted (entry.Accepted disk id request) = true
 is_accepted other = false
 
+-- whether a request was completed
 abbrev pub is_done : Entry → Bool
 is_done (entry.Done disk id operation status bytes) = true
 is_done other = false
@@ -29,9 +31,11 @@ accepted_count entries = count_by is_accepted entries
 abbrev pub done_count : List Entry → ℕ
 done_count entries = count_by is_done entries
 
+-- why a line of the script spells no event
 abbrev pub fault_text : LineFault → List ℕ
 fault_text Word = codes "word"
 
+-- the limit that a line is past
 abbrev pub limit_text : LimitKind → List ℕ
 limit_text Lines = codes "lines"
 limit_text Bytes = codes "bytes"
@@ -42,7 +46,7 @@ cause_text (Script line fault) = codes " at=" ++ decimal line ++ codes " fault="
 cause_text (Limit line kind) = codes " at=" ++ decimal line ++ codes " limit=" ++ limit_text kind
 cause_text status = []
 
--- how many requests were taken up, completed, and neither completed nor given up
+-- how many requests were taken up, how many completed, and how many are pending
 abbrev pub counts_text : List Entry → List ℕ
 counts_text entries =
     codes " accepted=" ++ decimal (accepted_count entries) ++ codes " done=" ++ decimal (done_count entries) ++ codes " pending=" ++ decimal (accepted_count entries - done_count entries)
@@ -52,6 +56,7 @@ abbrev pub end_line : ℕ → List Entry → Status → List ℕ
 end_line lines entries status =
     codes "end lines=" ++ decimal lines ++ counts_text entries ++ codes " resets=0 frames=0 status=" ++ decimal (status_number status) ++ cause_text status ++ codes "\n"
 
+-- the one line for words that are none of the program's
 abbrev pub usage_line : List ℕ
 usage_line = codes "usage: ldom COMMAND [WORD]\n"
 

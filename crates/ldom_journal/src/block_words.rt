@@ -36,8 +36,8 @@ fn shortest_word(block: &[u8; 512]) -> usize
 
 /// Puts the text of a block.
 fn put_word<K: Sink>(text: &mut Text, block: &[u8; 512], out: &mut K) -> Result<(), Failed>
-    ensures ok { OnOk result (Gathers (K.written out.old) (K.written out.new) text.new (text.old ++ word_text block.now)) }
-    ensures err { OnErr result (WroteFront (K.written out.old) (K.written out.new) text.old) }
+    ensures told { OnOk result (Gathers (K.written out.old) (K.written out.new) text.new (text.old ++ word_text block.now)) }
+    ensures front { OnErr result (WroteFront (K.written out.old) (K.written out.new) text.old) }
     ensures count { K.faults out.old ≤ K.faults out.new }
     ensures cause { OnErr result (Rose (K.faults out.old) (K.faults out.new)) }
 {
@@ -49,8 +49,8 @@ fn put_word<K: Sink>(text: &mut Text, block: &[u8; 512], out: &mut K) -> Result<
 
 /// Puts the text of each block of a list.
 pub fn put_blocks<K: Sink>(text: &mut Text, bytes: &[u8], out: &mut K) -> Result<(), Failed>
-    ensures ok { OnOk result (Gathers (K.written out.old) (K.written out.new) text.new (text.old ++ blocks_text bytes.now)) }
-    ensures err { OnErr result (WroteFront (K.written out.old) (K.written out.new) (text.old ++ blocks_text bytes.now)) }
+    ensures told { OnOk result (Gathers (K.written out.old) (K.written out.new) text.new (text.old ++ blocks_text bytes.now)) }
+    ensures front { OnErr result (WroteFront (K.written out.old) (K.written out.new) (text.old ++ blocks_text bytes.now)) }
     ensures count { K.faults out.old ≤ K.faults out.new }
     ensures cause { OnErr result (Rose (K.faults out.old) (K.faults out.new)) }
 {

@@ -1,4 +1,4 @@
-ghost use Rattle.std.specs.Prelude.{◌≡◌, ◌+◌, ◌-◌, ◌≤◌, ◌==◌, [], ◌++◌, length, vec_capacity, IfOk};
+ghost use Rattle.std.specs.Prelude.{◌≡◌, ◌↔◌, ◌+◌, ◌-◌, ◌≤◌, [], ◌++◌, length, IsTrue, vec_capacity, IfOk};
 ghost use Rattle.ldom_journal.specs.Bytes.{filled};
 
 use std::alloc::Global;
@@ -6,7 +6,7 @@ use std::marker::Model;
 use vio_bytes::NoMemory;
 
 /// The bytes of an entry, as those that a read gave, and the room that is left for more of them.
-#[derive(Drop)]
+#[derive(Debug, Drop)]
 pub struct Bytes {
     bytes: Vec<u8>,
     room: usize,
@@ -80,7 +80,7 @@ impl Bytes {
     }
 
     pub fn is_empty(&self) -> bool
-        ensures { result ≡ (length self.now.items == 0) }
+        ensures { IsTrue result ↔ (length self.now.items ≡ 0) }
     {
         self.bytes.is_empty()
     }

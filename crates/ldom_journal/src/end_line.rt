@@ -109,9 +109,14 @@ fn push_last_line(text: &mut Text, entries: &[Entry], lines: u32, status: &Statu
 
 /// Writes the last line of a report: the end line with the numbers of the journal, or the usage line. `lines` is how
 /// many lines of the script were taken up. After `Failed` a front of the line was written.
-pub fn write_end<K: Sink>(journal: &Journal, lines: u32, status: &Status, out: &mut K) -> Result<(), Failed>
-    ensures ok { OnOk result (Appends (K.written out.old) (K.written out.new) (last_line lines journal.now.entries status.now)) }
-    ensures err { OnErr result (WroteFront (K.written out.old) (K.written out.new) (last_line lines journal.now.entries status.now)) }
+pub fn write_end<K: Sink>(
+    journal: &Journal,
+    lines: u32,
+    status: &Status,
+    out: &mut K,
+) -> Result<(), Failed>
+    ensures told { OnOk result (Appends (K.written out.old) (K.written out.new) (last_line lines journal.now.entries status.now)) }
+    ensures front { OnErr result (WroteFront (K.written out.old) (K.written out.new) (last_line lines journal.now.entries status.now)) }
     ensures count { K.faults out.old ≤ K.faults out.new }
     ensures cause { OnErr result (Rose (K.faults out.old) (K.faults out.new)) }
 {

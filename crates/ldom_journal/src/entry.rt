@@ -28,7 +28,7 @@ pub enum Why {
 
 /// What happened at one step of a run. A disk goes by its number in the order of declaration, counted from 0, a
 /// request of it by its id, likewise.
-#[derive(Drop)]
+#[derive(Debug, Drop)]
 pub enum Entry {
     /// A guest's request was taken up.
     Accepted {
@@ -62,4 +62,5 @@ pub enum Entry {
     Settled,
 }
 
+// A journal holds millions of entries.
 const _: () = prove!(size_of::<Entry>() <= 200);

@@ -1,4 +1,4 @@
-ghost use Rattle.std.specs.Prelude.{◌≡◌, ◌+◌, ◌^◌, ◌<◌, ◌==◌, max, [], ◌∷◌, ◌++◌, length, slice_get, OnOk, OnErr};
+ghost use Rattle.std.specs.Prelude.{◌≡◌, ◌↔◌, ◌+◌, ◌^◌, ◌<◌, max, [], ◌∷◌, ◌++◌, length, IsTrue, slice_get, OnOk, OnErr};
 ghost use Rattle.std.specs.Option.{option_copied};
 
 use crate::lines::write_entries;
@@ -10,7 +10,7 @@ use vio_bytes::NoMemory;
 use vio_io::{Failed, Sink};
 
 /// The entries of a run in the order in which they came, and the room that is left for more of them.
-#[derive(Drop)]
+#[derive(Debug, Drop)]
 pub struct Journal {
     entries: Vec<Entry>,
     room: usize,
@@ -80,7 +80,7 @@ impl Journal {
     }
 
     pub fn is_empty(&self) -> bool
-        ensures { result ≡ (length self.now.entries == 0) }
+        ensures { IsTrue result ↔ (length self.now.entries ≡ 0) }
     {
         self.entries.is_empty()
     }
@@ -102,8 +102,8 @@ impl Journal {
     /// Writes the lines of the entries that the mode shows. After `Failed` a front of their text was written.
     pub fn write_text<K: Sink>(&self, mode: Mode, names: &Names, out: &mut K) -> Result<(), Failed>
         requires words { All (HasWords names.now.disks) self.now.entries }
-        ensures ok { OnOk result (Appends (K.written out.old) (K.written out.new) (report_entries mode names.now.disks self.now.entries)) }
-        ensures err { OnErr result (WroteFront (K.written out.old) (K.written out.new) (report_entries mode names.now.disks self.now.entries)) }
+        ensures told { OnOk result (Appends (K.written out.old) (K.written out.new) (report_entries mode names.now.disks self.now.entries)) }
+        ensures front { OnErr result (WroteFront (K.written out.old) (K.written out.new) (report_entries mode names.now.disks self.now.entries)) }
         ensures count { K.faults out.old ≤ K.faults out.new }
         ensures cause { OnErr result (Rose (K.faults out.old) (K.faults out.new)) }
     {

@@ -7,7 +7,7 @@ use vio_bytes::NoMemory;
 
 /// A request that an entry keeps. It stands out of line, since a request takes over a kilobyte and most entries hold
 /// none.
-#[derive(Drop)]
+#[derive(Debug, Drop)]
 pub struct KeptRequest {
     inner: Box<Request>,
 }

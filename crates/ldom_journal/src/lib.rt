@@ -11,10 +11,12 @@ mod journal;
 mod kept_request;
 mod lines;
 mod status;
+#[cfg(test)]
+mod tests;
 mod text;
 
 pub use bytes::Bytes;
-pub use domain_script::{Fill, Lane, LineFault, Name, Names, Request};
+pub use domain_script::{Lane, LineFault, Names, Request};
 pub use end_line::write_end;
 pub use entry::{Entry, VD_OP_BREAD, VD_OP_BWRITE, VD_OP_FLUSH, Who, Why};
 pub use journal::Journal;

@@ -1,13 +1,13 @@
 ghost use Rattle.std.specs.Prelude.{◌≡◌, ◌+◌, ◌≤◌, ◌<◌, ◌++◌, length, take, All, OnOk, OnErr};
 ghost use Rattle.std.specs.Io.KnownBytes.{Appends};
-ghost use Rattle.ldom_journal.specs.EntryText.{disk_name, entry_lines, head_text, id_text, line_text, operation_text, range_text, read_text, report_entries, request_text, shows, who_name, why_text};
+ghost use Rattle.ldom_journal.specs.EntryText.{disk_name, entry_lines, head_text, id_text, line_text, operation_word, range_text, read_text, report_entries, request_text, shows, who_name, why_word};
 ghost use Rattle.ldom_journal.specs.Gathered.{Gathers, WroteFront};
 ghost use Rattle.ldom_journal.specs.HasWords.{HasWords, IsDeclared};
 ghost use Rattle.vio_io.specs.Causes.{Rose};
 
 use crate::block_words::put_blocks;
 use crate::text::{TEXT_ROOM, Text};
-use crate::{Entry, Mode, VD_OP_BREAD, VD_OP_BWRITE, Who, Why};
+use crate::{Entry, Mode, VD_OP_BREAD, VD_OP_BWRITE, VD_OP_FLUSH, Who, Why};
 use domain_script::{Lane, Name, Names};
 use vdisk_msg::{Fill, Request};
 use vio_io::{Failed, Sink};
@@ -41,17 +41,20 @@ fn fill_bytes(fill: &Fill) -> &[u8]
 }
 
 fn push_disk(text: &mut Text, disk: u32, names: &Names)
-    requires { length text.old + 8 ≤ TEXT_ROOM }
+    requires declared { disk < length names.now.disks }
+    requires room { length text.old + 8 ≤ TEXT_ROOM }
     ensures text { text.new ≡ text.old ++ disk_name names.now.disks disk }
     ensures len { length text.new ≤ length text.old + 8 }
 {
-    if let Some(disk) = names.disk(disk) {
-        text.push(name_bytes(&disk.name));
+    match names.disk(disk) {
+        Some(disk) => text.push(name_bytes(&disk.name)),
+        None => unreachable!(),
     }
 }
 
 fn push_who(text: &mut Text, who: Who, names: &Names)
-    requires { length text.old + 8 ≤ TEXT_ROOM }
+    requires declared { IsDeclared names.now.disks who }
+    requires room { length text.old + 8 ≤ TEXT_ROOM }
     ensures text { text.new ≡ text.old ++ who_name names.now.disks who }
     ensures len { length text.new ≤ length text.old + 8 }
 {
@@ -61,7 +64,8 @@ fn push_who(text: &mut Text, who: Who, names: &Names)
 
 /// The disk and the id of a request, behind the kind of its entry.
 fn push_id(text: &mut Text, kind: &[u8], disk: u32, id: u64, names: &Names)
-    requires { length text.old + length kind.now + 29 ≤ TEXT_ROOM }
+    requires declared { disk < length names.now.disks }
+    requires room { length text.old + length kind.now + 29 ≤ TEXT_ROOM }
     ensures text { text.new ≡ text.old ++ id_text kind.now names.now.disks disk id }
     ensures len { length text.new ≤ length text.old + length kind.now + 29 }
 {
@@ -101,29 +105,33 @@ fn push_request(text: &mut Text, request: &Request)
     }
 }
 
-fn why_bytes(why: Why) -> &'static [u8]
-    ensures bytes { result.now ≡ why_text why }
-    ensures short { length result.now ≤ 6 }
+fn why_word(why: Why) -> &'static [u8]
+    ensures bytes { result.now ≡ why_word why }
+    ensures short { length result.now ≤ 5 }
 {
     match why {
-        Why::Count => b" count",
-        Why::Range => b" range",
+        Why::Count => b"count",
+        Why::Range => b"range",
     }
 }
 
-fn operation_bytes(operation: u8) -> &'static [u8]
-    ensures bytes { result.now ≡ operation_text operation }
-    ensures short { length result.now ≤ 7 }
+fn operation_word(operation: u8) -> &'static [u8]
+    requires least { 1 ≤ operation }
+    requires most { operation ≤ 3 }
+    ensures bytes { result.now ≡ operation_word operation }
+    ensures short { length result.now ≤ 5 }
 {
     match operation {
-        VD_OP_BREAD => b" read ",
-        VD_OP_BWRITE => b" write ",
-        _ => b" flush ",
+        VD_OP_BREAD => b"read",
+        VD_OP_BWRITE => b"write",
+        VD_OP_FLUSH => b"flush",
+        _ => unreachable!(),
     }
 }
 
 /// An entry's line before the words of a read and the line feed.
 fn push_head(text: &mut Text, entry: &Entry, names: &Names)
+    requires words { HasWords names.now.disks entry.now }
     requires room { length text.old + LINE_ROOM ≤ TEXT_ROOM }
     ensures { text.new ≡ text.old ++ head_text names.now.disks entry.now }
 {
@@ -139,7 +147,8 @@ fn push_head(text: &mut Text, entry: &Entry, names: &Names)
         Entry::Refused { who, why } => {
             text.push(b"refused ");
             push_who(text, *who, names);
-            text.push(why_bytes(*why));
+            text.push(b" ");
+            text.push(why_word(*why));
         }
         Entry::Done {
             disk,
@@ -149,7 +158,9 @@ fn push_head(text: &mut Text, entry: &Entry, names: &Names)
             ..
         } => {
             push_id(text, b"done ", *disk, *id, names);
-            text.push(operation_bytes(*operation));
+            text.push(b" ");
+            text.push(operation_word(*operation));
+            text.push(b" ");
             text.push_number(u64::from(*status));
         }
         Entry::Settled => text.push(b"settled"),
@@ -158,8 +169,8 @@ fn push_head(text: &mut Text, entry: &Entry, names: &Names)
 
 /// The words of a read with status 0.
 fn put_read<K: Sink>(text: &mut Text, entry: &Entry, out: &mut K) -> Result<(), Failed>
-    ensures ok { OnOk result (Gathers (K.written out.old) (K.written out.new) text.new (text.old ++ read_text entry.now)) }
-    ensures err { OnErr result (WroteFront (K.written out.old) (K.written out.new) (text.old ++ read_text entry.now)) }
+    ensures told { OnOk result (Gathers (K.written out.old) (K.written out.new) text.new (text.old ++ read_text entry.now)) }
+    ensures front { OnErr result (WroteFront (K.written out.old) (K.written out.new) (text.old ++ read_text entry.now)) }
     ensures count { K.faults out.old ≤ K.faults out.new }
     ensures cause { OnErr result (Rose (K.faults out.old) (K.faults out.new)) }
 {
@@ -175,10 +186,15 @@ fn put_read<K: Sink>(text: &mut Text, entry: &Entry, out: &mut K) -> Result<(), 
 }
 
 /// The line of an entry.
-fn put_line<K: Sink>(text: &mut Text, entry: &Entry, names: &Names, out: &mut K) -> Result<(), Failed>
+fn put_line<K: Sink>(
+    text: &mut Text,
+    entry: &Entry,
+    names: &Names,
+    out: &mut K,
+) -> Result<(), Failed>
     requires words { HasWords names.now.disks entry.now }
-    ensures ok { OnOk result (Gathers (K.written out.old) (K.written out.new) text.new (text.old ++ line_text names.now.disks entry.now)) }
-    ensures err { OnErr result (WroteFront (K.written out.old) (K.written out.new) (text.old ++ line_text names.now.disks entry.now)) }
+    ensures told { OnOk result (Gathers (K.written out.old) (K.written out.new) text.new (text.old ++ line_text names.now.disks entry.now)) }
+    ensures front { OnErr result (WroteFront (K.written out.old) (K.written out.new) (text.old ++ line_text names.now.disks entry.now)) }
     ensures count { K.faults out.old ≤ K.faults out.new }
     ensures cause { OnErr result (Rose (K.faults out.old) (K.faults out.new)) }
 {
@@ -191,10 +207,16 @@ fn put_line<K: Sink>(text: &mut Text, entry: &Entry, names: &Names, out: &mut K)
 }
 
 /// The line of an entry, where the mode shows it.
-fn put_entry<K: Sink>(text: &mut Text, mode: Mode, entry: &Entry, names: &Names, out: &mut K) -> Result<(), Failed>
+fn put_entry<K: Sink>(
+    text: &mut Text,
+    mode: Mode,
+    entry: &Entry,
+    names: &Names,
+    out: &mut K,
+) -> Result<(), Failed>
     requires words { HasWords names.now.disks entry.now }
-    ensures ok { OnOk result (Gathers (K.written out.old) (K.written out.new) text.new (text.old ++ entry_lines mode names.now.disks entry.now)) }
-    ensures err { OnErr result (WroteFront (K.written out.old) (K.written out.new) (text.old ++ entry_lines mode names.now.disks entry.now)) }
+    ensures told { OnOk result (Gathers (K.written out.old) (K.written out.new) text.new (text.old ++ entry_lines mode names.now.disks entry.now)) }
+    ensures front { OnErr result (WroteFront (K.written out.old) (K.written out.new) (text.old ++ entry_lines mode names.now.disks entry.now)) }
     ensures count { K.faults out.old ≤ K.faults out.new }
     ensures cause { OnErr result (Rose (K.faults out.old) (K.faults out.new)) }
 {
@@ -206,10 +228,15 @@ fn put_entry<K: Sink>(text: &mut Text, mode: Mode, entry: &Entry, names: &Names,
 }
 
 /// Writes the lines of all entries that the mode shows.
-pub fn write_entries<K: Sink>(entries: &[Entry], mode: Mode, names: &Names, out: &mut K) -> Result<(), Failed>
+pub fn write_entries<K: Sink>(
+    entries: &[Entry],
+    mode: Mode,
+    names: &Names,
+    out: &mut K,
+) -> Result<(), Failed>
     requires words { All (HasWords names.now.disks) entries.now }
-    ensures ok { OnOk result (Appends (K.written out.old) (K.written out.new) (report_entries mode names.now.disks entries.now)) }
-    ensures err { OnErr result (WroteFront (K.written out.old) (K.written out.new) (report_entries mode names.now.disks entries.now)) }
+    ensures told { OnOk result (Appends (K.written out.old) (K.written out.new) (report_entries mode names.now.disks entries.now)) }
+    ensures front { OnErr result (WroteFront (K.written out.old) (K.written out.new) (report_entries mode names.now.disks entries.now)) }
     ensures count { K.faults out.old ≤ K.faults out.new }
     ensures cause { OnErr result (Rose (K.faults out.old) (K.faults out.new)) }
 {

@@ -79,8 +79,8 @@ impl Text {
     pub fn make_room<K: Sink>(&mut self, n: usize, out: &mut K) -> Result<(), Failed>
         requires { n ≤ TEXT_ROOM }
         ensures room { OnOk result (length self.new + n ≤ TEXT_ROOM) }
-        ensures ok { OnOk result (Gathers (K.written out.old) (K.written out.new) self.new self.old) }
-        ensures err { OnErr result (WroteFront (K.written out.old) (K.written out.new) self.old) }
+        ensures told { OnOk result (Gathers (K.written out.old) (K.written out.new) self.new self.old) }
+        ensures front { OnErr result (WroteFront (K.written out.old) (K.written out.new) self.old) }
         ensures count { K.faults out.old ≤ K.faults out.new }
         ensures cause { OnErr result (Rose (K.faults out.old) (K.faults out.new)) }
     {
@@ -93,8 +93,8 @@ impl Text {
     /// Writes all that was gathered.
     pub fn flush<K: Sink>(&mut self, out: &mut K) -> Result<(), Failed>
         ensures empty { OnOk result (self.new ≡ []) }
-        ensures ok { OnOk result (Appends (K.written out.old) (K.written out.new) self.old) }
-        ensures err { OnErr result (WroteFront (K.written out.old) (K.written out.new) self.old) }
+        ensures told { OnOk result (Appends (K.written out.old) (K.written out.new) self.old) }
+        ensures front { OnErr result (WroteFront (K.written out.old) (K.written out.new) self.old) }
         ensures count { K.faults out.old ≤ K.faults out.new }
         ensures cause { OnErr result (Rose (K.faults out.old) (K.faults out.new)) }
     {
@@ -106,8 +106,8 @@ impl Text {
 
 /// Writes all these bytes, in as many calls as the sink asks for.
 fn write_all<K: Sink>(out: &mut K, bytes: &[u8]) -> Result<(), Failed>
-    ensures ok { OnOk result (Appends (K.written out.old) (K.written out.new) bytes.now) }
-    ensures err { OnErr result (WroteFront (K.written out.old) (K.written out.new) bytes.now) }
+    ensures told { OnOk result (Appends (K.written out.old) (K.written out.new) bytes.now) }
+    ensures front { OnErr result (WroteFront (K.written out.old) (K.written out.new) bytes.now) }
     ensures count { K.faults out.old ≤ K.faults out.new }
     ensures cause { OnErr result (Rose (K.faults out.old) (K.faults out.new)) }
 {

@@ -8,7 +8,7 @@ invariant-loop-block g l = record {
   so_far : List ℕ;
   whole : blocks_text l.bytes ≡ so_far ++ blocks_text l.rest;
   gathers : Gathers (g.K.Sink.written l.initial.out) (g.K.Sink.written l.out) l.text (l.initial.text ++ so_far);
-  count : g.K.Sink.faults l.initial.out ≤ g.K.Sink.faults l.out
+  count : g.K.Sink.faults l.initial.out ≤ g.K.Sink.faults l.out;
 }
 
 abbrev pub decreases-loop-block : goal.decreases-loop-block

@@ -1,5 +1,5 @@
-use Rattle.std.proofs.Common.{◌≡◌, refl}
-use Rattle.ldom_journal.specs.BlockWord.{repeats, word_length}
+use Rattle.std.proofs.Common.{refl}
+use Rattle.ldom_journal.specs.BlockWord.{word_length}
 use Rattle.ldom_journal.proofs.BlockWords.{found_later}
 use Rattle.ldom_journal.proofs.block_words.shortest_word.Goals as goal
 

@@ -3,8 +3,8 @@ use Rattle.std.proofs.lemmas.List.{take_rest, length-take, length-drop}
 use Rattle.ldom_journal.proofs.GatheredText.{on_err, appends_piece, wrote_front_kept}
 use Rattle.ldom_journal.proofs.text.write_all.Goals as goal
 
-pub returns-in_err-at-clause-err : goal.returns-in_err-at-clause-err
-returns-in_err-at-clause-err g c =
+pub returns-in_err-at-clause-front : goal.returns-in_err-at-clause-front
+returns-in_err-at-clause-front g c =
     on_err c.from_residual.result _ (wrote_front_kept _ _ _ c.args.bytes.now c.loop-at.at c.loop-at.invariant.written c.in_err-at.ensures.told)
 
 pub loop-at-preserved : goal.loop-at-preserved

@@ -6,7 +6,7 @@ abbrev pub invariant-loop-at : goal.invariant-loop-at
 invariant-loop-at g l = record {
   within : l.at ≤ length l.bytes;
   written : Appends (g.K.Sink.written l.initial.out) (g.K.Sink.written l.out) (take l.at l.bytes);
-  count : g.K.Sink.faults l.initial.out ≤ g.K.Sink.faults l.out
+  count : g.K.Sink.faults l.initial.out ≤ g.K.Sink.faults l.out;
 }
 
 abbrev pub decreases-loop-at : goal.decreases-loop-at
