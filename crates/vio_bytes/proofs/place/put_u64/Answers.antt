@@ -1,0 +1,7 @@
+use Rattle.std.proofs.Common.{refl}
+use Rattle.byteorder.specs.Endian.{big_bytes}
+use Rattle.vio_bytes.proofs.Putting.{put_front}
+use Rattle.vio_bytes.proofs.place.put_u64.Goals as goal
+
+pub returns : goal.returns
+returns c = put_front c.args.at 8 c.args.bytes.now (big_bytes 8 c.args.value) c.write_u64.new.buf refl c.requires c.write_u64.ensures
