@@ -1,8 +1,7 @@
 -- One piece of bytes put behind another.
-use Rattle.std.proofs.Common.{◌≡◌, ℕ, zero, suc, ◌+◌, ◌*◌, ◌<◌, ◌≤◌, List, [], ◌∷◌, ◌++◌, length, get_or, take, drop, refl, sym, ap, ◌∙◌, arith}
-use Rattle.std.proofs.lemmas.List.{append_assoc, append-nil, drop-drop, drop_at, length-append, length-take-le, take_at, take_more, take-append-drop}
+use Rattle.std.proofs.Common.{◌≡◌, ℕ, ◌+◌, ◌*◌, ◌<◌, ◌≤◌, List, [], ◌∷◌, ◌++◌, length, get_or, take, drop, refl, sym, ap, ◌∙◌, arith}
+use Rattle.std.proofs.lemmas.List.{append_assoc, append-nil, drop-drop, drop_all, drop_at, length-append, length-take-le, take_at, take_more}
 use Rattle.std.proofs.lemmas.List.Concat.{flat_map-append}
-use Rattle.byteorder.specs.Endian.{big_bytes}
 use Rattle.vio_bytes.specs.Place.{put_at}
 use Rattle.map_table.specs.Cookies.{cookie_bytes, cookies_bytes}
 use Rattle.map_table.specs.declared.cookie.Cookie.{Cookie}
@@ -24,10 +23,30 @@ put_both at next a b bytes one two is_one is_two place room =
     ∙ append_assoc (take at bytes) a (b ++ drop (at + length (a ++ b)) bytes)
     ∙ ap (λ (xs : List ℕ). take at bytes ++ xs) (sym (append_assoc a b (drop (at + length (a ++ b)) bytes)))
 
--- nothing that is put changes nothing
-pub put_none : (at : ℕ) (bytes : List ℕ) → bytes ≡ put_at at [] bytes
-put_none at bytes = let same : at ≡ at + 0 = omega arith in sym (take-append-drop at bytes) ∙ ap (λ (p : ℕ). take at bytes ++ drop p bytes) same
+-- a piece that is put behind what was written to the front
+pub put_behind : (at : ℕ) (front piece bytes new : List ℕ) → length front ≡ at
+    → new ≡ put_at at piece (front ++ drop at bytes)
+    → new ≡ front ++ (piece ++ drop (at + length piece) bytes)
+put_behind at front piece bytes new long is =
+    let head : take at (front ++ drop at bytes) ≡ front = take_at front (drop at bytes) at long in
+    let behind : drop (at + length piece) (front ++ drop at bytes) ≡ drop (at + length piece) bytes =
+    sym (drop-drop (length piece) at (front ++ drop at bytes))
+    ∙ ap (λ (xs : List ℕ). drop (length piece) xs) (drop_at front (drop at bytes) at long)
+    ∙ drop-drop (length piece) at bytes in
+    is
+    ∙ ap (λ (xs : List ℕ). xs ++ (piece ++ drop (at + length piece) (front ++ drop at bytes))) head
+    ∙ ap (λ (xs : List ℕ). front ++ (piece ++ xs)) behind
 
+-- the same where nothing is left behind the piece
+pub put_last : (at : ℕ) (front piece bytes new : List ℕ) → length front ≡ at → length bytes ≡ at + length piece
+    → new ≡ put_at at piece (front ++ drop at bytes) → new ≡ front ++ piece
+put_last at front piece bytes new long room is =
+    let rest : drop (at + length piece) bytes ≡ [] = drop_all (at + length piece) bytes (omega arith) in
+    put_behind at front piece bytes new long is
+    ∙ ap (λ (xs : List ℕ). front ++ (piece ++ xs)) rest
+    ∙ ap (λ (xs : List ℕ). front ++ xs) (append-nil piece)
+
+-- cookies have 16 bytes each
 pub length-cookies_bytes : (cookies : List Cookie) → length (cookies_bytes cookies) ≡ 16 * length cookies
 length-cookies_bytes [] = refl
 length-cookies_bytes (cookie ∷ cookies) = let rest = length-cookies_bytes cookies in omega (arith, rest)

@@ -29,7 +29,10 @@ fn get_cookie(bytes: &[u8], at: usize) -> Cookie
     requires { at + 16 ≤ length bytes.now }
     ensures { result ≡ cookie_at at bytes.now }
 {
-    Cookie { address: get_u64(bytes, at), size: get_u64(bytes, at + 8) }
+    Cookie {
+        address: get_u64(bytes, at),
+        size: get_u64(bytes, at + 8),
+    }
 }
 
 fn put_cookie(bytes: &mut [u8], at: usize, cookie: &Cookie)

@@ -11,5 +11,8 @@ pub struct Cookie {
 
 impl Cookie {
     /// The cookie of no memory, which stands in the places of a list that aren't used.
-    pub const NONE: Cookie = Cookie { address: 0, size: 0 };
+    pub const NONE: Cookie = Cookie {
+        address: 0,
+        size: 0,
+    };
 }

@@ -9,5 +9,4 @@ ghost use Rattle.map_table.specs.declared.cookie.Cookie.{Cookie};
 pub fn cookies_read_back()
     ensures { (cookies : List Cookie) (front rest : List ℕ) → AllByRecursion IsCookie cookies
         → cookies_at (length front) (length cookies) (front ++ (cookies_bytes cookies ++ rest)) ≡ cookies }
-{
-}
+{}

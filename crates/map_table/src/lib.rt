@@ -11,3 +11,6 @@ mod laws;
 pub use codec::{get_cookies, put_cookies};
 pub use cookie::Cookie;
 pub use laws::cookies_read_back;
+
+#[cfg(test)]
+mod tests;

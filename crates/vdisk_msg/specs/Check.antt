@@ -30,10 +30,10 @@ abbrev pub first_defect : DiskDesc → ℕ → ℕ → Option DescFault
 first_defect desc blocks mask =
     if is_allowed desc.operation mask
     then (if moves_data desc.operation
-      then (if holds_cookies desc.count
-        then (if has_size desc.size
-          then (if is_within desc.offset (desc.size / 512) blocks then None else Some Range)
-          else Some Size)
-        else Some Cookies)
-      else None)
+    then (if holds_cookies desc.count
+    then (if has_size desc.size
+    then (if is_within desc.offset (desc.size / 512) blocks then None else Some Range)
+    else Some Size)
+    else Some Cookies)
+    else None)
     else Some Operation

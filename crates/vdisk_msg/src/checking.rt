@@ -1,5 +1,5 @@
-ghost use Rattle.std.specs.Prelude.{◌≡◌, Some, None, MatchResult, IsTrue, ◌↔◌};
-ghost use Rattle.vdisk_msg.specs.Check.{first_defect, is_allowed, moves_data, holds_cookies, has_size, is_within};
+ghost use Rattle.std.specs.Prelude.{◌≡◌, Some, None, MatchResult};
+ghost use Rattle.vdisk_msg.specs.Check.{first_defect, is_allowed, is_within};
 
 use crate::desc::{DescFault, DiskDesc};
 use crate::layout::{BLOCK, BREAD, BWRITE, MOST_BYTES};

@@ -1,4 +1,3 @@
-use Rattle.std.proofs.Common.{refl}
 use Rattle.map_table.proofs.Getting.{cookies_at-bytes}
 use Rattle.map_table.proofs.laws.cookies_read_back.Goals as goal
 
