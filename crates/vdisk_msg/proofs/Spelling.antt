@@ -5,7 +5,7 @@ use Rattle.byteorder.specs.Numbers.{big_number-reads_back}
 use Rattle.map_table.specs.Cookies.{cookies_at, cookies_bytes}
 use Rattle.map_table.proofs.Getting.{cookies_at-bytes}
 use Rattle.map_table.proofs.Putting.{length-cookies_bytes}
-use Rattle.vdisk_msg.specs.Descriptor.{IsDescriptor, SpellsDescriptor, canonical, head_bytes}
+use Rattle.vdisk_msg.specs.Descriptor.{HasWidths, SpellsDescriptor, canonical, head_bytes}
 use Rattle.vdisk_msg.specs.declared.desc.DiskDesc.{DiskDesc}
 
 -- descriptors with the same fields are equal
@@ -25,7 +25,7 @@ spelled_once bytes a b is_a is_b =
     (is_a.count ∙ sym is_b.count) (is_a.cookies ∙ sym is_b.cookies)
 
 -- the canonical spelling spells its descriptor
-pub canonical_spells : (desc : DiskDesc) → IsDescriptor desc → SpellsDescriptor (canonical desc) desc
+pub canonical_spells : (desc : DiskDesc) → HasWidths desc → SpellsDescriptor (canonical desc) desc
 canonical_spells desc fits =
     let bytes : List ℕ = canonical desc in
     let behind : cookies_at 48 (length desc.cookies) (head_bytes desc ++ (cookies_bytes desc.cookies ++ [])) ≡ desc.cookies = cookies_at-bytes desc.cookies (head_bytes desc) [] fits.cookies in
@@ -45,7 +45,7 @@ canonical_spells desc fits =
     }
 
 -- descriptors with the same canonical spelling are equal
-pub same_bytes : (a b : DiskDesc) → IsDescriptor a → IsDescriptor b → canonical a ≡ canonical b → a ≡ b
+pub same_bytes : (a b : DiskDesc) → HasWidths a → HasWidths b → canonical a ≡ canonical b → a ≡ b
 same_bytes a b fits_a fits_b same =
     spelled_once (canonical a) a b (canonical_spells a fits_a)
     (subst (λ (bytes : List ℕ). SpellsDescriptor bytes b) (sym same) (canonical_spells b fits_b))

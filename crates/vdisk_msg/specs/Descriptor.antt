@@ -22,7 +22,7 @@ pub record SpellsDescriptor (bytes : List ℕ) (desc : DiskDesc) : Type 0 where
   pub cookies : desc.cookies ≡ cookies_at 48 5 bytes
 
 -- each field has a number of its width, and there are five cookies: so each `DiskDesc` is
-pub record IsDescriptor (desc : DiskDesc) : Type 0 where
+pub record HasWidths (desc : DiskDesc) : Type 0 where
   pub state : desc.state < 2 ^ 8
   pub ack : desc.ack < 2 ^ 8
   pub id : desc.id < 2 ^ 64

@@ -1,8 +1,10 @@
+// Whether a server can run a descriptor.
+
 ghost use Rattle.std.specs.Prelude.{◌≡◌, Some, None, MatchResult};
 ghost use Rattle.vdisk_msg.specs.Check.{first_defect, is_allowed, is_within};
 
 use crate::desc::{DescFault, DiskDesc};
-use crate::layout::{BLOCK, BREAD, BWRITE, MOST_BYTES};
+use crate::layout::{BLOCK, MOST_BYTES, MOST_COOKIES, VD_OP_BREAD, VD_OP_BWRITE};
 
 /// Whether a server that takes the operations of `mask`, of a disk of `blocks` blocks, can run the
 /// descriptor: the first fault in the order of `DescFault`.
@@ -12,10 +14,10 @@ pub fn check(desc: &DiskDesc, blocks: u64, mask: u64) -> Result<(), DescFault>
     if !is_allowed(desc.operation, mask) {
         return Err(DescFault::Operation);
     }
-    if desc.operation != BREAD && desc.operation != BWRITE {
+    if desc.operation != VD_OP_BREAD && desc.operation != VD_OP_BWRITE {
         return Ok(());
     }
-    if desc.count < 1 || desc.count > 5 {
+    if desc.count < 1 || desc.count > MOST_COOKIES {
         return Err(DescFault::Cookies);
     }
     if desc.size == 0 || desc.size > MOST_BYTES || desc.size % BLOCK != 0 {

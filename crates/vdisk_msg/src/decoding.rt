@@ -1,3 +1,5 @@
+// From bytes to a descriptor.
+
 ghost use Rattle.std.specs.Prelude.{◌≡◌, ◌+◌, ◌*◌, ◌≤◌};
 ghost use Rattle.vdisk_msg.specs.Descriptor.{SpellsDescriptor};
 ghost use Rattle.vdisk_msg.specs.declared.desc.DiskDesc.{DiskDesc};

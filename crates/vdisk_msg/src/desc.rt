@@ -1,3 +1,5 @@
+// What a descriptor says.
+
 use map_table::Cookie;
 
 /// A disk descriptor, as a slot of 128 bytes of the ring holds it (`struct vio_disk_desc` of
@@ -10,11 +12,12 @@ pub struct DiskDesc {
     pub ack: u8,
     /// The number of the request.
     pub id: u64,
-    /// What is asked of the disk, as `BREAD` or `BWRITE`.
+    /// What is asked of the disk, BREAD 1, BWRITE 2, FLUSH 3, GET_WCE 4 or SET_WCE 5.
     pub operation: u8,
     /// The slice of the disk, 0xff for the whole of it.
     pub slice: u8,
-    /// The answer: 0, or an error's number.
+    /// The answer: 0 for success, 5 for an I/O error, 22 for an invalid descriptor, 48 for an operation
+    /// that isn't supported.
     pub status: u32,
     /// The first block.
     pub offset: u64,

@@ -1,3 +1,5 @@
+// From a descriptor to bytes.
+
 ghost use Rattle.std.specs.Prelude.{◌≡◌, ◌+◌, ◌*◌, ◌≤◌};
 ghost use Rattle.vdisk_msg.specs.Descriptor.{SpellsDescriptor, canonical, head_bytes};
 

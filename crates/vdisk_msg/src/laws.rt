@@ -1,17 +1,13 @@
-// What follows from the definitions, for every descriptor and all bytes.
+// What follows from the definitions.
 
-ghost use Rattle.std.specs.Prelude.{◌≡◌, ℕ, List, ◌↔◌};
-ghost use Rattle.vdisk_msg.specs.Descriptor.{IsDescriptor, SpellsDescriptor, canonical};
+ghost use Rattle.std.specs.Prelude.{◌≡◌, ◌↔◌, ℕ, List};
+ghost use Rattle.vdisk_msg.specs.Descriptor.{HasWidths, SpellsDescriptor, canonical};
 ghost use Rattle.vdisk_msg.specs.declared.desc.DiskDesc.{DiskDesc};
 
-/// Bytes spell at most one descriptor, the canonical spelling of a descriptor spells it, and two
-/// descriptors are equal exactly where their canonical spellings are. With what [`decode`] and
-/// [`encode`] ensure it follows that a descriptor that was encoded is decoded again.
-///
-/// [`decode`]: crate::decode
-/// [`encode`]: crate::encode
-pub fn spellings_are_exact()
-    ensures one { (bytes : List ℕ) (a b : DiskDesc) → SpellsDescriptor bytes a → SpellsDescriptor bytes b → a ≡ b }
-    ensures spells { (desc : DiskDesc) → IsDescriptor desc → SpellsDescriptor (canonical desc) desc }
-    ensures equal { (a b : DiskDesc) → IsDescriptor a → IsDescriptor b → (a ≡ b) ↔ (canonical a ≡ canonical b) }
+/// Bytes spell at most one descriptor, and its canonical bytes spell it: so decoding what was encoded
+/// gives the descriptor back, and descriptors with the same canonical bytes are the same.
+pub fn spellings_are_unique()
+    ensures at_most_one { (bytes : List ℕ) (one other : DiskDesc) → SpellsDescriptor bytes one → SpellsDescriptor bytes other → one ≡ other }
+    ensures canonical_spells { (desc : DiskDesc) → HasWidths desc → SpellsDescriptor (canonical desc) desc }
+    ensures same_bytes { (one other : DiskDesc) → HasWidths one → HasWidths other → (one ≡ other) ↔ (canonical one ≡ canonical other) }
 {}

@@ -1,10 +1,12 @@
+// The layout of a disk descriptor.
+
 ghost use Rattle.vio_bytes.specs.Layout.{AreApart};
 
 use vio_bytes::Table;
 
-/// The head of a disk descriptor, of which the cookies stand behind it: `struct vio_disk_desc` of
-/// Linux's vio.h, with its `struct vio_dring_hdr`.
-pub const DISK_DESC: Table<9> = Table {
+/// The head of a disk descriptor, behind which its cookies stand: `struct vio_disk_desc` of Linux's
+/// vio.h, which begins with `struct vio_dring_hdr`.
+pub(crate) const DISK_DESC: Table<9> = Table {
     fields: [
         (0, 1), // hdr.state
         (1, 1), // hdr.ack
@@ -20,39 +22,42 @@ pub const DISK_DESC: Table<9> = Table {
 };
 
 /// The bytes of the head.
-pub const HEAD: usize = 48;
+pub(crate) const HEAD: usize = 48;
 
-pub const STATE: usize = 0;
+pub(crate) const STATE: usize = 0;
 
-pub const ACK: usize = 1;
+pub(crate) const ACK: usize = 1;
 
-pub const REQ_ID: usize = 2;
+pub(crate) const REQ_ID: usize = 2;
 
-pub const OPERATION: usize = 3;
+pub(crate) const OPERATION: usize = 3;
 
-pub const SLICE: usize = 4;
+pub(crate) const VD_OP_BREAD: u8 = 1;
 
-pub const STATUS: usize = 5;
+pub(crate) const VD_OP_BWRITE: u8 = 2;
 
-pub const OFFSET: usize = 6;
+pub(crate) const SLICE: usize = 4;
 
-pub const SIZE: usize = 7;
+pub(crate) const STATUS: usize = 5;
 
-pub const NCOOKIES: usize = 8;
+/// In blocks.
+pub(crate) const OFFSET: usize = 6;
 
-/// Reads blocks (`VD_OP_BREAD`).
-pub const BREAD: u8 = 1;
-
-/// Writes blocks (`VD_OP_BWRITE`).
-pub const BWRITE: u8 = 2;
+/// In bytes.
+pub(crate) const SIZE: usize = 7;
 
 /// The bytes of a block of the disk.
-pub const BLOCK: u64 = 512;
+pub(crate) const BLOCK: u64 = 512;
 
 /// The most bytes of one descriptor, 64 blocks.
-pub const MOST_BYTES: u64 = 32_768;
+pub(crate) const MOST_BYTES: u64 = 32_768;
+
+pub(crate) const NCOOKIES: usize = 8;
+
+/// The most cookies of one descriptor.
+pub(crate) const MOST_COOKIES: u32 = 5;
 
 /// The fields of the head don't overlap, and lie within it.
-pub fn head_is_sound()
+pub fn layouts_are_sound()
     ensures { AreApart DISK_DESC.fields DISK_DESC.length }
 {}

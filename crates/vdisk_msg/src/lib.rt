@@ -18,8 +18,8 @@ pub use checking::check;
 pub use decoding::decode;
 pub use desc::{DescFault, DiskDesc};
 pub use encoding::encode;
-pub use laws::spellings_are_exact;
-pub use layout::head_is_sound;
+pub use laws::spellings_are_unique;
+pub use layout::layouts_are_sound;
 pub use request::{Fill, Request};
 
 #[cfg(test)]

@@ -2,6 +2,8 @@
 -- chapters have them.
 use Rattle.std.specs.Prelude.{ℕ, ◌+◌, ◌≤◌, ◌⊎◌, List, ◌++◌, length, take, drop}
 use Rattle.byteorder.specs.Endian.{big_number}
+-- the bytes of a number, so many and the highest first, are the ported crate's
+pub use Rattle.byteorder.specs.Endian.{big_bytes}
 
 -- the number in the `width` bytes from place `at`
 abbrev pub number_at : ℕ → ℕ → List ℕ → ℕ
