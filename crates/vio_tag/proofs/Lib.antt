@@ -1,0 +1,4 @@
+pub mod Addresses
+pub mod NoFault
+pub mod Reading
+pub mod Same

@@ -1,8 +1,14 @@
 //! Messages of the sun4v virtual I/O protocol, and the causes of a reset.
 #![tactic(auto)]
 
+mod attributes;
 mod cause;
+mod decoding;
+mod layout;
 mod message;
 
+pub use attributes::{DiskAttr, NetAttr, disk_attr, net_attr, put_disk_attr, put_net_attr};
 pub use cause::Cause;
+pub use decoding::decode;
+pub use layout::layouts_are_sound;
 pub use message::{Message, MsgBody, TagFault};
