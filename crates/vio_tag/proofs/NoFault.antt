@@ -1,5 +1,5 @@
 -- Nothing is wrong with bytes that spell a well-formed message.
-use Rattle.std.proofs.Common.{◌≡◌, ℕ, ◌+◌, ◌*◌, ◌<◌, ◌≤◌, ◌⊎◌, Bool, true, false, ◌&&◌, not, nat_lt, nat_le, ◌==◌, List, length, Option, Some, None, refl, sym, ap, ◌∙◌, arith, inl, inr, eq-eqb}
+use Rattle.std.proofs.Common.{◌≡◌, ℕ, ◌+◌, ◌*◌, ◌≤◌, true, false, nat_lt, nat_le, ◌==◌, List, length, None, refl, sym, ap, ◌∙◌, arith, inl, inr, eq-eqb}
 use Rattle.std.proofs.lemmas.Bool.{le-leb, le-ltb}
 use Rattle.ldc_packet.specs.declared.packet.Subtype.{Subtype}
 use Rattle.ldc_packet.specs.declared.packet.Subtype.TheVariants.{Info, Ack, Nack}
@@ -7,8 +7,7 @@ use Rattle.ldc_packet.specs.Spelling.{subtype_code}
 use Rattle.vio_tag.specs.declared.message.Message.{Message}
 use Rattle.vio_tag.specs.declared.message.MsgBody.{MsgBody}
 use Rattle.vio_tag.specs.declared.message.MsgBody.TheVariants.{Ver, Attr, DringReg, DringUnreg, Rdx, DringData, Mcast, Plain}
-use Rattle.vio_tag.specs.declared.message.TagFault.{TagFault}
-use Rattle.vio_tag.specs.Fault.{body_fault, first_fault, is_cookies, is_length, is_subtype, is_type}
+use Rattle.vio_tag.specs.Fault.{body_fault, first_fault, is_subtype, is_type}
 use Rattle.vio_tag.specs.Form.{HasForm, IsWellFormed}
 use Rattle.vio_tag.specs.Spelling.{HasLength, SpellsBody, SpellsMessage, count_at, envelope_at, envelope_code, subtype_at, type_at, type_code}
 

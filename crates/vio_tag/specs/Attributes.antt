@@ -1,6 +1,6 @@
 -- The attributes of devices: the 48 bytes behind the tag of an ATTR_INFO, as Linux's `struct
 -- vio_disk_attr_info` and `struct vio_net_attr_info` have them. Bytes that no field names are free.
-use Rattle.std.specs.Prelude.{◌≡◌, ℕ, ◌^◌, ◌<◌, List, ◌++◌, length, replicate}
+use Rattle.std.specs.Prelude.{◌≡◌, ℕ, ◌^◌, ◌<◌, List, ◌++◌, replicate}
 use Rattle.byteorder.specs.Endian.{big_bytes}
 use Rattle.vio_bytes.specs.Place.{number_at}
 use Rattle.vio_tag.specs.declared.attributes.DiskAttr.{DiskAttr}

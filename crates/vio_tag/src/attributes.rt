@@ -2,13 +2,17 @@
 
 ghost use Rattle.std.specs.Prelude.{◌≡◌};
 ghost use Rattle.vio_tag.specs.Attributes.{SpellsDiskAttr, SpellsNetAttr, disk_attr_bytes, net_attr_bytes};
+ghost use Rattle.vio_tag.specs.declared.attributes.DiskAttr.{DiskAttr};
+ghost use Rattle.vio_tag.specs.declared.attributes.NetAttr.{NetAttr};
 
 use crate::layout::{
     ACK_FREQ, ADDR, ADDR_TYPE, ATTR_LENGTH, CFLAGS, DISK_ATTR, DISK_XFER_MODE, IPV4_LSO_MAXLEN,
     MAX_XFER_SIZE, MTU, NET_ATTR, NET_OPTIONS, NET_XFER_MODE, OPERATIONS, PHYS_BLOCK_SIZE,
     PLNK_UPDT, VDISK_BLOCK_SIZE, VDISK_MTYPE, VDISK_SIZE, VDISK_TYPE,
 };
-use vio_bytes::{get_field, get_u8, get_u16, get_u32, get_u64, put_field, put_u8, put_u16, put_u32, put_u64};
+use vio_bytes::{
+    get_field, get_u8, get_u16, get_u32, get_u64, put_field, put_u8, put_u16, put_u32, put_u64,
+};
 
 /// The attributes of a disk (`struct vio_disk_attr_info` of Linux's vio.h).
 #[derive(Clone, Copy, Debug, PartialEq, Eq)]
@@ -53,7 +57,8 @@ pub struct NetAttr {
 
 /// The disk's attributes that the bytes behind the tag spell.
 pub fn disk_attr(bytes: &[u8; 48]) -> DiskAttr
-    ensures { SpellsDiskAttr bytes.now result }
+    ensures spelled { SpellsDiskAttr bytes.now result }
+    ensures only { (attr : DiskAttr) → SpellsDiskAttr bytes.now attr → attr ≡ result }
 {
     DiskAttr {
         mode: get_field!(get_u8, DISK_ATTR, bytes, DISK_XFER_MODE),
@@ -75,17 +80,36 @@ pub fn put_disk_attr(attr: &DiskAttr) -> [u8; 48]
     put_field!(put_u8, DISK_ATTR, &mut bytes, DISK_XFER_MODE, attr.mode);
     put_field!(put_u8, DISK_ATTR, &mut bytes, VDISK_TYPE, attr.kind);
     put_field!(put_u8, DISK_ATTR, &mut bytes, VDISK_MTYPE, attr.media);
-    put_field!(put_u32, DISK_ATTR, &mut bytes, VDISK_BLOCK_SIZE, attr.block_size);
+    put_field!(
+        put_u32,
+        DISK_ATTR,
+        &mut bytes,
+        VDISK_BLOCK_SIZE,
+        attr.block_size
+    );
     put_field!(put_u64, DISK_ATTR, &mut bytes, OPERATIONS, attr.operations);
     put_field!(put_u64, DISK_ATTR, &mut bytes, VDISK_SIZE, attr.blocks);
-    put_field!(put_u64, DISK_ATTR, &mut bytes, MAX_XFER_SIZE, attr.max_transfer);
-    put_field!(put_u32, DISK_ATTR, &mut bytes, PHYS_BLOCK_SIZE, attr.physical);
+    put_field!(
+        put_u64,
+        DISK_ATTR,
+        &mut bytes,
+        MAX_XFER_SIZE,
+        attr.max_transfer
+    );
+    put_field!(
+        put_u32,
+        DISK_ATTR,
+        &mut bytes,
+        PHYS_BLOCK_SIZE,
+        attr.physical
+    );
     bytes
 }
 
 /// The network device's attributes that the bytes behind the tag spell.
 pub fn net_attr(bytes: &[u8; 48]) -> NetAttr
-    ensures { SpellsNetAttr bytes.now result }
+    ensures spelled { SpellsNetAttr bytes.now result }
+    ensures only { (attr : NetAttr) → SpellsNetAttr bytes.now attr → attr ≡ result }
 {
     NetAttr {
         mode: get_field!(get_u8, NET_ATTR, bytes, NET_XFER_MODE),

@@ -236,5 +236,4 @@ pub fn layouts_are_sound()
     ensures mcast_info { AreApart MCAST_INFO.fields MCAST_INFO.length }
     ensures disk_attr { AreApart DISK_ATTR.fields DISK_ATTR.length }
     ensures net_attr { AreApart NET_ATTR.fields NET_ATTR.length }
-{
-}
+{}
