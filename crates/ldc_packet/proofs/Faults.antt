@@ -1,8 +1,8 @@
--- Bytes have a packet or one first fault, and not both.
-use Rattle.std.proofs.Common.{◌≡◌, ◌≢◌, ℕ, ◌<◌, ◌≤◌, ◌%◌, ◌⊎◌, Bool, true, false, inl, inr, List, Ok, Err, refl, sym, ap, ◌∙◌, arith}
+-- Bytes that spell a packet have no fault.
+use Rattle.std.proofs.Common.{◌≡◌, ℕ, ◌<◌, ◌%◌, Bool, true, false, inl, inr, List, Ok, Err, ap, ◌∙◌, arith}
 use Rattle.std.specs.Prelude.{Result, IfErr, IfOk}
 use Rattle.ldc_packet.specs.declared.packet.Body.{Body}
-use Rattle.ldc_packet.specs.declared.packet.Body.TheVariants.{Vers, Rts, Rtr, Rdx, Part}
+use Rattle.ldc_packet.specs.declared.packet.Body.TheVariants.{Part}
 use Rattle.ldc_packet.specs.declared.packet.Packet.{Packet}
 use Rattle.ldc_packet.specs.declared.packet.PacketFault.{PacketFault}
 use Rattle.ldc_packet.specs.declared.packet.PacketFault.TheVariants.{Kind, Subtype, Ctrl, Length}
@@ -10,7 +10,7 @@ use Rattle.ldc_packet.specs.declared.packet.Subtype.{Subtype as Subtype_}
 use Rattle.ldc_packet.specs.declared.packet.Subtype.TheVariants.{Info, Ack, Nack}
 use Rattle.ldc_packet.specs.Fault.{HasFault, IsFirstFault}
 use Rattle.ldc_packet.specs.Form.{HasForm, IsWellFormed}
-use Rattle.ldc_packet.specs.Spelling.{SpellsBody, SpellsPacket, ctrl_at, env_at, part_env, subtype_at, subtype_code, type_at, type_code}
+use Rattle.ldc_packet.specs.Spelling.{SpellsBody, SpellsPacket, env_at, part_env, subtype_at, subtype_code, type_at, type_code}
 use Rattle.ldc_packet.proofs.Same.{same_packet}
 
 -- a first fault is a fault
@@ -19,25 +19,6 @@ fault_of bytes Kind first = first
 fault_of bytes Subtype first = first.1
 fault_of bytes Ctrl first = first.2
 fault_of bytes Length first = first.3
-
--- there is one first fault
-same_fault : (bytes : List ℕ) (f g : PacketFault) → IsFirstFault bytes f → IsFirstFault bytes g → f ≡ g
-same_fault bytes Kind Kind a b = refl
-same_fault bytes Kind Subtype a b = absurd (b.0 a)
-same_fault bytes Kind Ctrl a b = absurd (b.0 a)
-same_fault bytes Kind Length a b = absurd (b.0 a)
-same_fault bytes Subtype Kind a b = absurd (a.0 b)
-same_fault bytes Subtype Subtype a b = refl
-same_fault bytes Subtype Ctrl a b = absurd (b.1 a.1)
-same_fault bytes Subtype Length a b = absurd (b.1 a.1)
-same_fault bytes Ctrl Kind a b = absurd (a.0 b)
-same_fault bytes Ctrl Subtype a b = absurd (a.1 b.1)
-same_fault bytes Ctrl Ctrl a b = refl
-same_fault bytes Ctrl Length a b = absurd (b.2 a.2)
-same_fault bytes Length Kind a b = absurd (a.0 b)
-same_fault bytes Length Subtype a b = absurd (a.1 b.1)
-same_fault bytes Length Ctrl a b = absurd (a.2 b.2)
-same_fault bytes Length Length a b = refl
 
 -- the length of a part is what its env byte has below the flags
 env_length : (start stop : Bool) (len : ℕ) → len < 64 → part_env start stop len % 64 ≡ len
@@ -81,10 +62,3 @@ pub only_spelled : (bytes : List ℕ) (r : Result Packet PacketFault) (p : Packe
     → IsWellFormed p → SpellsPacket bytes p → r ≡ Ok p
 only_spelled bytes (Ok q) p ok err form spelled = ap Ok (same_packet bytes q p ok.0 form ok.1 spelled)
 only_spelled bytes (Err f) p ok err form spelled = absurd (spelled_not_faulty bytes p f form spelled err)
-
--- and to the fault that is the first
-pub first_refused : (bytes : List ℕ) (r : Result Packet PacketFault) (f : PacketFault)
-    → IfOk r (λ q. IsWellFormed q × SpellsPacket bytes q) → IfErr r (λ g. IsFirstFault bytes g)
-    → IsFirstFault bytes f → r ≡ Err f
-first_refused bytes (Ok q) f ok err first = absurd (spelled_not_faulty bytes q f ok.0 ok.1 first)
-first_refused bytes (Err g) f ok err first = ap Err (same_fault bytes g f err first)

@@ -1,12 +1,8 @@
 -- The payload of a packet and the env byte of a part.
-use Rattle.std.proofs.Common.{◌≡◌, ℕ, zero, suc, ◌+◌, ◌-◌, ◌*◌, ◌/◌, ◌%◌, ◌<◌, ◌≤◌, List, [], ◌∷◌, ◌++◌, length, take, drop, replicate, not, nat_eq, bit_and, refl, sym, ap, ◌∙◌, arith}
-use Rattle.std.proofs.lemmas.List.{append-nil, append_assoc, drop-drop, drop-replicate, drop_all, drop_at, length-append, length-drop, take-append-drop}
+use Rattle.std.proofs.Common.{◌≡◌, ℕ, zero, suc, ◌-◌, ◌*◌, ◌/◌, ◌%◌, ◌<◌, List, ◌++◌, length, drop, replicate, not, nat_eq, bit_and, refl, ap, ◌∙◌, arith}
+use Rattle.std.proofs.lemmas.List.{drop-replicate, drop_at}
 use Rattle.std.proofs.lemmas.Nat.{and_mask}
-use Rattle.std.proofs.lemmas.Nat.Bits.{and_pow, bit_at-lt}
-use Rattle.std.specs.Int.{bit_at}
-use borrow.Rule.Slice.PartMut.{put_mid}
-use Rattle.vio_bytes.proofs.Putting.{put_at-put_at_behind}
-use Rattle.vio_bytes.specs.Place.{big_bytes, put_at}
+use Rattle.std.proofs.lemmas.Nat.Bits.{and_pow}
 use Rattle.ldc_packet.specs.Spelling.{flag, part_env}
 
 -- zeros stay behind what was copied into the front of a list of zeros

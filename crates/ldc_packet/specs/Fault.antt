@@ -1,10 +1,8 @@
 -- Why bytes are no packet.
-use Rattle.std.specs.Prelude.{◌≡◌, ◌≢◌, ℕ, ◌<◌, ◌%◌, ◌⊎◌, List, Result, Ok, Err}
-use Rattle.ldc_packet.specs.declared.packet.Packet.{Packet}
+use Rattle.std.specs.Prelude.{◌≡◌, ◌≢◌, ℕ, ◌<◌, ◌%◌, ◌⊎◌, List}
 use Rattle.ldc_packet.specs.declared.packet.PacketFault.{PacketFault}
 use Rattle.ldc_packet.specs.declared.packet.PacketFault.TheVariants.{Kind, Subtype, Ctrl, Length}
-use Rattle.ldc_packet.specs.Form.{IsWellFormed}
-use Rattle.ldc_packet.specs.Spelling.{SpellsPacket, type_at, subtype_at, ctrl_at, env_at}
+use Rattle.ldc_packet.specs.Spelling.{type_at, subtype_at, ctrl_at, env_at}
 
 -- what each fault says: the type is neither CTRL nor DATA; the subtype is none of INFO, ACK and NACK, or
 -- that of DATA isn't INFO; the control code of CTRL isn't 1 to 4; the length of DATA isn't 1 to 56

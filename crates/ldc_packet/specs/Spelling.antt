@@ -1,6 +1,6 @@
 -- What 64 bytes say, as the LDC chapter of the UltraSPARC Virtual Machine Specification and Linux's
 -- `struct ldc_packet` have it. Bytes that a packet's form doesn't name are free.
-use Rattle.std.specs.Prelude.{◌≡◌, ℕ, ◌+◌, ◌*◌, Bool, true, false, List, ◌∷◌, ◌++◌, length, take, drop, replicate}
+use Rattle.std.specs.Prelude.{◌≡◌, ℕ, ◌+◌, Bool, true, false, List, ◌∷◌, ◌++◌, length, take, drop, replicate}
 use Rattle.vio_bytes.specs.Place.{big_bytes, number_at}
 use Rattle.ldc_packet.specs.declared.packet.Body.{Body}
 use Rattle.ldc_packet.specs.declared.packet.Body.TheVariants.{Vers, Rts, Rtr, Rdx, Part}

@@ -1,7 +1,7 @@
 // From a packet to bytes.
 
 ghost use Rattle.std.specs.Prelude.{◌≡◌, ◌++◌, length, take, drop, replicate};
-ghost use Rattle.ldc_packet.specs.Form.{HasForm, IsWellFormed};
+ghost use Rattle.ldc_packet.specs.Form.{IsWellFormed};
 ghost use Rattle.ldc_packet.specs.Spelling.{canonical, ctrl_byte, env_byte, payload, subtype_code, type_code};
 
 use crate::flags::{PartEnv, env_of_part};
@@ -21,13 +21,7 @@ pub fn encode(packet: &Packet, out: &mut [u8; 64])
     put_field!(put_u8, PACKET_HEAD, out, TYPE, type_of(&packet.body));
     put_field!(put_u8, PACKET_HEAD, out, STYPE, code_of(packet.subtype));
     put_field!(put_u8, PACKET_HEAD, out, CTRL, ctrl_of(&packet.body));
-    put_field!(
-        put_u8,
-        PACKET_HEAD,
-        out,
-        ENV,
-        env_of(&packet.subtype, &packet.body)
-    );
+    put_field!(put_u8, PACKET_HEAD, out, ENV, env_of(packet));
     put_field!(put_u32, PACKET_HEAD, out, SEQID, packet.seqid);
     put_payload(&packet.body, out);
 }
@@ -63,11 +57,11 @@ fn ctrl_of(body: &Body) -> u8
     }
 }
 
-fn env_of(subtype: &Subtype, body: &Body) -> u8
-    requires { HasForm subtype.now body.now }
-    ensures { result ≡ env_byte body.now }
+fn env_of(packet: &Packet) -> u8
+    requires { IsWellFormed packet.now }
+    ensures { result ≡ env_byte packet.now.body }
 {
-    match *body {
+    match packet.body {
         Body::Vers { .. } | Body::Rdx => 0,
         Body::Rts { mode } | Body::Rtr { mode } => mode,
         Body::Part {

@@ -1,6 +1,6 @@
 // What follows from the definitions.
 
-ghost use Rattle.std.specs.Prelude.{◌≡◌, ℕ, ◌<◌, List};
+ghost use Rattle.std.specs.Prelude.{◌≡◌, ◌↔◌, ℕ, List};
 ghost use Rattle.ldc_packet.specs.Form.{HasWidths, IsWellFormed};
 ghost use Rattle.ldc_packet.specs.Spelling.{canonical, SpellsPacket};
 ghost use Rattle.ldc_packet.specs.declared.packet.Packet.{Packet};
@@ -12,5 +12,5 @@ pub fn spellings_are_unique()
         → SpellsPacket bytes one → SpellsPacket bytes other → one ≡ other }
     ensures canonical_spells { (packet : Packet) → IsWellFormed packet → HasWidths packet → SpellsPacket (canonical packet) packet }
     ensures same_bytes { (one other : Packet) → IsWellFormed one → IsWellFormed other → HasWidths one → HasWidths other
-        → canonical one ≡ canonical other → one ≡ other }
+        → (one ≡ other) ↔ (canonical one ≡ canonical other) }
 {}

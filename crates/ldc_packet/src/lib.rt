@@ -16,3 +16,6 @@ pub use encoding::encode;
 pub use laws::spellings_are_unique;
 pub use layout::layouts_are_sound;
 pub use packet::{Body, Packet, PacketFault, Subtype};
+
+#[cfg(test)]
+mod tests;

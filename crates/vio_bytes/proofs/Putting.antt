@@ -1,6 +1,6 @@
 -- What was put reads back, and nothing else changes.
 use Rattle.std.proofs.Common.{◌≡◌, ℕ, ◌+◌, ◌-◌, ◌^◌, ◌<◌, ◌≤◌, List, [], ◌++◌, length, get_or, slice_index, take, drop, sym, ap, ◌∙◌, arith, inl, inr}
-use Rattle.std.proofs.lemmas.List.{append-nil, append_assoc, get_or-drop, drop-drop, drop-take, drop_all, drop_at, length-append, length-drop, length-take-le, take-append-le, take-take, take_at, take_rest}
+use Rattle.std.proofs.lemmas.List.{append-nil, append_assoc, get_or-drop, drop-drop, drop-take, drop_all, drop_at, length-append, length-drop, length-take-le, take-append-le, take-take, take_rest}
 use borrow.Rule.Slice.PartMut.{put_mid}
 use Rattle.byteorder.specs.Endian.{big_bytes, big_number}
 use Rattle.byteorder.specs.Numbers.{big_from-take, big_number-reads_back, length-bytes_high_first}
@@ -81,23 +81,3 @@ slice_index-put_at_outside width at value k bytes room outside =
     let here : k + 0 ≡ k = omega arith in
     let first : get_or (drop k put) 0 0 ≡ get_or (drop k bytes) 0 0 = omega (arith, same) in
     sym (from_put ∙ ap (λ (i : ℕ). get_or put i 0) here) ∙ first ∙ from_old ∙ ap (λ (i : ℕ). get_or bytes i 0) here
-
--- two pieces that were put one behind the other are one piece
-pub put_at-put_at_behind : (at m : ℕ) (first second bytes : List ℕ) → m ≡ at + length first → m + length second ≤ length bytes
-    → put_at m second (put_at at first bytes) ≡ put_at at (first ++ second) bytes
-put_at-put_at_behind at m first second bytes here room =
-    let once : List ℕ = put_at at first bytes in
-    let n : ℕ = at + length first in
-    let behind : ℕ = n + length second in
-    let size = length-put_at at first bytes (omega arith) in
-    let long : length (take at bytes ++ first) ≡ n = length-append (take at bytes) first ∙ ap (λ (k : ℕ). k + length first) (length-take-le at bytes (omega arith)) in
-    let whole : once ≡ (take at bytes ++ first) ++ drop n bytes = sym (append_assoc (take at bytes) first (drop n bytes)) in
-    let before : take n once ≡ take at bytes ++ first = ap (λ (xs : List ℕ). take n xs) whole ∙ take_at (take at bytes ++ first) (drop n bytes) n long in
-    let rest : drop behind once ≡ drop behind bytes = drop-put_at at behind first bytes (omega arith) (omega arith) in
-    let both : behind ≡ at + length (first ++ second) = omega (arith, length-append first second) in
-    ap (λ (k : ℕ). put_at k second once) here
-    ∙ ap (λ (xs : List ℕ). xs ++ (second ++ drop behind once)) before
-    ∙ append_assoc (take at bytes) first (second ++ drop behind once)
-    ∙ ap (λ (xs : List ℕ). take at bytes ++ (first ++ (second ++ xs))) rest
-    ∙ ap (λ (xs : List ℕ). take at bytes ++ xs) (sym (append_assoc first second (drop behind bytes)))
-    ∙ ap (λ (k : ℕ). take at bytes ++ ((first ++ second) ++ drop k bytes)) both

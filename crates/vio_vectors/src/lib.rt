@@ -3,6 +3,10 @@
 
 mod cases;
 mod descriptors;
+mod messages;
+mod packets;
 
 pub use cases::Cases;
 pub use descriptors::{COOKIES, DISK_DESCRIPTORS};
+pub use messages::{MESSAGE_FAULTS, MESSAGES};
+pub use packets::{PACKET_FAULTS, PACKETS};

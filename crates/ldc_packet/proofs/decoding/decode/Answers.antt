@@ -1,4 +1,4 @@
-use Rattle.ldc_packet.proofs.Faults.{only_spelled, first_refused}
+use Rattle.ldc_packet.proofs.Faults.{only_spelled}
 use Rattle.ldc_packet.proofs.decoding.decode.Goals as goal
 
 pub returns-in-2-clause-only : goal.returns-in-2-clause-only
