@@ -226,7 +226,7 @@ fn dring_reg(bytes: &[u8]) -> Result<MsgBody, TagFault>
 /// The cookies of a registration, and none behind them.
 fn ring_cookies(bytes: &[u8], count: usize) -> [Cookie; 14]
     requires most { count ≤ 14 }
-    requires long { length bytes.now ≡ 32 + 16 * count }
+    requires long { 32 + 16 * count ≤ length bytes.now }
     ensures cookies { take count result ≡ cookies_at 32 count bytes.now }
     ensures none { drop count result ≡ replicate (14 - count) no_cookie }
 {

@@ -26,6 +26,7 @@ use vio_bytes::{put_field, put_u8, put_u16, put_u32, put_u64};
 pub fn encode(message: &Message, out: &mut [u8; 256]) -> usize
     requires { IsWellFormed message.now }
     ensures length { result ≡ length (canonical message.now) }
+    ensures room { result ≤ 256 }
     ensures written { out.new ≡ canonical message.now ++ drop (length (canonical message.now)) out.old }
 {
     let length = put_body(&message.body, out);
@@ -89,6 +90,7 @@ fn envelope_of(body: &MsgBody) -> u16
 fn put_body(body: &MsgBody, out: &mut [u8; 256]) -> usize
     requires { HasForm body.now }
     ensures length { result ≡ 8 + length (body_bytes body.now) }
+    ensures room { result ≤ 256 }
     ensures written { out.new ≡ replicate 8 0 ++ body_bytes body.now ++ drop (8 + length (body_bytes body.now)) out.old }
 {
     match body {

@@ -16,3 +16,6 @@ pub use encoding::encode;
 pub use laws::{attributes_read_back, spellings_are_unique};
 pub use layout::layouts_are_sound;
 pub use message::{Message, MsgBody, TagFault};
+
+#[cfg(test)]
+mod tests;

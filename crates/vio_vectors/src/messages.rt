@@ -214,6 +214,7 @@ pub const MESSAGE_FAULTS: Cases<15> = Cases {
          00000000000000000000000000000000",
     ],
     answers: [
-        "short", "short", "kind", "kind", "subtype", "subtype", "envelope", "envelope", "envelope", "length", "length", "length", "cookies", "cookies", "cookies",
+        "short", "short", "kind", "kind", "subtype", "subtype", "envelope", "envelope", "envelope",
+        "length", "length", "length", "cookies", "cookies", "cookies",
     ],
 };
