@@ -1,0 +1,5 @@
+pub mod Counted
+pub mod OnceInOrder
+pub mod Ranges
+pub mod Repeated
+pub mod Sound

@@ -1,0 +1,4 @@
+pub mod Requests
+pub mod ListState
+pub mod ListStep
+pub mod Issued

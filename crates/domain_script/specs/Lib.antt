@@ -1,0 +1,9 @@
+pub mod Declarations
+pub mod NamesState
+pub mod ScriptLines
+pub mod LinesState
+pub mod Pieces
+pub mod Reader
+pub mod Fills
+pub mod Words
+pub mod Spells

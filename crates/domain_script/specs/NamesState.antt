@@ -1,0 +1,45 @@
+-- The names that a script has declared so far.
+use Rattle.std.specs.Prelude.{◌≡◌, ◌≢◌, ℕ, zero, suc, ◌<◌, Bool, true, false, List, [], ◌∷◌, ◌++◌, length}
+use Rattle.domain_script.specs.declared.event.DiskDecl.{DiskDecl}
+use Rattle.domain_script.specs.declared.event.Event.{Event}
+use Rattle.domain_script.specs.declared.event.Event.TheVariants.{Blank, Disk, Issue, Settle}
+use Rattle.domain_script.specs.declared.event.Name.{Name}
+use Rattle.domain_script.specs.Declarations.{IsDisk}
+
+pub record NamesState : Type 0 where
+  -- in the order of declaration
+  pub disks : List DiskDecl
+  -- a line came that is neither blank nor a declaration
+  pub ended : Bool
+
+-- none of the disks has this name
+abbrev pub IsFree : Name → List DiskDecl → Type 0
+IsFree name [] = Unit {0}
+IsFree name (disk ∷ disks) = (disk.name ≢ name) × IsFree name disks
+
+-- the k-th disk has this name, and none before it
+abbrev pub IsDiskNamed : Name → List DiskDecl → ℕ → Type 0
+IsDiskNamed name [] k = ⊥
+IsDiskNamed name (disk ∷ disks) zero = disk.name ≡ name
+IsDiskNamed name (disk ∷ disks) (suc k) = (disk.name ≢ name) × IsDiskNamed name disks k
+
+-- a disk may still be declared
+pub record CanDeclare (names : NamesState) (disk : DiskDecl) : Type 0 where
+  pub open_still : names.ended ≡ false
+  pub few : length names.disks < 8
+  pub free : IsFree disk.name names.disks
+  pub limits : IsDisk disk
+
+-- the event may come: a declaration only where one may still stand
+abbrev pub CanNote : NamesState → Event → Type 0
+CanNote names Blank = Unit {0}
+CanNote names (Disk disk) = CanDeclare names disk
+CanNote names (Issue disk request) = Unit {0}
+CanNote names Settle = Unit {0}
+
+-- the names behind an event
+abbrev pub noted : NamesState → Event → NamesState
+noted names Blank = names
+noted names (Disk disk) = record { disks = names.disks ++ disk ∷ []; ended = names.ended }
+noted names (Issue disk request) = record { disks = names.disks; ended = true }
+noted names Settle = record { disks = names.disks; ended = true }

@@ -1,0 +1,25 @@
+-- What a reader of lines keeps, and how it is seen.
+use Rattle.std.specs.Prelude.{◌≡◌, ℕ, ◌≤◌, Bool, true, false, List, [], ◌++◌, length, if◌then◌else◌}
+use Rattle.domain_script.specs.declared.lines.LinesStop.{LinesStop}
+use Rattle.domain_script.specs.declared.lines.LinesStop.TheVariants.{Going}
+use Rattle.domain_script.specs.declared.lines.Lines.TheInside.{Inside}
+use Rattle.domain_script.specs.LinesState.{LinesState}
+use Rattle.domain_script.specs.Pieces.{HasNoFeed}
+
+-- the line stands for itself once it was given, and before for bytes that are held
+abbrev pub reader_state : Inside → LinesState
+reader_state reader = record {
+  held = (if reader.given then [] else reader.line.items) ++ reader.piece;
+  line = if reader.given then reader.line.items else [];
+  number = reader.number;
+  stop = reader.stop;
+}
+
+pub record IsReader (reader : Inside) : Type 0 where
+  pub short : length reader.line.items ≤ 3100
+  pub no_feed : HasNoFeed reader.line.items
+  pub few : reader.number ≤ 20000
+  -- behind the last line that there may be, no line is begun
+  pub all : reader.number ≡ 20000 → reader.given ≡ false → reader.line.items ≡ []
+  -- a reader that stopped has given no line
+  pub stopped : reader.given ≡ true → reader.stop ≡ Going

@@ -1,0 +1,20 @@
+//! The script that says what the domains do: its lines, one after another from a source, and the event that each
+//! line spells. The journal and the world stand on it. A line gives an event exactly where it spells one.
+#![tactic(auto)]
+
+mod event;
+mod lines;
+mod names;
+mod numbers;
+mod parser;
+mod piece;
+mod reading;
+mod rows;
+mod spellings;
+mod words;
+
+pub use event::{DiskDecl, Event, Lane, LineFault, Name};
+pub use lines::{Lines, LinesFault};
+pub use names::Names;
+pub use parser::{parse, spells_at_most_one};
+pub use vdisk_msg::{Fill, Request};

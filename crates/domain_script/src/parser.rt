@@ -1,0 +1,58 @@
+ghost use Rattle.std.specs.Prelude.{◌≡◌, ◌↔◌, ℕ, List, IfErr, IfNone, IfOk, IfSome, IsTrue};
+ghost use Rattle.std.specs.List.{list_all};
+ghost use Rattle.domain_script.specs.declared.event.Event.{Event as event_data};
+ghost use Rattle.domain_script.specs.NamesState.{CanNote, NamesState};
+ghost use Rattle.domain_script.specs.Spells.{is_printable, IsBlank, IsDeclared, Spells};
+
+use crate::rows::{row_with_fields, settle_row};
+use crate::words::split_once;
+use crate::{Event, LineFault, Names};
+
+/// The event that a line spells behind the lines that were noted. A line, without its line feed, is empty or a
+/// comment, or one of the rows `disk NAME BLOCKS RING QUEUE`, `write NAME BLOCK COUNT HEX`, `read NAME BLOCK COUNT`,
+/// `flush NAME` and `settle`, with one space between two words. `Word` exactly where it spells no event.
+pub fn parse(line: &[u8], names: &Names) -> Result<Event, LineFault>
+    ensures event { IfOk result (Spells line.now names.now) }
+    ensures fault { IfErr result (λ fault. (fault ≡ LineFault.Word) × ((event : event_data) → Spells line.now names.now event → ⊥)) }
+
+    // What the caller may do with the event.
+    ensures can { IfOk result (CanNote names.now) }
+    ensures named { IfOk result (IsDeclared names.now) }
+{
+    spelled_event(line, names).ok_or(LineFault::Word)
+}
+
+fn spelled_event(line: &[u8], names: &Names) -> Option<Event>
+    ensures some { IfSome result (Spells line.now names.now) }
+    ensures none { IfNone result ((event : event_data) → Spells line.now names.now event → ⊥) }
+{
+    if is_blank(line) {
+        return Some(Event::Blank);
+    }
+    match split_once(line) {
+        Some((row, fields)) => row_with_fields(row, fields, names),
+        None => settle_row(line, names),
+    }
+}
+
+/// Whether a line is empty or a comment.
+fn is_blank(line: &[u8]) -> bool
+    ensures { IsTrue result ↔ IsBlank line.now }
+{
+    match line {
+        [] => true,
+        [first, rest @ ..] => *first == b'#' && are_printable(rest),
+    }
+}
+
+fn are_printable(bytes: &[u8]) -> bool
+    ensures { result ≡ list_all is_printable bytes.now }
+{
+    bytes.iter().all(|b| *b >= b' ' && *b <= b'~')
+}
+
+/// A line spells at most one event.
+pub fn spells_at_most_one()
+    ensures { (line : List ℕ) (names : NamesState) (a b : event_data) → Spells line names a → Spells line names b → a ≡ b }
+{
+}

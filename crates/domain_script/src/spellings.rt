@@ -1,0 +1,90 @@
+ghost use Rattle.std.specs.Prelude.{◌≡◌, ◌↔◌, ℕ, ◌/◌, ◌≤◌, false, List, length, take, drop, IfNone, IfSome, IsTrue};
+ghost use Rattle.hex.specs.Hex.{decode_of, encode_lower};
+ghost use Rattle.std.specs.List.{list_all};
+ghost use Rattle.domain_script.specs.declared.event.Name.{Name as name_data};
+ghost use Rattle.vdisk_msg.specs.declared.request.Fill.{Fill as fill_data};
+ghost use Rattle.domain_script.specs.Words.{is_name_byte, IsNameWord, SpellsFill, SpellsName};
+
+use crate::{Fill, Name};
+
+/// The most bytes that a write repeats.
+const MOST_FILL: usize = 1024;
+
+/// The name that a word spells.
+pub fn name(word: &[u8]) -> Option<Name>
+    ensures some { IfSome result (SpellsName word.now) }
+    ensures none { IfNone result ((name : name_data) → SpellsName word.now name → ⊥) }
+{
+    if word.len() > 8 || !is_name_word(word) {
+        return None;
+    }
+    let mut bytes = [0; 8];
+    bytes[..word.len()].copy_from_slice(word);
+    Some(Name {
+        len: word.len() as u8,
+        bytes,
+    })
+}
+
+/// Whether a word is a letter and letters or digits behind it.
+fn is_name_word(word: &[u8]) -> bool
+    ensures { IsTrue result ↔ IsNameWord word.now }
+{
+    match word {
+        [] => false,
+        [first, rest @ ..] => first.is_ascii_lowercase() && are_name_bytes(rest),
+    }
+}
+
+fn are_name_bytes(bytes: &[u8]) -> bool
+    ensures { result ≡ list_all is_name_byte bytes.now }
+{
+    bytes.iter().all(|b| is_name_byte(*b))
+}
+
+/// Whether a byte is a letter a to z or a digit.
+fn is_name_byte(b: u8) -> bool
+    ensures { result ≡ is_name_byte b }
+{
+    b.is_ascii_lowercase() || b.is_ascii_digit()
+}
+
+/// The bytes that a word spells in hexadecimal: it is their own lower-case text.
+pub fn fill(word: &[u8]) -> Option<Fill>
+    ensures some { IfSome result (SpellsFill word.now) }
+    ensures none { IfNone result ((fill : fill_data) → SpellsFill word.now fill → ⊥) }
+{
+    let len = word.len() / 2;
+    if len == 0 || len > MOST_FILL {
+        return None;
+    }
+    let mut bytes = [0; MOST_FILL];
+    if !decode_front(word, &mut bytes) || !is_text_of(word, &bytes[..len]) {
+        return None;
+    }
+    Some(Fill {
+        len: len as u16,
+        bytes,
+    })
+}
+
+/// Reads a word as hexadecimal digits of either case into the front of a buffer. False where it isn't that.
+fn decode_front(word: &[u8], out: &mut [u8]) -> bool
+    requires { length word.now / 2 ≤ length out.old }
+    ensures some { IsTrue result → decode_of word.now ≡ Ok (take (length word.now / 2) out.new) }
+    ensures behind { IsTrue result → drop (length word.now / 2) out.new ≡ drop (length word.now / 2) out.old }
+    ensures none { result ≡ false → (bytes : List ℕ) → decode_of word.now ≡ Ok bytes → ⊥ }
+{
+    let len = word.len() / 2;
+    hex::decode_to_slice(word, &mut out[..len]).is_ok()
+}
+
+/// Whether a word is the text of bytes in lower-case hexadecimal.
+fn is_text_of(word: &[u8], bytes: &[u8]) -> bool
+    requires { length bytes.now ≤ 1024 }
+    ensures { IsTrue result ↔ (word.now ≡ encode_lower bytes.now) }
+{
+    let mut text = [0; 2 * MOST_FILL];
+    let text = &mut text[..2 * bytes.len()];
+    hex::encode_to_slice(bytes, text).is_ok() && word == &*text
+}

@@ -1,0 +1,4 @@
+pub mod HostDiskState
+pub mod Hosts
+pub mod ListHostState
+pub mod MemStoreState

@@ -1,0 +1,3 @@
+pub mod BlockWords
+pub mod GatheredText
+pub mod ReportLines

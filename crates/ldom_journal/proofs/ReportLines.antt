@@ -1,0 +1,19 @@
+-- Lines of entries, one behind another.
+use Rattle.std.proofs.Common.{◌≡◌, refl, ℕ, ◌+◌, ◌<◌, List, [], ◌∷◌, ◌++◌, append_assoc, length, get_or, take, drop, sym, ap, ◌∙◌}
+use Rattle.std.proofs.lemmas.List.{take_more, flat_map_more, take-append-drop}
+use Rattle.std.specs.List.{flat_map}
+
+-- the lines of one entry more
+pub flat_map-take_more : {X : Type 0} (f : X → List ℕ) (xs : List X) (i : ℕ) (x : X) → i < length xs → x ≡ get_or xs i x → flat_map f (take i xs) ++ f x ≡ flat_map f (take (i + 1) xs)
+flat_map-take_more f xs i x lt is =
+    flat_map_more f [] (take i xs) x
+    ∙ ap (λ y. flat_map f (take i xs ++ y ∷ [])) is
+    ∙ ap (flat_map f) (sym (take_more xs i x lt))
+
+-- and of all behind them
+pub flat_map-front : {X : Type 0} (f : X → List ℕ) (xs ys : List X) → flat_map f (xs ++ ys) ≡ flat_map f xs ++ flat_map f ys
+flat_map-front f [] ys = refl
+flat_map-front f (x ∷ xs) ys = ap (λ (l : List ℕ). f x ++ l) (flat_map-front f xs ys) ∙ sym (append_assoc (f x) (flat_map f xs) (flat_map f ys))
+
+pub flat_map-rest : {X : Type 0} (f : X → List ℕ) (xs : List X) (i : ℕ) → flat_map f xs ≡ flat_map f (take i xs) ++ flat_map f (drop i xs)
+flat_map-rest f xs i = ap (flat_map f) (sym (take-append-drop i xs)) ∙ flat_map-front f (take i xs) (drop i xs)

@@ -1,0 +1,11 @@
+use Rattle.std.proofs.Common.{◌≡◌, refl}
+use Rattle.ldom_journal.specs.BlockWord.{repeats, word_length}
+use Rattle.ldom_journal.proofs.BlockWords.{found_later}
+use Rattle.ldom_journal.proofs.block_words.shortest_word.Goals as goal
+
+pub loop-n-init : goal.loop-n-init
+unfolding word_length
+loop-n-init c = refl
+
+pub loop-n-preserved : goal.loop-n-preserved
+loop-n-preserved c = found_later c.args.block.now c.loop-n.n-index c.is_repeated.result c.loop-n-test.true c.is_repeated.ensures c.if-is_repeated.false c.loop-n.invariant

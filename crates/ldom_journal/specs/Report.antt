@@ -1,0 +1,66 @@
+-- The end line, and the whole text of a report.
+use Rattle.std.specs.Prelude.{ℕ, ◌-◌, Bool, true, false, List, [], ◌++◌, count_by, codes, decimal}
+use Rattle.domain_script.specs.declared.event.DiskDecl.{DiskDecl}
+use Rattle.domain_script.specs.declared.event.LineFault.{LineFault}
+use Rattle.domain_script.specs.declared.event.LineFault.TheVariants.{Word}
+use Rattle.ldom_journal.specs.declared.entry.Entry.{Entry}
+use Rattle.ldom_journal.specs.declared.entry.Entry.TheVariants as entry
+use Rattle.ldom_journal.specs.declared.status.Mode.{Mode}
+use Rattle.ldom_journal.specs.declared.status.LimitKind.{LimitKind}
+use Rattle.ldom_journal.specs.declared.status.LimitKind.TheVariants.{Lines, Bytes}
+use Rattle.ldom_journal.specs.declared.status.Status.{Status}
+use Rattle.ldom_journal.specs.declared.status.Status.TheVariants.{Usage, Script, Limit}
+use Rattle.ldom_journal.specs.EntryText.{report_entries}
+use Rattle.ldom_journal.specs.Status.{status_number}
+
+abbrev pub is_accepted : Entry → Bool
+is_accepted (entry.Accepted disk id request) = true
+is_accepted other = false
+
+abbrev pub is_done : Entry → Bool
+is_done (entry.Done disk id operation status bytes) = true
+is_done other = false
+
+-- how many requests were taken up
+abbrev pub accepted_count : List Entry → ℕ
+accepted_count entries = count_by is_accepted entries
+
+-- how many requests were completed
+abbrev pub done_count : List Entry → ℕ
+done_count entries = count_by is_done entries
+
+abbrev pub fault_text : LineFault → List ℕ
+fault_text Word = codes "word"
+
+abbrev pub limit_text : LimitKind → List ℕ
+limit_text Lines = codes "lines"
+limit_text Bytes = codes "bytes"
+
+-- behind a status: the line at which the run ended, and why
+abbrev pub cause_text : Status → List ℕ
+cause_text (Script line fault) = codes " at=" ++ decimal line ++ codes " fault=" ++ fault_text fault
+cause_text (Limit line kind) = codes " at=" ++ decimal line ++ codes " limit=" ++ limit_text kind
+cause_text status = []
+
+-- how many requests were taken up, completed, and neither completed nor given up
+abbrev pub counts_text : List Entry → List ℕ
+counts_text entries =
+    codes " accepted=" ++ decimal (accepted_count entries) ++ codes " done=" ++ decimal (done_count entries) ++ codes " pending=" ++ decimal (accepted_count entries - done_count entries)
+
+-- the line that ends each report but that of a wrong command line
+abbrev pub end_line : ℕ → List Entry → Status → List ℕ
+end_line lines entries status =
+    codes "end lines=" ++ decimal lines ++ counts_text entries ++ codes " resets=0 frames=0 status=" ++ decimal (status_number status) ++ cause_text status ++ codes "\n"
+
+abbrev pub usage_line : List ℕ
+usage_line = codes "usage: ldom COMMAND [WORD]\n"
+
+-- the last line of a report
+abbrev pub last_line : ℕ → List Entry → Status → List ℕ
+last_line lines entries Usage = usage_line
+last_line lines entries status = end_line lines entries status
+
+-- the whole text of a report: `lines` is how many lines of the script were taken up
+abbrev pub report : Mode → List DiskDecl → ℕ → List Entry → Status → List ℕ
+report mode disks lines entries Usage = usage_line
+report mode disks lines entries status = report_entries mode disks entries ++ end_line lines entries status

@@ -1,0 +1,24 @@
+//! The journal: what happened in a run, entry by entry, and the text of its report. The world writes it, and whoever
+//! asks for a report reads it. Each entry is a plain value, room is taken before it is needed, and the text that is
+//! written is exactly the report of the entries.
+#![tactic(auto)]
+
+mod block_words;
+mod bytes;
+mod end_line;
+mod entry;
+mod journal;
+mod kept_request;
+mod lines;
+mod status;
+mod text;
+
+pub use bytes::Bytes;
+pub use domain_script::{Fill, Lane, LineFault, Name, Names, Request};
+pub use end_line::write_end;
+pub use entry::{Entry, VD_OP_BREAD, VD_OP_BWRITE, VD_OP_FLUSH, Who, Why};
+pub use journal::Journal;
+pub use kept_request::KeptRequest;
+pub use status::{LimitKind, Mode, Status};
+pub use vio_bytes::NoMemory;
+pub use vio_io::{Failed, Sink};

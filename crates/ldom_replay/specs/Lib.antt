@@ -1,0 +1,5 @@
+pub mod Happened
+pub mod Parts
+pub mod Reading
+pub mod Script
+pub mod Worlds

@@ -1,0 +1,51 @@
+-- One line of a script after another, and why no further one is taken up.
+use Rattle.std.specs.Prelude.{◌≡◌, ◌≢◌, ℕ, ◌+◌, ◌<◌, ◌≤◌, List, [], ◌∷◌, ◌++◌, length, Option, Some, None, IfSome, Result, Ok, Err, ⊤}
+use Rattle.std.specs.Io.KnownBytes.{Keeps, IsAtEnd}
+use Rattle.domain_script.specs.declared.event.Event.{Event}
+use Rattle.domain_script.specs.declared.event.Event.TheVariants as line
+use Rattle.domain_script.specs.declared.event.LineFault.{LineFault}
+use Rattle.domain_script.specs.declared.event.LineFault.TheVariants.{Word}
+use Rattle.domain_script.specs.NamesState.{NamesState, noted}
+use Rattle.domain_script.specs.ScriptLines.{TakesLine, BeginsWithLonger}
+use Rattle.domain_script.specs.Spells.{Spells}
+use Rattle.ldom_journal.specs.declared.status.LimitKind.{LimitKind}
+use Rattle.ldom_journal.specs.declared.status.LimitKind.TheVariants.{Lines, Bytes}
+use Rattle.ldom_journal.specs.declared.status.Status.{Status}
+use Rattle.ldom_journal.specs.declared.status.Status.TheVariants as status
+
+-- the next line spells this event
+pub record ReadsEvent (rest left : Option (List ℕ)) (names : NamesState) (event : Event) (after : NamesState) : Type 0 where
+  pub text : List ℕ
+  pub taken : TakesLine rest left text
+  pub spells : Spells text names event
+  pub noted_is : after ≡ noted names event
+
+-- the next line spells nothing
+pub record IsFaulty (rest : Option (List ℕ)) (names : NamesState) (fault : LineFault) : Type 0 where
+  pub text : List ℕ
+  pub left : Option (List ℕ)
+  pub taken : TakesLine rest left text
+  pub nothing : (event : Event) → Spells text names event → ⊥
+  pub word : fault ≡ Word
+
+-- the limit that the next line doesn't keep: too many lines, or too many bytes
+abbrev pub IsPast : LimitKind → Option (List ℕ) → ℕ → Type 0
+IsPast Lines rest count = (count ≡ 20000) × IfSome rest (λ bytes. bytes ≢ [])
+IsPast Bytes rest count = (count < 20000) × IfSome rest (BeginsWithLonger 3100)
+
+-- why no line is taken up behind so many, with these bytes still to come
+abbrev pub StopsAt : Status → Option (List ℕ) → NamesState → ℕ → Type 0
+StopsAt (status.Script at fault) rest names count = (at ≡ count + 1) × IsFaulty rest names fault
+StopsAt (status.Limit at kind) rest names count = (at ≡ count + 1) × IsPast kind rest count
+StopsAt status.Done rest names count = IsAtEnd rest
+StopsAt status.StoreFault rest names count = IsAtEnd rest
+StopsAt status.SourceFault rest names count = ⊤
+StopsAt status.HostFault rest names count = ⊤
+StopsAt status.NoMemory rest names count = ⊤
+StopsAt status.Usage rest names count = ⊥
+StopsAt status.SinkFault rest names count = ⊥
+
+-- how many lines the report counts: those that were taken up, and one that has a fault
+abbrev pub counted_lines : Status → ℕ → ℕ
+counted_lines (status.Script at fault) count = count + 1
+counted_lines other count = count

@@ -1,0 +1,59 @@
+-- How far a script was read, and what became of its lines.
+use Rattle.std.specs.Prelude.{◌≡◌, ◌≢◌, ℕ, ◌+◌, ◌<◌, ◌⊎◌, false, List, [], ◌∷◌, ◌++◌, length, map, Option, Some, None, IfSome, ⊤}
+use Rattle.std.specs.List.{flat_map}
+use Rattle.runs.specs.Run.{Run}
+use Rattle.domain_script.specs.declared.event.DiskDecl.{DiskDecl}
+use Rattle.domain_script.specs.declared.event.Event.{Event}
+use Rattle.domain_script.specs.declared.event.LineFault.{LineFault}
+use Rattle.domain_script.specs.NamesState.{NamesState, noted}
+use Rattle.domain_script.specs.ScriptLines.{script_lines, BeginsWithLonger}
+use Rattle.domain_script.specs.Spells.{Spells}
+use Rattle.ldom_journal.specs.declared.entry.Entry.{Entry}
+use Rattle.ldom_journal.specs.declared.status.LimitKind.{LimitKind}
+use Rattle.ldom_journal.specs.declared.status.LimitKind.TheVariants.{Lines, Bytes}
+use Rattle.ldom_journal.specs.declared.status.Status.{Status}
+use Rattle.ldom_journal.specs.declared.status.Status.TheVariants as status
+use Rattle.disk_law.specs.ListState.{ListState, fresh}
+use Rattle.ldom_replay.specs.Parts.{FitsSoFar, LineStep}
+use Rattle.ldom_replay.specs.Worlds.{blocks_of, ring_of}
+
+-- nothing is declared
+abbrev pub no_names : NamesState
+no_names = record { disks = []; ended = false }
+
+-- each line spells its event, given the names that those before it declared
+abbrev pub AllSpell : List (List ℕ) → NamesState → List Event → NamesState → Type 0
+AllSpell [] names [] after = after ≡ names
+AllSpell [] names (event ∷ events) after = ⊥
+AllSpell (text ∷ texts) names [] after = ⊥
+AllSpell (text ∷ texts) names (event ∷ events) after = Spells text names event × AllSpell texts (noted names event) events after
+
+-- known bytes begin with these lines, and what is left are the lines behind them
+abbrev pub TakesLines : Option (List ℕ) → Option (List ℕ) → List (List ℕ) → Type 0
+TakesLines None left texts = ⊤
+TakesLines (Some bytes) None texts = ⊥
+TakesLines (Some bytes) (Some left) texts = script_lines bytes ≡ texts ++ script_lines left
+
+-- these lines were read from the front of what a source gives, and spell these events
+pub record ReadSoFar (start left : Option (List ℕ)) (events : List Event) (names : NamesState) (count : ℕ) : Type 0 where
+  pub texts : List (List ℕ)
+  pub taken : TakesLines start left texts
+  pub spell : AllSpell texts no_names events names
+  pub counts : count ≡ length texts
+
+-- the journal is one part for each line, one after another, and the disk was led from one state to another
+pub record FitsScript (s : ListState) (events : List Event) (journal : List Entry) (t : ListState) : Type 0 where
+  pub lines : List (Event × List Entry)
+  pub events_are : map (λ l. l.0) lines ≡ events
+  pub parts : flat_map (λ l. l.1) lines ≡ journal
+  pub run : Run LineStep s lines t
+
+-- the same, but of the last line only the steps that were made before memory was wanted
+pub record FitsCutOff (s : ListState) (events : List Event) (journal : List Entry) (t : ListState) : Type 0 where
+  pub before : List Event
+  pub last : Event
+  pub events_are : events ≡ before ++ last ∷ []
+  pub front : List Entry
+  pub middle : ListState
+  pub fits : FitsScript s before front middle
+  pub so_far : FitsSoFar middle last front journal t

@@ -1,0 +1,4 @@
+pub mod Causes
+pub mod FaultPlan
+pub mod Stores
+pub mod Lists

@@ -1,0 +1,66 @@
+ghost use Rattle.std.specs.Prelude.{◌≡◌, ◌↔◌, ◌≤◌, IsErr, IfOk, IsTrue, OnErr, OnOk};
+ghost use Rattle.vio_io.specs.Causes.{Rose};
+ghost use Rattle.vio_io.specs.FaultPlan.{Plan, after_call, fails_next, next_count};
+
+use crate::{Failed, NoMemory};
+use std::alloc::Global;
+use std::marker::Model;
+
+/// Which calls of an object in memory fail: those whose numbers, counted from 0, are in a list.
+#[derive(Drop)]
+pub struct FaultPlan {
+    failing: Vec<u64>,
+    calls: u64,
+    faults: u64,
+}
+
+impl Model for FaultPlan {
+    ghost Value = { Plan };
+
+    ghost view = { λ p. record { failing = p.failing.items; calls = p.calls; faults = p.faults } };
+}
+
+impl FaultPlan {
+    pub fn new(alloc: Global, failing: &[u64]) -> Result<Self, NoMemory>
+        ensures { IfOk result (λ p. p ≡ record { failing = failing.now; calls = 0; faults = 0 }) }
+    {
+        Ok(FaultPlan {
+            failing: Vec::from_slice(alloc, failing)?,
+            calls: 0,
+            faults: 0,
+        })
+    }
+
+    /// Notes one call, and answers whether it may go on.
+    pub fn call(&mut self) -> Result<(), Failed>
+        ensures fails { IsErr result ↔ IsTrue (fails_next self.old) }
+        ensures after { self.new ≡ after_call self.old }
+        ensures count { self.old.faults ≤ self.new.faults }
+        ensures cause { OnErr result (Rose self.old.faults self.new.faults) }
+        ensures ok { OnOk result (self.new.faults ≡ self.old.faults) }
+    {
+        let fails = self.failing.contains(&self.calls);
+        self.calls = self.calls.saturating_add(1);
+        if !fails {
+            return Ok(());
+        }
+        self.faults = self.faults.saturating_add(1);
+        Err(Failed)
+    }
+
+    /// Counts a fault that is in no list.
+    pub fn fail(&mut self)
+        ensures after { self.new ≡ record self.old { faults = next_count self.old.faults } }
+        ensures count { self.old.faults ≤ self.new.faults }
+        ensures cause { Rose self.old.faults self.new.faults }
+    {
+        self.faults = self.faults.saturating_add(1);
+    }
+
+    /// How often a call failed.
+    pub fn faults(&self) -> u64
+        ensures { result ≡ self.now.faults }
+    {
+        self.faults
+    }
+}

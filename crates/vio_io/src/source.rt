@@ -1,0 +1,95 @@
+ghost use Rattle.std.specs.Prelude.{◌≡◌, ℕ, ◌<◌, ◌≤◌, ◌↔◌, List, Option, Some, length, min, drop, IsErr, IsTrue, OnErr, OnOk, IfOk};
+ghost use Rattle.std.specs.Io.KnownBytes.{ReadConsumes};
+ghost use Rattle.vio_io.specs.Causes.{Rose};
+ghost use Rattle.vio_io.specs.FaultPlan.{after_call, fails_next};
+ghost use Rattle.vio_io.specs.Lists.{ListSourceState};
+
+use crate::{FaultPlan, NoMemory};
+use std::alloc::Global;
+use std::marker::Model;
+use thiserror::Error;
+
+/// The outside failed at this call. The count of faults of the object that was asked rose.
+#[derive(Clone, Copy, Debug, PartialEq, Eq, Error)]
+#[error("the call failed")]
+pub struct Failed;
+
+/// Where bytes come from.
+pub trait Source {
+    /// The bytes that are left, where it tells them.
+    ghost left: { Self → Option (List ℕ) };
+
+    /// How often it failed.
+    ghost faults: { Self → ℕ };
+
+    /// Puts bytes from the front of what is left at the front of `buf`, and answers how many: 0 exactly at the end.
+    fn read(&mut self, buf: &mut [u8]) -> Result<usize, Failed>
+        requires { 0 < length buf.old }
+        ensures within { IfOk result (λ n. n ≤ length buf.old) }
+        ensures told { ReadConsumes (left self.old) (left self.new) result buf.new }
+        ensures count { faults self.old ≤ faults self.new }
+        ensures cause { OnErr result (Rose (faults self.old) (faults self.new)) };
+}
+
+/// A list of bytes as a source, some of whose calls fail.
+#[derive(Drop)]
+pub struct ListSource {
+    bytes: Vec<u8>,
+    at: usize,
+    piece: usize,
+    plan: FaultPlan,
+}
+
+impl Model for ListSource {
+    ghost Value = { ListSourceState };
+
+    ghost view = { λ s. record { left = drop s.at s.bytes.items; piece = s.piece; plan = s.plan } };
+
+    ghost invariant = { λ s. (s.at ≤ length s.bytes.items) × (0 < s.piece) };
+}
+
+impl ListSource {
+    /// A source of these bytes that gives at most `piece` of them a call, at least 1, and fails the calls whose
+    /// numbers, counted from 0, are in `failing`.
+    pub fn new(alloc: Global, bytes: &[u8], piece: usize, failing: &[u64]) -> Result<Self, NoMemory>
+        requires { 0 < piece }
+        ensures { IfOk result (λ s. s ≡ record {
+          left = bytes.now;
+          piece = piece;
+          plan = record { failing = failing.now; calls = 0; faults = 0 };
+        }) }
+    {
+        Ok(ListSource {
+            bytes: Vec::from_slice(alloc, bytes)?,
+            at: 0,
+            piece,
+            plan: FaultPlan::new(alloc, failing)?,
+        })
+    }
+}
+
+impl Source for ListSource {
+    ghost left = { λ s. Some s.left };
+
+    ghost faults = { λ s. s.plan.faults };
+
+    fn read(&mut self, buf: &mut [u8]) -> Result<usize, Failed>
+        requires { 0 < length buf.old }
+        ensures within { IfOk result (λ n. n ≤ length buf.old) }
+        ensures told { ReadConsumes (Some self.old.left) (Some self.new.left) result buf.new }
+        ensures count { self.old.plan.faults ≤ self.new.plan.faults }
+        ensures cause { OnErr result (Rose self.old.plan.faults self.new.plan.faults) }
+
+        ensures fails { IsErr result ↔ IsTrue (fails_next self.old.plan) }
+        ensures gives { IfOk result (λ n. n ≡ min (min self.old.piece (length buf.old)) (length self.old.left)) }
+        ensures plan { self.new.plan ≡ after_call self.old.plan }
+        ensures piece { self.new.piece ≡ self.old.piece }
+    {
+        self.plan.call()?;
+        let rest = &self.bytes[self.at..];
+        let taken = self.piece.min(buf.len()).min(rest.len());
+        buf[..taken].copy_from_slice(&rest[..taken]);
+        self.at += taken;
+        Ok(taken)
+    }
+}

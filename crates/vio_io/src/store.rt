@@ -1,0 +1,56 @@
+ghost use Rattle.std.specs.Prelude.{◌≡◌, ℕ, ◌<◌, ◌≤◌, ◌↔◌, List, Option, length, IsTrue, OnErr, OnOk, IfSome};
+ghost use Rattle.vio_io.specs.Causes.{Rose};
+ghost use Rattle.vio_io.specs.Stores.{IsUnitRange, KeepsOutside, ReadsRange, WritesRange};
+
+use crate::Failed;
+
+/// Where blocks of 512 bytes lie: a list of bytes whose length never changes.
+pub trait Store: Drop {
+    /// The list, where it tells it.
+    ghost content: { Self → Option (List ℕ) };
+
+    /// The list's length in bytes.
+    ghost size: { Self → ℕ };
+
+    /// How often it failed.
+    ghost faults: { Self → ℕ };
+
+    /// The length of the list, in bytes.
+    fn len(&self) -> u64
+        ensures { result ≡ size self.now };
+
+    /// Reads the range from the place `at`. After `Failed` nothing is promised of `buf`.
+    fn read_at(&mut self, at: u64, buf: &mut [u8]) -> Result<(), Failed>
+        requires { IsUnitRange (size self.old) at (length buf.old) }
+        ensures told { OnOk result (ReadsRange (content self.old) at buf.new) }
+        ensures content { content self.new ≡ content self.old }
+        ensures size { size self.new ≡ size self.old }
+        ensures ok { OnOk result (faults self.new ≡ faults self.old) }
+        ensures count { faults self.old ≤ faults self.new }
+        ensures cause { OnErr result (Rose (faults self.old) (faults self.new)) };
+
+    /// Writes exactly the range from the place `at`. After `Failed` the bytes outside it stay.
+    fn write_at(&mut self, at: u64, bytes: &[u8]) -> Result<(), Failed>
+        requires { IsUnitRange (size self.old) at (length bytes.now) }
+        ensures told { OnOk result (WritesRange (content self.old) (content self.new) at bytes.now) }
+        ensures outside { KeepsOutside (content self.old) (content self.new) at (length bytes.now) }
+        ensures size { size self.new ≡ size self.old }
+        ensures ok { OnOk result (faults self.new ≡ faults self.old) }
+        ensures count { faults self.old ≤ faults self.new }
+        ensures cause { OnErr result (Rose (faults self.old) (faults self.new)) };
+
+    /// What was written before is to last. It changes no byte.
+    fn flush(&mut self) -> Result<(), Failed>
+        ensures content { content self.new ≡ content self.old }
+        ensures size { size self.new ≡ size self.old }
+        ensures ok { OnOk result (faults self.new ≡ faults self.old) }
+        ensures count { faults self.old ≤ faults self.new }
+        ensures cause { OnErr result (Rose (faults self.old) (faults self.new)) };
+
+    /// Whether it ever failed.
+    fn faulty(&self) -> bool
+        ensures { IsTrue result ↔ (0 < faults self.now) };
+
+    /// What it tells is the list.
+    ghost told_size: { (s : Self) → IfSome (content s) (λ bytes. length bytes ≡ size s) };
+}
