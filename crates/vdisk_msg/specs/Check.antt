@@ -1,5 +1,5 @@
 -- What a disk's server looks at in a descriptor, and the first thing that is wrong with it.
-use Rattle.std.specs.Prelude.{ℕ, ◌+◌, ◌/◌, ◌%◌, Bool, ◌&&◌, ◌||◌, nat_lt, nat_le, ◌==◌, if◌then◌else◌, Option, Some, None}
+use Rattle.std.specs.Prelude.{ℕ, ◌+◌, ◌/◌, ◌%◌, Bool, ◌&&◌, ◌||◌, not, nat_lt, nat_le, ◌==◌, if◌then◌else◌, Option, Some, None}
 use Rattle.std.specs.Int.{bit_at}
 use Rattle.vdisk_msg.specs.declared.desc.DiskDesc.{DiskDesc}
 use Rattle.vdisk_msg.specs.declared.desc.DescFault.{DescFault}
@@ -28,12 +28,9 @@ is_within offset count blocks = nat_le (offset + count) blocks
 -- the first thing that is wrong with a descriptor, of a disk with so many blocks and these operations
 abbrev pub first_defect : DiskDesc → ℕ → ℕ → Option DescFault
 first_defect desc blocks mask =
-    if is_allowed desc.operation mask
-    then (if moves_data desc.operation
-    then (if holds_cookies desc.count
-    then (if has_size desc.size
-    then (if is_within desc.offset (desc.size / 512) blocks then None else Some Range)
-    else Some Size)
-    else Some Cookies)
-    else None)
-    else Some Operation
+    if not (is_allowed desc.operation mask) then Some Operation
+    else if not (moves_data desc.operation) then None
+    else if not (holds_cookies desc.count) then Some Cookies
+    else if not (has_size desc.size) then Some Size
+    else if not (is_within desc.offset (desc.size / 512) blocks) then Some Range
+    else None
