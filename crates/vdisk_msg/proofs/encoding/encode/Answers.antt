@@ -1,0 +1,14 @@
+use Rattle.std.proofs.Common.{ℕ, List, ◌≡◌, ◌++◌, length, drop, refl, ap, ◌∙◌, arith}
+use Rattle.map_table.proofs.Putting.{length-cookies_bytes, put_last}
+use Rattle.map_table.specs.Cookies.{cookies_bytes}
+use Rattle.vio_bytes.specs.Place.{put_at}
+use Rattle.vdisk_msg.specs.Descriptor.{head_bytes}
+use Rattle.vdisk_msg.proofs.encoding.encode.Goals as goal
+
+pub returns : goal.returns
+returns c =
+    let cookies = c.args.desc.now.cookies in
+    let five : length cookies ≡ 5 = omega arith in
+    let head : c.copy_from_slice.new.self ≡ head_bytes c.args.desc.now = c.copy_from_slice.ensures.after ∙ c.head_of-head.ensures in
+    put_last 48 (head_bytes c.args.desc.now) (cookies_bytes cookies) c.args.out.now c.put_cookies.new.bytes refl
+    (omega (arith, length-cookies_bytes cookies)) (c.put_cookies.ensures ∙ ap (λ (xs : List ℕ). put_at 48 (cookies_bytes cookies) (xs ++ drop 48 c.args.out.now)) head)

@@ -1,0 +1,63 @@
+// The layout of a disk descriptor.
+
+ghost use Rattle.vio_bytes.specs.Layout.{AreApart};
+
+use vio_bytes::Table;
+
+/// The head of a disk descriptor, behind which its cookies stand: `struct vio_disk_desc` of Linux's
+/// vio.h, which begins with `struct vio_dring_hdr`.
+pub(crate) const DISK_DESC: Table<9> = Table {
+    fields: [
+        (0, 1), // hdr.state
+        (1, 1), // hdr.ack
+        (8, 8), // req_id
+        (16, 1), // operation
+        (17, 1), // slice
+        (20, 4), // status
+        (24, 8), // offset
+        (32, 8), // size
+        (40, 4), // ncookies
+    ],
+    length: HEAD,
+};
+
+/// The bytes of the head.
+pub(crate) const HEAD: usize = 48;
+
+pub(crate) const STATE: usize = 0;
+
+pub(crate) const ACK: usize = 1;
+
+pub(crate) const REQ_ID: usize = 2;
+
+pub(crate) const OPERATION: usize = 3;
+
+pub(crate) const VD_OP_BREAD: u8 = 1;
+
+pub(crate) const VD_OP_BWRITE: u8 = 2;
+
+pub(crate) const SLICE: usize = 4;
+
+pub(crate) const STATUS: usize = 5;
+
+/// In blocks.
+pub(crate) const OFFSET: usize = 6;
+
+/// In bytes.
+pub(crate) const SIZE: usize = 7;
+
+/// The bytes of a block of the disk.
+pub(crate) const BLOCK: u64 = 512;
+
+/// The most bytes of one descriptor, 64 blocks.
+pub(crate) const MOST_BYTES: u64 = 32_768;
+
+pub(crate) const NCOOKIES: usize = 8;
+
+/// The most cookies of one descriptor.
+pub(crate) const MOST_COOKIES: u32 = 5;
+
+/// The fields of the head don't overlap, and lie within it.
+pub fn layouts_are_sound()
+    ensures { AreApart DISK_DESC.fields DISK_DESC.length }
+{}

@@ -1,0 +1,6 @@
+pub mod Addresses
+pub mod AttributeBytes
+pub mod Canonical
+pub mod NoFault
+pub mod Reading
+pub mod Same

@@ -1,0 +1,5 @@
+pub mod Attributes
+pub mod CauseText
+pub mod Fault
+pub mod Form
+pub mod Spelling

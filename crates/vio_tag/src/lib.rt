@@ -1,0 +1,27 @@
+//! Messages of the virtual I/O protocol, which the ends of a device send each other over a link, as
+//! Linux's vio.h has them; the attributes of disks and network devices that they carry; and the causes of
+//! a link's reset.
+//!
+//! Links, handshakes, rings, the journal and the dump stand on it. `decode` answers a message exactly
+//! where the bytes spell it, and else the first fault in a stated order; `encode` writes the canonical
+//! spelling, so that decoding gives the message back.
+#![tactic(auto)]
+
+mod attributes;
+mod cause;
+mod decoding;
+mod encoding;
+mod laws;
+mod layout;
+mod message;
+
+pub use attributes::{DiskAttr, NetAttr, disk_attr, net_attr, put_disk_attr, put_net_attr};
+pub use cause::Cause;
+pub use decoding::decode;
+pub use encoding::encode;
+pub use laws::{attributes_read_back, spellings_are_unique};
+pub use layout::layouts_are_sound;
+pub use message::{Message, MsgBody, TagFault};
+
+#[cfg(test)]
+mod tests;
