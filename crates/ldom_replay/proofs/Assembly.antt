@@ -316,6 +316,6 @@ module _ {D : Type 0} (content : D → Option (List ℕ)) (faults : D → ℕ) (
       → Replayed content faults start gives why lines names journal image → Replayed content faults start gives now number names entries disk
   replayed_as why now lines number names journal entries image disk status_is lines_are journal_is image_is replayed =
       subst (λ (w : Status). Replayed content faults start gives w number names entries disk) (sym status_is)
-        (subst (λ (n : ℕ). Replayed content faults start gives why n names entries disk) (sym lines_are)
-          (subst (λ (l : List Entry). Replayed content faults start gives why lines names l disk) (sym journal_is)
-            (subst (λ (d : Option D). Replayed content faults start gives why lines names journal d) (sym image_is) replayed)))
+      (subst (λ (n : ℕ). Replayed content faults start gives why n names entries disk) (sym lines_are)
+      (subst (λ (l : List Entry). Replayed content faults start gives why lines names l disk) (sym journal_is)
+      (subst (λ (d : Option D). Replayed content faults start gives why lines names journal d) (sym image_is) replayed)))

@@ -84,16 +84,16 @@ pub history_run : (s t : ListState) (lines : List (Event × List Entry)) → Run
 history_run s t [] run = run
 history_run s t (step ∷ lines) run =
     subst (λ (l : List DiskEvent). Run ListStep s l t) (sym (history-append 0 step.1 (flat_map (λ l. l.1) lines)))
-      (run_append ListStep s run.0 t (history 0 step.1) (history 0 (flat_map (λ l. l.1) lines))
-        (subst (λ (l : List DiskEvent). Run ListStep s l run.0) (part_told step.0 step.1) (told_run s run.0 (happened 0 step.0 step.1) run.1.1))
-        (history_run run.0 t lines run.2))
+    (run_append ListStep s run.0 t (history 0 step.1) (history 0 (flat_map (λ l. l.1) lines))
+    (subst (λ (l : List DiskEvent). Run ListStep s l run.0) (part_told step.0 step.1) (told_run s run.0 (happened 0 step.0 step.1) run.1.1))
+    (history_run run.0 t lines run.2))
 
 pub so_far_run : (s m t : ListState) (asked : Event) (front journal : List Entry) → Run ListStep s (history 0 front) m → FitsSoFar m asked front journal t → Run ListStep s (history 0 journal) t
 so_far_run s m t asked front journal before so_far =
     subst (λ (l : List Entry). Run ListStep s (history 0 l) t) (sym so_far.grew)
-      (subst (λ (l : List DiskEvent). Run ListStep s l t) (sym (history-append 0 front so_far.part))
-        (run_append ListStep s m t (history 0 front) (history 0 so_far.part) before
-          (subst (λ (l : List DiskEvent). Run ListStep m l t) (part_told asked so_far.part) (told_run m t (happened 0 asked so_far.part) so_far.run))))
+    (subst (λ (l : List DiskEvent). Run ListStep s l t) (sym (history-append 0 front so_far.part))
+    (run_append ListStep s m t (history 0 front) (history 0 so_far.part) before
+    (subst (λ (l : List DiskEvent). Run ListStep m l t) (part_told asked so_far.part) (told_run m t (happened 0 asked so_far.part) so_far.run))))
 
 other_disk : (x k : ℕ) (event : DiskEvent) → x ≢ 0 → k ≡ 0 → for_disk x k event ≡ None
 other_disk x k event other is = let apart : k ≢ x = λ same. other (sym same ∙ is) in grind (arith, nat_tests)

@@ -95,8 +95,8 @@ script_worded disks s t events journal some admitted fits = subst (λ (l : List 
 cut_off_worded : (disks : List DiskDecl) (s t : ListState) (events : List Event) (journal : List Entry) → 0 < length disks → IsAdmitted s → FitsCutOff s events journal t → All (HasWords disks) journal
 cut_off_worded disks s t events journal some admitted cut =
     All-same (HasWords disks) journal (cut.front ++ cut.so_far.part) cut.so_far.grew
-      (All-append (HasWords disks) cut.front cut.so_far.part (script_worded disks s cut.middle cut.before cut.front some admitted cut.fits)
-        (cut_worded disks cut.middle t cut.last cut.so_far.part some cut.so_far.begun cut.so_far.run (lines_admitted s cut.middle cut.fits.lines cut.fits.run admitted)))
+    (All-append (HasWords disks) cut.front cut.so_far.part (script_worded disks s cut.middle cut.before cut.front some admitted cut.fits)
+    (cut_worded disks cut.middle t cut.last cut.so_far.part some cut.so_far.begun cut.so_far.run (lines_admitted s cut.middle cut.fits.lines cut.fits.run admitted)))
 
 module _ {D : Type 0} (content : D → Option (List ℕ)) (faults : D → ℕ) (script : Option (List ℕ)) (gives : ℕ → Option (List ℕ)) (why : Status) (lines : ℕ) (names : NamesState) (journal : List Entry) (image : Option D) (run : Replayed content faults script gives why lines names journal image) where
   -- each entry has its words
@@ -111,14 +111,14 @@ module _ {D : Type 0} (content : D → Option (List ℕ)) (faults : D → ℕ) (
       by_disks (disk ∷ disks) is =
           let some : 0 < length names.disks = omega (arith, ap length is) in
           journal_is (λ (l : List Entry). All (HasWords names.disks) l) why (start_of names gives) run.final run.events journal
-            (script_worded names.disks (start_of names gives) run.final run.events journal some tt) (cut_off_worded names.disks (start_of names gives) run.final run.events journal some tt) (All-nil (HasWords names.disks)) run.journal_is
+          (script_worded names.disks (start_of names gives) run.final run.events journal some tt) (cut_off_worded names.disks (start_of names gives) run.final run.events journal some tt) (All-nil (HasWords names.disks)) run.journal_is
 
   -- completions in order, for every disk
   pub once : (disk : ℕ) → CompletesOnceInOrder (history disk journal)
   once disk =
       journal_is (λ (l : List Entry). CompletesOnceInOrder (history disk l)) why (start_of names gives) run.final run.events journal
-        (λ fits. once_of_run disk (blocks_of names.disks) (ring_of names.disks) 0 (gives (512 * blocks_of names.disks)) run.final journal (script_run fits) (script_none fits))
-        (λ cut. once_of_run disk (blocks_of names.disks) (ring_of names.disks) 0 (gives (512 * blocks_of names.disks)) run.final journal (cut_run cut) (cut_none cut)) (none_once [] refl) run.journal_is
+      (λ fits. once_of_run disk (blocks_of names.disks) (ring_of names.disks) 0 (gives (512 * blocks_of names.disks)) run.final journal (script_run fits) (script_none fits))
+      (λ cut. once_of_run disk (blocks_of names.disks) (ring_of names.disks) 0 (gives (512 * blocks_of names.disks)) run.final journal (cut_run cut) (cut_none cut)) (none_once [] refl) run.journal_is
     where
       script_run : FitsScript (start_of names gives) run.events journal run.final → Run ListStep (start_of names gives) (history 0 journal) run.final
       script_run fits = subst (λ (l : List Entry). Run ListStep (start_of names gives) (history 0 l) run.final) fits.parts (history_run (start_of names gives) run.final fits.lines fits.run)
@@ -128,10 +128,10 @@ module _ {D : Type 0} (content : D → Option (List ℕ)) (faults : D → ℕ) (
 
       cut_run : FitsCutOff (start_of names gives) run.events journal run.final → Run ListStep (start_of names gives) (history 0 journal) run.final
       cut_run cut = so_far_run (start_of names gives) cut.middle run.final cut.last cut.front journal
-        (subst (λ (l : List Entry). Run ListStep (start_of names gives) (history 0 l) cut.middle) cut.fits.parts (history_run (start_of names gives) cut.middle cut.fits.lines cut.fits.run)) cut.so_far
+          (subst (λ (l : List Entry). Run ListStep (start_of names gives) (history 0 l) cut.middle) cut.fits.parts (history_run (start_of names gives) cut.middle cut.fits.lines cut.fits.run)) cut.so_far
 
       cut_none : FitsCutOff (start_of names gives) run.events journal run.final → disk ≢ 0 → completed (history disk journal) ≡ []
       cut_none cut other = ap (λ (l : List Entry). completed (history disk l)) cut.so_far.grew
-        ∙ history_none-append disk cut.front cut.so_far.part
+          ∙ history_none-append disk cut.front cut.so_far.part
           (subst (λ (l : List Entry). completed (history disk l) ≡ []) cut.fits.parts (lines_none disk (start_of names gives) cut.middle cut.fits.lines other cut.fits.run))
           (begun_none disk cut.last cut.so_far.part other cut.so_far.begun)

@@ -33,7 +33,7 @@ more_done s m t old mid new so_far adds =
       grew = adds.grew ∙ ap (λ (l : List Entry). l ++ event ∷ []) so_far.grew ∙ append_assoc old so_far.part (event ∷ []);
       begun = done_push so_far.part adds.id adds.operation adds.status adds.bytes so_far.begun;
       run = subst (λ (l : List DiskEvent). Run ListStep s l t) (sym (filter_map-append (disk_event 0 line.Settle) so_far.part (event ∷ [])))
-        (run_push ListStep s m t (happened 0 line.Settle so_far.part) (Done adds.id adds.operation adds.status adds.bytes.items) so_far.run adds.step);
+          (run_push ListStep s m t (happened 0 line.Settle so_far.part) (Done adds.id adds.operation adds.status adds.bytes.items) so_far.run adds.step);
     }
 
 -- nothing is left to do
@@ -44,7 +44,7 @@ settles s t old mid new so_far rests grew = record {
   step = (
     (so_far.part, refl, so_far.begun),
     subst (λ (l : List DiskEvent). Run ListStep s l t) (sym (filter_map-append (disk_event 0 line.Settle) so_far.part (entry.Settled ∷ [])))
-      (run_push ListStep s t t (happened 0 line.Settle so_far.part) Rested so_far.run (rests, refl)),
+        (run_push ListStep s t t (happened 0 line.Settle so_far.part) Rested so_far.run (rests, refl)),
     tt,
   );
 }

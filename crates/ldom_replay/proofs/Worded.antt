@@ -77,8 +77,8 @@ dones_worded disks (entry.Done of id operation status bytes ∷ dones) rest s t 
     subst (λ (k : ℕ). Run ListStep s (cons_option (for_disk 0 k (Done id operation status bytes.items)) (happened 0 line.Settle (dones ++ rest))) t) are.0 run in
     let front = admitted_front s first.1.request first.0.pending first.1.front admitted in
     All-cons (HasWords disks) (entry.Done of id operation status bytes) dones
-      (omega (arith, are.0), completion s.blocks first.1.request operation status bytes.items s first.0 front.0 first.1.operation_is first.1.ends)
-      (dones_worded disks dones rest first.0 t some are.1 first.2 (admitted_step s first.0 (Done id operation status bytes.items) first.1 admitted))
+    (omega (arith, are.0), completion s.blocks first.1.request operation status bytes.items s first.0 front.0 first.1.operation_is first.1.ends)
+    (dones_worded disks dones rest first.0 t some are.1 first.2 (admitted_step s first.0 (Done id operation status bytes.items) first.1 admitted))
 dones_worded disks (entry.Accepted of id request ∷ dones) rest s t some are run admitted = absurd are
 dones_worded disks (entry.Full who ∷ dones) rest s t some are run admitted = absurd are
 dones_worded disks (entry.Refused who why ∷ dones) rest s t some are run admitted = absurd are
@@ -89,18 +89,18 @@ part_worded disks s t (line.Blank, part) some step admitted = All-same (HasWords
 part_worded disks s t (line.Disk disk, part) some step admitted = All-same (HasWords disks) part [] step.0 (All-nil (HasWords disks))
 part_worded disks s t (line.Issue disk request, part) some step admitted =
     All-same (HasWords disks) part (step.0.0 ∷ []) step.0.1
-      (All-cons (HasWords disks) step.0.0 [] (answer_worded disks request step.0.0 some (subst (λ (k : ℕ). Answers k request step.0.0) step.2.0 step.0.2)) (All-nil (HasWords disks)))
+    (All-cons (HasWords disks) step.0.0 [] (answer_worded disks request step.0.0 some (subst (λ (k : ℕ). Answers k request step.0.0) step.2.0 step.0.2)) (All-nil (HasWords disks)))
 part_worded disks s t (line.Settle, part) some step admitted =
     All-same (HasWords disks) part (step.0.0 ++ entry.Settled ∷ []) step.0.1
-      (All-append (HasWords disks) step.0.0 (entry.Settled ∷ [])
-        (dones_worded disks step.0.0 (entry.Settled ∷ []) s t some step.0.2 (subst (λ (l : List Entry). Run ListStep s (happened 0 line.Settle l) t) step.0.1 step.1) admitted)
-        (All-cons (HasWords disks) entry.Settled [] tt (All-nil (HasWords disks))))
+    (All-append (HasWords disks) step.0.0 (entry.Settled ∷ [])
+    (dones_worded disks step.0.0 (entry.Settled ∷ []) s t some step.0.2 (subst (λ (l : List Entry). Run ListStep s (happened 0 line.Settle l) t) step.0.1 step.1) admitted)
+    (All-cons (HasWords disks) entry.Settled [] tt (All-nil (HasWords disks))))
 
 pub lines_worded : (disks : List DiskDecl) (s t : ListState) (lines : List (Event × List Entry)) → 0 < length disks → Run LineStep s lines t → IsAdmitted s → All (HasWords disks) (flat_map (λ l. l.1) lines)
 lines_worded disks s t [] some run admitted = All-nil (HasWords disks)
 lines_worded disks s t (step ∷ lines) some run admitted =
     All-append (HasWords disks) step.1 (flat_map (λ l. l.1) lines) (part_worded disks s run.0 step some run.1 admitted)
-      (lines_worded disks run.0 t lines some run.2 (admitted_run s run.0 (happened 0 step.0 step.1) run.1.1 admitted))
+    (lines_worded disks run.0 t lines some run.2 (admitted_run s run.0 (happened 0 step.0 step.1) run.1.1 admitted))
 
 pub lines_admitted : (s t : ListState) (lines : List (Event × List Entry)) → Run LineStep s lines t → IsAdmitted s → IsAdmitted t
 lines_admitted s t [] run admitted = subst IsAdmitted run admitted

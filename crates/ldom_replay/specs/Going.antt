@@ -17,7 +17,7 @@ Grew other s events part t = FitsScript s events part t
 
 -- From the bytes that are still to come these lines were read and run, and then no further one was taken up.
 pub record RunsLines (start : Option (List ℕ)) (before : NamesState) (old : List Entry) (s : ListState) (number : ℕ)
-  (why : Status) (after : NamesState) (new : List Entry) (t : ListState) (lines : ℕ) : Type 0 where
+    (why : Status) (after : NamesState) (new : List Entry) (t : ListState) (lines : ℕ) : Type 0 where
   pub events : List Event
   pub texts : List (List ℕ)
   pub left : Option (List ℕ)

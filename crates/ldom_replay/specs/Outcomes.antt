@@ -16,7 +16,7 @@ Reports ran status old new text = ((status ≡ ran) × Appends old new text) ⊎
 
 -- the script was run, and the report of its journal written
 pub record RunsScript {D : Type 0} (content : D → Option (List ℕ)) (faults : D → ℕ) (script : Option (List ℕ)) (gives : ℕ → Option (List ℕ))
-  (status : Status) (journal : List Entry) (image : Option D) (old new : Option (List ℕ)) : Type 0 where
+    (status : Status) (journal : List Entry) (image : Option D) (old new : Option (List ℕ)) : Type 0 where
   -- how the run ended before its report
   pub ran : Status
   -- how many lines the report counts

@@ -50,7 +50,7 @@ start_of names gives = fresh (blocks_of names.disks) (ring_of names.disks) (give
 -- A run: its script was read up to where it stopped, its journal is one part for each line, and the image is what the
 -- journal makes of the one that was attached.
 pub record Replayed {D : Type 0} (content : D → Option (List ℕ)) (faults : D → ℕ) (script : Option (List ℕ)) (gives : ℕ → Option (List ℕ))
-  (why : Status) (lines : ℕ) (names : NamesState) (journal : List Entry) (image : Option D) : Type 0 where
+    (why : Status) (lines : ℕ) (names : NamesState) (journal : List Entry) (image : Option D) : Type 0 where
   pub events : List Event
   pub stopped : Stopped script why events names lines
   pub final : ListState

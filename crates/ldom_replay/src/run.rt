@@ -205,7 +205,14 @@ fn run_world<S: Source, D: Store>(
     ensures source_fault { result.status ≡ Status.SourceFault → Rose (S.faults source.old) (S.faults source.new) }
     ensures host_fault { result.status ≢ Status.HostFault }
 {
-    let why = run_first(first, &mut lines, source, &mut names, &mut world, &mut journal);
+    let why = run_first(
+        first,
+        &mut lines,
+        source,
+        &mut names,
+        &mut world,
+        &mut journal,
+    );
     let status = ended(why, world.faulty());
     Run {
         status,

@@ -93,7 +93,11 @@ impl<D: Store> World<D> {
         journal.reserve(1)?;
         let _len = journal.len();
         match self.disk.issue(request) {
-            Ok(id) => journal.push(Entry::Accepted { disk, id, request: kept }),
+            Ok(id) => journal.push(Entry::Accepted {
+                disk,
+                id,
+                request: kept,
+            }),
             Err(fault) => journal.push(refusal(disk, fault)),
         }
         Ok(())
@@ -153,8 +157,14 @@ fn refusal(disk: u32, fault: IssueFault) -> Entry
 {
     let who = Who::Lane(Lane::Disk(disk));
     match fault {
-        IssueFault::Count => Entry::Refused { who, why: Why::Count },
-        IssueFault::Range => Entry::Refused { who, why: Why::Range },
+        IssueFault::Count => Entry::Refused {
+            who,
+            why: Why::Count,
+        },
+        IssueFault::Range => Entry::Refused {
+            who,
+            why: Why::Range,
+        },
         IssueFault::Full => Entry::Full { who },
     }
 }

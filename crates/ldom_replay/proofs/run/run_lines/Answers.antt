@@ -27,14 +27,14 @@ loop-event-preserved g c =
       one = one_disk rest left c.in-Ok.event c.loop-event.names c.read_event.new.names c.in-Ok.ensures.event c.loop-event.invariant.one;
       agrees = c.in-Ok-apply.ensures.agrees;
       so_far = runs_more start rest left c.args.names.now c.loop-event.names c.read_event.new.names c.args.journal.now.entries c.loop-event.journal.entries c.apply.new.journal.entries
-        c.args.world.now c.loop-event.world c.apply.new.self c.args.lines.now.number c.loop-event.lines.number c.read_event.new.lines.number c.in-Ok.event
-        c.loop-event.invariant.so_far c.in-Ok.ensures.event c.in-Ok.ensures.next.0 c.in-Ok-apply.ensures.fits;
+          c.args.world.now c.loop-event.world c.apply.new.self c.args.lines.now.number c.loop-event.lines.number c.read_event.new.lines.number c.in-Ok.event
+          c.loop-event.invariant.so_far c.in-Ok.ensures.event c.in-Ok.ensures.next.0 c.in-Ok-apply.ensures.fits;
       count = omega (arith, c.in-Ok.ensures.count, c.loop-event.invariant.count);
     }
 
 pub returns-in-Err-apply-clause-runs : goal.returns-in-Err-apply-clause-runs
 returns-in-Err-apply-clause-runs g c =
     runs_cut (to_come c.args.lines.now (g.S.Source.left c.args.source.now)) (to_come c.loop-event.lines (g.S.Source.left c.loop-event.source)) (to_come c.read_event.new.lines (g.S.Source.left c.read_event.new.source))
-      c.args.names.now c.loop-event.names c.read_event.new.names c.args.journal.now.entries c.loop-event.journal.entries c.apply.new.journal.entries
-      c.args.world.now c.loop-event.world c.apply.new.self c.args.lines.now.number c.loop-event.lines.number c.read_event.new.lines.number c.in-Ok.event
-      c.loop-event.invariant.so_far c.in-Ok.ensures.event c.in-Ok.ensures.next.0 c.in-Err-apply.ensures.so_far
+    c.args.names.now c.loop-event.names c.read_event.new.names c.args.journal.now.entries c.loop-event.journal.entries c.apply.new.journal.entries
+    c.args.world.now c.loop-event.world c.apply.new.self c.args.lines.now.number c.loop-event.lines.number c.read_event.new.lines.number c.in-Ok.event
+    c.loop-event.invariant.so_far c.in-Ok.ensures.event c.in-Ok.ensures.next.0 c.in-Err-apply.ensures.so_far

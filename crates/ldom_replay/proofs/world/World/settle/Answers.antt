@@ -11,4 +11,4 @@ returns-clause-fits g c =
     let same : length c.self.inside.disk.list.pending ≡ length c.loop-self.self.pending = ap (λ (s : ListState). length s.pending) c.self.view_is in
     let rests : c.loop-self.self.pending ≡ [] = nil_from_length c.loop-self.self.pending (omega arith) in
     settles c.args.self.now c.loop-self.self c.args.journal.now.entries c.loop-self.journal.entries c.push.new.self.entries c.loop-self.invariant.so_far rests
-      (c.push.ensures.entries ∙ ap (λ (l : List Entry). l ++ entry.Settled ∷ []) c.in_ok-reserve.ensures.entries)
+    (c.push.ensures.entries ∙ ap (λ (l : List Entry). l ++ entry.Settled ∷ []) c.in_ok-reserve.ensures.entries)
