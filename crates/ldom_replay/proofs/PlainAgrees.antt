@@ -50,10 +50,10 @@ bare : (a b c d : List ℕ) → b ++ c ≡ d → a ++ b ++ [] ++ c ≡ a ++ d
 bare a b c d is = ap (λ (l : List ℕ). l ++ c) (append-nil (a ++ b)) ∙ append_assoc a b c ∙ ap (λ (l : List ℕ). a ++ l) is
 
 pub refused_count : (disk : DiskDecl) → entry_lines mode.Run (disk ∷ []) (entry.Refused (Lane (Disk 0)) Count) ≡ codes "refused " ++ name_text disk ++ codes " count\n"
-refused_count disk = bare (codes "refused " ++ name_text disk) (codes " count") (codes "\n") (codes " count\n") refl
+refused_count disk = bare (codes "refused " ++ name_text disk ++ codes " ") (codes "count") (codes "\n") (codes "count\n") refl ∙ append_assoc (codes "refused " ++ name_text disk) (codes " ") (codes "count\n")
 
 pub refused_range : (disk : DiskDecl) → entry_lines mode.Run (disk ∷ []) (entry.Refused (Lane (Disk 0)) Range) ≡ codes "refused " ++ name_text disk ++ codes " range\n"
-refused_range disk = bare (codes "refused " ++ name_text disk) (codes " range") (codes "\n") (codes " range\n") refl
+refused_range disk = bare (codes "refused " ++ name_text disk ++ codes " ") (codes "range") (codes "\n") (codes "range\n") refl ∙ append_assoc (codes "refused " ++ name_text disk) (codes " ") (codes "range\n")
 
 pub full_line : (disk : DiskDecl) → entry_lines mode.Run (disk ∷ []) (entry.Full (Lane (Disk 0))) ≡ codes "full " ++ name_text disk ++ codes "\n"
 full_line disk = ap (λ (l : List ℕ). l ++ codes "\n") (append-nil (codes "full " ++ name_text disk))
@@ -65,8 +65,10 @@ pub zero_text : decimal 0 ≡ codes "0"
 zero_text = decimal_digit 0 (omega arith)
 
 -- a completion's word and its status
-status_zero : (a spaced word : List ℕ) → spaced ++ codes "0" ≡ word ++ codes " 0" → a ++ spaced ++ decimal 0 ≡ a ++ word ++ codes " 0"
-status_zero a spaced word is = ap (λ (l : List ℕ). a ++ spaced ++ l) zero_text ∙ append_assoc a spaced (codes "0") ∙ ap (λ (l : List ℕ). a ++ l) is ∙ sym (append_assoc a word (codes " 0"))
+status_zero : (a word spaced : List ℕ) → codes " " ++ word ≡ spaced → a ++ codes " " ++ word ++ codes " " ++ decimal 0 ≡ a ++ spaced ++ codes " 0"
+status_zero a word spaced is =
+    ap (λ (l : List ℕ). a ++ codes " " ++ word ++ codes " " ++ l) zero_text ∙ append_assoc (a ++ codes " " ++ word) (codes " ") (codes "0")
+    ∙ ap (λ (l : List ℕ). l ++ codes " 0") (append_assoc a (codes " ") word ∙ ap (λ (l : List ℕ). a ++ l) is)
 
 abbrev done_front : DiskDecl → ℕ → List ℕ
 done_front disk id = codes "done " ++ name_text disk ++ codes " " ++ decimal id
@@ -74,10 +76,10 @@ done_front disk id = codes "done " ++ name_text disk ++ codes " " ++ decimal id
 done_text : (disk : DiskDecl) (id : ℕ) (request : Request) (content : List ℕ) (now : Option (List ℕ)) (bytes : BytesState) → Succeeds request bytes.items (Some content) now → entry_lines mode.Run (disk ∷ []) (entry.Done 0 id (operation_of request) 0 bytes) ≡ done_line disk id content request
 done_text disk id (Read block count) content now bytes ends =
     let given : bytes.items ≡ take (512 * count) (drop (512 * block) content) = ends.1 ∙ ap (λ (n : ℕ). take n (drop (512 * block) content)) ends.0 in
-    ap (λ (l : List ℕ). l ++ blocks_text bytes.items ++ codes "\n") (status_zero (done_front disk id) (codes " read ") (codes " read") refl)
+    ap (λ (l : List ℕ). l ++ blocks_text bytes.items ++ codes "\n") (status_zero (done_front disk id) (codes "read") (codes " read") refl)
     ∙ ap (λ (l : List ℕ). done_front disk id ++ codes " read" ++ codes " 0" ++ blocks_text l ++ codes "\n") given
-done_text disk id (Write block count fill) content now bytes ends = ap (λ (l : List ℕ). l ++ [] ++ codes "\n") (status_zero (done_front disk id) (codes " write ") (codes " write") refl)
-done_text disk id Flush content now bytes ends = ap (λ (l : List ℕ). l ++ [] ++ codes "\n") (status_zero (done_front disk id) (codes " flush ") (codes " flush") refl)
+done_text disk id (Write block count fill) content now bytes ends = ap (λ (l : List ℕ). l ++ [] ++ codes "\n") (status_zero (done_front disk id) (codes "write") (codes " write") refl)
+done_text disk id Flush content now bytes ends = ap (λ (l : List ℕ). l ++ [] ++ codes "\n") (status_zero (done_front disk id) (codes "flush") (codes " flush") refl)
 
 -- a request that succeeded over a told content leaves what the plain run leaves
 left_content : (request : Request) (content bytes : List ℕ) (now : Option (List ℕ)) → Succeeds request bytes (Some content) now → now ≡ Some (after_request content request)
