@@ -1,6 +1,185 @@
 use flat_store::{ListHost, MemStore};
-use ldom_replay::{Outcome, Status, replay};
-use std::alloc::Global;
+use ldom_replay::{Outcome, replay};
+use std::alloc::{AllocError, Global};
 use std::process::Abort;
 use std::test::Fail;
-use vio_io::{ListSink, ListSource};
+use vio_io::{ListSink, ListSource, NoMemory};
+
+// The end line with no counts but its lines.
+const EMPTY: &str = "end lines=0 accepted=0 done=0 pending=0 resets=0 frames=0 status=0\n";
+
+fn words_of(alloc: Global, words: &[&str]) -> Result<Vec<String>, AllocError> {
+    let mut all = Vec::new(alloc);
+    for word in words {
+        all.push(String::from_str(alloc, word)?)?;
+    }
+    Ok(all)
+}
+
+// Replays a script that a source gives in pieces of 16 bytes, and compares its report and its status.
+fn compare(
+    rt: &impl Abort,
+    alloc: Global,
+    words: &[&str],
+    script: &[u8],
+    report: &str,
+    status: u8,
+) -> Result<Outcome<MemStore>, Fail> {
+    let words = words_of(alloc, words)?;
+    let mut host = ListHost::new(alloc, "img", &[], &[], false)?;
+    let mut source = ListSource::new(alloc, script, 16, &[])?;
+    let mut sink = ListSink::new(alloc, 65_536, &[])?;
+    let outcome = replay(alloc, &words, &mut host, &mut source, &mut sink);
+    assert_eq!(rt; sink.bytes(), report.as_bytes(), "the report of {status}");
+    assert_eq!(rt; outcome.status.number(), status);
+    Ok(outcome)
+}
+
+#[test]
+fn scripts_have_their_reports(rt: HostRuntime) -> Result<(), Fail> {
+    for (script, report, status) in [
+        // One write and one read.
+        (
+            "disk d0 64 8 16\nwrite d0 3 2 ab\nread d0 2 3\nsettle\n",
+            "done d0 0 write 0\ndone d0 1 read 0 *00 *ab *ab\nsettled\nend lines=4 accepted=2 done=2 pending=0 resets=0 frames=0 status=0\n",
+            0,
+        ),
+        // The empty script.
+        ("", EMPTY, 0),
+        // A ring of two is full.
+        (
+            "disk d0 64 2 8\nwrite d0 0 1 aa\nwrite d0 1 1 bb\nwrite d0 2 1 cc\nsettle\n",
+            "full d0\ndone d0 0 write 0\ndone d0 1 write 0\nsettled\nend lines=5 accepted=2 done=2 pending=0 resets=0 frames=0 status=0\n",
+            0,
+        ),
+        // Refusals by range and count beside an accepted write.
+        (
+            "disk d0 64 8 16\nwrite d0 63 1 ab\nwrite d0 63 2 ab\nwrite d0 0 65 ab\nsettle\n",
+            "refused d0 range\nrefused d0 count\ndone d0 0 write 0\nsettled\nend lines=5 accepted=1 done=1 pending=0 resets=0 frames=0 status=0\n",
+            0,
+        ),
+        // A last line without a line feed.
+        (
+            "disk d0 64 8 16\nwrite d0 0 1 ab",
+            "end lines=2 accepted=1 done=0 pending=1 resets=0 frames=0 status=0\n",
+            0,
+        ),
+        // A word that isn't of this stage.
+        (
+            "disk d0 64 8 16\nstep d0.c 1\n",
+            "end lines=2 accepted=0 done=0 pending=0 resets=0 frames=0 status=2 at=2 fault=word\n",
+            2,
+        ),
+        // A flush, in its order.
+        (
+            "# boot\ndisk d0 64 8 16\nflush d0\nread d0 0 1\nsettle\n",
+            "done d0 0 flush 0\ndone d0 1 read 0 *00\nsettled\nend lines=5 accepted=2 done=2 pending=0 resets=0 frames=0 status=0\n",
+            0,
+        ),
+    ] {
+        let outcome = compare(
+            &rt,
+            rt.alloc(),
+            &["run", "-"],
+            script.as_bytes(),
+            report,
+            status,
+        )?;
+        // No image is attached where a line before the first request has a fault.
+        assert_eq!(rt; outcome.image.is_some(), status == 0);
+    }
+    Ok(())
+}
+
+#[test]
+fn other_words_are_answered_by_the_usage_line(rt: HostRuntime) -> Result<(), Fail> {
+    for words in [
+        ["run"].as_slice(),
+        ["run", "img"].as_slice(),
+        ["help", "-"].as_slice(),
+    ] {
+        let outcome = compare(
+            &rt,
+            rt.alloc(),
+            words,
+            b"settle\n",
+            "usage: ldom COMMAND [WORD]\n",
+            1,
+        )?;
+        assert!(rt; outcome.image.is_none() && outcome.journal.is_empty());
+    }
+    Ok(())
+}
+
+#[test]
+fn the_limits_of_a_script_are_exact(rt: HostRuntime) -> Result<(), Fail> {
+    let alloc = rt.alloc();
+    for (byte, count, report, status) in [
+        (
+            b'\n',
+            20_000usize,
+            "end lines=20000 accepted=0 done=0 pending=0 resets=0 frames=0 status=0\n",
+            0u8,
+        ),
+        (
+            b'\n',
+            20_001,
+            "end lines=20000 accepted=0 done=0 pending=0 resets=0 frames=0 status=8 at=20001 limit=lines\n",
+            8,
+        ),
+        (
+            b'#',
+            3_100,
+            "end lines=1 accepted=0 done=0 pending=0 resets=0 frames=0 status=0\n",
+            0,
+        ),
+        (
+            b'#',
+            3_101,
+            "end lines=0 accepted=0 done=0 pending=0 resets=0 frames=0 status=8 at=1 limit=bytes\n",
+            8,
+        ),
+    ] {
+        let mut script = Vec::new(alloc);
+        script.resize(count, byte)?;
+        let outcome = compare(&rt, alloc, &["run", "-"], &script, report, status)?;
+        assert!(rt; outcome.journal.is_empty());
+    }
+    Ok(())
+}
+
+#[test]
+fn a_failing_source_and_a_failing_sink_have_their_statuses(rt: HostRuntime) -> Result<(), Fail> {
+    let alloc = rt.alloc();
+    let words = words_of(alloc, &["run", "-"])?;
+    let mut host = ListHost::new(alloc, "img", &[], &[], false)?;
+    let mut source = ListSource::new(alloc, b"disk d0 64 8 16\n", 4_096, &[0])?;
+    let mut sink = ListSink::new(alloc, 4_096, &[])?;
+    let outcome = replay(alloc, &words, &mut host, &mut source, &mut sink);
+    assert_eq!(rt; outcome.status.number(), 3);
+    assert_eq!(rt;
+        sink.bytes(),
+        b"end lines=0 accepted=0 done=0 pending=0 resets=0 frames=0 status=3\n".as_slice()
+    );
+
+    let mut script = ListSource::new(alloc, b"disk d0 64 8 16\n", 4_096, &[])?;
+    let mut failing = ListSink::new(alloc, 4_096, &[0])?;
+    let outcome = replay(alloc, &words, &mut host, &mut script, &mut failing);
+    assert_eq!(rt; outcome.status.number(), 4);
+    assert!(rt; failing.bytes().is_empty());
+    Ok(())
+}
+
+#[test]
+fn a_write_stands_in_the_image(rt: HostRuntime) -> Result<(), Fail> {
+    let script = b"disk d0 64 8 16\nwrite d0 3 2 ab\nsettle\n";
+    let report =
+        "done d0 0 write 0\nsettled\nend lines=3 accepted=1 done=1 pending=0 resets=0 frames=0 status=0\n";
+    let outcome = compare(&rt, rt.alloc(), &["run", "-"], script, report, 0)?;
+    let image = outcome.image.ok_or("no image")?;
+    for (at, byte) in image.bytes().iter().enumerate() {
+        let written = at >= 1_536 && at < 2_560;
+        assert_eq!(rt; *byte, if written { 0xab } else { 0 }, "at {at}");
+    }
+    Ok(())
+}
