@@ -267,12 +267,12 @@ module _ {D : Type 0} (content : D → Option (List ℕ)) (faults : D → ℕ) (
   pub replayed_refused : (fault : AttachFault) (left : Option (List ℕ)) (first : Option Event) (names : NamesState) (lines : ℕ) (image : Option D) → IfSome image (λ disk. (content disk ≡ (start_of names gives).told) × (faults disk ≡ 0))
       → Opened start left first names lines → Replayed content faults start gives (attach_status fault) lines names [] image
   replayed_refused Failed left None names lines image is opened =
-      record { events = opened.opening; stopped = no_reason status.HostFault opened tt; final = start_of names gives; journal_is = refl; image_is = is; faults_are = tt }
+      record { events = opened.opening; stopped = no_reason status.HostFault opened tt; final = start_of names gives; journal_is = (refl, refl); image_is = is; faults_are = tt }
     where
       no_reason : (why : Status) → (o : OpensAndStops start status.Done names lines) → StopsAt why o.stopped.left names o.stopped.count → Stopped start status.HostFault o.opening names lines
       no_reason why o stop = record { left = o.stopped.left; count = o.stopped.count; read = o.stopped.read; stop = tt; lines_are = o.stopped.lines_are }
   replayed_refused Failed left (Some event) names lines image is opened =
-      record { events = opened.opening ++ event ∷ []; stopped = record { left = left; count = lines; read = opened.read; stop = tt; lines_are = refl }; final = start_of names gives; journal_is = refl; image_is = is; faults_are = tt }
+      record { events = opened.opening ++ event ∷ []; stopped = record { left = left; count = lines; read = opened.read; stop = tt; lines_are = refl }; final = start_of names gives; journal_is = (refl, refl); image_is = is; faults_are = tt }
   replayed_refused Memory left None names lines image is opened =
       record {
         events = opened.opening;

@@ -16,3 +16,4 @@ mod Settling
 mod WholeRun
 mod Worded
 mod Words
+mod MoreFacts

@@ -77,10 +77,10 @@ opening_cut s t events journal are cut =
     cut.so_far.grew ∙ ap (λ (l : List Entry). l ++ cut.so_far.part) (opening_script s cut.middle cut.before cut.front halves.0 cut.fits) ∙ opening_begun cut.last cut.so_far.part halves.1 cut.so_far.begun
 
 -- a fact of the journal that holds of no entries, of whole scripts and of those that are cut off
-journal_is : (P : List Entry → Type 0) (why : Status) (s t : ListState) (events : List Event) (journal : List Entry) → (FitsScript s events journal t → P journal) → (FitsCutOff s events journal t → P journal) → P [] → JournalIs why s events journal t → P journal
+pub journal_is : (P : List Entry → Type 0) (why : Status) (s t : ListState) (events : List Event) (journal : List Entry) → (FitsScript s events journal t → P journal) → (FitsCutOff s events journal t → P journal) → (t ≡ s → P []) → JournalIs why s events journal t → P journal
 journal_is P status.NoMemory s t events journal whole cut none (inl is) = whole is
 journal_is P status.NoMemory s t events journal whole cut none (inr is) = cut is
-journal_is P status.HostFault s t events journal whole cut none is = subst P (sym is) none
+journal_is P status.HostFault s t events journal whole cut none is = subst P (sym is.0) (none is.1)
 journal_is P status.Done s t events journal whole cut none is = whole is
 journal_is P status.Usage s t events journal whole cut none is = whole is
 journal_is P (status.Script at fault) s t events journal whole cut none is = whole is
@@ -106,19 +106,19 @@ module _ {D : Type 0} (content : D → Option (List ℕ)) (faults : D → ℕ) (
       by_disks : (disks : List DiskDecl) → disks ≡ names.disks → All (HasWords names.disks) journal
       by_disks [] none =
           let are : AreOpening run.events = no_disks run.stopped.read.texts no_names names run.events run.stopped.read.spell (ap length (sym none)) in
-          let empty : journal ≡ [] = journal_is (λ (l : List Entry). l ≡ []) why (start_of names gives) run.final run.events journal (opening_script (start_of names gives) run.final run.events journal are) (opening_cut (start_of names gives) run.final run.events journal are) refl run.journal_is in
+          let empty : journal ≡ [] = journal_is (λ (l : List Entry). l ≡ []) why (start_of names gives) run.final run.events journal (opening_script (start_of names gives) run.final run.events journal are) (opening_cut (start_of names gives) run.final run.events journal are) (λ _. refl) run.journal_is in
           All-same (HasWords names.disks) journal [] empty (All-nil (HasWords names.disks))
       by_disks (disk ∷ disks) is =
           let some : 0 < length names.disks = omega (arith, ap length is) in
           journal_is (λ (l : List Entry). All (HasWords names.disks) l) why (start_of names gives) run.final run.events journal
-          (script_worded names.disks (start_of names gives) run.final run.events journal some tt) (cut_off_worded names.disks (start_of names gives) run.final run.events journal some tt) (All-nil (HasWords names.disks)) run.journal_is
+          (script_worded names.disks (start_of names gives) run.final run.events journal some tt) (cut_off_worded names.disks (start_of names gives) run.final run.events journal some tt) (λ _. All-nil (HasWords names.disks)) run.journal_is
 
   -- completions in order, for every disk
   pub once : (disk : ℕ) → CompletesOnceInOrder (history disk journal)
   once disk =
       journal_is (λ (l : List Entry). CompletesOnceInOrder (history disk l)) why (start_of names gives) run.final run.events journal
       (λ fits. once_of_run disk (blocks_of names.disks) (ring_of names.disks) 0 (gives (512 * blocks_of names.disks)) run.final journal (script_run fits) (script_none fits))
-      (λ cut. once_of_run disk (blocks_of names.disks) (ring_of names.disks) 0 (gives (512 * blocks_of names.disks)) run.final journal (cut_run cut) (cut_none cut)) (none_once [] refl) run.journal_is
+      (λ cut. once_of_run disk (blocks_of names.disks) (ring_of names.disks) 0 (gives (512 * blocks_of names.disks)) run.final journal (cut_run cut) (cut_none cut)) (λ _. none_once [] refl) run.journal_is
     where
       script_run : FitsScript (start_of names gives) run.events journal run.final → Run ListStep (start_of names gives) (history 0 journal) run.final
       script_run fits = subst (λ (l : List Entry). Run ListStep (start_of names gives) (history 0 l) run.final) fits.parts (history_run (start_of names gives) run.final fits.lines fits.run)

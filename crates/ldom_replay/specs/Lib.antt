@@ -1,3 +1,4 @@
+pub mod Admitting
 pub mod Failures
 pub mod Going
 pub mod Happened

@@ -24,7 +24,7 @@ pub record Stopped (start : Option (List ℕ)) (why : Status) (events : List Eve
 -- the journal of a run by how it ended: after want of memory the last line's part may be cut off
 abbrev pub JournalIs : Status → ListState → List Event → List Entry → ListState → Type 0
 JournalIs status.NoMemory s events journal t = FitsScript s events journal t ⊎ FitsCutOff s events journal t
-JournalIs status.HostFault s events journal t = journal ≡ []
+JournalIs status.HostFault s events journal t = (journal ≡ []) × (t ≡ s)
 JournalIs other s events journal t = FitsScript s events journal t
 
 -- why a run ended where no image was attached

@@ -1,4 +1,4 @@
-ghost use Rattle.std.specs.Prelude.{◌≡◌, ◌≢◌, ◌≤◌, ◌↔◌, ℕ, IsTrue, [], ◌∷◌, map, codes, string_bytes, Option, List, IsNone, OnErr, OnOk};
+ghost use Rattle.std.specs.Prelude.{◌≡◌, ◌≢◌, ◌≤◌, ◌↔◌, ℕ, IsTrue, [], ◌∷◌, map, codes, string_bytes, ◌^◌, ◌<◌, length, replicate, Option, List, IfSome, IsNone, OnErr, OnOk};
 ghost use Rattle.std.specs.List.{All};
 ghost use Rattle.std.specs.Io.KnownBytes.{Appends};
 ghost use Rattle.vio_io.specs.Causes.{Rose};
@@ -6,6 +6,8 @@ ghost use Rattle.disk_law.specs.Issued.{CompletesOnceInOrder};
 ghost use Rattle.ldom_journal.specs.Gathered.{WroteFront};
 ghost use Rattle.ldom_journal.specs.HasWords.{HasWords};
 ghost use Rattle.ldom_journal.specs.Report.{report, usage_line};
+ghost use Rattle.ldom_replay.specs.Failures.{SucceedOrFail, failed_count};
+ghost use Rattle.ldom_replay.specs.Outside.{KeepsOthers, accepted_requests};
 ghost use Rattle.ldom_replay.specs.Happened.{history};
 ghost use Rattle.ldom_replay.specs.Outcomes.{Reports, RunsScript};
 ghost use Rattle.ldom_replay.specs.Replayed.{Replayed};
@@ -44,6 +46,13 @@ pub fn replay<H: Host, S: Source, K: Sink>(
     // For every disk: completions are in the order of issue, each request's at most once.
     ensures once { (disk : ℕ) → CompletesOnceInOrder (history disk result.journal.entries) }
 
+    // Each completion has status 0, or 5 where the image failed: no more of these than the image counts.
+    ensures statuses { SucceedOrFail result.journal.entries }
+    ensures failures { IfSome result.image (λ image. failed_count result.journal.entries ≤ H.Disk.faults image) }
+
+    // The image keeps its zeros but for what accepted writes name.
+    ensures outside { IfSome result.image (λ image. (n : ℕ) × KeepsOthers (accepted_requests result.journal.entries) (replicate n 0) (H.Disk.content image)) }
+
     // A fault of the outside is answered only where its count rose.
     ensures source_fault { result.status ≡ Status.SourceFault → Rose (S.faults script.old) (S.faults script.new) }
     ensures sink_fault { result.status ≡ Status.SinkFault → Rose (K.faults out.old) (K.faults out.new) }
@@ -75,6 +84,7 @@ fn report_run<D: Store, K: Sink>(run: Run<D>, out: &mut K) -> Outcome<D>
     requires ran { run.status ≢ Status.Usage }
     ensures reports { Reports run.status result.status (K.written out.old) (K.written out.new) (report Mode.Run run.names.disks run.lines run.journal.entries run.status) }
     ensures journal { result.journal ≡ run.journal }
+    ensures small { length result.journal.entries < 2 ^ 63 }
     ensures image { result.image ≡ run.image }
     ensures sink_fault { result.status ≡ Status.SinkFault → (run.status ≢ Status.SinkFault) → Rose (K.faults out.old) (K.faults out.new) }
     ensures other { result.status ≢ Status.SinkFault → result.status ≡ run.status }
@@ -91,6 +101,7 @@ fn report_run<D: Store, K: Sink>(run: Run<D>, out: &mut K) -> Outcome<D>
         Ok(()) => status,
         Err(Failed) => Status::SinkFault,
     };
+    let _len = journal.len();
     Outcome {
         status,
         journal,

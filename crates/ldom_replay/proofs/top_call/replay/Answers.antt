@@ -1,9 +1,12 @@
-use Rattle.std.proofs.Common.{[], List, ap, subst, sym, ◌∙◌, refl}
+use Rattle.std.proofs.Common.{ℕ, ◌^◌, ◌<◌, ◌≤◌, [], List, length, replicate, IfSome, ap, subst, sym, ◌∙◌, refl}
 use Rattle.disk_law.specs.Issued.{CompletesOnceInOrder}
 use Rattle.ldom_journal.specs.JournalState.{JournalState}
 use Rattle.ldom_journal.specs.declared.entry.Entry.{Entry}
 use Rattle.ldom_replay.specs.Happened.{history}
 use Rattle.ldom_replay.proofs.History.{none_once}
+use Rattle.ldom_replay.specs.Failures.{SucceedOrFail, failed_count}
+use Rattle.ldom_replay.specs.Outside.{KeepsOthers, accepted_requests}
+use Rattle.ldom_replay.proofs.MoreFacts.{failures, said_otherwise, statuses, zeros_stay}
 use Rattle.ldom_replay.proofs.RunFacts.{once, worded}
 use Rattle.ldom_replay.proofs.top_call.replay.Goals as goal
 
@@ -17,3 +20,22 @@ returns-then-is_run-clause-once g c disk =
 pub returns-else-is_run-clause-once : goal.returns-else-is_run-clause-once
 returns-else-is_run-clause-once g c disk =
     subst (λ (l : List Entry). CompletesOnceInOrder (history disk l)) (sym (ap (λ (j : JournalState). j.entries) (c.report_usage.ensures.journal ∙ c.new.ensures))) (none_once [] refl)
+
+pub returns-then-is_run-clause-statuses : goal.returns-then-is_run-clause-statuses
+returns-then-is_run-clause-statuses g c =
+    subst (λ (j : JournalState). SucceedOrFail j.entries) (sym c.report_run.ensures.journal) (statuses _ _ _ _ _ _ _ _ _ c.run_script.ensures.replayed)
+
+pub returns-else-is_run-clause-statuses : goal.returns-else-is_run-clause-statuses
+returns-else-is_run-clause-statuses g c = subst (λ (l : List Entry). SucceedOrFail l) (sym (ap (λ (j : JournalState). j.entries) (c.report_usage.ensures.journal ∙ c.new.ensures))) tt
+
+pub returns-then-is_run-clause-failures : goal.returns-then-is_run-clause-failures
+returns-then-is_run-clause-failures g c =
+    said_otherwise (λ (j : JournalState) d. IfSome d (λ image. failed_count j.entries ≤ g.H.Disk.Store.faults image)) c.run_script.result.journal c.report_run.result.journal c.run_script.result.image c.report_run.result.image
+      c.report_run.ensures.journal c.report_run.ensures.image
+      (failures _ _ _ _ _ _ _ _ _ c.run_script.ensures.replayed (subst (λ (j : JournalState). length j.entries < 2 ^ 63) c.report_run.ensures.journal c.report_run.ensures.small))
+
+pub returns-then-is_run-clause-outside : goal.returns-then-is_run-clause-outside
+returns-then-is_run-clause-outside g c =
+    said_otherwise (λ (j : JournalState) d. IfSome d (λ image. (n : ℕ) × KeepsOthers (accepted_requests j.entries) (replicate n 0) (g.H.Disk.Store.content image))) c.run_script.result.journal c.report_run.result.journal c.run_script.result.image c.report_run.result.image
+      c.report_run.ensures.journal c.report_run.ensures.image
+      (zeros_stay _ _ _ _ _ _ _ _ _ c.run_script.ensures.replayed (λ n. g.met.H.Host.dash c.args.host.now n))
