@@ -8,6 +8,7 @@ use Rattle.ldom_journal.specs.declared.entry.Entry.{Entry}
 use Rattle.ldom_journal.specs.declared.status.Mode.TheVariants as mode
 use Rattle.ldom_journal.specs.declared.status.Status.{Status}
 use Rattle.ldom_journal.specs.declared.status.Status.TheVariants.{SinkFault}
+use Rattle.ldom_replay.specs.Admitting.{AdmitsRequests}
 use Rattle.ldom_replay.specs.Replayed.{Replayed}
 
 -- The whole text was written and the status is the run's, or the sink failed behind some front of the text.
@@ -23,4 +24,5 @@ pub record RunsScript {D : Type 0} (content : D → Option (List ℕ)) (faults :
   pub lines : ℕ
   pub names : NamesState
   pub replayed : Replayed content faults script gives ran lines names journal image
+  pub admits : AdmitsRequests names.disks replayed.events journal
   pub reports : Reports ran status old new (report mode.Run names.disks lines journal ran)

@@ -1,17 +1,31 @@
-use Rattle.std.proofs.Common.{ℕ, ◌^◌, ◌<◌, ◌≤◌, [], List, length, replicate, IfSome, ap, subst, sym, ◌∙◌, refl}
+use Rattle.std.proofs.Common.{ℕ, ◌^◌, ◌<◌, ◌≤◌, [], ◌∷◌, List, length, replicate, IfSome, ap, subst, sym, ◌∙◌, refl}
 use Rattle.disk_law.specs.Issued.{CompletesOnceInOrder}
 use Rattle.ldom_journal.specs.JournalState.{JournalState}
 use Rattle.ldom_journal.specs.declared.entry.Entry.{Entry}
 use Rattle.ldom_replay.specs.Happened.{history}
 use Rattle.ldom_replay.proofs.History.{none_once}
 use Rattle.ldom_replay.specs.Failures.{SucceedOrFail, failed_count}
+use Rattle.ldom_replay.specs.Outcomes.{RunsScript}
 use Rattle.ldom_replay.specs.Outside.{KeepsOthers, accepted_requests}
-use Rattle.ldom_replay.proofs.MoreFacts.{failures, said_otherwise, statuses, zeros_stay}
+use Rattle.ldom_replay.proofs.MoreFacts.{admits, failures, said_otherwise, statuses, zeros_stay}
 use Rattle.ldom_replay.proofs.RunFacts.{once, worded}
 use Rattle.ldom_replay.proofs.top_call.replay.Goals as goal
 
 pub report_run-requires-clause-words : goal.report_run-requires-clause-words
 report_run-requires-clause-words g c = worded _ _ _ _ _ _ _ _ _ c.run_script.ensures.replayed
+
+pub returns-then-is_run-clause-runs : goal.returns-then-is_run-clause-runs
+returns-then-is_run-clause-runs g c words =
+    said_otherwise (λ (j : JournalState) d. RunsScript g.H.Disk.Store.content g.H.Disk.Store.faults (g.S.Source.left c.args.script.now) (g.H.Host.gives c.args.host.now (45 ∷ [])) c.report_run.result.status j.entries d
+        (g.K.Sink.written c.args.out.now) (g.K.Sink.written c.report_run.new.out)) c.run_script.result.journal c.report_run.result.journal c.run_script.result.image c.report_run.result.image c.report_run.ensures.journal c.report_run.ensures.image
+      (record {
+        ran = c.run_script.result.status;
+        lines = c.run_script.result.lines;
+        names = c.run_script.result.names;
+        replayed = c.run_script.ensures.replayed;
+        admits = admits _ _ _ _ _ _ _ _ _ c.run_script.ensures.replayed;
+        reports = c.report_run.ensures.reports;
+      })
 
 pub returns-then-is_run-clause-once : goal.returns-then-is_run-clause-once
 returns-then-is_run-clause-once g c disk =
