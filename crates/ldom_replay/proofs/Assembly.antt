@@ -1,9 +1,9 @@
 -- A whole run, put together from its declarations and its other lines.
-use Rattle.std.proofs.Common.{◌≡◌, inl, inr, ℕ, ◌+◌, ◌*◌, ◌<◌, Bool, true, false, List, [], ◌∷◌, ◌++◌, length, map, refl, sym, ◌∙◌, ap, subst, append_assoc, length-append, arith, Option, Some, None, IfSome, IsTrue, ◌↔◌, zero, suc}
+use Rattle.std.proofs.Common.{◌≡◌, inl, inr, ℕ, ◌+◌, ◌<◌, Bool, true, false, List, [], ◌∷◌, ◌++◌, length, map, refl, sym, ◌∙◌, ap, subst, append_assoc, length-append, arith, Option, Some, None, IfSome, IsTrue, ◌↔◌, zero, suc}
 use Rattle.std.specs.List.{flat_map}
-use Rattle.std.proofs.lemmas.List.{append-nil, map-append}
+use Rattle.std.proofs.lemmas.List.{map-append}
 use Rattle.std.proofs.lemmas.List.Concat.{flat_map-append}
-use Rattle.runs.specs.Run.{Run, run_append}
+use Rattle.runs.specs.Run.{run_append}
 use Rattle.vio_io.specs.declared.host.AttachFault.{AttachFault}
 use Rattle.vio_io.specs.declared.host.AttachFault.TheVariants.{Failed, Memory}
 use Rattle.domain_script.specs.declared.event.Event.{Event}
@@ -11,7 +11,6 @@ use Rattle.domain_script.specs.declared.event.Event.TheVariants as line
 use Rattle.domain_script.specs.LinesState.{LinesState, to_come}
 use Rattle.domain_script.specs.NamesState.{NamesState, noted}
 use Rattle.domain_script.specs.ScriptLines.{script_lines}
-use Rattle.domain_script.specs.Spells.{Spells}
 use Rattle.ldom_journal.specs.declared.entry.Entry.{Entry}
 use Rattle.ldom_journal.specs.declared.status.Status.{Status}
 use Rattle.ldom_journal.specs.declared.status.Status.TheVariants as status
@@ -21,7 +20,7 @@ use Rattle.ldom_replay.specs.Opening.{AreOpening, Opened, Opens, OpensAndStops}
 use Rattle.ldom_replay.specs.Parts.{Fits, FitsSoFar, LineStep}
 use Rattle.ldom_replay.specs.Reading.{StopsAt, counted_lines}
 use Rattle.ldom_replay.specs.Replayed.{FaultsAre, JournalIs, Replayed, Stopped, attach_status, ended_status, start_of}
-use Rattle.ldom_replay.specs.Script.{AllSpell, TakesLines, ReadSoFar, FitsScript, FitsCutOff, no_names}
+use Rattle.ldom_replay.specs.Script.{AllSpell, TakesLines, FitsScript, FitsCutOff, no_names}
 use Rattle.ldom_replay.proofs.ReadLemmas.{read_none}
 use Rattle.ldom_replay.proofs.RunLemmas.{fits_more, fits_none}
 

@@ -1,22 +1,19 @@
 -- Requests complete once and in order in the journal of every script.
-use Rattle.std.proofs.Common.{◌≡◌, ◌≢◌, ℕ, zero, suc, ◌==◌, if◌then◌else◌, option_and_then, Bool, true, false, List, [], ◌∷◌, ◌++◌, length, map, refl, sym, ◌∙◌, ap, subst, arith, Option, Some, None}
+use Rattle.std.proofs.Common.{◌≡◌, ◌≢◌, ℕ, zero, suc, ◌==◌, if◌then◌else◌, option_and_then, Bool, true, false, List, [], ◌∷◌, ◌++◌, refl, sym, ◌∙◌, ap, subst, arith, Option, Some, None}
 use Rattle.std.specs.List.{filter_map, flat_map, cons_option}
 use Rattle.std.proofs.lemmas.List.Elements.{filter_map-append}
 use Rattle.runs.specs.Run.{Run, run_append}
 use Rattle.vdisk_msg.specs.declared.request.Request.{Request}
 use Rattle.domain_script.specs.declared.event.Event.{Event}
 use Rattle.domain_script.specs.declared.event.Event.TheVariants as line
-use Rattle.domain_script.specs.declared.event.Lane.{Lane}
 use Rattle.domain_script.specs.declared.event.Lane.TheVariants.{Disk}
 use Rattle.ldom_journal.specs.declared.entry.Entry.{Entry}
 use Rattle.ldom_journal.specs.declared.entry.Entry.TheVariants as entry
 use Rattle.ldom_journal.specs.declared.entry.Who.{Who}
 use Rattle.ldom_journal.specs.declared.entry.Who.TheVariants as who
-use Rattle.ldom_journal.specs.declared.entry.Why.{Why}
-use Rattle.disk_law.specs.Requests.{Defect}
 use Rattle.disk_law.specs.ListState.{ListState, fresh}
 use Rattle.disk_law.specs.ListStep.{DiskEvent, Accepted, Full, Refused, Done, Rested, ListStep}
-use Rattle.disk_law.specs.Issued.{issued, completed, CompletesOnceInOrder}
+use Rattle.disk_law.specs.Issued.{completed, CompletesOnceInOrder}
 use Rattle.disk_law.proofs.Counted.{completed-append}
 use Rattle.disk_law.proofs.OnceInOrder.{once_in_order}
 use Rattle.std.proofs.lemmas.Bool.Decides.{nat_tests}

@@ -1,5 +1,5 @@
 -- What else holds of the journal of every run.
-use Rattle.std.proofs.Common.{◌≡◌, ℕ, ◌*◌, ◌^◌, ◌<◌, ◌≤◌, List, [], ◌∷◌, ◌++◌, length, map, replicate, refl, sym, ◌∙◌, ap, subst, arith, append_assoc, Option, Some, None, IfSome}
+use Rattle.std.proofs.Common.{◌≡◌, ℕ, ◌*◌, ◌^◌, ◌<◌, ◌≤◌, List, [], ◌∷◌, ◌++◌, length, map, replicate, refl, sym, ◌∙◌, ap, subst, arith, Option, Some, None, IfSome}
 use Rattle.std.specs.List.{flat_map}
 use Rattle.std.proofs.lemmas.List.{append-nil, map-append}
 use Rattle.std.proofs.lemmas.List.Concat.{flat_map-append}
@@ -7,19 +7,17 @@ use Rattle.std.proofs.Math.ListN.{length-replicate}
 use Rattle.runs.specs.Run.{Run, run_append}
 use Rattle.disk_law.specs.ListState.{ListState, fresh}
 use Rattle.disk_law.specs.ListStep.{DiskEvent, ListStep}
-use Rattle.disk_law.specs.Issued.{Admission}
 use Rattle.disk_law.proofs.OnceInOrder.{admission}
 use Rattle.domain_script.specs.declared.event.Event.{Event}
 use Rattle.domain_script.specs.NamesState.{NamesState}
 use Rattle.ldom_journal.specs.declared.entry.Entry.{Entry}
 use Rattle.ldom_journal.specs.declared.status.Status.{Status}
-use Rattle.ldom_journal.specs.declared.status.Status.TheVariants as status
 use Rattle.ldom_replay.specs.Admitting.{AdmitsRequests, all_happened}
 use Rattle.ldom_replay.specs.Failures.{failed_count, SucceedOrFail}
 use Rattle.ldom_replay.specs.Happened.{happened}
 use Rattle.ldom_replay.specs.Outside.{KeepsOthers, accepted_requests}
 use Rattle.ldom_replay.specs.Parts.{LineStep}
-use Rattle.ldom_replay.specs.Replayed.{JournalIs, Replayed, start_of}
+use Rattle.ldom_replay.specs.Replayed.{Replayed, start_of}
 use Rattle.ldom_replay.specs.Script.{FitsScript, FitsCutOff}
 use Rattle.ldom_replay.specs.Worlds.{blocks_of, ring_of}
 use Rattle.ldom_replay.proofs.RunFacts.{journal_is}
@@ -48,15 +46,15 @@ module _ (names : NamesState) (gives : ℕ → Option (List ℕ)) where
       let last : List (Event × List Entry) = (cut.last, cut.so_far.part) ∷ [] in
       let run : Run ListStep (start_of names gives) (all_happened cut.fits.lines ++ all_happened last) t =
       run_append ListStep (start_of names gives) cut.middle t (all_happened cut.fits.lines) (all_happened last) (lines_happened (start_of names gives) cut.middle cut.fits.lines cut.fits.run)
-        (subst (λ (l : List DiskEvent). Run ListStep cut.middle l t) (sym (append-nil (happened 0 cut.last cut.so_far.part))) cut.so_far.run) in
+      (subst (λ (l : List DiskEvent). Run ListStep cut.middle l t) (sym (append-nil (happened 0 cut.last cut.so_far.part))) cut.so_far.run) in
       record {
         lines = cut.fits.lines ++ last;
         rest = [];
         events_are = cut.events_are ∙ sym (append-nil (map (λ (l : Event × List Entry). l.0) (cut.fits.lines ++ last)) ∙ map-append (λ (l : Event × List Entry). l.0) cut.fits.lines last ∙ ap (λ (l : List Event). l ++ cut.last ∷ []) cut.fits.events_are);
         parts = flat_map-append (λ (l : Event × List Entry). l.1) cut.fits.lines last ∙ ap (λ (l : List Entry). flat_map (λ (x : Event × List Entry). x.1) cut.fits.lines ++ l) (append-nil cut.so_far.part)
-          ∙ ap (λ (l : List Entry). l ++ cut.so_far.part) cut.fits.parts ∙ sym cut.so_far.grew;
+            ∙ ap (λ (l : List Entry). l ++ cut.so_far.part) cut.fits.parts ∙ sym cut.so_far.grew;
         admission = admission (blocks_of names.disks) (ring_of names.disks) 0 (gives (512 * blocks_of names.disks)) t (all_happened (cut.fits.lines ++ last))
-          (subst (λ (l : List DiskEvent). Run ListStep (start_of names gives) l t) (sym (flat_map-append (λ (l : Event × List Entry). happened 0 l.0 l.1) cut.fits.lines last)) run);
+            (subst (λ (l : List DiskEvent). Run ListStep (start_of names gives) l t) (sym (flat_map-append (λ (l : Event × List Entry). happened 0 l.0 l.1) cut.fits.lines last)) run);
       }
 
   none_admits : (events : List Event) → AdmitsRequests names.disks events []
@@ -94,11 +92,11 @@ module _ {D : Type 0} (content : D → Option (List ℕ)) (faults : D → ℕ) (
     where
       kept : KeepsOthers (accepted_requests journal) first run.final.told
       kept = journal_is (λ (l : List Entry). KeepsOthers (accepted_requests l) first run.final.told) why (start_of names gives) run.final run.events journal
-        (λ fits. script_kept (blocks_of names.disks) (ring_of names.disks) 0 first run.events journal run.final long
+          (λ fits. script_kept (blocks_of names.disks) (ring_of names.disks) 0 first run.events journal run.final long
           (subst (λ (told : Option (List ℕ)). FitsScript (fresh (blocks_of names.disks) (ring_of names.disks) told 0) run.events journal run.final) is fits))
-        (λ cut. cut_off_kept (blocks_of names.disks) (ring_of names.disks) 0 first run.events journal run.final long
+          (λ cut. cut_off_kept (blocks_of names.disks) (ring_of names.disks) 0 first run.events journal run.final long
           (subst (λ (told : Option (List ℕ)). FitsCutOff (fresh (blocks_of names.disks) (ring_of names.disks) told 0) run.events journal run.final) is cut))
-        (λ same. record { content = first; told_is = ap (λ (x : ListState). x.told) same ∙ is; long = refl; same = λ place outside. refl }) run.journal_is
+          (λ same. record { content = first; told_is = ap (λ (x : ListState). x.told) same ∙ is; long = refl; same = λ place outside. refl }) run.journal_is
 
       of : (d : Option D) → IfSome d (λ disk. (content disk ≡ run.final.told) × (faults disk ≡ run.final.faults)) → IfSome d (λ disk. KeepsOthers (accepted_requests journal) first (content disk))
       of None is = tt

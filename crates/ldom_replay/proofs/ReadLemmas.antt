@@ -8,7 +8,6 @@ use Rattle.domain_script.specs.Spells.{Spells}
 use Rattle.ldom_journal.specs.declared.status.Status.{Status}
 use Rattle.ldom_replay.specs.Opening.{AreOpening, Opens, OpensAndStops}
 use Rattle.ldom_replay.specs.Reading.{ReadsEvent, StopsAt, counted_lines}
-use Rattle.ldom_replay.specs.Replayed.{Stopped}
 use Rattle.ldom_replay.specs.Script.{AllSpell, TakesLines, ReadSoFar, no_names}
 
 pub takes_more : (start rest left : Option (List ℕ)) (texts : List (List ℕ)) (text : List ℕ) → TakesLines start rest texts → TakesLine rest left text → TakesLines start left (texts ++ text ∷ [])

@@ -1,5 +1,5 @@
 -- What holds of the journal of every run.
-use Rattle.std.proofs.Common.{◌≡◌, ◌≢◌, inl, inr, ℕ, zero, suc, ◌+◌, ◌*◌, ◌<◌, ◌≤◌, List, [], ◌∷◌, ◌++◌, length, map, refl, sym, ◌∙◌, ap, subst, arith, append_assoc, length-append, Option, Some, None}
+use Rattle.std.proofs.Common.{◌≡◌, ◌≢◌, inl, inr, ℕ, ◌*◌, ◌<◌, ◌≤◌, List, [], ◌∷◌, ◌++◌, length, map, refl, sym, ◌∙◌, ap, subst, arith, length-append, Option}
 use Rattle.std.specs.List.{All, flat_map}
 use Rattle.std.proofs.lemmas.List.Elements.{All-append, All-nil, All-same}
 use Rattle.runs.specs.Run.{Run}
@@ -15,9 +15,9 @@ use Rattle.ldom_journal.specs.declared.status.Status.TheVariants as status
 use Rattle.disk_law.specs.ListState.{ListState}
 use Rattle.disk_law.specs.ListStep.{ListStep}
 use Rattle.disk_law.specs.Issued.{CompletesOnceInOrder, completed}
-use Rattle.ldom_replay.specs.Happened.{happened, history}
+use Rattle.ldom_replay.specs.Happened.{history}
 use Rattle.ldom_replay.specs.Opening.{AreOpening}
-use Rattle.ldom_replay.specs.Parts.{BeginsPart, FitsSoFar, LineStep}
+use Rattle.ldom_replay.specs.Parts.{BeginsPart, LineStep}
 use Rattle.ldom_replay.specs.Replayed.{JournalIs, Replayed, start_of}
 use Rattle.ldom_replay.specs.Worlds.{blocks_of, ring_of}
 use Rattle.ldom_replay.specs.Script.{AllSpell, FitsScript, FitsCutOff, no_names}

@@ -1,12 +1,12 @@
 -- A script's lines run one after another.
-use Rattle.std.proofs.Common.{◌≡◌, inl, inr, ℕ, ◌+◌, ◌<◌, ◌≤◌, List, [], ◌∷◌, ◌++◌, length, map, refl, sym, ◌∙◌, ap, subst, append_assoc, length-append, arith, Option, Some, None}
+use Rattle.std.proofs.Common.{◌≡◌, inl, inr, ℕ, ◌+◌, ◌≤◌, List, [], ◌∷◌, ◌++◌, length, refl, sym, ◌∙◌, ap, subst, append_assoc, length-append, arith, Option, Some, None}
 use Rattle.std.specs.List.{flat_map}
 use Rattle.std.proofs.lemmas.List.{append-nil, map-append}
 use Rattle.std.proofs.lemmas.List.Concat.{flat_map-append}
-use Rattle.runs.specs.Run.{Run, run_push}
+use Rattle.runs.specs.Run.{run_push}
 use Rattle.domain_script.specs.declared.event.Event.{Event}
 use Rattle.domain_script.specs.declared.event.Event.TheVariants as line
-use Rattle.domain_script.specs.NamesState.{NamesState, noted}
+use Rattle.domain_script.specs.NamesState.{NamesState}
 use Rattle.domain_script.specs.Spells.{IsDeclared}
 use Rattle.ldom_journal.specs.declared.entry.Entry.{Entry}
 use Rattle.ldom_journal.specs.declared.status.Status.{Status}
@@ -15,7 +15,7 @@ use Rattle.disk_law.specs.ListState.{ListState}
 use Rattle.ldom_replay.specs.Going.{Grew, RunsLines}
 use Rattle.ldom_replay.specs.Parts.{Fits, FitsSoFar, IsForDisk, LineStep}
 use Rattle.ldom_replay.specs.Reading.{ReadsEvent, StopsAt, counted_lines}
-use Rattle.ldom_replay.specs.Script.{AllSpell, TakesLines, FitsScript, FitsCutOff}
+use Rattle.ldom_replay.specs.Script.{AllSpell, TakesLines, FitsScript}
 use Rattle.ldom_replay.proofs.ReadLemmas.{takes_more, spell_more}
 
 -- no line yet

@@ -1,27 +1,24 @@
 -- Each entry of a run has the words of its line.
-use Rattle.std.proofs.Common.{◌≡◌, ◌⊎◌, inl, inr, ℕ, zero, suc, ◌+◌, ◌*◌, ◌%◌, ◌==◌, if◌then◌else◌, ◌<◌, ◌≤◌, List, [], ◌∷◌, ◌++◌, length, refl, sym, ◌∙◌, ap, subst, arith, Option, Some, None}
+use Rattle.std.proofs.Common.{◌≡◌, inl, inr, ℕ, ◌*◌, ◌%◌, ◌<◌, ◌≤◌, List, [], ◌∷◌, ◌++◌, length, sym, subst, arith, None}
 use Rattle.std.specs.List.{All, flat_map, cons_option}
-use Rattle.std.proofs.lemmas.List.Elements.{All-append, All-cons, All-nil, All-same, filter_map-append}
+use Rattle.std.proofs.lemmas.List.Elements.{All-append, All-cons, All-nil, All-same}
 use Rattle.std.proofs.lemmas.List.{append-nil}
 use Rattle.std.proofs.lemmas.Bool.Decides.{nat_tests}
-use Rattle.runs.specs.Run.{Run, run_split}
+use Rattle.runs.specs.Run.{Run}
 use Rattle.vdisk_msg.specs.declared.request.Request.{Request}
 use Rattle.vdisk_msg.specs.declared.request.Request.TheVariants.{Read, Write, Flush}
 use Rattle.domain_script.specs.declared.event.DiskDecl.{DiskDecl}
 use Rattle.domain_script.specs.declared.event.Event.{Event}
 use Rattle.domain_script.specs.declared.event.Event.TheVariants as line
-use Rattle.domain_script.specs.declared.event.Lane.TheVariants.{Disk}
-use Rattle.ldom_journal.specs.Bytes.{BytesState}
 use Rattle.ldom_journal.specs.HasWords.{HasWords, IsDeclared, IsCompletion}
 use Rattle.ldom_journal.specs.declared.entry.Entry.{Entry}
 use Rattle.ldom_journal.specs.declared.entry.Entry.TheVariants as entry
 use Rattle.ldom_journal.specs.declared.entry.Who.{Who}
-use Rattle.ldom_journal.specs.declared.entry.Who.TheVariants.{Lane}
 use Rattle.disk_law.specs.Requests.{defect, blocks_defect, operation_of}
 use Rattle.disk_law.specs.ListState.{ListState}
-use Rattle.disk_law.specs.ListStep.{DiskEvent, Accepted, Full, Refused, Done, Rested, Completes, Ends, ListStep}
-use Rattle.ldom_replay.specs.Happened.{disk_event, for_disk, happened}
-use Rattle.ldom_replay.specs.Parts.{Answers, AreDone, BeginsPart, IsForDisk, LineStep, PartOf}
+use Rattle.disk_law.specs.ListStep.{DiskEvent, Accepted, Full, Refused, Done, Rested, Ends, ListStep}
+use Rattle.ldom_replay.specs.Happened.{for_disk, happened}
+use Rattle.ldom_replay.specs.Parts.{Answers, AreDone, BeginsPart, LineStep}
 
 -- what is pending was admitted
 abbrev pub AreAdmitted : ℕ → List Request → Type 0

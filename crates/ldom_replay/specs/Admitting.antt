@@ -1,5 +1,5 @@
 -- What each request line of a script got.
-use Rattle.std.specs.Prelude.{◌≡◌, ℕ, List, [], ◌∷◌, ◌++◌, map}
+use Rattle.std.specs.Prelude.{◌≡◌, List, ◌++◌, map}
 use Rattle.std.specs.List.{flat_map}
 use Rattle.disk_law.specs.Issued.{Admission}
 use Rattle.domain_script.specs.declared.event.DiskDecl.{DiskDecl}

@@ -1,5 +1,5 @@
 -- What the top call did.
-use Rattle.std.specs.Prelude.{◌≡◌, ℕ, ◌⊎◌, List, [], ◌∷◌, map, Option, String, string_bytes, codes}
+use Rattle.std.specs.Prelude.{◌≡◌, ℕ, ◌⊎◌, List, Option}
 use Rattle.std.specs.Io.KnownBytes.{Appends}
 use Rattle.domain_script.specs.NamesState.{NamesState}
 use Rattle.ldom_journal.specs.Gathered.{WroteFront}

@@ -1,8 +1,7 @@
 -- One line of a script after another, and why no further one is taken up.
-use Rattle.std.specs.Prelude.{◌≡◌, ◌≢◌, ℕ, ◌+◌, ◌<◌, ◌≤◌, List, [], ◌∷◌, ◌++◌, length, Option, Some, None, IfSome, Result, Ok, Err, ⊤}
-use Rattle.std.specs.Io.KnownBytes.{Keeps, IsAtEnd}
+use Rattle.std.specs.Prelude.{◌≡◌, ◌≢◌, ℕ, ◌+◌, ◌<◌, List, [], Option, IfSome, ⊤}
+use Rattle.std.specs.Io.KnownBytes.{IsAtEnd}
 use Rattle.domain_script.specs.declared.event.Event.{Event}
-use Rattle.domain_script.specs.declared.event.Event.TheVariants as line
 use Rattle.domain_script.specs.declared.event.LineFault.{LineFault}
 use Rattle.domain_script.specs.declared.event.LineFault.TheVariants.{Word}
 use Rattle.domain_script.specs.declared.lines.LinesFault.{LinesFault}

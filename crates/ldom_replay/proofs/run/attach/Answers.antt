@@ -1,10 +1,7 @@
-use Rattle.std.proofs.Common.{◌≡◌, ◌*◌, List, [], ◌∷◌, ℕ, Option, Some, None, refl, ap, ◌∙◌}
+use Rattle.std.proofs.Common.{◌≡◌, ◌*◌, [], ◌∷◌, ℕ, Some, None, refl, ap, ◌∙◌}
 use Rattle.vio_io.specs.declared.host.AttachFault.TheVariants.{Memory}
 use Rattle.domain_script.specs.LinesState.{to_come}
-use Rattle.ldom_journal.specs.declared.entry.Entry.{Entry}
-use Rattle.ldom_journal.specs.declared.status.Status.{Status}
-use Rattle.ldom_replay.specs.Replayed.{Replayed, attach_status, start_of}
-use Rattle.ldom_replay.specs.Worlds.{blocks_of}
+use Rattle.ldom_replay.specs.Replayed.{attach_status, start_of}
 use Rattle.ldom_replay.proofs.Assembly.{replayed_as, replayed_refused}
 use Rattle.ldom_replay.proofs.run.attach.Goals as goal
 

@@ -1,7 +1,6 @@
-use Rattle.std.proofs.Common.{List, [], ℕ, Option, Some, None, subst, sym, ◌∙◌, ap}
+use Rattle.std.proofs.Common.{List, Option, subst, sym}
 use Rattle.domain_script.specs.LinesState.{to_come}
 use Rattle.domain_script.specs.declared.event.Event.{Event}
-use Rattle.disk_law.specs.ListState.{ListState}
 use Rattle.ldom_journal.specs.declared.entry.Entry.{Entry}
 use Rattle.ldom_journal.specs.declared.status.Status.TheVariants as status
 use Rattle.ldom_replay.specs.Going.{RunsAll}

@@ -1,5 +1,5 @@
-use Rattle.std.proofs.Common.{◌≡◌, List, [], ◌∷◌, ℕ, Option, None, arith, refl, ap, rules, subst}
-use Rattle.domain_script.specs.LinesState.{LinesState, to_come}
+use Rattle.std.proofs.Common.{List, [], ◌∷◌, ℕ, Option, None, arith, refl, ap, rules, subst}
+use Rattle.domain_script.specs.LinesState.{LinesState}
 use Rattle.ldom_journal.specs.JournalState.{JournalState}
 use Rattle.ldom_journal.specs.declared.status.Status.TheVariants as status
 use Rattle.ldom_replay.specs.Opening.{OpensAndStops}

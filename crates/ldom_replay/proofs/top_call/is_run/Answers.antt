@@ -1,5 +1,4 @@
-use Rattle.std.proofs.Common.{Global, ap, sym, ◌∙◌, List, ℕ, [], ◌∷◌, true, refl}
-use Rattle.std.specs.Bool.{IsTrue}
+use Rattle.std.proofs.Common.{Global, ap, sym, ◌∙◌, List, ℕ, [], ◌∷◌}
 use Rattle.std.specs.Str.{bytes_eq}
 use Rattle.std.specs.String.{string_bytes}
 use Rattle.std.proofs.lemmas.Slice.Eq.{bytes_eq-Decides}

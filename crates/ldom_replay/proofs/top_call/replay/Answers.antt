@@ -17,15 +17,15 @@ report_run-requires-clause-words g c = worded _ _ _ _ _ _ _ _ _ c.run_script.ens
 pub returns-then-is_run-clause-runs : goal.returns-then-is_run-clause-runs
 returns-then-is_run-clause-runs g c words =
     said_otherwise (λ (j : JournalState) d. RunsScript g.H.Disk.Store.content g.H.Disk.Store.faults (g.S.Source.left c.args.script.now) (g.H.Host.gives c.args.host.now (45 ∷ [])) c.report_run.result.status j.entries d
-        (g.K.Sink.written c.args.out.now) (g.K.Sink.written c.report_run.new.out)) c.run_script.result.journal c.report_run.result.journal c.run_script.result.image c.report_run.result.image c.report_run.ensures.journal c.report_run.ensures.image
-      (record {
-        ran = c.run_script.result.status;
-        lines = c.run_script.result.lines;
-        names = c.run_script.result.names;
-        replayed = c.run_script.ensures.replayed;
-        admits = admits _ _ _ _ _ _ _ _ _ c.run_script.ensures.replayed;
-        reports = c.report_run.ensures.reports;
-      })
+    (g.K.Sink.written c.args.out.now) (g.K.Sink.written c.report_run.new.out)) c.run_script.result.journal c.report_run.result.journal c.run_script.result.image c.report_run.result.image c.report_run.ensures.journal c.report_run.ensures.image
+    (record {
+      ran = c.run_script.result.status;
+      lines = c.run_script.result.lines;
+      names = c.run_script.result.names;
+      replayed = c.run_script.ensures.replayed;
+      admits = admits _ _ _ _ _ _ _ _ _ c.run_script.ensures.replayed;
+      reports = c.report_run.ensures.reports;
+    })
 
 pub returns-then-is_run-clause-once : goal.returns-then-is_run-clause-once
 returns-then-is_run-clause-once g c disk =
@@ -45,11 +45,11 @@ returns-else-is_run-clause-statuses g c = subst (λ (l : List Entry). SucceedOrF
 pub returns-then-is_run-clause-failures : goal.returns-then-is_run-clause-failures
 returns-then-is_run-clause-failures g c =
     said_otherwise (λ (j : JournalState) d. IfSome d (λ image. failed_count j.entries ≤ g.H.Disk.Store.faults image)) c.run_script.result.journal c.report_run.result.journal c.run_script.result.image c.report_run.result.image
-      c.report_run.ensures.journal c.report_run.ensures.image
-      (failures _ _ _ _ _ _ _ _ _ c.run_script.ensures.replayed (subst (λ (j : JournalState). length j.entries < 2 ^ 63) c.report_run.ensures.journal c.report_run.ensures.small))
+    c.report_run.ensures.journal c.report_run.ensures.image
+    (failures _ _ _ _ _ _ _ _ _ c.run_script.ensures.replayed (subst (λ (j : JournalState). length j.entries < 2 ^ 63) c.report_run.ensures.journal c.report_run.ensures.small))
 
 pub returns-then-is_run-clause-outside : goal.returns-then-is_run-clause-outside
 returns-then-is_run-clause-outside g c =
     said_otherwise (λ (j : JournalState) d. IfSome d (λ image. (n : ℕ) × KeepsOthers (accepted_requests j.entries) (replicate n 0) (g.H.Disk.Store.content image))) c.run_script.result.journal c.report_run.result.journal c.run_script.result.image c.report_run.result.image
-      c.report_run.ensures.journal c.report_run.ensures.image
-      (zeros_stay _ _ _ _ _ _ _ _ _ c.run_script.ensures.replayed (λ n. g.met.H.Host.dash c.args.host.now n))
+    c.report_run.ensures.journal c.report_run.ensures.image
+    (zeros_stay _ _ _ _ _ _ _ _ _ c.run_script.ensures.replayed (λ n. g.met.H.Host.dash c.args.host.now n))
