@@ -5,10 +5,9 @@
 use flat_store::StdHost;
 use ldom_replay::replay;
 use std::alloc::AllocError;
-use std::env;
-use std::io;
 use std::process::ExitCode;
 use std::rt::Env;
+use std::{env, io};
 use vio_io::{StdSink, StdSource};
 
 fn main(rt: HostRuntime) -> ExitCode {
