@@ -1,5 +1,5 @@
 -- A whole run, put together from its declarations and its other lines.
-use Rattle.std.proofs.Common.{◌≡◌, inl, inr, ℕ, ◌+◌, ◌<◌, Bool, true, false, List, [], ◌∷◌, ◌++◌, length, map, refl, sym, ◌∙◌, ap, subst, append_assoc, length-append, arith, Option, Some, None, IfSome, IsTrue, ◌↔◌, zero, suc}
+use Rattle.std.proofs.Common.{◌≡◌, ◌≢◌, inl, inr, ℕ, ◌+◌, ◌<◌, Bool, true, false, List, [], ◌∷◌, ◌++◌, length, map, refl, sym, ◌∙◌, ap, subst, append_assoc, length-append, arith, Option, Some, None, IfSome, IsTrue, ◌↔◌, zero, suc}
 use Rattle.std.specs.List.{flat_map}
 use Rattle.std.proofs.lemmas.List.{map-append}
 use Rattle.std.proofs.lemmas.List.Concat.{flat_map-append}
@@ -187,18 +187,18 @@ ended_journal status.SinkFault faulty s t events journal readers grew = absurd r
 ended_journal status.HostFault faulty s t events journal readers grew = absurd readers
 ended_journal status.StoreFault faulty s t events journal readers grew = absurd readers
 
-ended_faults : (why : Status) (faulty : Bool) (faults : ℕ) → IsReaders why → (IsTrue faulty ↔ (0 < faults)) → FaultsAre (ended_status why faulty) faults
-ended_faults status.Done true faults readers tells = tells.0 refl
-ended_faults status.Done false zero readers tells = refl
-ended_faults status.Done false (suc n) readers tells = absurd (cc (tells.1 (omega arith)))
-ended_faults (status.Script at fault) faulty faults readers tells = tt
-ended_faults status.SourceFault faulty faults readers tells = tt
-ended_faults (status.Limit at kind) faulty faults readers tells = tt
-ended_faults status.NoMemory faulty faults readers tells = tt
-ended_faults status.Usage faulty faults readers tells = absurd readers
-ended_faults status.SinkFault faulty faults readers tells = absurd readers
-ended_faults status.HostFault faulty faults readers tells = absurd readers
-ended_faults status.StoreFault faulty faults readers tells = absurd readers
+ended_faults : {D : Type 0} (image : D) (why : Status) (faulty : Bool) (faults : ℕ) → IsReaders why → (IsTrue faulty ↔ (0 < faults)) → FaultsAre (ended_status why faulty) (Some image) faults
+ended_faults image status.Done true faults readers tells = (refl, tells.0 refl)
+ended_faults image status.Done false zero readers tells = (refl, refl)
+ended_faults image status.Done false (suc n) readers tells = absurd (cc (tells.1 (omega arith)))
+ended_faults image (status.Script at fault) faulty faults readers tells = tt
+ended_faults image status.SourceFault faulty faults readers tells = tt
+ended_faults image (status.Limit at kind) faulty faults readers tells = tt
+ended_faults image status.NoMemory faulty faults readers tells = tt
+ended_faults image status.Usage faulty faults readers tells = absurd readers
+ended_faults image status.SinkFault faulty faults readers tells = absurd readers
+ended_faults image status.HostFault faulty faults readers tells = absurd readers
+ended_faults image status.StoreFault faulty faults readers tells = absurd readers
 
 opening_journal : (why : Status) (s : ListState) (events : List Event) → IsReaders why → FitsScript s events [] s → JournalIs why s events [] s
 opening_journal status.Done s events readers fits = fits
@@ -211,16 +211,16 @@ opening_journal status.SinkFault s events readers fits = absurd readers
 opening_journal status.HostFault s events readers fits = absurd readers
 opening_journal status.StoreFault s events readers fits = absurd readers
 
-opening_faults : (why : Status) (faults : ℕ) → IsReaders why → faults ≡ 0 → FaultsAre why faults
-opening_faults status.Done faults readers none = none
-opening_faults (status.Script at fault) faults readers none = tt
-opening_faults status.SourceFault faults readers none = tt
-opening_faults (status.Limit at kind) faults readers none = tt
-opening_faults status.NoMemory faults readers none = tt
-opening_faults status.Usage faults readers none = absurd readers
-opening_faults status.SinkFault faults readers none = absurd readers
-opening_faults status.HostFault faults readers none = absurd readers
-opening_faults status.StoreFault faults readers none = absurd readers
+opening_faults : {D : Type 0} (image : Option D) (why : Status) (faults : ℕ) → IsReaders why → why ≢ status.Done → FaultsAre why image faults
+opening_faults image status.Done faults readers other = absurd (other refl)
+opening_faults image (status.Script at fault) faults readers other = tt
+opening_faults image status.SourceFault faults readers other = tt
+opening_faults image (status.Limit at kind) faults readers other = tt
+opening_faults image status.NoMemory faults readers other = tt
+opening_faults image status.Usage faults readers other = absurd readers
+opening_faults image status.SinkFault faults readers other = absurd readers
+opening_faults image status.HostFault faults readers other = absurd readers
+opening_faults image status.StoreFault faults readers other = absurd readers
 
 -- none of a line's steps were made
 none_of : (s : ListState) (event : Event) → FitsSoFar s event [] [] s
@@ -248,18 +248,18 @@ module _ {D : Type 0} (content : D → Option (List ℕ)) (faults : D → ℕ) (
         final = t;
         journal_is = ended_journal why faulty (start_of after gives) t runs.events journal readers fits;
         image_is = (told, failed);
-        faults_are = ended_faults why faulty t.faults readers tells;
+        faults_are = ended_faults image why faulty t.faults readers tells;
       }
 
   -- a run that ended before an image was attached: in its declarations
-  pub replayed_unattached : (why : Status) (names : NamesState) (lines : ℕ) → IsReaders why → OpensAndStops start why names lines → Replayed content faults start gives why lines names [] None
-  replayed_unattached why names lines readers opens = record {
+  pub replayed_unattached : (why : Status) (names : NamesState) (lines : ℕ) → IsReaders why → why ≢ status.Done → OpensAndStops start why names lines → Replayed content faults start gives why lines names [] None
+  replayed_unattached why names lines readers other opens = record {
     events = opens.opening;
     stopped = opens.stopped;
     final = start_of names gives;
     journal_is = opening_journal why (start_of names gives) opens.opening readers (fits_opening (start_of names gives) opens.opening opens.are);
     image_is = tt;
-    faults_are = opening_faults why (start_of names gives).faults readers refl;
+    faults_are = opening_faults None why (start_of names gives).faults readers other;
   }
 
   -- the image couldn't be attached, or there was no memory for its world

@@ -1,6 +1,8 @@
 mod Assembly
+mod Completeness
 mod FaultsRise
 mod History
+mod OneReading
 mod OutsideKept
 mod PlainAgrees
 mod PlainLaw
@@ -14,6 +16,7 @@ mod RunLemmas
 mod ScriptLaws
 mod Settling
 mod WholeRun
+mod WholeScript
 mod Worded
 mod Words
 mod MoreFacts

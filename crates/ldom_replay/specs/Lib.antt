@@ -1,4 +1,5 @@
 pub mod Admitting
+pub mod Clean
 pub mod Failures
 pub mod Going
 pub mod Happened
@@ -11,4 +12,5 @@ pub mod Quiet
 pub mod Reading
 pub mod Replayed
 pub mod Script
+pub mod Whole
 pub mod Worlds

@@ -1,8 +1,11 @@
 -- Scripts without disturbance: one disk is declared, and then it is asked and settled.
-use Rattle.std.specs.Prelude.{◌≡◌, List, [], ◌∷◌}
+use Rattle.std.specs.Prelude.{◌≡◌, ℕ, List, [], ◌∷◌}
 use Rattle.domain_script.specs.declared.event.DiskDecl.{DiskDecl}
 use Rattle.domain_script.specs.declared.event.Event.{Event}
 use Rattle.domain_script.specs.declared.event.Event.TheVariants.{Blank, Disk, Issue, Settle}
+use Rattle.domain_script.specs.NamesState.{NamesState}
+use Rattle.domain_script.specs.ScriptLines.{script_lines}
+use Rattle.ldom_replay.specs.Script.{AllSpell, no_names}
 
 -- each line is blank, asks the one disk or settles
 abbrev pub AreQuiet : List Event → Type 0
@@ -19,3 +22,9 @@ IsQuiet disk (Blank ∷ events) = IsQuiet disk events
 IsQuiet disk (Disk declared ∷ events) = (declared ≡ disk) × AreQuiet events
 IsQuiet disk (Issue number request ∷ events) = ⊥
 IsQuiet disk (Settle ∷ events) = ⊥
+
+-- each line of these bytes spells its event, and together they are quiet
+pub record IsQuietScript (bytes : List ℕ) (disk : DiskDecl) (events : List Event) : Type 0 where
+  pub names : NamesState
+  pub spelled : AllSpell (script_lines bytes) no_names events names
+  pub quiet : IsQuiet disk events

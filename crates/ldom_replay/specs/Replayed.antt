@@ -1,5 +1,5 @@
 -- What a run did with its script, up to where it stopped.
-use Rattle.std.specs.Prelude.{◌≡◌, ℕ, ◌*◌, ◌<◌, ◌⊎◌, Bool, if◌then◌else◌, List, [], Option, IfSome, ⊤}
+use Rattle.std.specs.Prelude.{◌≡◌, ℕ, ◌*◌, ◌<◌, ◌⊎◌, Bool, if◌then◌else◌, List, [], Option, IfSome, IsSome, ⊤}
 use Rattle.domain_script.specs.declared.event.Event.{Event}
 use Rattle.domain_script.specs.NamesState.{NamesState}
 use Rattle.ldom_journal.specs.declared.entry.Entry.{Entry}
@@ -31,11 +31,11 @@ abbrev pub attach_status : AttachFault → Status
 attach_status Failed = status.HostFault
 attach_status Memory = status.NoMemory
 
--- the image's faults by how the run ended: at the input's end they tell `StoreFault` from `Done`
-abbrev pub FaultsAre : Status → ℕ → Type 0
-FaultsAre status.Done faults = faults ≡ 0
-FaultsAre status.StoreFault faults = 0 < faults
-FaultsAre other faults = ⊤
+-- the image's faults by how the run ended: at the input's end there is an image, and they tell `StoreFault` from `Done`
+abbrev pub FaultsAre : {D : Type 0} → Status → Option D → ℕ → Type 0
+FaultsAre status.Done image faults = IsSome image × (faults ≡ 0)
+FaultsAre status.StoreFault image faults = IsSome image × (0 < faults)
+FaultsAre other image faults = ⊤
 
 -- the status of a run that came so far, by whether the image failed: at the input's end that is `StoreFault`
 abbrev pub ended_status : Status → Bool → Status
@@ -55,4 +55,4 @@ pub record Replayed {D : Type 0} (content : D → Option (List ℕ)) (faults : D
   pub final : ListState
   pub journal_is : JournalIs why (start_of names gives) events journal final
   pub image_is : IfSome image (λ disk. (content disk ≡ final.told) × (faults disk ≡ final.faults))
-  pub faults_are : FaultsAre why final.faults
+  pub faults_are : FaultsAre why image final.faults

@@ -127,13 +127,15 @@ pub fn run_script<H: Host, S: Source>(alloc: Global, host: &mut H, source: &mut 
     };
     match read_opening(&mut lines, source, &mut names) {
         Ok(event) => attach(alloc, host, source, lines, names, journal, Some(event)),
-        Err(Status::Done) => attach(alloc, host, source, lines, names, journal, None),
-        Err(status) => Run {
-            status: status,
-            lines: lines.number(),
-            names,
-            journal,
-            image: None,
+        Err(why) => match why {
+            Status::Done => attach(alloc, host, source, lines, names, journal, None),
+            status => Run {
+                status,
+                lines: lines.number(),
+                names,
+                journal,
+                image: None,
+            },
         },
     }
 }

@@ -1,16 +1,24 @@
-ghost use Rattle.std.specs.Prelude.{◌≡◌, ◌≢◌, ◌≤◌, ◌↔◌, ℕ, IsTrue, [], ◌∷◌, map, codes, string_bytes, ◌^◌, ◌<◌, length, replicate, Option, List, IfSome, IsNone, OnErr, OnOk};
+ghost use Rattle.std.specs.Prelude.{◌≡◌, ◌≢◌, ◌≤◌, ◌↔◌, ◌*◌, ◌⊎◌, ℕ, IsTrue, [], ◌∷◌, map, codes, string_bytes, ◌^◌, ◌<◌, length, replicate, Option, Some, List, IfSome, IsNone, OnErr, OnOk};
 ghost use Rattle.std.specs.List.{All};
 ghost use Rattle.std.specs.Io.KnownBytes.{Appends};
 ghost use Rattle.vio_io.specs.Causes.{Rose};
+ghost use Rattle.domain_script.specs.declared.event.DiskDecl.{DiskDecl};
+ghost use Rattle.domain_script.specs.declared.event.Event.{Event};
+ghost use Rattle.domain_script.specs.NamesState.{NamesState};
+ghost use Rattle.domain_script.specs.ScriptLines.{script_lines};
 ghost use Rattle.disk_law.specs.Issued.{CompletesOnceInOrder};
 ghost use Rattle.ldom_journal.specs.Gathered.{WroteFront};
 ghost use Rattle.ldom_journal.specs.HasWords.{HasWords};
 ghost use Rattle.ldom_journal.specs.Report.{report, usage_line};
+ghost use Rattle.ldom_replay.specs.Clean.{IsCleanScript, StandsStill};
 ghost use Rattle.ldom_replay.specs.Failures.{SucceedOrFail, failed_count};
 ghost use Rattle.ldom_replay.specs.Outside.{KeepsOthers, accepted_requests};
 ghost use Rattle.ldom_replay.specs.Happened.{history};
 ghost use Rattle.ldom_replay.specs.Outcomes.{Reports, RunsScript};
+ghost use Rattle.ldom_replay.specs.Quiet.{IsQuietScript};
 ghost use Rattle.ldom_replay.specs.Replayed.{Replayed};
+ghost use Rattle.ldom_replay.specs.Script.{AllSpell, no_names};
+ghost use Rattle.ldom_replay.specs.Whole.{RunsPlainly, RunsWhole};
 
 use crate::run::{Run, run_script};
 use domain_script::Names;
@@ -38,6 +46,21 @@ pub fn replay<H: Host, S: Source, K: Sink>(
     // The script is run up to where it stops, the journal is one part for each line, and the report is the journal's.
     ensures runs { map string_bytes words.now ≡ codes "run" ∷ codes "-" ∷ []
         → RunsScript H.Disk.content H.Disk.faults (S.left script.old) (H.gives host.old (codes "-")) result.status result.journal.entries result.image (K.written out.old) (K.written out.new) }
+
+    // At status 0 the script was run to its end: the journal fits all its events, and the whole report was written.
+    ensures whole { map string_bytes words.now ≡ codes "run" ∷ codes "-" ∷ [] → (bytes : List ℕ) (events : List Event) (names : NamesState)
+        → S.left script.old ≡ Some bytes → AllSpell (script_lines bytes) no_names events names → result.status ≡ Status.Done
+        → RunsWhole H.Disk.content H.Disk.faults (H.gives host.old (codes "-")) names events result.journal.entries result.image (K.written out.old) (K.written out.new) }
+
+    // So a quiet script over an image that tells its bytes is what the plain run makes of it.
+    ensures quiet { map string_bytes words.now ≡ codes "run" ∷ codes "-" ∷ [] → (bytes content : List ℕ) (disk : DiskDecl) (events : List Event)
+        → S.left script.old ≡ Some bytes → IsQuietScript bytes disk events → H.gives host.old (codes "-") (512 * disk.blocks) ≡ Some content → result.status ≡ Status.Done
+        → RunsPlainly H.Disk.content disk content events result.image (K.written out.old) (K.written out.new) }
+
+    // A script without faults and within the limits is run to its end, where no count rose and memory suffices.
+    ensures complete { map string_bytes words.now ≡ codes "run" ∷ codes "-" ∷ [] → (bytes : List ℕ) → S.left script.old ≡ Some bytes → IsCleanScript bytes
+        → StandsStill (S.faults script.old) (S.faults script.new) → StandsStill (H.faults host.old) (H.faults host.new) → StandsStill (K.faults out.old) (K.faults out.new)
+        → IfSome result.image (λ image. H.Disk.faults image ≡ 0) → (result.status ≡ Status.Done) ⊎ (result.status ≡ Status.NoMemory) }
 
     // Other words are no command.
     ensures usage { map string_bytes words.now ≢ codes "run" ∷ codes "-" ∷ [] → Reports Status.Usage result.status (K.written out.old) (K.written out.new) usage_line }

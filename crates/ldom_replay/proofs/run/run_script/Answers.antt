@@ -12,15 +12,15 @@ returns-in-Err-clause-replayed g c =
     refl refl (ap (λ (j : JournalState). j.entries) c.new-journal.ensures) refl
     (replayed_none g.H.Disk.Store.content g.H.Disk.Store.faults (g.S.Source.left c.args.source.now) (g.H.Host.gives c.args.host.now (45 ∷ [])) c.new-names.result c.new-names.ensures)
 
-pub returns-in-Err-read_opening : goal.returns-in-Err-read_opening
-returns-in-Err-read_opening g c = record {
+pub returns-in_default : goal.returns-in_default
+returns-in_default g c = record {
   replayed =
       let left = g.S.Source.left c.args.source.now in
       let gives = g.H.Host.gives c.args.host.now (45 ∷ []) in
-      replayed_as g.H.Disk.Store.content g.H.Disk.Store.faults left gives c.in-Err-read_opening.status c.in-Err-read_opening.status c.read_opening.new.lines.number c.number.result c.read_opening.new.names [] c.new-journal.result.entries None None
+      replayed_as g.H.Disk.Store.content g.H.Disk.Store.faults left gives c.in-Err-read_opening.why c.in-Err-read_opening.why c.read_opening.new.lines.number c.number.result c.read_opening.new.names [] c.new-journal.result.entries None None
       refl c.number.ensures (ap (λ (j : JournalState). j.entries) c.new-journal.ensures) refl
-      (replayed_unattached g.H.Disk.Store.content g.H.Disk.Store.faults left gives c.in-Err-read_opening.status c.read_opening.new.names c.read_opening.new.lines.number c.in-Err-read_opening.ensures.readers
-      (subst (λ (start : Option (List ℕ)). OpensAndStops start c.in-Err-read_opening.status c.read_opening.new.names c.read_opening.new.lines.number) (from_start c.in-Ok.lines left (ap (λ (l : LinesState). l.held) c.in-Ok.ensures)) c.in-Err-read_opening.ensures.stops));
+      (replayed_unattached g.H.Disk.Store.content g.H.Disk.Store.faults left gives c.in-Err-read_opening.why c.read_opening.new.names c.read_opening.new.lines.number c.in-Err-read_opening.ensures.readers c.in_default.not-Done
+      (subst (λ (start : Option (List ℕ)). OpensAndStops start c.in-Err-read_opening.why c.read_opening.new.names c.read_opening.new.lines.number) (from_start c.in-Ok.lines left (ap (λ (l : LinesState). l.held) c.in-Ok.ensures)) c.in-Err-read_opening.ensures.stops));
   source_count = search rules;
   host_count = omega arith;
   source_fault = search rules;

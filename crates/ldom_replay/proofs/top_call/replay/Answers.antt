@@ -1,14 +1,16 @@
-use Rattle.std.proofs.Common.{ℕ, ◌^◌, ◌<◌, ◌≤◌, [], ◌∷◌, List, length, replicate, IfSome, ap, subst, sym, ◌∙◌, refl}
+use Rattle.std.proofs.Common.{◌≡◌, ℕ, ◌^◌, ◌<◌, ◌≤◌, [], ◌∷◌, List, length, replicate, Option, IfSome, ap, subst, sym, ◌∙◌, refl}
 use Rattle.disk_law.specs.Issued.{CompletesOnceInOrder}
 use Rattle.ldom_journal.specs.JournalState.{JournalState}
 use Rattle.ldom_journal.specs.declared.entry.Entry.{Entry}
 use Rattle.ldom_replay.specs.Happened.{history}
+use Rattle.ldom_replay.proofs.Completeness.{completes, still}
 use Rattle.ldom_replay.proofs.History.{none_once}
 use Rattle.ldom_replay.specs.Failures.{SucceedOrFail, failed_count}
 use Rattle.ldom_replay.specs.Outcomes.{RunsScript}
 use Rattle.ldom_replay.specs.Outside.{KeepsOthers, accepted_requests}
 use Rattle.ldom_replay.proofs.MoreFacts.{admits, failures, said_otherwise, statuses, zeros_stay}
 use Rattle.ldom_replay.proofs.RunFacts.{once, worded}
+use Rattle.ldom_replay.proofs.WholeScript.{runs_plainly, runs_whole}
 use Rattle.ldom_replay.proofs.top_call.replay.Goals as goal
 
 pub report_run-requires-clause-words : goal.report_run-requires-clause-words
@@ -53,3 +55,17 @@ returns-then-is_run-clause-outside g c =
     said_otherwise (λ (j : JournalState) d. IfSome d (λ image. (n : ℕ) × KeepsOthers (accepted_requests j.entries) (replicate n 0) (g.H.Disk.Store.content image))) c.run_script.result.journal c.report_run.result.journal c.run_script.result.image c.report_run.result.image
     c.report_run.ensures.journal c.report_run.ensures.image
     (zeros_stay _ _ _ _ _ _ _ _ _ c.run_script.ensures.replayed (λ n. g.met.H.Host.dash c.args.host.now n))
+
+pub returns-then-is_run-clause-whole : goal.returns-then-is_run-clause-whole
+returns-then-is_run-clause-whole g c words bytes events names known spelled done =
+    runs_whole _ _ _ _ _ _ _ _ _ (returns-then-is_run-clause-runs g c words) bytes events known done names spelled
+
+pub returns-then-is_run-clause-quiet : goal.returns-then-is_run-clause-quiet
+returns-then-is_run-clause-quiet g c words bytes content disk events known quiet gives done =
+    runs_plainly _ _ _ _ _ _ _ _ _ (returns-then-is_run-clause-runs g c words) bytes events known done disk content quiet gives
+
+pub returns-then-is_run-clause-complete : goal.returns-then-is_run-clause-complete
+returns-then-is_run-clause-complete g c words bytes known clean source host sink store =
+    completes _ _ _ _ _ _ _ _ _ c.run_script.ensures.replayed c.report_run.result.status (g.K.Sink.written c.args.out.now) (g.K.Sink.written c.report_run.new.out) _ bytes c.report_run.ensures.reports known clean
+    (λ ran. still _ _ source (c.run_script.ensures.source_fault ran)) (λ ran. still _ _ host (c.run_script.ensures.host_fault ran)) (λ told ran. still _ _ sink (c.report_run.ensures.sink_fault told ran))
+    (subst (λ (i : Option g.row.H-Disk.Denot). IfSome i (λ image. g.H.Disk.Store.faults image ≡ 0)) c.report_run.ensures.image store)
