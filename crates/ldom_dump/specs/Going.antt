@@ -1,5 +1,5 @@
 -- The lines of a dump, one after another, while their text is gathered.
-use Rattle.std.specs.Prelude.{◌≡◌, ℕ, ◌⊎◌, Bool, List, ◌++◌, length, map, Option}
+use Rattle.std.specs.Prelude.{◌≡◌, ◌≢◌, ℕ, ◌⊎◌, Bool, List, ◌++◌, length, map, Option}
 use Rattle.std.specs.Io.KnownBytes.{Appends}
 use Rattle.std.specs.List.{count_by}
 use Rattle.domain_script.specs.ScriptLines.{TakesLines}
@@ -56,7 +56,7 @@ pub record DumpsLines (start : Option (List ℕ)) (why : Status) (old new : Opti
   pub taken : TakesLines start left (map (λ decoded. decoded.line) all)
   pub are : AreOfLines all
   pub stop : StopsAt why left (length all)
-  pub lines_are : lines ≡ counted_lines why (length all)
+  pub lines_are : why ≢ SinkFault → lines ≡ counted_lines why (length all)
   pub packets_are : packets ≡ count_by is_packet all
   pub faults_are : faults ≡ count_by is_fault all
   pub gathers : GathersUnlessSinkFault why old new gathered (decoded_lines all)

@@ -5,3 +5,4 @@ pub mod Going
 pub mod MessageText
 pub mod PacketText
 pub mod Reading
+pub mod Whole

@@ -3,15 +3,15 @@
 //! packets that the lines spell, as far as the lines went.
 #![tactic(auto)]
 
+mod command;
 mod digits;
-mod dump;
 mod end_line;
 mod fields;
 mod lines;
 mod message_text;
 mod packet_text;
 
-pub use dump::dump;
+pub use command::dump;
 pub use ldom_journal::{LimitKind, LineFault, Status};
 
 #[cfg(test)]

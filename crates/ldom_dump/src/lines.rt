@@ -14,6 +14,8 @@ use crate::packet_text::{carried_bytes, push_fault, push_packet};
 use domain_script::Lines;
 use ldc_packet::Packet;
 use ldom_journal::{Status, TEXT_ROOM, Text};
+use std::alloc::Global;
+use vio_bytes::NoMemory;
 use vio_io::{Failed, Sink, Source};
 
 /// More bytes than the lines of a packet and its message have.
@@ -83,8 +85,33 @@ pub struct Ended {
     pub faults: u32,
 }
 
-/// Decodes all lines, and gathers their text.
-pub fn dump_lines<S: Source, K: Sink>(
+/// Decodes all lines of a source, and gathers their text.
+pub fn dump_all<S: Source, K: Sink>(
+    alloc: Global,
+    source: &mut S,
+    text: &mut Text,
+    out: &mut K,
+) -> Ended
+    requires { text.old ≡ [] }
+    ensures dumps { DumpsLines (S.left source.old) result.why (K.written out.old) (K.written out.new) text.new result.lines result.packets result.faults }
+    ensures source_count { S.faults source.old ≤ S.faults source.new }
+    ensures sink_count { K.faults out.old ≤ K.faults out.new }
+    ensures source_fault { result.why ≡ Status.SourceFault → Rose (S.faults source.old) (S.faults source.new) }
+    ensures sink_fault { result.why ≡ Status.SinkFault → Rose (K.faults out.old) (K.faults out.new) }
+{
+    match Lines::new(alloc) {
+        Ok(mut lines) => dump_lines(&mut lines, source, text, out),
+        Err(NoMemory) => Ended {
+            why: Status::NoMemory,
+            lines: 0,
+            packets: 0,
+            faults: 0,
+        },
+    }
+}
+
+/// Decodes all lines of a reader, and gathers their text.
+fn dump_lines<S: Source, K: Sink>(
     lines: &mut Lines,
     source: &mut S,
     text: &mut Text,
@@ -101,21 +128,29 @@ pub fn dump_lines<S: Source, K: Sink>(
 {
     let mut packets: u32 = 0;
     let mut faults: u32 = 0;
-    let why = loop {
+    loop {
         let bytes = match read_bytes(lines, source) {
             Ok(bytes) => bytes,
-            Err(status) => break status,
+            Err(why) => {
+                return Ended {
+                    why,
+                    lines: lines.number(),
+                    packets,
+                    faults,
+                };
+            }
         };
         match put_packet(text, &bytes, out) {
             Ok(true) => packets += 1,
             Ok(false) => faults += 1,
-            Err(Failed) => break Status::SinkFault,
+            Err(Failed) => {
+                return Ended {
+                    why: Status::SinkFault,
+                    lines: lines.number(),
+                    packets,
+                    faults,
+                };
+            }
         }
-    };
-    Ended {
-        why,
-        lines: lines.number(),
-        packets,
-        faults,
     }
 }

@@ -1,5 +1,5 @@
 // The line of a packet.
-ghost use Rattle.std.specs.Prelude.{◌≡◌, ◌+◌, ◌*◌, ◌≤◌, ◌++◌, length, take, Ok, Err, Some, None, IfNone, IfSome};
+ghost use Rattle.std.specs.Prelude.{◌≡◌, ◌+◌, ◌*◌, ◌≤◌, ◌++◌, length, take, codes, Ok, Err, Some, None, IfNone, IfSome};
 ghost use Rattle.hex.specs.Hex.{encode_lower};
 ghost use Rattle.ldc_packet.specs.Form.{HasForm, IsWellFormed};
 ghost use Rattle.ldom_dump.specs.Decoded.{carried_bytes};

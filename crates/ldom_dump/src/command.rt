@@ -1,14 +1,13 @@
 // The command `dump`.
-ghost use Rattle.std.specs.Prelude.{◌≡◌, ◌≢◌, ◌≤◌};
+ghost use Rattle.std.specs.Prelude.{◌≡◌, ◌≤◌, ◌⊎◌, ℕ, List, Some};
 ghost use Rattle.vio_io.specs.Causes.{Rose};
 ghost use Rattle.ldom_dump.specs.DumpReport.{Dumps};
+ghost use Rattle.ldom_dump.specs.Whole.{IsWhole};
 
 use crate::end_line::finish;
-use crate::lines::{Ended, dump_lines};
-use domain_script::Lines;
+use crate::lines::dump_all;
 use ldom_journal::{Status, Text};
 use std::alloc::Global;
-use vio_bytes::NoMemory;
 use vio_io::{Sink, Source};
 
 /// Does all of the command `dump`: reads lines of 128 lower-case hexadecimal digits, within the limits of a script's
@@ -22,6 +21,10 @@ pub fn dump<S: Source, K: Sink>(alloc: Global, script: &mut S, out: &mut K) -> S
     // or a front where the sink failed.
     ensures dumps { Dumps (S.left script.old) result (K.written out.old) (K.written out.new) }
 
+    // A script of packets alone is dumped to its end, unless something failed.
+    ensures complete { (bytes : List ℕ) → S.left script.old ≡ Some bytes → IsWhole bytes → ¬ Rose (S.faults script.old) (S.faults script.new) → ¬ Rose (K.faults out.old) (K.faults out.new)
+        → (result ≡ Status.Done) ⊎ (result ≡ Status.NoMemory) }
+
     // A fault of the outside is answered only where its count rose.
     ensures source_fault { result ≡ Status.SourceFault → Rose (S.faults script.old) (S.faults script.new) }
     ensures sink_fault { result ≡ Status.SinkFault → Rose (K.faults out.old) (K.faults out.new) }
@@ -29,14 +32,6 @@ pub fn dump<S: Source, K: Sink>(alloc: Global, script: &mut S, out: &mut K) -> S
     ensures sink_count { K.faults out.old ≤ K.faults out.new }
 {
     let mut text = Text::new();
-    let ended = match Lines::new(alloc) {
-        Ok(mut lines) => dump_lines(&mut lines, script, &mut text, out),
-        Err(NoMemory) => Ended {
-            why: Status::NoMemory,
-            lines: 0,
-            packets: 0,
-            faults: 0,
-        },
-    };
+    let ended = dump_all(alloc, script, &mut text, out);
     finish(&mut text, &ended, out)
 }
