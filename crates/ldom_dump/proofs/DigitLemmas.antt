@@ -1,8 +1,8 @@
 -- A line of digits decodes into room for its bytes.
-use Rattle.std.proofs.Common.{◌≡◌, ℕ, List, length, Result, Ok, Err, true, refl, sym, ◌∙◌, subst, arith}
+use Rattle.std.proofs.Common.{◌≡◌, ℕ, List, Result, Ok, Err, true, ◌∙◌, subst, arith}
 use Rattle.std.specs.Prelude.{MatchResult}
 use Rattle.std.specs.Result.{is_err}
-use Rattle.hex.specs.Hex.{decode_of, decode_sized}
+use Rattle.hex.specs.Hex.{decode_sized}
 use Rattle.hex.specs.declared.error.FromHexError.{FromHexError}
 use Rattle.hex.proofs.HexLemmas.{decode_of-ok, decode_sized-twice}
 use Rattle.ldom_dump.specs.Decoded.{SpellsBytes}

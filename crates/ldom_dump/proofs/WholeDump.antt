@@ -1,5 +1,5 @@
 -- A script of packets alone is dumped to its end.
-use Rattle.std.proofs.Common.{◌≡◌, ◌≢◌, inl, inr, ℕ, ◌+◌, ◌<◌, ◌≤◌, ◌⊎◌, Bool, true, false, ◌==◌, if◌then◌else◌, List, [], ◌∷◌, ◌++◌, length, map, refl, sym, ◌∙◌, ap, subst, length-append, arith, Option, Some, None}
+use Rattle.std.proofs.Common.{◌≡◌, ◌≢◌, inl, inr, ℕ, ◌<◌, ◌≤◌, ◌⊎◌, Bool, true, false, ◌==◌, if◌then◌else◌, List, [], ◌∷◌, ◌++◌, length, map, refl, ◌∙◌, ap, subst, length-append, arith, Option, Some, None}
 use Rattle.std.specs.Prelude.{IfSome}
 use Rattle.std.proofs.lemmas.List.{length-map}
 use Rattle.hex.proofs.HexLemmas.{decode_of-ok}
@@ -8,7 +8,7 @@ use Rattle.domain_script.specs.ScriptLines.{BeginsWithLonger, TakesLine, TakesLi
 use Rattle.ldom_journal.specs.declared.status.LimitKind.TheVariants.{Lines, Bytes}
 use Rattle.ldom_journal.specs.declared.status.Status.{Status}
 use Rattle.ldom_journal.specs.declared.status.Status.TheVariants as the_status
-use Rattle.ldom_dump.specs.Decoded.{Decoded, SpellsBytes}
+use Rattle.ldom_dump.specs.Decoded.{Decoded}
 use Rattle.ldom_dump.specs.DumpReport.{Dumps, Written}
 use Rattle.ldom_dump.specs.Reading.{IsNoDigits, StopsAt}
 use Rattle.ldom_dump.specs.Whole.{AreDigits, IsDigits, IsWhole}

@@ -1,4 +1,4 @@
-use Rattle.std.proofs.Common.{ℕ, List, ◌++◌, refl, rules}
+use Rattle.std.proofs.Common.{ℕ, List, ◌++◌, refl}
 use Rattle.std.proofs.lemmas.Result.{on_err_weaker, on_ok_weaker}
 use Rattle.ldom_journal.specs.Gathered.{Gathers}
 use Rattle.ldom_journal.proofs.GatheredText.{on_err, appends_last, gathers_more, wrote_front_last, wrote_front_of_more}

@@ -1,6 +1,6 @@
-use Rattle.std.proofs.Common.{arith, refl}
+use Rattle.std.proofs.Common.{arith}
 use Rattle.domain_script.specs.LinesState.{to_come}
-use Rattle.ldom_dump.proofs.DumpLemmas.{lines_cut, lines_stop, so_far_fault, so_far_packet}
+use Rattle.ldom_dump.proofs.DumpLemmas.{so_far_fault, so_far_packet}
 use Rattle.ldom_dump.proofs.lines.dump_lines.Goals as goal
 
 pub loop-bytes-preserved-in-Ok-true : goal.loop-bytes-preserved-in-Ok-true
