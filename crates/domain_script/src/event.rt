@@ -47,4 +47,8 @@ pub enum LineFault {
     /// The line is none of a script's rows in its place.
     #[error("word")]
     Word,
+
+    /// The line isn't 128 lower-case hexadecimal digits. Only a dump of packets says so.
+    #[error("hex")]
+    Hex,
 }

@@ -4,5 +4,6 @@ pub mod EntryText
 pub mod Gathered
 pub mod HasWords
 pub mod JournalState
+pub mod LinesEnd
 pub mod Report
 pub mod Status

@@ -2,7 +2,7 @@
 use Rattle.std.specs.Prelude.{ℕ, ◌-◌, Bool, true, false, List, [], ◌++◌, count_by, codes, decimal}
 use Rattle.domain_script.specs.declared.event.DiskDecl.{DiskDecl}
 use Rattle.domain_script.specs.declared.event.LineFault.{LineFault}
-use Rattle.domain_script.specs.declared.event.LineFault.TheVariants.{Word}
+use Rattle.domain_script.specs.declared.event.LineFault.TheVariants.{Word, Hex}
 use Rattle.ldom_journal.specs.declared.entry.Entry.{Entry}
 use Rattle.ldom_journal.specs.declared.entry.Entry.TheVariants as entry
 use Rattle.ldom_journal.specs.declared.status.Mode.{Mode}
@@ -31,9 +31,10 @@ accepted_count entries = count_by is_accepted entries
 abbrev pub done_count : List Entry → ℕ
 done_count entries = count_by is_done entries
 
--- why a line of the script spells no event
+-- why a line spells no event, or no packet
 abbrev pub fault_text : LineFault → List ℕ
 fault_text Word = codes "word"
+fault_text Hex = codes "hex"
 
 -- the limit that a line is past
 abbrev pub limit_text : LimitKind → List ℕ

@@ -48,6 +48,7 @@ fn fault_bytes(fault: LineFault) -> &'static [u8]
 {
     match fault {
         LineFault::Word => b"word",
+        LineFault::Hex => b"hex",
     }
 }
 
@@ -61,8 +62,8 @@ fn limit_bytes(kind: LimitKind) -> &'static [u8]
     }
 }
 
-/// The line at which a run ended, and why.
-fn push_cause(text: &mut Text, status: &Status)
+/// Behind a status: the line at which the run ended, and why. Nothing where the status has neither.
+pub fn push_cause(text: &mut Text, status: &Status)
     requires { length text.old + 100 ≤ TEXT_ROOM }
     ensures text { text.new ≡ text.old ++ cause_text status.now }
     ensures len { length text.new ≤ length text.old + 100 }

@@ -17,10 +17,11 @@ mod text;
 
 pub use bytes::Bytes;
 pub use domain_script::{Lane, LineFault, Names, Request};
-pub use end_line::write_end;
+pub use end_line::{push_cause, write_end};
 pub use entry::{Entry, VD_OP_BREAD, VD_OP_BWRITE, VD_OP_FLUSH, Who, Why};
 pub use journal::Journal;
 pub use kept_request::KeptRequest;
 pub use status::{LimitKind, Mode, Status};
+pub use text::{TEXT_ROOM, Text};
 pub use vio_bytes::NoMemory;
 pub use vio_io::{Failed, Sink};

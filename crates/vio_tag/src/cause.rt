@@ -1,4 +1,4 @@
-ghost use Rattle.std.specs.Prelude.{◌≡◌, Some};
+ghost use Rattle.std.specs.Prelude.{◌≡◌, ◌≤◌, length, Some};
 ghost use Rattle.vio_tag.specs.CauseText.{cause_text, copy_word, packet_word, tag_word};
 
 use crate::message::TagFault;
@@ -86,8 +86,10 @@ impl fmt::Display for Cause {
     }
 }
 
-fn packet_word(fault: PacketFault) -> &'static str
-    ensures { result.now ≡ packet_word fault }
+/// The word of what is wrong with a packet.
+pub fn packet_word(fault: PacketFault) -> &'static str
+    ensures word { result.now ≡ packet_word fault }
+    ensures short { length result.now ≤ 8 }
 {
     match fault {
         PacketFault::Kind => "kind",
@@ -97,8 +99,10 @@ fn packet_word(fault: PacketFault) -> &'static str
     }
 }
 
-fn tag_word(fault: TagFault) -> &'static str
-    ensures { result.now ≡ tag_word fault }
+/// The word of what is wrong with a message.
+pub fn tag_word(fault: TagFault) -> &'static str
+    ensures word { result.now ≡ tag_word fault }
+    ensures short { length result.now ≤ 8 }
 {
     match fault {
         TagFault::Short => "short",

@@ -16,7 +16,7 @@ mod layout;
 mod message;
 
 pub use attributes::{DiskAttr, NetAttr, disk_attr, net_attr, put_disk_attr, put_net_attr};
-pub use cause::Cause;
+pub use cause::{Cause, packet_word, tag_word};
 pub use decoding::decode;
 pub use encoding::encode;
 pub use laws::{attributes_read_back, spellings_are_unique};

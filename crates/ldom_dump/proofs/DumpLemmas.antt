@@ -1,0 +1,198 @@
+-- The lines of a dump, one after another.
+use Rattle.std.proofs.Common.{◌≡◌, ◌≢◌, inl, inr, ℕ, ◌+◌, ◌⊎◌, Bool, true, false, List, [], ◌∷◌, ◌++◌, length, map, refl, sym, ◌∙◌, ap, subst, append_assoc, length-append, arith, Option, Some, None}
+use Rattle.std.specs.Io.KnownBytes.{Appends}
+use Rattle.std.specs.List.{count_by}
+use Rattle.std.proofs.lemmas.List.{flat_map_more, map-append}
+use Rattle.std.proofs.lemmas.List.Sums.{sum_by-append}
+use Rattle.domain_script.specs.ScriptLines.{TakesLine, TakesLines, script_lines}
+use Rattle.ldom_journal.specs.declared.status.Status.{Status}
+use Rattle.ldom_journal.specs.declared.status.Status.TheVariants as the_status
+use Rattle.ldom_journal.specs.Gathered.{Gathers, WroteFront}
+use Rattle.ldom_journal.specs.LinesEnd.{counted_lines}
+use Rattle.ldom_journal.proofs.GatheredText.{appends_last, gathers_all, gathers_more, gathers_then, wrote_front_last}
+use Rattle.ldom_dump.specs.Decoded.{AreOfLines, Decoded, IsOfLine, decoded_lines, decoded_text, is_fault, is_ok, is_packet}
+use Rattle.ldom_dump.specs.DumpReport.{Dumps, Written, dump_text, end_line}
+use Rattle.ldom_dump.specs.Going.{DumpsLines, Finishes, GathersUnlessSinkFault, PutsPacket, TellsCarried, TellsMessage}
+use Rattle.ldom_dump.specs.Reading.{IsReaders, ReadsBytes, StopsAt}
+
+-- the message that a packet carries was told
+pub tells_carried : (of : Option (List ℕ)) (bytes old new : List ℕ) → of ≡ Some bytes → TellsMessage bytes old new → TellsCarried of old new
+tells_carried of bytes old new is tells =
+    subst (λ (o : Option (List ℕ)). TellsCarried o old new) (sym is) (record { said = Some tells.said; carries = tells.says; is = tells.is })
+
+-- one line more was taken
+pub takes_more : (start rest left : Option (List ℕ)) (texts : List (List ℕ)) (text : List ℕ) → TakesLines start rest texts → TakesLine rest left text → TakesLines start left (texts ++ text ∷ [])
+takes_more None rest left texts text before next = tt
+takes_more (Some bytes) None left texts text before next = absurd before
+takes_more (Some bytes) (Some rest) None texts text before next = absurd next
+takes_more (Some bytes) (Some rest) (Some left) texts text before next =
+    before ∙ ap (λ (l : List (List ℕ)). texts ++ l) next ∙ sym (append_assoc texts (text ∷ []) (script_lines left))
+
+takes_none : (start : Option (List ℕ)) → TakesLines start start []
+takes_none None = tt
+takes_none (Some bytes) = refl
+
+are_push : (all : List Decoded) (decoded : Decoded) → AreOfLines all → IsOfLine decoded → AreOfLines (all ++ decoded ∷ [])
+are_push [] decoded are is = (is, tt)
+are_push (d ∷ all) decoded are is = (are.0, are_push all decoded are.1 is)
+
+-- the lines that were decoded so far
+pub record LinesSoFar (start rest old new : Option (List ℕ)) (gathered : List ℕ) (count packets faults : ℕ) : Type 0 where
+  pub all : List Decoded
+  pub taken : TakesLines start rest (map (λ decoded. decoded.line) all)
+  pub are : AreOfLines all
+  pub counts : count ≡ length all
+  pub packets_are : packets ≡ count_by is_packet all
+  pub faults_are : faults ≡ count_by is_fault all
+  pub gathers : Gathers old new gathered (decoded_lines all)
+
+pub so_far_none : (start old : Option (List ℕ)) (gathered : List ℕ) (count : ℕ) → count ≡ 0 → gathered ≡ [] → LinesSoFar start start old old gathered count 0 0
+so_far_none start old gathered count zero none = record {
+  all = [];
+  taken = takes_none start;
+  are = tt;
+  counts = zero;
+  packets_are = refl;
+  faults_are = refl;
+  gathers = subst (λ (l : List ℕ). Gathers old old l []) (sym none) (gathers_all old []);
+}
+
+count_push : (p : Decoded → Bool) (all : List Decoded) (decoded : Decoded) (n m : ℕ) → n ≡ count_by p all → m ≡ n + count_by p (decoded ∷ []) → m ≡ count_by p (all ++ decoded ∷ [])
+count_push p all decoded n m is next = next ∙ ap (λ (x : ℕ). x + count_by p (decoded ∷ [])) is ∙ sym (sum_by-append _ all (decoded ∷ []))
+
+one_packet : (decoded : Decoded) (b : Bool) → b ≡ is_ok decoded.packet → b ≡ true → (count_by is_packet (decoded ∷ []) ≡ 1) × (count_by is_fault (decoded ∷ []) ≡ 0)
+one_packet decoded b is is_one = let ok : is_ok decoded.packet ≡ true = sym is ∙ is_one in (rw ok refl, rw ok refl)
+
+one_fault : (decoded : Decoded) (b : Bool) → b ≡ is_ok decoded.packet → b ≡ false → (count_by is_packet (decoded ∷ []) ≡ 0) × (count_by is_fault (decoded ∷ []) ≡ 1)
+one_fault decoded b is is_none = let ok : is_ok decoded.packet ≡ false = sym is ∙ is_none in (rw ok refl, rw ok refl)
+
+-- the line that was read, with what it says
+abbrev read_line : (rest left mid new : Option (List ℕ)) (bytes gathered after : List ℕ) (whether : Bool) → ReadsBytes rest left bytes → PutsPacket bytes mid new gathered after whether → Decoded
+read_line rest left mid new bytes gathered after whether reads puts = record { line = reads.line; packet = puts.tells.packet; said = puts.tells.said }
+
+-- one line more, by how much the counts rise
+so_far_more : (start rest left old mid new : Option (List ℕ)) (bytes gathered after : List ℕ) (whether : Bool) (count next packets faults packets_next faults_next : ℕ)
+    → LinesSoFar start rest old mid gathered count packets faults → (reads : ReadsBytes rest left bytes) → next ≡ count + 1 → (puts : PutsPacket bytes mid new gathered after whether)
+    → packets_next ≡ packets + count_by is_packet (read_line rest left mid new bytes gathered after whether reads puts ∷ [])
+    → faults_next ≡ faults + count_by is_fault (read_line rest left mid new bytes gathered after whether reads puts ∷ [])
+    → LinesSoFar start left old new after next packets_next faults_next
+so_far_more start rest left old mid new bytes gathered after whether count next packets faults packets_next faults_next so_far reads is puts more_packets more_faults =
+    let decoded : Decoded = read_line rest left mid new bytes gathered after whether reads puts in
+    let text : List ℕ = decoded_text decoded in
+    let here : Gathers mid new after (gathered ++ text) = gathers_more mid new puts.room after gathered text puts.wrote puts.tells.is in
+    record {
+      all = so_far.all ++ decoded ∷ [];
+      taken =
+          subst (λ (l : List (List ℕ)). TakesLines start left l) (sym (map-append (λ (d : Decoded). d.line) so_far.all (decoded ∷ [])))
+          (takes_more start rest left (map (λ (d : Decoded). d.line) so_far.all) reads.line so_far.taken reads.taken);
+      are = are_push so_far.all decoded so_far.are (record { bytes = bytes; digits = reads.digits; is = record { packet = puts.tells.says; carries = puts.tells.carries } });
+      counts = is ∙ ap (λ (n : ℕ). n + 1) so_far.counts ∙ sym (length-append so_far.all (decoded ∷ []));
+      packets_are = count_push is_packet so_far.all decoded packets packets_next so_far.packets_are more_packets;
+      faults_are = count_push is_fault so_far.all decoded faults faults_next so_far.faults_are more_faults;
+      gathers =
+          subst (λ (l : List ℕ). Gathers old new after l) (flat_map_more decoded_text [] so_far.all decoded)
+          (gathers_then old mid new gathered after (decoded_lines so_far.all) text so_far.gathers here);
+    }
+
+-- one packet more
+pub so_far_packet : (start rest left old mid new : Option (List ℕ)) (bytes gathered after : List ℕ) (whether : Bool) (count next packets faults : ℕ)
+    → LinesSoFar start rest old mid gathered count packets faults → ReadsBytes rest left bytes → next ≡ count + 1 → PutsPacket bytes mid new gathered after whether → whether ≡ true
+    → LinesSoFar start left old new after next (packets + 1) faults
+so_far_packet start rest left old mid new bytes gathered after whether count next packets faults so_far reads is puts is_one =
+    let one = one_packet (read_line rest left mid new bytes gathered after whether reads puts) whether puts.tells.whether_is is_one in
+    so_far_more start rest left old mid new bytes gathered after whether count next packets faults (packets + 1) faults so_far reads is puts (omega (arith, one.0)) (omega (arith, one.1))
+
+-- one line more that is no packet
+pub so_far_fault : (start rest left old mid new : Option (List ℕ)) (bytes gathered after : List ℕ) (whether : Bool) (count next packets faults : ℕ)
+    → LinesSoFar start rest old mid gathered count packets faults → ReadsBytes rest left bytes → next ≡ count + 1 → PutsPacket bytes mid new gathered after whether → whether ≡ false
+    → LinesSoFar start left old new after next packets (faults + 1)
+so_far_fault start rest left old mid new bytes gathered after whether count next packets faults so_far reads is puts is_none =
+    let one = one_fault (read_line rest left mid new bytes gathered after whether reads puts) whether puts.tells.whether_is is_none in
+    so_far_more start rest left old mid new bytes gathered after whether count next packets faults packets (faults + 1) so_far reads is puts (omega (arith, one.0)) (omega (arith, one.1))
+
+unless_sink_fault : (why : Status) (old new : Option (List ℕ)) (gathered text : List ℕ) → IsReaders why → Gathers old new gathered text → GathersUnlessSinkFault why old new gathered text
+unless_sink_fault the_status.Done old new gathered text readers g = g
+unless_sink_fault the_status.Usage old new gathered text readers g = absurd readers
+unless_sink_fault (the_status.Script line fault) old new gathered text readers g = g
+unless_sink_fault the_status.SourceFault old new gathered text readers g = g
+unless_sink_fault the_status.SinkFault old new gathered text readers g = absurd readers
+unless_sink_fault the_status.HostFault old new gathered text readers g = absurd readers
+unless_sink_fault the_status.StoreFault old new gathered text readers g = absurd readers
+unless_sink_fault (the_status.Limit line kind) old new gathered text readers g = g
+unless_sink_fault the_status.NoMemory old new gathered text readers g = g
+
+-- no further line is read
+pub lines_stop : (start rest old new : Option (List ℕ)) (why : Status) (gathered : List ℕ) (count lines packets faults : ℕ)
+    → LinesSoFar start rest old new gathered count packets faults → IsReaders why → StopsAt why rest count → lines ≡ counted_lines why count → DumpsLines start why old new gathered lines packets faults
+lines_stop start rest old new why gathered count lines packets faults so_far readers stop is = record {
+  all = so_far.all;
+  left = rest;
+  taken = so_far.taken;
+  are = so_far.are;
+  stop = subst (λ (n : ℕ). StopsAt why rest n) so_far.counts stop;
+  lines_are = λ other. is ∙ ap (λ (n : ℕ). counted_lines why n) so_far.counts;
+  packets_are = so_far.packets_are;
+  faults_are = so_far.faults_are;
+  gathers = unless_sink_fault why old new gathered (decoded_lines so_far.all) readers so_far.gathers;
+}
+
+-- the sink failed before the next line's text was gathered
+pub lines_cut : (start rest old mid new : Option (List ℕ)) (gathered after : List ℕ) (count lines packets faults : ℕ)
+    → LinesSoFar start rest old mid gathered count packets faults → WroteFront mid new gathered → DumpsLines start the_status.SinkFault old new after lines packets faults
+lines_cut start rest old mid new gathered after count lines packets faults so_far front = record {
+  all = so_far.all;
+  left = rest;
+  taken = so_far.taken;
+  are = so_far.are;
+  stop = tt;
+  lines_are = λ other. absurd (other refl);
+  packets_are = so_far.packets_are;
+  faults_are = so_far.faults_are;
+  gathers = wrote_front_last old mid new gathered (decoded_lines so_far.all) so_far.gathers front;
+}
+
+-- memory was wanted before the first line
+pub lines_unread : (start old : Option (List ℕ)) (gathered : List ℕ) → gathered ≡ [] → DumpsLines start the_status.NoMemory old old gathered 0 0 0
+lines_unread start old gathered none = lines_stop start start old old the_status.NoMemory gathered 0 0 0 0 (so_far_none start old gathered 0 refl none) tt tt refl
+
+-- how a last line was written behind what was gathered
+ends : (why status : Status) (old mid new : Option (List ℕ)) (gathered text last whole : List ℕ) → whole ≡ text ++ last → Gathers old mid gathered text
+    → ((status ≡ why) × Appends mid new (gathered ++ last)) ⊎ ((status ≡ the_status.SinkFault) × WroteFront mid new (gathered ++ last))
+    → ((status ≡ why) × Appends old new whole) ⊎ ((status ≡ the_status.SinkFault) × WroteFront old new whole)
+ends why status old mid new gathered text last whole is g finishes =
+    let more : Gathers old mid (gathered ++ last) whole = subst (λ (l : List ℕ). Gathers old mid (gathered ++ last) l) (sym is) (gathers_more old mid gathered (gathered ++ last) text last g refl) in
+    elim finishes [
+      | inl wrote ↦ inl (wrote.0, appends_last old mid new (gathered ++ last) whole more wrote.1)
+      | inr failed ↦ inr (failed.0, wrote_front_last old mid new (gathered ++ last) whole more failed.1)
+    ]
+
+written : (why status : Status) (old mid new : Option (List ℕ)) (gathered last : List ℕ) (all : List Decoded) → (why ≢ the_status.SinkFault → dump_text all why ≡ decoded_lines all ++ last)
+    → GathersUnlessSinkFault why old mid gathered (decoded_lines all) → Finishes why status mid new gathered last → Written why status old new all
+written the_status.SinkFault status old mid new gathered last all is g f = (f.0, subst (λ (k : Option (List ℕ)). WroteFront old k (decoded_lines all)) (sym f.1) g)
+written the_status.Done status old mid new gathered last all is g f = ends the_status.Done status old mid new gathered (decoded_lines all) last (dump_text all the_status.Done) (is (λ e. cc e)) g f
+written the_status.Usage status old mid new gathered last all is g f = ends the_status.Usage status old mid new gathered (decoded_lines all) last (dump_text all the_status.Usage) (is (λ e. cc e)) g f
+written (the_status.Script at fault) status old mid new gathered last all is g f = ends (the_status.Script at fault) status old mid new gathered (decoded_lines all) last (dump_text all (the_status.Script at fault)) (is (λ e. cc e)) g f
+written the_status.SourceFault status old mid new gathered last all is g f = ends the_status.SourceFault status old mid new gathered (decoded_lines all) last (dump_text all the_status.SourceFault) (is (λ e. cc e)) g f
+written the_status.HostFault status old mid new gathered last all is g f = ends the_status.HostFault status old mid new gathered (decoded_lines all) last (dump_text all the_status.HostFault) (is (λ e. cc e)) g f
+written the_status.StoreFault status old mid new gathered last all is g f = ends the_status.StoreFault status old mid new gathered (decoded_lines all) last (dump_text all the_status.StoreFault) (is (λ e. cc e)) g f
+written (the_status.Limit at kind) status old mid new gathered last all is g f = ends (the_status.Limit at kind) status old mid new gathered (decoded_lines all) last (dump_text all (the_status.Limit at kind)) (is (λ e. cc e)) g f
+written the_status.NoMemory status old mid new gathered last all is g f = ends the_status.NoMemory status old mid new gathered (decoded_lines all) last (dump_text all the_status.NoMemory) (is (λ e. cc e)) g f
+
+-- the lines were read and the dump ended
+pub dumps : (start old mid new : Option (List ℕ)) (why status : Status) (gathered : List ℕ) (lines packets faults : ℕ)
+    → DumpsLines start why old mid gathered lines packets faults → Finishes why status mid new gathered (end_line lines packets faults why) → Dumps start status old new
+dumps start old mid new why status gathered lines packets faults read finishes =
+    let last : why ≢ the_status.SinkFault → dump_text read.all why ≡ decoded_lines read.all ++ end_line lines packets faults why =
+    λ other. ap (λ (l : List ℕ). decoded_lines read.all ++ l)
+    (ap (λ (n : ℕ). end_line n (count_by is_packet read.all) (count_by is_fault read.all) why) (sym (read.lines_are other))
+    ∙ ap (λ (n : ℕ). end_line lines n (count_by is_fault read.all) why) (sym read.packets_are)
+    ∙ ap (λ (n : ℕ). end_line lines packets n why) (sym read.faults_are)) in
+    record {
+      all = read.all;
+      left = read.left;
+      taken = read.taken;
+      are = read.are;
+      why = why;
+      stop = read.stop;
+      written = written why status old mid new gathered (end_line lines packets faults why) read.all last read.gathers finishes;
+    }

@@ -1,0 +1,18 @@
+use Rattle.std.proofs.Common.{◌≡◌, ◌+◌, ◌-◌, ◌≤◌}
+use Rattle.domain_script.specs.declared.lines.LinesStop.TheVariants.{Going}
+use Rattle.domain_script.specs.LinesState.{to_come}
+use Rattle.ldom_dump.proofs.DumpLemmas.{LinesSoFar}
+use Rattle.ldom_dump.proofs.lines.dump_lines.Given as goal
+
+abbrev pub invariant-loop-bytes : goal.invariant-loop-bytes
+invariant-loop-bytes g l = record {
+  going : l.lines.stop ≡ Going;
+  few : l.lines.number ≤ 20000;
+  sum : l.packets + l.faults ≡ l.lines.number;
+  so_far : LinesSoFar (to_come l.fn.lines (g.S.Source.left l.fn.source)) (to_come l.lines (g.S.Source.left l.source)) (g.K.Sink.written l.fn.out) (g.K.Sink.written l.out) l.text l.lines.number l.packets l.faults;
+  source_count : g.S.Source.faults l.fn.source ≤ g.S.Source.faults l.source;
+  sink_count : g.K.Sink.faults l.fn.out ≤ g.K.Sink.faults l.out;
+}
+
+abbrev pub decreases-loop-bytes : goal.decreases-loop-bytes
+decreases-loop-bytes g l = 20000 - l.lines.number

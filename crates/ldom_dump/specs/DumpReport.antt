@@ -1,0 +1,43 @@
+-- The text of a dump, and what a dump did.
+use Rattle.std.specs.Prelude.{◌≡◌, ℕ, ◌⊎◌, List, ◌++◌, length, map, codes, Option}
+use Rattle.std.specs.Io.KnownBytes.{Appends}
+use Rattle.std.specs.List.{count_by}
+use Rattle.domain_script.specs.ScriptLines.{TakesLines}
+use Rattle.ldom_journal.specs.declared.status.Status.{Status}
+use Rattle.ldom_journal.specs.declared.status.Status.TheVariants.{SinkFault}
+use Rattle.ldom_journal.specs.Gathered.{WroteFront}
+use Rattle.ldom_journal.specs.LinesEnd.{counted_lines}
+use Rattle.ldom_journal.specs.Report.{cause_text}
+use Rattle.ldom_journal.specs.Status.{status_number}
+use Rattle.ldom_dump.specs.Decoded.{AreOfLines, Decoded, decoded_lines, is_fault, is_packet}
+use Rattle.ldom_dump.specs.Fields.{field_text}
+use Rattle.ldom_dump.specs.Reading.{StopsAt}
+
+-- how many lines were taken up, how many of them are packets, and how many aren't
+abbrev pub counts_text : ℕ → ℕ → ℕ → List ℕ
+counts_text lines packets faults = field_text (codes "end lines=") lines ++ field_text (codes " packets=") packets ++ field_text (codes " faults=") faults
+
+-- the line that ends a dump
+abbrev pub end_line : ℕ → ℕ → ℕ → Status → List ℕ
+end_line lines packets faults why = counts_text lines packets faults ++ field_text (codes " status=") (status_number why) ++ cause_text why ++ codes "\n"
+
+-- the text of a dump that ends so behind these lines
+abbrev pub dump_text : List Decoded → Status → List ℕ
+dump_text all why = decoded_lines all ++ end_line (counted_lines why (length all)) (count_by is_packet all) (count_by is_fault all) why
+
+-- The sink failed behind some front of the lines, or the lines were read to where reading ended; then the whole text was
+-- written, or the sink failed behind some front of it.
+abbrev pub Written : Status → Status → Option (List ℕ) → Option (List ℕ) → List Decoded → Type 0
+Written SinkFault status old new all = (status ≡ SinkFault) × WroteFront old new (decoded_lines all)
+Written why status old new all = ((status ≡ why) × Appends old new (dump_text all why)) ⊎ ((status ≡ SinkFault) × WroteFront old new (dump_text all why))
+
+-- These lines were read and decoded from the front of what a source gives, and then no further one.
+pub record Dumps (start : Option (List ℕ)) (status : Status) (old new : Option (List ℕ)) : Type 0 where
+  pub all : List Decoded
+  pub left : Option (List ℕ)
+  pub taken : TakesLines start left (map (λ decoded. decoded.line) all)
+  pub are : AreOfLines all
+  -- why reading ended
+  pub why : Status
+  pub stop : StopsAt why left (length all)
+  pub written : Written why status old new all

@@ -1,0 +1,37 @@
+// The command `dump`.
+ghost use Rattle.std.specs.Prelude.{◌≡◌, ◌≤◌, ◌⊎◌, ℕ, List, Some};
+ghost use Rattle.vio_io.specs.Causes.{Rose};
+ghost use Rattle.ldom_dump.specs.DumpReport.{Dumps};
+ghost use Rattle.ldom_dump.specs.Whole.{IsWhole};
+
+use crate::end_line::finish;
+use crate::lines::dump_all;
+use ldom_journal::{Status, Text};
+use std::alloc::Global;
+use vio_io::{Sink, Source};
+
+/// Does all of the command `dump`: reads lines of 128 lower-case hexadecimal digits, within the limits of a script's
+/// lines, and writes for each the fields of the packet that its 64 bytes spell, or what is wrong with it, and those of
+/// the message that the packet carries whole; at last how the lines ended. The text is written as the lines are read.
+///
+/// Answers `Done` at the end; `Script` with `Hex` at a line that isn't 128 such digits; `Limit` at a line that is too
+/// long or one too many; `SourceFault` and `SinkFault` where one of them failed; `NoMemory`.
+pub fn dump<S: Source, K: Sink>(alloc: Global, script: &mut S, out: &mut K) -> Status
+    // The text is that of the lines up to where the reading ended, and an end line that says why. Of it all was written,
+    // or a front where the sink failed.
+    ensures dumps { Dumps (S.left script.old) result (K.written out.old) (K.written out.new) }
+
+    // A script of packets alone is dumped to its end, unless something failed.
+    ensures complete { (bytes : List ℕ) → S.left script.old ≡ Some bytes → IsWhole bytes → ¬ Rose (S.faults script.old) (S.faults script.new) → ¬ Rose (K.faults out.old) (K.faults out.new)
+        → (result ≡ Status.Done) ⊎ (result ≡ Status.NoMemory) }
+
+    // A fault of the outside is answered only where its count rose.
+    ensures source_fault { result ≡ Status.SourceFault → Rose (S.faults script.old) (S.faults script.new) }
+    ensures sink_fault { result ≡ Status.SinkFault → Rose (K.faults out.old) (K.faults out.new) }
+    ensures source_count { S.faults script.old ≤ S.faults script.new }
+    ensures sink_count { K.faults out.old ≤ K.faults out.new }
+{
+    let mut text = Text::new();
+    let ended = dump_all(alloc, script, &mut text, out);
+    finish(&mut text, &ended, out)
+}

@@ -1,0 +1,26 @@
+-- Why a reader gave no further line, as a status.
+use Rattle.std.specs.Prelude.{◌≡◌, ◌≢◌, ℕ, ◌+◌, ◌<◌, List, [], Option, IfSome}
+use Rattle.domain_script.specs.declared.lines.LinesFault.{LinesFault}
+use Rattle.domain_script.specs.declared.lines.LinesFault.TheVariants.{Source, Long, Many, Memory}
+use Rattle.domain_script.specs.ScriptLines.{BeginsWithLonger}
+use Rattle.ldom_journal.specs.declared.status.LimitKind.{LimitKind}
+use Rattle.ldom_journal.specs.declared.status.LimitKind.TheVariants.{Lines, Bytes}
+use Rattle.ldom_journal.specs.declared.status.Status.{Status}
+use Rattle.ldom_journal.specs.declared.status.Status.TheVariants as status
+
+-- the limit that the next line doesn't keep: too many lines, or too many bytes
+abbrev pub IsPast : LimitKind → Option (List ℕ) → ℕ → Type 0
+IsPast Lines rest count = (count ≡ 20000) × IfSome rest (λ bytes. bytes ≢ [])
+IsPast Bytes rest count = (count < 20000) × IfSome rest (BeginsWithLonger 3100)
+
+-- how many lines the report counts: those that were taken up, and one that has a fault
+abbrev pub counted_lines : Status → ℕ → ℕ
+counted_lines (status.Script at fault) count = count + 1
+counted_lines other count = count
+
+-- a fault of the reader as a status, behind so many lines
+abbrev pub stopped : LinesFault → ℕ → Status
+stopped Source count = status.SourceFault
+stopped Memory count = status.NoMemory
+stopped Long count = status.Limit (count + 1) Bytes
+stopped Many count = status.Limit (count + 1) Lines
