@@ -1,4 +1,4 @@
--- A command line of two words.
+-- A command line of one word, and of two.
 use Rattle.std.proofs.Common.{◌≡◌, ◌↔◌, ℕ, ◌<◌, ◌≤◌, Bool, List, [], ◌∷◌, length, map, get_or, sym, ◌∙◌, ap, arith, IsTrue}
 use Rattle.std.specs.Str.{bytes_eq}
 use Rattle.std.proofs.lemmas.Slice.Eq.{bytes_eq-Decides}
@@ -17,4 +17,19 @@ two_words {X} text xs a b first second test least most at_first at_second is tes
     let decides = bytes_eq-Decides (text b) second in (
       λ true_is. whole ∙ ap (λ (l : List ℕ). l ∷ text b ∷ []) is ∙ ap (λ (l : List ℕ). first ∷ l ∷ []) (decides.0 (sym tests ∙ true_is)),
       λ same. tests ∙ decides.1 (let both : text a ∷ text b ∷ [] ≡ first ∷ second ∷ [] = sym whole ∙ same in cc both),
+    )
+
+one_item : {X : Type 0} (xs : List X) (a : X) → 1 ≤ length xs → length xs < 2 → a ≡ get_or xs 0 a → xs ≡ a ∷ []
+one_item [] a least most first = absurd (omega arith)
+one_item (x ∷ []) a least most first = ap (λ z. z ∷ []) (sym first)
+one_item (x ∷ y ∷ xs) a least most first = absurd (omega arith)
+
+-- it is the word that is wanted exactly where its text is
+pub one_word : {X : Type 0} (text : X → List ℕ) (xs : List X) (a : X) (word : List ℕ) (test : Bool) → 1 ≤ length xs → length xs < 2 → a ≡ get_or xs 0 a
+    → test ≡ bytes_eq (text a) word → IsTrue test ↔ (map text xs ≡ word ∷ [])
+one_word {X} text xs a word test least most at_first tests =
+    let whole : map text xs ≡ text a ∷ [] = ap (λ (l : List X). map text l) (one_item xs a least most at_first) in
+    let decides = bytes_eq-Decides (text a) word in (
+      λ true_is. whole ∙ ap (λ (l : List ℕ). l ∷ []) (decides.0 (sym tests ∙ true_is)),
+      λ same. tests ∙ decides.1 (let both : text a ∷ [] ≡ word ∷ [] = sym whole ∙ same in cc both),
     )

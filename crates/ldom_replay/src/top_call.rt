@@ -10,6 +10,8 @@ ghost use Rattle.disk_law.specs.Issued.{CompletesOnceInOrder};
 ghost use Rattle.ldom_journal.specs.Gathered.{WroteFront};
 ghost use Rattle.ldom_journal.specs.HasWords.{HasWords};
 ghost use Rattle.ldom_journal.specs.Report.{report, usage_line};
+ghost use Rattle.ldom_dump.specs.DumpReport.{Dumps};
+ghost use Rattle.ldom_dump.specs.Whole.{IsWhole};
 ghost use Rattle.ldom_replay.specs.Clean.{IsCleanScript, StandsStill};
 ghost use Rattle.ldom_replay.specs.Failures.{SucceedOrFail, failed_count};
 ghost use Rattle.ldom_replay.specs.Outside.{KeepsOthers, accepted_requests};
@@ -22,6 +24,7 @@ ghost use Rattle.ldom_replay.specs.Whole.{RunsPlainly, RunsWhole};
 
 use crate::run::{Run, run_script};
 use domain_script::Names;
+use ldom_dump::dump;
 use ldom_journal::{Journal, Mode, Status, write_end};
 use std::alloc::Global;
 use vio_io::{Failed, Host, Sink, Source, Store};
@@ -35,7 +38,8 @@ pub struct Outcome<D: Store> {
 }
 
 /// Does what the words of a command line say, without the program's name: `run -` runs the script that the source
-/// gives over an image of zeros, and writes the short report to the sink. Other words are answered by the usage line.
+/// gives over an image of zeros, and writes the short report to the sink; `dump` writes the fields of the packets that
+/// it gives in hexadecimal digits. Other words are answered by the usage line.
 pub fn replay<H: Host, S: Source, K: Sink>(
     alloc: Global,
     words: &[String],
@@ -62,8 +66,14 @@ pub fn replay<H: Host, S: Source, K: Sink>(
         → StandsStill (S.faults script.old) (S.faults script.new) → StandsStill (H.faults host.old) (H.faults host.new) → StandsStill (K.faults out.old) (K.faults out.new)
         → IfSome result.image (λ image. H.Disk.faults image ≡ 0) → (result.status ≡ Status.Done) ⊎ (result.status ≡ Status.NoMemory) }
 
-    // Other words are no command.
-    ensures usage { map string_bytes words.now ≢ codes "run" ∷ codes "-" ∷ [] → Reports Status.Usage result.status (K.written out.old) (K.written out.new) usage_line }
+    // Packets are dumped up to where the lines end; a script of packets alone to its end, where no count rose and memory
+    // suffices.
+    ensures dumps { map string_bytes words.now ≡ codes "dump" ∷ [] → Dumps (S.left script.old) result.status (K.written out.old) (K.written out.new) }
+    ensures dumps_whole { map string_bytes words.now ≡ codes "dump" ∷ [] → (bytes : List ℕ) → S.left script.old ≡ Some bytes → IsWhole bytes
+        → StandsStill (S.faults script.old) (S.faults script.new) → StandsStill (K.faults out.old) (K.faults out.new) → (result.status ≡ Status.Done) ⊎ (result.status ≡ Status.NoMemory) }
+
+    // Other words are no command. What isn't a run has no journal and no image.
+    ensures usage { map string_bytes words.now ≢ codes "run" ∷ codes "-" ∷ [] → map string_bytes words.now ≢ codes "dump" ∷ [] → Reports Status.Usage result.status (K.written out.old) (K.written out.new) usage_line }
     ensures nothing { map string_bytes words.now ≢ codes "run" ∷ codes "-" ∷ [] → (result.journal.entries ≡ []) × IsNone result.image }
 
     // For every disk: completions are in the order of issue, each request's at most once.
@@ -86,6 +96,8 @@ pub fn replay<H: Host, S: Source, K: Sink>(
 {
     if is_run(words) {
         report_run(run_script(alloc, host, script), out)
+    } else if is_dump(words) {
+        report_dump(alloc, script, out)
     } else {
         report_usage(Journal::new(alloc), out)
     }
@@ -98,6 +110,36 @@ fn is_run(words: &[String]) -> bool
     match words {
         [command, image] => command.as_str() == "run" && image.as_str() == "-",
         _ => false,
+    }
+}
+
+// Whether the only word is `dump`.
+fn is_dump(words: &[String]) -> bool
+    ensures { IsTrue result ↔ (map string_bytes words.now ≡ codes "dump" ∷ []) }
+{
+    match words {
+        [command] => command.as_str() == "dump",
+        _ => false,
+    }
+}
+
+// Dumps packets: nothing is journalled, and no image is attached.
+fn report_dump<D: Store, S: Source, K: Sink>(alloc: Global, script: &mut S, out: &mut K) -> Outcome<D>
+    ensures dumps { Dumps (S.left script.old) result.status (K.written out.old) (K.written out.new) }
+    ensures whole { (bytes : List ℕ) → S.left script.old ≡ Some bytes → IsWhole bytes → ¬ Rose (S.faults script.old) (S.faults script.new) → ¬ Rose (K.faults out.old) (K.faults out.new)
+        → (result.status ≡ Status.Done) ⊎ (result.status ≡ Status.NoMemory) }
+    ensures journal { result.journal ≡ record { entries = []; room = 0 } }
+    ensures image { IsNone result.image }
+    ensures source_fault { result.status ≡ Status.SourceFault → Rose (S.faults script.old) (S.faults script.new) }
+    ensures sink_fault { result.status ≡ Status.SinkFault → Rose (K.faults out.old) (K.faults out.new) }
+    ensures no_host { result.status ≢ Status.HostFault }
+    ensures source_count { S.faults script.old ≤ S.faults script.new }
+    ensures sink_count { K.faults out.old ≤ K.faults out.new }
+{
+    Outcome {
+        status: dump(alloc, script, out),
+        journal: Journal::new(alloc),
+        image: None,
     }
 }
 

@@ -33,16 +33,23 @@ pub returns-then-is_run-clause-once : goal.returns-then-is_run-clause-once
 returns-then-is_run-clause-once g c disk =
     subst (λ (j : JournalState). CompletesOnceInOrder (history disk j.entries)) (sym c.report_run.ensures.journal) (once _ _ _ _ _ _ _ _ _ c.run_script.ensures.replayed disk)
 
-pub returns-else-is_run-clause-once : goal.returns-else-is_run-clause-once
-returns-else-is_run-clause-once g c disk =
+pub returns-then-is_dump-clause-once : goal.returns-then-is_dump-clause-once
+returns-then-is_dump-clause-once g c disk =
+    subst (λ (l : List Entry). CompletesOnceInOrder (history disk l)) (sym (ap (λ (j : JournalState). j.entries) c.report_dump.ensures.journal)) (none_once [] refl)
+
+pub returns-else-is_dump-clause-once : goal.returns-else-is_dump-clause-once
+returns-else-is_dump-clause-once g c disk =
     subst (λ (l : List Entry). CompletesOnceInOrder (history disk l)) (sym (ap (λ (j : JournalState). j.entries) (c.report_usage.ensures.journal ∙ c.new.ensures))) (none_once [] refl)
 
 pub returns-then-is_run-clause-statuses : goal.returns-then-is_run-clause-statuses
 returns-then-is_run-clause-statuses g c =
     subst (λ (j : JournalState). SucceedOrFail j.entries) (sym c.report_run.ensures.journal) (statuses _ _ _ _ _ _ _ _ _ c.run_script.ensures.replayed)
 
-pub returns-else-is_run-clause-statuses : goal.returns-else-is_run-clause-statuses
-returns-else-is_run-clause-statuses g c = subst (λ (l : List Entry). SucceedOrFail l) (sym (ap (λ (j : JournalState). j.entries) (c.report_usage.ensures.journal ∙ c.new.ensures))) tt
+pub returns-then-is_dump-clause-statuses : goal.returns-then-is_dump-clause-statuses
+returns-then-is_dump-clause-statuses g c = subst (λ (l : List Entry). SucceedOrFail l) (sym (ap (λ (j : JournalState). j.entries) c.report_dump.ensures.journal)) tt
+
+pub returns-else-is_dump-clause-statuses : goal.returns-else-is_dump-clause-statuses
+returns-else-is_dump-clause-statuses g c = subst (λ (l : List Entry). SucceedOrFail l) (sym (ap (λ (j : JournalState). j.entries) (c.report_usage.ensures.journal ∙ c.new.ensures))) tt
 
 pub returns-then-is_run-clause-failures : goal.returns-then-is_run-clause-failures
 returns-then-is_run-clause-failures g c =
@@ -69,3 +76,6 @@ returns-then-is_run-clause-complete g c words bytes known clean source host sink
     completes _ _ _ _ _ _ _ _ _ c.run_script.ensures.replayed c.report_run.result.status (g.K.Sink.written c.args.out.now) (g.K.Sink.written c.report_run.new.out) _ bytes c.report_run.ensures.reports known clean
     (λ ran. still _ _ source (c.run_script.ensures.source_fault ran)) (λ ran. still _ _ host (c.run_script.ensures.host_fault ran)) (λ told ran. still _ _ sink (c.report_run.ensures.sink_fault told ran))
     (subst (λ (i : Option g.row.H-Disk.Denot). IfSome i (λ image. g.H.Disk.Store.faults image ≡ 0)) c.report_run.ensures.image store)
+
+pub returns-then-is_dump-clause-dumps_whole : goal.returns-then-is_dump-clause-dumps_whole
+returns-then-is_dump-clause-dumps_whole g c words bytes known whole source sink = c.report_dump.ensures.whole bytes known whole (still _ _ source) (still _ _ sink)
