@@ -124,7 +124,11 @@ fn is_dump(words: &[String]) -> bool
 }
 
 // Dumps packets: nothing is journalled, and no image is attached.
-fn report_dump<D: Store, S: Source, K: Sink>(alloc: Global, script: &mut S, out: &mut K) -> Outcome<D>
+fn report_dump<D: Store, S: Source, K: Sink>(
+    alloc: Global,
+    script: &mut S,
+    out: &mut K,
+) -> Outcome<D>
     ensures dumps { Dumps (S.left script.old) result.status (K.written out.old) (K.written out.new) }
     ensures whole { (bytes : List ℕ) → S.left script.old ≡ Some bytes → IsWhole bytes → ¬ Rose (S.faults script.old) (S.faults script.new) → ¬ Rose (K.faults out.old) (K.faults out.new)
         → (result.status ≡ Status.Done) ⊎ (result.status ≡ Status.NoMemory) }

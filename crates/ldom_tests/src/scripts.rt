@@ -183,3 +183,45 @@ fn a_write_stands_in_the_image(rt: HostRuntime) -> Result<(), Fail> {
     }
     Ok(())
 }
+
+#[test]
+fn a_failing_host_has_its_status(rt: HostRuntime) -> Result<(), Fail> {
+    let alloc = rt.alloc();
+    let words = words_of(alloc, &["run", "-"])?;
+    let mut host = ListHost::new(alloc, "img", &[], &[], true)?;
+    let mut source = ListSource::new(alloc, b"disk d0 64 8 16\nsettle\n", 4_096, &[])?;
+    let mut sink = ListSink::new(alloc, 4_096, &[])?;
+    let outcome = replay(alloc, &words, &mut host, &mut source, &mut sink);
+    assert_eq!(rt;
+        sink.bytes(),
+        b"end lines=2 accepted=0 done=0 pending=0 resets=0 frames=0 status=5\n".as_slice()
+    );
+    assert_eq!(rt; outcome.status.number(), 5);
+    assert!(rt; outcome.image.is_none());
+    Ok(())
+}
+
+#[test]
+fn packets_are_dumped(rt: HostRuntime) -> Result<(), Fail> {
+    let alloc = rt.alloc();
+    let mut version = String::from_str(alloc, "010101000000000000010000")?;
+    for _ in version.len()..128 {
+        version.push('0')?;
+    }
+    for (lines, report, status) in [
+        (
+            version.as_bytes(),
+            "ctrl vers info seq=0 major=1 minor=0\nend lines=1 packets=1 faults=0 status=0\n",
+            0u8,
+        ),
+        (
+            b"\n".as_slice(),
+            "end lines=1 packets=0 faults=0 status=2 at=1 fault=hex\n",
+            2,
+        ),
+    ] {
+        let outcome = compare(&rt, alloc, &["dump"], lines, report, status)?;
+        assert!(rt; outcome.image.is_none() && outcome.journal.is_empty());
+    }
+    Ok(())
+}
