@@ -10,7 +10,7 @@ use Rattle.domain_script.specs.declared.event.Event.{Event}
 use Rattle.domain_script.specs.declared.event.Event.TheVariants as line
 use Rattle.domain_script.specs.LinesState.{LinesState, to_come}
 use Rattle.domain_script.specs.NamesState.{NamesState, noted}
-use Rattle.domain_script.specs.ScriptLines.{script_lines}
+use Rattle.domain_script.specs.ScriptLines.{script_lines, TakesLines}
 use Rattle.ldom_journal.specs.declared.entry.Entry.{Entry}
 use Rattle.ldom_journal.specs.declared.status.Status.{Status}
 use Rattle.ldom_journal.specs.declared.status.Status.TheVariants as status
@@ -18,9 +18,10 @@ use Rattle.disk_law.specs.ListState.{ListState}
 use Rattle.ldom_replay.specs.Going.{Grew, IsReaders, RunsAll, RunsLines}
 use Rattle.ldom_replay.specs.Opening.{AreOpening, Opened, Opens, OpensAndStops}
 use Rattle.ldom_replay.specs.Parts.{Fits, FitsSoFar, LineStep}
-use Rattle.ldom_replay.specs.Reading.{StopsAt, counted_lines}
+use Rattle.ldom_journal.specs.LinesEnd.{counted_lines}
+use Rattle.ldom_replay.specs.Reading.{StopsAt}
 use Rattle.ldom_replay.specs.Replayed.{FaultsAre, JournalIs, Replayed, Stopped, attach_status, ended_status, start_of}
-use Rattle.ldom_replay.specs.Script.{AllSpell, TakesLines, FitsScript, FitsCutOff, no_names}
+use Rattle.ldom_replay.specs.Script.{AllSpell, FitsScript, FitsCutOff, no_names}
 use Rattle.ldom_replay.proofs.ReadLemmas.{read_none}
 use Rattle.ldom_replay.proofs.RunLemmas.{fits_more, fits_none}
 

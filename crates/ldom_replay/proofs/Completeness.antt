@@ -4,7 +4,7 @@ use Rattle.std.specs.Prelude.{◌==◌, if◌then◌else◌, Bool, true, false, 
 use Rattle.vio_io.specs.Causes.{Rose}
 use Rattle.domain_script.specs.declared.event.Event.{Event}
 use Rattle.domain_script.specs.NamesState.{NamesState}
-use Rattle.domain_script.specs.ScriptLines.{script_lines, with_front, TakesLine, BeginsWithLonger}
+use Rattle.domain_script.specs.ScriptLines.{script_lines, with_front, TakesLine, BeginsWithLonger, TakesLines}
 use Rattle.domain_script.specs.Spells.{Spells}
 use Rattle.ldom_journal.specs.declared.entry.Entry.{Entry}
 use Rattle.ldom_journal.specs.declared.status.LimitKind.{LimitKind}
@@ -13,9 +13,10 @@ use Rattle.ldom_journal.specs.declared.status.Status.{Status}
 use Rattle.ldom_journal.specs.declared.status.Status.TheVariants as status
 use Rattle.ldom_replay.specs.Clean.{AreShort, IsCleanScript, StandsStill}
 use Rattle.ldom_replay.specs.Outcomes.{Reports}
-use Rattle.ldom_replay.specs.Reading.{IsFaulty, IsPast}
+use Rattle.ldom_journal.specs.LinesEnd.{IsPast}
+use Rattle.ldom_replay.specs.Reading.{IsFaulty}
 use Rattle.ldom_replay.specs.Replayed.{Replayed}
-use Rattle.ldom_replay.specs.Script.{AllSpell, TakesLines, no_names}
+use Rattle.ldom_replay.specs.Script.{AllSpell, no_names}
 use Rattle.ldom_replay.proofs.OneReading.{next_spells}
 
 pub still : (before now : ℕ) → StandsStill before now → Rose before now → ⊥

@@ -4,10 +4,10 @@ use Rattle.std.specs.Io.KnownBytes.{IsAtEnd}
 use Rattle.std.proofs.lemmas.List.{append-nil}
 use Rattle.domain_script.specs.declared.event.Event.{Event}
 use Rattle.domain_script.specs.NamesState.{NamesState, noted}
-use Rattle.domain_script.specs.ScriptLines.{script_lines}
+use Rattle.domain_script.specs.ScriptLines.{script_lines, TakesLines}
 use Rattle.domain_script.specs.Spells.{Spells}
 use Rattle.domain_script.proofs.OneEvent.{one_spelled}
-use Rattle.ldom_replay.specs.Script.{AllSpell, TakesLines}
+use Rattle.ldom_replay.specs.Script.{AllSpell}
 
 pub one_reading : (texts : List (List ℕ)) (names a b : NamesState) (es fs : List Event) → AllSpell texts names es a → AllSpell texts names fs b → (es ≡ fs) × (a ≡ b)
 one_reading [] names a b [] [] first second = (refl, first ∙ sym second)

@@ -3,12 +3,13 @@ use Rattle.std.proofs.Common.{◌≡◌, ℕ, ◌+◌, ◌≤◌, List, [], ◌�
 use Rattle.domain_script.specs.declared.event.Event.{Event}
 use Rattle.domain_script.specs.declared.event.Event.TheVariants as line
 use Rattle.domain_script.specs.NamesState.{NamesState, noted}
-use Rattle.domain_script.specs.ScriptLines.{script_lines, TakesLine}
+use Rattle.domain_script.specs.ScriptLines.{script_lines, TakesLine, TakesLines}
 use Rattle.domain_script.specs.Spells.{Spells}
 use Rattle.ldom_journal.specs.declared.status.Status.{Status}
 use Rattle.ldom_replay.specs.Opening.{AreOpening, Opens, OpensAndStops}
-use Rattle.ldom_replay.specs.Reading.{ReadsEvent, StopsAt, counted_lines}
-use Rattle.ldom_replay.specs.Script.{AllSpell, TakesLines, ReadSoFar, no_names}
+use Rattle.ldom_journal.specs.LinesEnd.{counted_lines}
+use Rattle.ldom_replay.specs.Reading.{ReadsEvent, StopsAt}
+use Rattle.ldom_replay.specs.Script.{AllSpell, ReadSoFar, no_names}
 
 pub takes_more : (start rest left : Option (List ℕ)) (texts : List (List ℕ)) (text : List ℕ) → TakesLines start rest texts → TakesLine rest left text → TakesLines start left (texts ++ text ∷ [])
 takes_more None rest left texts text before next = tt

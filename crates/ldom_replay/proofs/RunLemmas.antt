@@ -14,8 +14,10 @@ use Rattle.ldom_journal.specs.declared.status.Status.TheVariants as status
 use Rattle.disk_law.specs.ListState.{ListState}
 use Rattle.ldom_replay.specs.Going.{Grew, RunsLines}
 use Rattle.ldom_replay.specs.Parts.{Fits, FitsSoFar, IsForDisk, LineStep}
-use Rattle.ldom_replay.specs.Reading.{ReadsEvent, StopsAt, counted_lines}
-use Rattle.ldom_replay.specs.Script.{AllSpell, TakesLines, FitsScript}
+use Rattle.ldom_journal.specs.LinesEnd.{counted_lines}
+use Rattle.ldom_replay.specs.Reading.{ReadsEvent, StopsAt}
+use Rattle.domain_script.specs.ScriptLines.{TakesLines}
+use Rattle.ldom_replay.specs.Script.{AllSpell, FitsScript}
 use Rattle.ldom_replay.proofs.ReadLemmas.{takes_more, spell_more}
 
 -- no line yet

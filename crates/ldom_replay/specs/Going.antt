@@ -6,9 +6,11 @@ use Rattle.ldom_journal.specs.declared.entry.Entry.{Entry}
 use Rattle.ldom_journal.specs.declared.status.Status.{Status}
 use Rattle.ldom_journal.specs.declared.status.Status.TheVariants as status
 use Rattle.disk_law.specs.ListState.{ListState}
-use Rattle.ldom_replay.specs.Reading.{StopsAt, counted_lines}
+use Rattle.ldom_journal.specs.LinesEnd.{counted_lines}
+use Rattle.ldom_replay.specs.Reading.{StopsAt}
 use Rattle.ldom_replay.specs.Replayed.{Stopped}
-use Rattle.ldom_replay.specs.Script.{AllSpell, TakesLines, FitsScript, FitsCutOff}
+use Rattle.domain_script.specs.ScriptLines.{TakesLines}
+use Rattle.ldom_replay.specs.Script.{AllSpell, FitsScript, FitsCutOff}
 
 -- what the journal got by how it ended: after want of memory the last line's part may be cut off
 abbrev pub Grew : Status → ListState → List Event → List Entry → ListState → Type 0

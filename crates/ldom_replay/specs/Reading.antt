@@ -1,16 +1,13 @@
 -- One line of a script after another, and why no further one is taken up.
-use Rattle.std.specs.Prelude.{◌≡◌, ◌≢◌, ℕ, ◌+◌, ◌<◌, List, [], Option, IfSome, ⊤}
+use Rattle.std.specs.Prelude.{◌≡◌, ℕ, ◌+◌, List, Option, ⊤}
 use Rattle.std.specs.Io.KnownBytes.{IsAtEnd}
 use Rattle.domain_script.specs.declared.event.Event.{Event}
 use Rattle.domain_script.specs.declared.event.LineFault.{LineFault}
 use Rattle.domain_script.specs.declared.event.LineFault.TheVariants.{Word}
-use Rattle.domain_script.specs.declared.lines.LinesFault.{LinesFault}
-use Rattle.domain_script.specs.declared.lines.LinesFault.TheVariants.{Source, Long, Many, Memory}
 use Rattle.domain_script.specs.NamesState.{NamesState, noted}
-use Rattle.domain_script.specs.ScriptLines.{TakesLine, BeginsWithLonger}
+use Rattle.domain_script.specs.ScriptLines.{TakesLine}
 use Rattle.domain_script.specs.Spells.{Spells}
-use Rattle.ldom_journal.specs.declared.status.LimitKind.{LimitKind}
-use Rattle.ldom_journal.specs.declared.status.LimitKind.TheVariants.{Lines, Bytes}
+use Rattle.ldom_journal.specs.LinesEnd.{IsPast}
 use Rattle.ldom_journal.specs.declared.status.Status.{Status}
 use Rattle.ldom_journal.specs.declared.status.Status.TheVariants as status
 
@@ -29,11 +26,6 @@ pub record IsFaulty (rest : Option (List ℕ)) (names : NamesState) (fault : Lin
   pub nothing : (event : Event) → Spells text names event → ⊥
   pub word : fault ≡ Word
 
--- the limit that the next line doesn't keep: too many lines, or too many bytes
-abbrev pub IsPast : LimitKind → Option (List ℕ) → ℕ → Type 0
-IsPast Lines rest count = (count ≡ 20000) × IfSome rest (λ bytes. bytes ≢ [])
-IsPast Bytes rest count = (count < 20000) × IfSome rest (BeginsWithLonger 3100)
-
 -- why no line is taken up behind so many, with these bytes still to come
 abbrev pub StopsAt : Status → Option (List ℕ) → NamesState → ℕ → Type 0
 StopsAt (status.Script at fault) rest names count = (at ≡ count + 1) × IsFaulty rest names fault
@@ -45,15 +37,3 @@ StopsAt status.HostFault rest names count = ⊤
 StopsAt status.NoMemory rest names count = ⊤
 StopsAt status.Usage rest names count = ⊥
 StopsAt status.SinkFault rest names count = ⊥
-
--- how many lines the report counts: those that were taken up, and one that has a fault
-abbrev pub counted_lines : Status → ℕ → ℕ
-counted_lines (status.Script at fault) count = count + 1
-counted_lines other count = count
-
--- a fault of the reader as a status, behind so many lines
-abbrev pub stopped : LinesFault → ℕ → Status
-stopped Source count = status.SourceFault
-stopped Memory count = status.NoMemory
-stopped Long count = status.Limit (count + 1) Bytes
-stopped Many count = status.Limit (count + 1) Lines

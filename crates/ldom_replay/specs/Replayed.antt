@@ -8,7 +8,8 @@ use Rattle.ldom_journal.specs.declared.status.Status.TheVariants as status
 use Rattle.vio_io.specs.declared.host.AttachFault.{AttachFault}
 use Rattle.vio_io.specs.declared.host.AttachFault.TheVariants.{Failed, Memory}
 use Rattle.disk_law.specs.ListState.{ListState, fresh}
-use Rattle.ldom_replay.specs.Reading.{StopsAt, counted_lines}
+use Rattle.ldom_journal.specs.LinesEnd.{counted_lines}
+use Rattle.ldom_replay.specs.Reading.{StopsAt}
 use Rattle.ldom_replay.specs.Script.{ReadSoFar, FitsScript, FitsCutOff}
 use Rattle.ldom_replay.specs.Worlds.{blocks_of, ring_of}
 

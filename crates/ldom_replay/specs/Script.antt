@@ -1,10 +1,10 @@
 -- How far a script was read, and what became of its lines.
-use Rattle.std.specs.Prelude.{◌≡◌, ℕ, false, List, [], ◌∷◌, ◌++◌, length, map, Option, Some, None, ⊤}
+use Rattle.std.specs.Prelude.{◌≡◌, ℕ, false, List, [], ◌∷◌, ◌++◌, length, map, Option}
 use Rattle.std.specs.List.{flat_map}
 use Rattle.runs.specs.Run.{Run}
 use Rattle.domain_script.specs.declared.event.Event.{Event}
 use Rattle.domain_script.specs.NamesState.{NamesState, noted}
-use Rattle.domain_script.specs.ScriptLines.{script_lines}
+use Rattle.domain_script.specs.ScriptLines.{TakesLines}
 use Rattle.domain_script.specs.Spells.{Spells}
 use Rattle.ldom_journal.specs.declared.entry.Entry.{Entry}
 use Rattle.disk_law.specs.ListState.{ListState}
@@ -20,12 +20,6 @@ AllSpell [] names [] after = after ≡ names
 AllSpell [] names (event ∷ events) after = ⊥
 AllSpell (text ∷ texts) names [] after = ⊥
 AllSpell (text ∷ texts) names (event ∷ events) after = Spells text names event × AllSpell texts (noted names event) events after
-
--- known bytes begin with these lines, and what is left are the lines behind them
-abbrev pub TakesLines : Option (List ℕ) → Option (List ℕ) → List (List ℕ) → Type 0
-TakesLines None left texts = ⊤
-TakesLines (Some bytes) None texts = ⊥
-TakesLines (Some bytes) (Some left) texts = script_lines bytes ≡ texts ++ script_lines left
 
 -- these lines were read from the front of what a source gives, and spell these events
 pub record ReadSoFar (start left : Option (List ℕ)) (events : List Event) (names : NamesState) (count : ℕ) : Type 0 where

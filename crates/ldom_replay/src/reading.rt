@@ -5,10 +5,11 @@ ghost use Rattle.domain_script.specs.declared.lines.LinesStop.TheVariants.{Going
 ghost use Rattle.domain_script.specs.LinesState.{to_come};
 ghost use Rattle.domain_script.specs.Spells.{IsDeclared};
 ghost use Rattle.ldom_replay.specs.Going.{IsReaders};
-ghost use Rattle.ldom_replay.specs.Reading.{ReadsEvent, StopsAt, counted_lines, stopped};
+ghost use Rattle.ldom_journal.specs.LinesEnd.{counted_lines, stopped};
+ghost use Rattle.ldom_replay.specs.Reading.{ReadsEvent, StopsAt};
 
-use domain_script::{Event, Lines, LinesFault, Names, parse};
-use ldom_journal::{LimitKind, Status};
+use domain_script::{Event, Lines, Names, parse};
+use ldom_journal::Status;
 use vio_io::Source;
 
 /// The event of the next line, which is noted in the names; else why no line was taken up, `Done` at the end.
@@ -34,7 +35,7 @@ pub fn read_event<S: Source>(
     match lines.advance(source) {
         Ok(true) => {}
         Ok(false) => return Err(Status::Done),
-        Err(fault) => return Err(stop_of(fault, lines.number())),
+        Err(fault) => return Err(Status::of_lines(fault, lines.number())),
     }
     match parse(lines.line(), names) {
         Ok(event) => {
@@ -45,24 +46,5 @@ pub fn read_event<S: Source>(
             line: lines.number(),
             fault,
         }),
-    }
-}
-
-// What a fault of the reader is as a status, behind so many lines.
-fn stop_of(fault: LinesFault, number: u32) -> Status
-    requires { number < 2 ^ 32 - 1 }
-    ensures { result ≡ stopped fault number }
-{
-    match fault {
-        LinesFault::Source => Status::SourceFault,
-        LinesFault::Memory => Status::NoMemory,
-        LinesFault::Long => Status::Limit {
-            line: number + 1,
-            kind: LimitKind::Bytes,
-        },
-        LinesFault::Many => Status::Limit {
-            line: number + 1,
-            kind: LimitKind::Lines,
-        },
     }
 }
