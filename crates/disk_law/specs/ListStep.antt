@@ -1,10 +1,11 @@
 -- One thing that happens to a disk on a plain list of requests.
-use Rattle.std.specs.Prelude.{◌≡◌, ℕ, ◌+◌, ◌*◌, ◌<◌, ◌≤◌, ◌⊎◌, List, [], ◌∷◌, ◌++◌, length, Option, Some, None}
+use Rattle.std.specs.Prelude.{◌≡◌, ℕ, ◌+◌, ◌*◌, ◌-◌, ◌<◌, ◌≤◌, ◌⊎◌, min, List, [], ◌∷◌, ◌++◌, length, Option, Some, None}
 use Rattle.vio_io.specs.Causes.{Rose}
 use Rattle.vio_io.specs.Stores.{ReadsRange, WritesRange, KeepsOutside}
+use Rattle.vdisk_msg.specs.declared.request.Fill.{Fill}
 use Rattle.vdisk_msg.specs.declared.request.Request.{Request}
 use Rattle.vdisk_msg.specs.declared.request.Request.TheVariants.{Read, Write, Flush}
-use Rattle.disk_law.specs.Requests.{Defect, defect, operation_of, written}
+use Rattle.disk_law.specs.Requests.{Defect, defect, operation_of, repeated, written}
 use Rattle.disk_law.specs.ListState.{ListState, next_id}
 
 -- what was asked, and what came of it
@@ -23,10 +24,20 @@ Succeeds (Read block count) bytes before now = (length bytes ≡ 512 * count) ×
 Succeeds (Write block count fill) bytes before now = (bytes ≡ []) × WritesRange before now (512 * block) (written fill count)
 Succeeds Flush bytes before now = (bytes ≡ []) × (now ≡ before)
 
+-- a write that a failed call cut off: a front of its bytes was written, of what is behind at most the next 8,192 bytes may
+-- be anything, and all else is as it was
+pub record StopsWriting (fill : Fill) (start total : ℕ) (before now : Option (List ℕ)) : Type 0 where
+  -- how many of the bytes were written
+  pub done : ℕ
+  pub middle : Option (List ℕ)
+  pub front : WritesRange before middle start (repeated fill 0 done)
+  pub next : KeepsOutside middle now (start + done) (min 8192 (total - done))
+  pub others : KeepsOutside before now start total
+
 -- a request that a fault of the image cut off: what of the image it left alone
 abbrev pub CutOff : Request → Option (List ℕ) → Option (List ℕ) → Type 0
 CutOff (Read block count) before now = now ≡ before
-CutOff (Write block count fill) before now = KeepsOutside before now (512 * block) (512 * count)
+CutOff (Write block count fill) before now = StopsWriting fill (512 * block) (512 * count) before now
 CutOff Flush before now = now ≡ before
 
 -- It has status 0 where it succeeded, and 5 where the image failed: then the image's count rose.

@@ -57,7 +57,7 @@ request_kept blocks (Read block count) bytes old now none within came = elim cam
 ]
 request_kept blocks (Write block count fill) bytes old now none within came = elim came [
   | inl well ↦ write_kept blocks block count (Write block count fill) (written fill count) old now none within (length-repeated fill 0 (512 * count)) (λ place outside. outside) well.1
-  | inr cut ↦ range_kept block count (Write block count fill) old now (λ place outside. outside) cut
+  | inr cut ↦ range_kept block count (Write block count fill) old now (λ place outside. outside) cut.others
 ]
 request_kept blocks Flush bytes old now none within came = elim came [
   | inl well ↦ place_kept Flush old now well.1

@@ -4,7 +4,7 @@ ghost use Rattle.vio_io.specs.Causes.{Rose};
 ghost use Rattle.disk_law.specs.Requests.{defect, repeated};
 ghost use Rattle.vdisk_msg.specs.Fills.{IsFill, IsRequest};
 ghost use Rattle.vio_io.specs.Stores.{KeepsOutside, WritesRange};
-ghost use Rattle.disk_law.specs.ListStep.{CutOff, Succeeds};
+ghost use Rattle.disk_law.specs.ListStep.{CutOff, StopsWriting, Succeeds};
 
 use crate::transfer::{UNIT, lay_pattern, read_blocks, write_blocks};
 use vdisk_msg::{Fill, Request};
@@ -79,7 +79,7 @@ fn serve_write<D: Store>(
     requires fill { IsFill fill.now }
     requires pattern { length pattern.old ≡ 18432 }
     ensures told { OnOk result (WritesRange (D.content image.old) (D.content image.new) start (repeated fill.now 0 total)) }
-    ensures outside { OnErr result (KeepsOutside (D.content image.old) (D.content image.new) start total) }
+    ensures cut_off { OnErr result (StopsWriting fill.now start total (D.content image.old) (D.content image.new)) }
     ensures size { D.size image.new ≡ D.size image.old }
     ensures ok { OnOk result (D.faults image.new ≡ D.faults image.old) }
     ensures count { D.faults image.old ≤ D.faults image.new }

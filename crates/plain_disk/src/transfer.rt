@@ -2,6 +2,7 @@
 ghost use Rattle.std.specs.Prelude.{◌≡◌, ◌+◌, ◌*◌, ◌-◌, ◌%◌, ◌<◌, ◌≤◌, ◌^◌, ◌++◌, length, take, IfOk, OnErr, OnOk};
 ghost use Rattle.vio_io.specs.Causes.{Rose};
 ghost use Rattle.vio_io.specs.Stores.{KeepsOutside, ReadsRange, WritesRange};
+ghost use Rattle.disk_law.specs.ListStep.{StopsWriting};
 ghost use Rattle.disk_law.specs.Requests.{repeated};
 
 use vdisk_msg::Fill;
@@ -74,7 +75,7 @@ pub fn write_blocks<D: Store>(
     requires pattern { pattern.now ≡ repeated fill.now 0 (length pattern.now) }
     requires long { fill.now.len + 8192 ≤ length pattern.now }
     ensures told { OnOk result (WritesRange (D.content image.old) (D.content image.new) start (repeated fill.now 0 total)) }
-    ensures outside { OnErr result (KeepsOutside (D.content image.old) (D.content image.new) start total) }
+    ensures cut_off { OnErr result (StopsWriting fill.now start total (D.content image.old) (D.content image.new)) }
     ensures size { D.size image.new ≡ D.size image.old }
     ensures ok { OnOk result (D.faults image.new ≡ D.faults image.old) }
     ensures count { D.faults image.old ≤ D.faults image.new }
