@@ -19,16 +19,18 @@ pub fn parse(line: &[u8], names: &Names) -> Result<Event, LineFault>
     ensures can { IfOk result (CanNote names.now) }
     ensures named { IfOk result (IsDeclared names.now) }
 {
-    spelled_event(line, names).ok_or(LineFault::Word)
+    if is_blank(line) {
+        return Ok(Event::Blank);
+    }
+    spelled_row(line, names).ok_or(LineFault::Word)
 }
 
-fn spelled_event(line: &[u8], names: &Names) -> Option<Event>
+/// The event of a line that isn't blank.
+fn spelled_row(line: &[u8], names: &Names) -> Option<Event>
+    requires { IsBlank line.now → ⊥ }
     ensures some { IfSome result (Spells line.now names.now) }
     ensures none { IfNone result ((event : event_data) → Spells line.now names.now event → ⊥) }
 {
-    if is_blank(line) {
-        return Some(Event::Blank);
-    }
     match split_once(line) {
         Some((row, fields)) => row_with_fields(row, fields, names),
         None => settle_row(line, names),
@@ -45,10 +47,15 @@ fn is_blank(line: &[u8]) -> bool
     }
 }
 
+/// It looks at each byte, also behind one that isn't printable: so it can look at many at once.
 fn are_printable(bytes: &[u8]) -> bool
     ensures { result ≡ list_all is_printable bytes.now }
 {
-    bytes.iter().all(|b| *b >= b' ' && *b <= b'~')
+    let mut all = true;
+    for byte in bytes {
+        all &= *byte >= b' ' && *byte <= b'~';
+    }
+    all
 }
 
 /// A line spells at most one event.

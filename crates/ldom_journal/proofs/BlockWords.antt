@@ -3,7 +3,7 @@ use Rattle.std.proofs.Common.{◌≡◌, ℕ, zero, suc, ◌+◌, ◌-◌, ◌/�
 use Rattle.std.proofs.Math.Nat.{mod-eq_of_lt, mod-eq-sub-mod}
 use Rattle.std.proofs.lemmas.Bool.{cases_lt}
 use Rattle.std.proofs.lemmas.Bool.Decides.{same_from_decides}
-use Rattle.std.proofs.lemmas.List.{get_or-drop, get_or-take, get_or-map, length-map, length-drop, length-take, ext_get_or, get_or_append_left, at_drop_more}
+use Rattle.std.proofs.lemmas.List.{get_or-drop, get_or-take, get_or-map, length-map, length-drop, length-take, drop_all, ext_get_or, get_or_append_left, at_drop_more}
 use Rattle.std.proofs.lemmas.List.FromFn.{length-range_with_len, get_or-range_with_len}
 use Rattle.std.proofs.lemmas.Slice.Eq.{bytes_eq-Decides}
 use Rattle.std.specs.List.{range_with_len}
@@ -33,7 +33,7 @@ shifted_mod (suc fuel) xs n k small some is lt =
           ∙ ap (λ (i : ℕ). get_or xs i 0) (sym (mod-eq-sub-mod above))
     ]
 
-repetition_at : (xs : List ℕ) (n k : ℕ) → k < length xs → get_or (repetition xs n) k 0 ≡ get_or xs (k % n) 0
+pub repetition_at : (xs : List ℕ) (n k : ℕ) → k < length xs → get_or (repetition xs n) k 0 ≡ get_or xs (k % n) 0
 repetition_at xs n k lt =
     let long : length (range_with_len 0 (length xs)) ≡ length xs = length-range_with_len 0 (length xs) in
     get_or-map (λ (i : ℕ). get_or xs (i % n) 0) (range_with_len 0 (length xs)) k 0 0 (omega arith)
@@ -70,6 +70,14 @@ repeats_is xs n r some decides =
     let test : Decides (repeats xs n) (xs ≡ repetition xs n) = bytes_eq-Decides xs (repetition xs n) in
     same_from_decides r (repeats xs n) decides
     (λ e. shift_from_repeats xs n (test.0 e), λ is. test.1 (repeats_from_shift xs n some is))
+
+-- a block repeats itself
+pub repeats_whole : (block : List ℕ) → length block ≡ 512 → repeats block 512 ≡ true
+unfolding repeats
+repeats_whole block long =
+    let same : block ≡ repetition block 512 =
+    repeats_from_shift block 512 (omega arith) (drop_all 512 block (omega (arith, long)) ∙ sym (ap (λ (n : ℕ). take (n - 512) block) long)) in
+    (bytes_eq-Decides block (repetition block 512)).1 same
 
 -- the lengths of words that are shorter than a block
 abbrev shorter_lengths : List ℕ

@@ -1,5 +1,5 @@
 -- What is written of a text, and what is still gathered.
-use Rattle.std.proofs.Common.{◌≡◌, refl, ℕ, ◌+◌, ◌≤◌, List, [], ◌++◌, take, drop, Option, Result, Ok, Err, OnErr, sym, subst, ap, ◌∙◌, append_assoc, append-nil, ◌<◌, inl, inr, arith}
+use Rattle.std.proofs.Common.{◌≡◌, refl, ℕ, ◌+◌, ◌≤◌, List, [], ◌++◌, take, drop, Option, Result, Ok, Err, OnOk, OnErr, sym, subst, ap, ◌∙◌, append_assoc, append-nil, ◌<◌, inl, inr, arith}
 use Rattle.std.proofs.lemmas.Bool.{cases_lt}
 use Rattle.std.proofs.lemmas.List.{take-append-drop}
 use Rattle.std.proofs.Math.Seq.{take-add}
@@ -11,6 +11,14 @@ use Rattle.ldom_journal.specs.Gathered.{Gathers, WroteFront}
 pub on_err : {T E : Type 0} (r : Result T E) (P : Type 0) → P → OnErr r P
 on_err (Ok x) P p = tt
 on_err (Err e) P p = p
+
+pub on_ok_then : {T E P Q : Type 0} (r : Result T E) → (P → Q) → OnOk r P → OnOk r Q
+on_ok_then (Ok x) f p = f p
+on_ok_then (Err e) f p = tt
+
+pub on_err_then : {T E P Q : Type 0} (r : Result T E) → (P → Q) → OnErr r P → OnErr r Q
+on_err_then (Ok x) f p = tt
+on_err_then (Err e) f p = f p
 
 -- one more piece of a list was appended
 pub appends_piece : (a b c : Option (List ℕ)) (xs rest : List ℕ) (at n : ℕ) → rest ≡ drop at xs → Appends a b (take at xs) → Appends b c (take n rest) → Appends a c (take (at + n) xs)

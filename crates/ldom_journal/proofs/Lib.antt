@@ -1,3 +1,4 @@
 pub mod BlockWords
 pub mod GatheredText
+pub mod PackedBlocks
 pub mod ReportLines

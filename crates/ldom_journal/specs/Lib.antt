@@ -5,5 +5,6 @@ pub mod Gathered
 pub mod HasWords
 pub mod JournalState
 pub mod LinesEnd
+pub mod Packed
 pub mod Report
 pub mod Status

@@ -180,7 +180,7 @@ fn put_read<K: Sink>(text: &mut Text, entry: &Entry, out: &mut K) -> Result<(), 
             status: 0,
             bytes,
             ..
-        } => put_blocks(text, bytes.as_slice(), out),
+        } => put_blocks(text, bytes, out),
         _ => Ok(()),
     }
 }

@@ -108,6 +108,7 @@ impl<D: Store> PlainDisk<D> {
         requires few { next_id self.old.list < 2 ^ 64 - 1 }
         ensures accepted { IfOk result (λ id. ListStep self.old.list (Accepted id request.now) self.new.list) }
         ensures refused { IfErr result (λ fault. ListStep self.old.list (refusal fault request.now) self.new.list) }
+        ensures last { self.new.last ≡ self.old.last }
     {
         check_blocks(self.blocks, request)?;
         let id = self.done + self.pending.len() as u64;

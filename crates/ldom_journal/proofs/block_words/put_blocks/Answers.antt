@@ -1,34 +1,73 @@
-use Rattle.std.proofs.Common.{ℕ, ◌++◌, List, sym, subst, arith}
-use Rattle.ldom_journal.specs.BlockWord.{word_text, blocks_text}
-use Rattle.ldom_journal.specs.Gathered.{Gathers}
-use Rattle.ldom_journal.proofs.BlockWords.{blocks_text_more, blocks_text_end}
-use Rattle.ldom_journal.proofs.GatheredText.{on_err, gathers_behind, wrote_front_behind, rose_later}
+use Rattle.std.proofs.Common.{◌≡◌, ℕ, List, [], ◌++◌, append-nil, append_assoc, length, ◌+◌, ◌≤◌, take, drop, get_or, codes, sym, subst, ap, ◌∙◌, arith}
+use Rattle.hex.specs.Hex.{encode_lower}
+use Rattle.ldom_journal.specs.BlockWord.{blocks_text}
+use Rattle.ldom_journal.specs.Gathered.{Gathers, WroteFront}
+use Rattle.ldom_journal.specs.Packed.{AreKept, unpacked}
+use Rattle.ldom_journal.proofs.GatheredText.{on_err, on_ok_then, on_err_then, gathers_all, gathers_behind, wrote_front_behind, wrote_front_then}
+use Rattle.ldom_journal.proofs.PackedBlocks.{NextWord, next_word, next_text, no_word}
 use Rattle.ldom_journal.proofs.block_words.put_blocks.Goals as goal
+
+pub split_at-requires : goal.split_at-requires
+split_at-requires g c =
+    subst (λ (n : ℕ). n ≤ length c.loop-n.kept.now) (sym c.from.ensures)
+    (next_word c.words.result.0.now c.loop-n.kept.now c.loop-n.n-index c.loop-n-test.true c.loop-n.invariant.are).word.whole
+
+pub loop-n-init : goal.loop-n-init
+loop-n-init g c = record {
+  are = c.words.ensures.kept;
+  so_far = [];
+  whole = ap blocks_text (sym c.words.ensures.items);
+  gathers = subst (λ (l : List ℕ). Gathers (g.K.Sink.written c.args.out.now) (g.K.Sink.written c.args.out.now) c.args.text.now l) (sym (append-nil c.args.text.now)) (gathers_all _ c.args.text.now);
+  count = omega arith;
+}
 
 pub returns-in_err-put_word-clause-front : goal.returns-in_err-put_word-clause-front
 returns-in_err-put_word-clause-front g c =
-    let i = c.loop-block.invariant in
-    on_err c.from_residual.result _ (wrote_front_behind _ _ _ c.loop-block.text c.args.text.now i.so_far (blocks_text c.loop-block.rest.now) (blocks_text c.args.bytes.now) i.whole i.gathers c.in_err-put_word.ensures.front)
+    let i = c.loop-n.invariant in
+    on_err c.from_residual.result _ (wrote_front_behind _ _ _ c.loop-n.text c.args.text.now i.so_far (blocks_text (unpacked (drop c.loop-n.n-index c.words.result.0.now) c.loop-n.kept.now)) (blocks_text c.args.bytes.now.items) i.whole i.gathers c.in_err-put_word.ensures.front)
 
-pub returns-in_err-put_word-clause-cause : goal.returns-in_err-put_word-clause-cause
-returns-in_err-put_word-clause-cause g c =
-    on_err c.from_residual.result _ (rose_later _ _ _ c.loop-block.invariant.count c.put_word.ensures.count c.in_err-put_word.ensures.cause)
-
-pub loop-block-preserved : goal.loop-block-preserved
-loop-block-preserved g c =
-    let i = c.loop-block.invariant in
-    let cut = c.in-Some.ensures.cases in
-    let word : List ℕ = word_text c.in-Some.block.now in
+pub loop-n-preserved : goal.loop-n-preserved
+loop-n-preserved g c =
+    let i = c.loop-n.invariant in
+    let lengths : List ℕ = c.words.result.0.now in
+    let kept : List ℕ = c.loop-n.kept.now in
+    let at : ℕ = c.loop-n.n-index in
+    let n : ℕ = get_or lengths at 0 in
+    let next : NextWord lengths kept at n = next_word lengths kept at c.loop-n-test.true i.are in
+    let front : c.split_at.result.0.now ≡ take n kept =
+    subst (λ (m : ℕ). c.split_at.result.0.now ≡ take m kept) c.from.ensures c.split_at.ensures.front in
+    let back : c.split_at.result.1.now ≡ drop n kept =
+    subst (λ (m : ℕ). c.split_at.result.1.now ≡ drop m kept) c.from.ensures c.split_at.ensures.back in
+    let word : List ℕ = codes " *" ++ encode_lower (take n kept) in
     record {
+      are = subst (AreKept (drop (at + 1) lengths)) (sym back) next.others;
       so_far = i.so_far ++ word;
-      whole = blocks_text_more i.so_far (blocks_text c.args.bytes.now) c.loop-block.rest.now c.in-Some.block.now c.in-Some.behind.now i.whole cut.0 cut.1 cut.2;
-      gathers = gathers_behind _ _ _ c.loop-block.text c.put_word.new.text c.args.text.now i.so_far word i.gathers c.in_ok-put_word.ensures.told;
+      whole =
+          next_text lengths kept i.so_far (blocks_text c.args.bytes.now.items) at n next i.whole
+          ∙ ap (λ (l : List ℕ). i.so_far ++ word ++ blocks_text (unpacked (drop (at + 1) lengths) l)) (sym back);
+      gathers = gathers_behind _ _ _ c.loop-n.text c.put_word.new.text c.args.text.now i.so_far word i.gathers
+          (subst (λ (l : List ℕ). Gathers (g.K.Sink.written c.loop-n.out) (g.K.Sink.written c.put_word.new.out) c.put_word.new.text (c.loop-n.text ++ (codes " *" ++ encode_lower l))) front c.in_ok-put_word.ensures.told);
       count = omega (arith, i.count, c.put_word.ensures.count);
     }
 
 pub returns-clause-told : goal.returns-clause-told
 returns-clause-told g c =
-    let i = c.loop-block.invariant in
-    let short = c.in_default.ensures.cases in
-    subst (λ (l : List ℕ). Gathers (g.K.Sink.written c.args.out.now) (g.K.Sink.written c.loop-block.out) c.loop-block.text (c.args.text.now ++ l))
-    (sym (blocks_text_end i.so_far (blocks_text c.args.bytes.now) c.loop-block.rest.now i.whole short)) i.gathers
+    let i = c.loop-n.invariant in
+    let whole : i.so_far ++ blocks_text c.loop-n.kept.now ≡ blocks_text c.args.bytes.now.items =
+    sym (i.whole ∙ ap (λ (l : List ℕ). i.so_far ++ blocks_text l) (no_word c.words.result.0.now c.loop-n.kept.now c.loop-n.n-index c.loop-n-test.false)) in
+    on_ok_then c.put_plain.result
+    (λ told. subst (λ (l : List ℕ). Gathers (g.K.Sink.written c.args.out.now) (g.K.Sink.written c.put_plain.new.out) c.put_plain.new.text (c.args.text.now ++ l)) whole
+    (gathers_behind _ _ _ c.loop-n.text c.put_plain.new.text c.args.text.now i.so_far (blocks_text c.loop-n.kept.now) i.gathers told))
+    c.put_plain.ensures.told
+
+pub returns-clause-front : goal.returns-clause-front
+returns-clause-front g c =
+    let i = c.loop-n.invariant in
+    let whole : (c.args.text.now ++ i.so_far) ++ blocks_text c.loop-n.kept.now ≡ c.args.text.now ++ blocks_text c.args.bytes.now.items =
+    append_assoc c.args.text.now i.so_far (blocks_text c.loop-n.kept.now)
+    ∙ ap (λ (l : List ℕ). c.args.text.now ++ l)
+    (sym (i.whole ∙ ap (λ (l : List ℕ). i.so_far ++ blocks_text l) (no_word c.words.result.0.now c.loop-n.kept.now c.loop-n.n-index c.loop-n-test.false))) in
+    on_err_then c.put_plain.result
+    (λ front. subst (λ (l : List ℕ). WroteFront (g.K.Sink.written c.args.out.now) (g.K.Sink.written c.put_plain.new.out) l) whole
+    (wrote_front_then _ _ _ c.loop-n.text (c.args.text.now ++ i.so_far) (blocks_text c.loop-n.kept.now) i.gathers front))
+    c.put_plain.ensures.front

@@ -1,15 +1,14 @@
-use Rattle.std.proofs.Common.{◌≡◌, ◌++◌, ◌≤◌, ℕ, List, length}
+use Rattle.std.proofs.Common.{◌≡◌, ◌++◌, ◌≤◌, ℕ, List, drop}
 use Rattle.ldom_journal.specs.BlockWord.{blocks_text}
 use Rattle.ldom_journal.specs.Gathered.{Gathers}
+use Rattle.ldom_journal.specs.Packed.{AreKept, unpacked}
 use Rattle.ldom_journal.proofs.block_words.put_blocks.Given as goal
 
-abbrev pub invariant-loop-block : goal.invariant-loop-block
-invariant-loop-block g l = record {
+abbrev pub invariant-loop-n : goal.invariant-loop-n
+invariant-loop-n g l = record {
+  are : AreKept (drop l.n-index l.lengths) l.kept;
   so_far : List ℕ;
-  whole : blocks_text l.bytes ≡ so_far ++ blocks_text l.rest;
+  whole : blocks_text l.bytes.items ≡ so_far ++ blocks_text (unpacked (drop l.n-index l.lengths) l.kept);
   gathers : Gathers (g.K.Sink.written l.initial.out) (g.K.Sink.written l.out) l.text (l.initial.text ++ so_far);
   count : g.K.Sink.faults l.initial.out ≤ g.K.Sink.faults l.out;
 }
-
-abbrev pub decreases-loop-block : goal.decreases-loop-block
-decreases-loop-block g l = length l.rest
