@@ -1,8 +1,8 @@
 -- Lines of lists of bytes that have no line feed.
-use Rattle.std.proofs.Common.{◌≡◌, ◌≢◌, ℕ, Bool, false, eqb, cond, List, [], ◌∷◌, ◌++◌, length, refl, ◌∙◌, ap, arith, ⊎_elim}
+use Rattle.std.proofs.Common.{◌≡◌, ◌≢◌, ℕ, Bool, false, eqb, cond, List, [], ◌∷◌, ◌++◌, length, append_assoc, Option, Some, None, refl, sym, ◌∙◌, ap, arith, ⊎_elim}
 use Rattle.std.proofs.lemmas.Bool.Decides.{eqb_tells}
 use Rattle.std.proofs.lemmas.List.{length-append}
-use Rattle.domain_script.specs.ScriptLines.{script_lines, with_front, BeginsWithLonger}
+use Rattle.domain_script.specs.ScriptLines.{script_lines, with_front, BeginsWithLonger, TakesLine, TakesLines}
 use Rattle.domain_script.specs.Pieces.{HasNoFeed, IsTooLong}
 
 not_feed : (b : ℕ) → b ≢ 10 → eqb b 10 ≡ false
@@ -62,3 +62,16 @@ begins_longer bytes long =
       is = ap (λ (l : List ℕ). script_lines l) long.is ∙ first.is;
       long = omega (arith, long.long, length-append long.front first.more);
     }
+
+-- no line was taken yet
+pub takes_none : (start : Option (List ℕ)) → TakesLines start start []
+takes_none None = tt
+takes_none (Some bytes) = refl
+
+-- one line more was taken
+pub takes_more : (start rest left : Option (List ℕ)) (texts : List (List ℕ)) (text : List ℕ) → TakesLines start rest texts → TakesLine rest left text → TakesLines start left (texts ++ text ∷ [])
+takes_more None rest left texts text before next = tt
+takes_more (Some bytes) None left texts text before next = absurd before
+takes_more (Some bytes) (Some rest) None texts text before next = absurd next
+takes_more (Some bytes) (Some rest) (Some left) texts text before next =
+    before ∙ ap (λ (l : List (List ℕ)). texts ++ l) next ∙ sym (append_assoc texts (text ∷ []) (script_lines left))

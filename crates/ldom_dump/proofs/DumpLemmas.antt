@@ -1,10 +1,11 @@
 -- The lines of a dump, one after another.
-use Rattle.std.proofs.Common.{◌≡◌, ◌≢◌, inl, inr, ℕ, ◌+◌, ◌⊎◌, Bool, true, false, List, [], ◌∷◌, ◌++◌, length, map, refl, sym, ◌∙◌, ap, subst, append_assoc, length-append, arith, Option, Some, None}
+use Rattle.std.proofs.Common.{◌≡◌, ◌≢◌, inl, inr, ℕ, ◌+◌, ◌⊎◌, Bool, true, false, List, [], ◌∷◌, ◌++◌, length, map, refl, sym, ◌∙◌, ap, subst, length-append, arith, Option, Some}
 use Rattle.std.specs.Io.KnownBytes.{Appends}
 use Rattle.std.specs.List.{count_by}
 use Rattle.std.proofs.lemmas.List.{flat_map_more, map-append}
 use Rattle.std.proofs.lemmas.List.Sums.{sum_by-append}
-use Rattle.domain_script.specs.ScriptLines.{TakesLine, TakesLines, script_lines}
+use Rattle.domain_script.specs.ScriptLines.{TakesLines}
+use Rattle.domain_script.proofs.ScriptLemmas.{takes_more, takes_none}
 use Rattle.ldom_journal.specs.declared.status.Status.{Status}
 use Rattle.ldom_journal.specs.declared.status.Status.TheVariants as the_status
 use Rattle.ldom_journal.specs.Gathered.{Gathers, WroteFront}
@@ -19,18 +20,6 @@ use Rattle.ldom_dump.specs.Reading.{IsReaders, ReadsBytes, StopsAt}
 pub tells_carried : (of : Option (List ℕ)) (bytes old new : List ℕ) → of ≡ Some bytes → TellsMessage bytes old new → TellsCarried of old new
 tells_carried of bytes old new is tells =
     subst (λ (o : Option (List ℕ)). TellsCarried o old new) (sym is) (record { said = Some tells.said; carries = tells.says; is = tells.is })
-
--- one line more was taken
-pub takes_more : (start rest left : Option (List ℕ)) (texts : List (List ℕ)) (text : List ℕ) → TakesLines start rest texts → TakesLine rest left text → TakesLines start left (texts ++ text ∷ [])
-takes_more None rest left texts text before next = tt
-takes_more (Some bytes) None left texts text before next = absurd before
-takes_more (Some bytes) (Some rest) None texts text before next = absurd next
-takes_more (Some bytes) (Some rest) (Some left) texts text before next =
-    before ∙ ap (λ (l : List (List ℕ)). texts ++ l) next ∙ sym (append_assoc texts (text ∷ []) (script_lines left))
-
-takes_none : (start : Option (List ℕ)) → TakesLines start start []
-takes_none None = tt
-takes_none (Some bytes) = refl
 
 are_push : (all : List Decoded) (decoded : Decoded) → AreOfLines all → IsOfLine decoded → AreOfLines (all ++ decoded ∷ [])
 are_push [] decoded are is = (is, tt)

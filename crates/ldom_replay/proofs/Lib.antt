@@ -10,7 +10,6 @@ mod PlainLines
 mod PlainRows
 mod QuietNames
 mod ReadLemmas
-mod ReportText
 mod RunFacts
 mod RunLemmas
 mod ScriptLaws

@@ -1,22 +1,15 @@
 -- A script, line after line.
-use Rattle.std.proofs.Common.{◌≡◌, ℕ, ◌+◌, ◌≤◌, List, [], ◌∷◌, ◌++◌, length, refl, sym, ◌∙◌, ap, subst, append_assoc, length-append, arith, true, Option, Some, None}
+use Rattle.std.proofs.Common.{◌≡◌, ℕ, ◌+◌, ◌≤◌, List, [], ◌∷◌, ◌++◌, length, sym, ◌∙◌, ap, subst, length-append, arith, true, Option}
 use Rattle.domain_script.specs.declared.event.Event.{Event}
 use Rattle.domain_script.specs.declared.event.Event.TheVariants as line
 use Rattle.domain_script.specs.NamesState.{NamesState, noted}
-use Rattle.domain_script.specs.ScriptLines.{script_lines, TakesLine, TakesLines}
 use Rattle.domain_script.specs.Spells.{Spells}
+use Rattle.domain_script.proofs.ScriptLemmas.{takes_more, takes_none}
 use Rattle.ldom_journal.specs.declared.status.Status.{Status}
 use Rattle.ldom_replay.specs.Opening.{AreOpening, Opens, OpensAndStops}
 use Rattle.ldom_journal.specs.LinesEnd.{counted_lines}
 use Rattle.ldom_replay.specs.Reading.{ReadsEvent, StopsAt}
 use Rattle.ldom_replay.specs.Script.{AllSpell, ReadSoFar, no_names}
-
-pub takes_more : (start rest left : Option (List ℕ)) (texts : List (List ℕ)) (text : List ℕ) → TakesLines start rest texts → TakesLine rest left text → TakesLines start left (texts ++ text ∷ [])
-takes_more None rest left texts text before next = tt
-takes_more (Some bytes) None left texts text before next = absurd before
-takes_more (Some bytes) (Some rest) None texts text before next = absurd next
-takes_more (Some bytes) (Some rest) (Some left) texts text before next =
-    before ∙ ap (λ (l : List (List ℕ)). texts ++ l) next ∙ sym (append_assoc texts (text ∷ []) (script_lines left))
 
 pub spell_more : (texts : List (List ℕ)) (text : List ℕ) (first names after : NamesState) (events : List Event) (event : Event) → AllSpell texts first events names → Spells text names event → after ≡ noted names event
     → AllSpell (texts ++ text ∷ []) first (events ++ event ∷ []) after
@@ -37,8 +30,7 @@ read_more start rest left events event names after count next so_far reads is = 
 
 -- no line yet
 pub read_none : (start : Option (List ℕ)) (names : NamesState) (count : ℕ) → names ≡ no_names → count ≡ 0 → ReadSoFar start start [] names count
-read_none None names count is zero = record { texts = []; taken = tt; spell = is; counts = zero }
-read_none (Some bytes) names count is zero = record { texts = []; taken = refl; spell = is; counts = zero }
+read_none start names count is zero = record { texts = []; taken = takes_none start; spell = is; counts = zero }
 
 -- blank lines and declarations so far
 pub record OpensSoFar (start left : Option (List ℕ)) (names : NamesState) (count : ℕ) : Type 0 where

@@ -18,7 +18,8 @@ use Rattle.ldom_journal.specs.LinesEnd.{counted_lines}
 use Rattle.ldom_replay.specs.Reading.{ReadsEvent, StopsAt}
 use Rattle.domain_script.specs.ScriptLines.{TakesLines}
 use Rattle.ldom_replay.specs.Script.{AllSpell, FitsScript}
-use Rattle.ldom_replay.proofs.ReadLemmas.{takes_more, spell_more}
+use Rattle.domain_script.proofs.ScriptLemmas.{takes_more}
+use Rattle.ldom_replay.proofs.ReadLemmas.{spell_more}
 
 -- no line yet
 pub fits_none : (s : ListState) → FitsScript s [] [] s

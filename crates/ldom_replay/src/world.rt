@@ -143,7 +143,7 @@ impl<D: Store> World<D> {
 
 /// How many blocks the disks have together.
 pub fn blocks_declared(names: &Names) -> u64
-    ensures blocks { result ≡ blocks_of names.now.disks }
+    ensures declared { result ≡ blocks_of names.now.disks }
     ensures few { result ≤ 65536 }
 {
     match names.disk(0) {
