@@ -8,8 +8,8 @@ use Rattle.std.proofs.lemmas.List.FromFn.{length-map-range_with_len, get_or-map-
 use Rattle.std.proofs.lemmas.Slice.Eq.{bytes_eq-Decides}
 use Rattle.hex.specs.Hex.{encode_lower}
 use Rattle.std.specs.List.{sum}
-use Rattle.ldom_journal.specs.BlockWord.{blocks_text, repetition, repeats, word_length, word_text}
-use Rattle.ldom_journal.specs.Packed.{AreKept, IsKept, block_of, cycle, unpacked}
+use Rattle.ldom_journal.specs.BlockWord.{blocks_text, cycle, repetition, repeats, word_length, word_text}
+use Rattle.ldom_journal.specs.Packed.{AreKept, IsKept, block_of, unpacked}
 use Rattle.ldom_journal.proofs.BlockWords.{blocks_text_more, repetition_at}
 
 -- one more byte

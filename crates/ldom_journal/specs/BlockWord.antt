@@ -4,9 +4,13 @@ use Rattle.std.specs.List.{range_with_len}
 use Rattle.std.specs.Str.{bytes_eq}
 use Rattle.hex.specs.Hex.{encode_lower}
 
+-- the first n bytes of a list, again and again: m bytes
+abbrev pub cycle : ℕ → ℕ → List ℕ → List ℕ
+cycle n m bytes = map (λ k. slice_index bytes (k % n)) (range_with_len 0 m)
+
 -- the first n bytes of a block, again and again, as long as the block
 abbrev pub repetition : List ℕ → ℕ → List ℕ
-repetition block n = map (λ k. slice_index block (k % n)) (range_with_len 0 (length block))
+repetition block n = cycle n (length block) block
 
 -- whether a block repeats its first n bytes
 unfoldable pub repeats : List ℕ → ℕ → Bool

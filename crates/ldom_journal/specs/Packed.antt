@@ -1,14 +1,9 @@
 -- Blocks of 512 bytes that are kept as the words that they repeat. `lengths` are those of the words, and `kept` are the
 -- words, one behind the other, and bytes behind them that are kept as they are.
-use Rattle.std.specs.Prelude.{◌≡◌, ℕ, ⊤, ◌%◌, ◌<◌, ◌≤◌, List, [], ◌∷◌, ◌++◌, length, drop, map, slice_index}
-use Rattle.std.specs.List.{range_with_len}
-use Rattle.ldom_journal.specs.BlockWord.{word_length}
+use Rattle.std.specs.Prelude.{◌≡◌, ℕ, ⊤, ◌<◌, ◌≤◌, List, [], ◌∷◌, ◌++◌, length, drop}
+use Rattle.ldom_journal.specs.BlockWord.{cycle, word_length}
 
--- m bytes that repeat the first n of a list
-abbrev pub cycle : ℕ → ℕ → List ℕ → List ℕ
-cycle n m bytes = map (λ k. slice_index bytes (k % n)) (range_with_len 0 m)
-
--- the block that does so
+-- the block that repeats the first n bytes of a list
 unfoldable pub block_of : ℕ → List ℕ → List ℕ
 block_of n bytes = cycle n 512 bytes
 

@@ -9,7 +9,7 @@ use std::marker::Model;
 use vio_bytes::NoMemory;
 
 /// The bytes of an entry, as those that a read gave, and the room that is left for more of them. As long as they come in
-/// whole blocks of 512, each block is kept as the shortest word that it repeats: most blocks of a disk repeat a short one.
+/// whole blocks of 512 bytes, a block is kept as the shortest word that it repeats.
 #[derive(Debug, Drop)]
 pub struct Bytes {
     /// How long the word of each block is.
@@ -92,7 +92,7 @@ impl Bytes {
         give_back(&mut self.kept, self.room);
     }
 
-    /// All the bytes.
+    /// A copy of all the bytes.
     pub fn to_vec(&self, alloc: Global) -> Result<Vec<u8>, NoMemory>
         ensures { IfOk result (λ bytes. bytes.items ≡ self.now.items) }
     {
@@ -106,12 +106,14 @@ impl Bytes {
         Ok(bytes)
     }
 
+    /// How many bytes there are.
     pub fn len(&self) -> usize
         ensures { result ≡ length self.now.items }
     {
         BLOCK * self.lengths.len() + self.plain
     }
 
+    /// Whether there are no bytes.
     pub fn is_empty(&self) -> bool
         ensures { IsTrue result ↔ (length self.now.items ≡ 0) }
     {

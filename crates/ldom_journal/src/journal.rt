@@ -72,6 +72,7 @@ impl Journal {
         self.room -= 1;
     }
 
+    /// How many entries there are.
     pub fn len(&self) -> usize
         ensures count { result ≡ length self.now.entries }
         ensures small { length self.now.entries < 2 ^ 63 }
@@ -79,6 +80,7 @@ impl Journal {
         self.entries.len()
     }
 
+    /// Whether there are no entries.
     pub fn is_empty(&self) -> bool
         ensures { IsTrue result ↔ (length self.now.entries ≡ 0) }
     {

@@ -30,6 +30,7 @@ impl KeptRequest {
         })
     }
 
+    /// The request.
     pub fn get(&self) -> &Request
         ensures { result.now ≡ self.now }
     {

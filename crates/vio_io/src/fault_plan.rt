@@ -21,6 +21,7 @@ impl Model for FaultPlan {
 }
 
 impl FaultPlan {
+    /// No call was made yet; the calls with these numbers, counted from 0, will fail.
     pub fn new(alloc: Global, failing: &[u64]) -> Result<Self, NoMemory>
         ensures { IfOk result (λ p. p ≡ record { failing = failing.now; calls = 0; faults = 0 }) }
     {

@@ -1,5 +1,5 @@
 use Rattle.std.proofs.Common.{◌≡◌, ◌++◌}
-use Rattle.ldom_journal.specs.Packed.{cycle}
+use Rattle.ldom_journal.specs.BlockWord.{cycle}
 use Rattle.ldom_journal.proofs.bytes.push_block.Given as goal
 
 abbrev pub invariant-loop-k : goal.invariant-loop-k
