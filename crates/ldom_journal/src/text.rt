@@ -79,6 +79,7 @@ impl Text {
     pub fn make_room<K: Sink>(&mut self, n: usize, out: &mut K) -> Result<(), Failed>
         requires { n ≤ TEXT_ROOM }
         ensures room { OnOk result (length self.new + n ≤ TEXT_ROOM) }
+        ensures kept { OnErr result (self.new ≡ self.old) }
         ensures told { OnOk result (Gathers (K.written out.old) (K.written out.new) self.new self.old) }
         ensures front { OnErr result (WroteFront (K.written out.old) (K.written out.new) self.old) }
         ensures count { K.faults out.old ≤ K.faults out.new }
@@ -93,6 +94,7 @@ impl Text {
     /// Writes all that was gathered.
     pub fn flush<K: Sink>(&mut self, out: &mut K) -> Result<(), Failed>
         ensures empty { OnOk result (self.new ≡ []) }
+        ensures kept { OnErr result (self.new ≡ self.old) }
         ensures told { OnOk result (Appends (K.written out.old) (K.written out.new) self.old) }
         ensures front { OnErr result (WroteFront (K.written out.old) (K.written out.new) self.old) }
         ensures count { K.faults out.old ≤ K.faults out.new }
