@@ -12,6 +12,8 @@ use Rattle.domain_script.specs.LinesState.{LinesState, to_come}
 use Rattle.domain_script.specs.NamesState.{NamesState, noted}
 use Rattle.domain_script.specs.ScriptLines.{script_lines, TakesLines}
 use Rattle.ldom_journal.specs.declared.entry.Entry.{Entry}
+use Rattle.domain_script.specs.declared.event.LineFault.{LineFault}
+use Rattle.ldom_journal.specs.declared.status.LimitKind.{LimitKind}
 use Rattle.ldom_journal.specs.declared.status.Status.{Status}
 use Rattle.ldom_journal.specs.declared.status.Status.TheVariants as status
 use Rattle.disk_law.specs.ListState.{ListState}
@@ -151,77 +153,54 @@ runs_first_cut start rest event names s t journal number opens fits = record {
 pub runs_none_more : (start : Option (List ℕ)) (names : NamesState) (s : ListState) (lines : ℕ) → OpensAndStops start status.Done names lines → RunsAll start names s status.Done names [] s lines
 runs_none_more start names s lines opens = record { events = opens.opening; stopped = opens.stopped; fits = fits_opening s opens.opening opens.are; disks = refl }
 
--- what the status of a run says is so whether the image failed or not
+-- what holds of each status with which reading ends
+by_readers : (P : Status → Type 0) → P status.Done → ((at : ℕ) (fault : LineFault) → P (status.Script at fault)) → P status.SourceFault → ((at : ℕ) (kind : LimitKind) → P (status.Limit at kind)) → P status.NoMemory
+    → (why : Status) → IsReaders why → P why
+by_readers P done script source limit memory status.Done readers = done
+by_readers P done script source limit memory (status.Script at fault) readers = script at fault
+by_readers P done script source limit memory status.SourceFault readers = source
+by_readers P done script source limit memory (status.Limit at kind) readers = limit at kind
+by_readers P done script source limit memory status.NoMemory readers = memory
+by_readers P done script source limit memory status.Usage readers = absurd readers
+by_readers P done script source limit memory status.SinkFault readers = absurd readers
+by_readers P done script source limit memory status.HostFault readers = absurd readers
+by_readers P done script source limit memory status.StoreFault readers = absurd readers
+
+-- what holds of a run's status whether the image failed or not
+ended_as : (P : Status → Type 0) (why : Status) (faulty : Bool) → IsReaders why → (P status.Done → P status.StoreFault) → P why → P (ended_status why faulty)
+ended_as P why faulty readers also =
+    by_readers (λ (w : Status). P w → P (ended_status w faulty)) (done faulty) (λ at fault p. p) (λ p. p) (λ at kind p. p) (λ p. p) why readers
+  where
+    done : (faulty : Bool) → P status.Done → P (ended_status status.Done faulty)
+    done true p = also p
+    done false p = p
+
 ended_stop : (why : Status) (faulty : Bool) (names : NamesState) (left : Option (List ℕ)) (count : ℕ) → IsReaders why → StopsAt why left names count → StopsAt (ended_status why faulty) left names count
-ended_stop status.Done true names left count readers stop = stop
-ended_stop status.Done false names left count readers stop = stop
-ended_stop (status.Script at fault) faulty names left count readers stop = stop
-ended_stop status.SourceFault faulty names left count readers stop = stop
-ended_stop (status.Limit at kind) faulty names left count readers stop = stop
-ended_stop status.NoMemory faulty names left count readers stop = stop
-ended_stop status.Usage faulty names left count readers stop = absurd readers
-ended_stop status.SinkFault faulty names left count readers stop = absurd readers
-ended_stop status.HostFault faulty names left count readers stop = absurd readers
-ended_stop status.StoreFault faulty names left count readers stop = absurd readers
+ended_stop why faulty names left count readers = ended_as (λ (w : Status). StopsAt w left names count) why faulty readers (λ stop. stop)
 
 ended_count : (why : Status) (faulty : Bool) (count : ℕ) → IsReaders why → counted_lines why count ≡ counted_lines (ended_status why faulty) count
-ended_count status.Done true count readers = refl
-ended_count status.Done false count readers = refl
-ended_count (status.Script at fault) faulty count readers = refl
-ended_count status.SourceFault faulty count readers = refl
-ended_count (status.Limit at kind) faulty count readers = refl
-ended_count status.NoMemory faulty count readers = refl
-ended_count status.Usage faulty count readers = absurd readers
-ended_count status.SinkFault faulty count readers = absurd readers
-ended_count status.HostFault faulty count readers = absurd readers
-ended_count status.StoreFault faulty count readers = absurd readers
+ended_count why faulty count readers = ended_as (λ (w : Status). counted_lines why count ≡ counted_lines w count) why faulty readers (λ is. is) refl
 
 ended_journal : (why : Status) (faulty : Bool) (s t : ListState) (events : List Event) (journal : List Entry) → IsReaders why → Grew why s events journal t → JournalIs (ended_status why faulty) s events journal t
-ended_journal status.Done true s t events journal readers grew = grew
-ended_journal status.Done false s t events journal readers grew = grew
-ended_journal (status.Script at fault) faulty s t events journal readers grew = grew
-ended_journal status.SourceFault faulty s t events journal readers grew = grew
-ended_journal (status.Limit at kind) faulty s t events journal readers grew = grew
-ended_journal status.NoMemory faulty s t events journal readers grew = grew
-ended_journal status.Usage faulty s t events journal readers grew = absurd readers
-ended_journal status.SinkFault faulty s t events journal readers grew = absurd readers
-ended_journal status.HostFault faulty s t events journal readers grew = absurd readers
-ended_journal status.StoreFault faulty s t events journal readers grew = absurd readers
+ended_journal why faulty s t events journal readers grew =
+    ended_as (λ (w : Status). JournalIs w s events journal t) why faulty readers (λ is. is)
+    (by_readers (λ (w : Status). Grew w s events journal t → JournalIs w s events journal t) (λ is. is) (λ at fault is. is) (λ is. is) (λ at kind is. is) (λ is. is) why readers grew)
 
 ended_faults : {D : Type 0} (image : D) (why : Status) (faulty : Bool) (faults : ℕ) → IsReaders why → (IsTrue faulty ↔ (0 < faults)) → FaultsAre (ended_status why faulty) (Some image) faults
-ended_faults image status.Done true faults readers tells = (refl, tells.0 refl)
-ended_faults image status.Done false zero readers tells = (refl, refl)
-ended_faults image status.Done false (suc n) readers tells = absurd (cc (tells.1 (omega arith)))
-ended_faults image (status.Script at fault) faulty faults readers tells = tt
-ended_faults image status.SourceFault faulty faults readers tells = tt
-ended_faults image (status.Limit at kind) faulty faults readers tells = tt
-ended_faults image status.NoMemory faulty faults readers tells = tt
-ended_faults image status.Usage faulty faults readers tells = absurd readers
-ended_faults image status.SinkFault faulty faults readers tells = absurd readers
-ended_faults image status.HostFault faulty faults readers tells = absurd readers
-ended_faults image status.StoreFault faulty faults readers tells = absurd readers
+ended_faults image why faulty faults readers tells =
+    by_readers (λ (w : Status). FaultsAre (ended_status w faulty) (Some image) faults) (done faulty faults tells) (λ at fault. tt) tt (λ at kind. tt) tt why readers
+  where
+    done : (faulty : Bool) (faults : ℕ) → (IsTrue faulty ↔ (0 < faults)) → FaultsAre (ended_status status.Done faulty) (Some image) faults
+    done true faults tells = (refl, tells.0 refl)
+    done false zero tells = (refl, refl)
+    done false (suc n) tells = absurd (cc (tells.1 (omega arith)))
 
 opening_journal : (why : Status) (s : ListState) (events : List Event) → IsReaders why → FitsScript s events [] s → JournalIs why s events [] s
-opening_journal status.Done s events readers fits = fits
-opening_journal status.NoMemory s events readers fits = inl fits
-opening_journal (status.Script at fault) s events readers fits = fits
-opening_journal status.SourceFault s events readers fits = fits
-opening_journal (status.Limit at kind) s events readers fits = fits
-opening_journal status.Usage s events readers fits = absurd readers
-opening_journal status.SinkFault s events readers fits = absurd readers
-opening_journal status.HostFault s events readers fits = absurd readers
-opening_journal status.StoreFault s events readers fits = absurd readers
+opening_journal why s events readers fits = by_readers (λ (w : Status). JournalIs w s events [] s) fits (λ at fault. fits) fits (λ at kind. fits) (inl fits) why readers
 
 opening_faults : {D : Type 0} (image : Option D) (why : Status) (faults : ℕ) → IsReaders why → why ≢ status.Done → FaultsAre why image faults
-opening_faults image status.Done faults readers other = absurd (other refl)
-opening_faults image (status.Script at fault) faults readers other = tt
-opening_faults image status.SourceFault faults readers other = tt
-opening_faults image (status.Limit at kind) faults readers other = tt
-opening_faults image status.NoMemory faults readers other = tt
-opening_faults image status.Usage faults readers other = absurd readers
-opening_faults image status.SinkFault faults readers other = absurd readers
-opening_faults image status.HostFault faults readers other = absurd readers
-opening_faults image status.StoreFault faults readers other = absurd readers
+opening_faults image why faults readers =
+    by_readers (λ (w : Status). w ≢ status.Done → FaultsAre w image faults) (λ other. absurd (other refl)) (λ at fault other. tt) (λ other. tt) (λ at kind other. tt) (λ other. tt) why readers
 
 -- none of a line's steps were made
 none_of : (s : ListState) (event : Event) → FitsSoFar s event [] [] s
