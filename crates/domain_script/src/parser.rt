@@ -47,7 +47,7 @@ fn is_blank(line: &[u8]) -> bool
     }
 }
 
-/// It looks at each byte, also behind one that isn't printable: so it can look at many at once.
+/// Whether bytes are printable. Each is looked at, also behind one that isn't, so that many can be at once.
 fn are_printable(bytes: &[u8]) -> bool
     ensures { result ≡ list_all is_printable bytes.now }
 {
