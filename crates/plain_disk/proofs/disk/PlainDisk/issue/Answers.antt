@@ -25,7 +25,7 @@ invariant_of-self g c =
             sound = subst (λ (b : Buffer Request). AreSound c.self.inside.blocks b.items) (sym is) (sound_push c.self.inside.blocks old.items c.args.request.now c.self.invariant.sound (search rules) c.requires.fill);
             ids = omega arith;
             buffer = c.self.invariant.buffer;
-            given = c.self.invariant.given;
+            given = omega (arith, c.self.invariant.given);
             pattern = c.self.invariant.pattern;
           }
       | in-Err w ↦
@@ -37,7 +37,7 @@ invariant_of-self g c =
             sound = subst (λ (b : Buffer Request). AreSound c.self.inside.blocks b.items) (sym is) c.self.invariant.sound;
             ids = subst (λ (b : Buffer Request). c.self.inside.done + length b.items < 2 ^ 64) (sym is) c.self.invariant.ids;
             buffer = c.self.invariant.buffer;
-            given = c.self.invariant.given;
+            given = omega (arith, c.self.invariant.given);
             pattern = c.self.invariant.pattern;
           }
     ]
