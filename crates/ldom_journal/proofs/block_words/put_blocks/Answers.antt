@@ -1,25 +1,11 @@
-use Rattle.std.proofs.Common.{◌≡◌, ℕ, List, [], ◌++◌, append-nil, append_assoc, length, ◌+◌, ◌≤◌, take, drop, get_or, codes, sym, subst, ap, ◌∙◌, arith}
+use Rattle.std.proofs.Common.{◌≡◌, ℕ, List, ◌++◌, append_assoc, ◌+◌, take, drop, get_or, codes, sym, subst, ap, ◌∙◌, arith}
 use Rattle.hex.specs.Hex.{encode_lower}
 use Rattle.ldom_journal.specs.BlockWord.{blocks_text}
 use Rattle.ldom_journal.specs.Gathered.{Gathers, WroteFront}
 use Rattle.ldom_journal.specs.Packed.{AreKept, unpacked}
-use Rattle.ldom_journal.proofs.GatheredText.{on_err, on_ok_then, on_err_then, gathers_all, gathers_behind, wrote_front_behind, wrote_front_then}
+use Rattle.ldom_journal.proofs.GatheredText.{on_err, on_ok_then, on_err_then, gathers_behind, wrote_front_behind, wrote_front_then}
 use Rattle.ldom_journal.proofs.PackedBlocks.{NextWord, next_word, next_text, no_word}
 use Rattle.ldom_journal.proofs.block_words.put_blocks.Goals as goal
-
-pub split_at-requires : goal.split_at-requires
-split_at-requires g c =
-    subst (λ (n : ℕ). n ≤ length c.loop-n.kept.now) (sym c.from.ensures)
-    (next_word c.words.result.0.now c.loop-n.kept.now c.loop-n.n-index c.loop-n-test.true c.loop-n.invariant.are).word.whole
-
-pub loop-n-init : goal.loop-n-init
-loop-n-init g c = record {
-  are = c.words.ensures.kept;
-  so_far = [];
-  whole = ap blocks_text (sym c.words.ensures.items);
-  gathers = subst (λ (l : List ℕ). Gathers (g.K.Sink.written c.args.out.now) (g.K.Sink.written c.args.out.now) c.args.text.now l) (sym (append-nil c.args.text.now)) (gathers_all _ c.args.text.now);
-  count = omega arith;
-}
 
 pub returns-in_err-put_word-clause-front : goal.returns-in_err-put_word-clause-front
 returns-in_err-put_word-clause-front g c =
