@@ -1,3 +1,4 @@
+pub mod Decoding
 pub mod Fault
 pub mod Form
 pub mod Spelling

@@ -93,7 +93,7 @@ payload Rdx = replicate 56 0
 payload (Part start stop len bytes) = bytes
 
 -- the canonical spelling: the fields of the packet, and zeros elsewhere
-abbrev pub canonical : Packet → List ℕ
+unfoldable pub canonical : Packet → List ℕ
 canonical packet =
     type_code packet.body ∷ subtype_code packet.subtype ∷ ctrl_byte packet.body ∷ env_byte packet.body
     ∷ (big_bytes 4 packet.seqid ++ payload packet.body)

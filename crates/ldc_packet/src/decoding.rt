@@ -1,8 +1,9 @@
 // From bytes to a packet.
 
-ghost use Rattle.std.specs.Prelude.{◌≡◌, ◌≢◌, ◌-◌, ◌<◌, ◌≤◌, ◌%◌, ◌⊎◌, length, take, drop, replicate, IfSome, IfNone, IfOk, IfErr};
+ghost use Rattle.std.specs.Prelude.{◌≡◌, ◌-◌, ◌≤◌, Some, false, length, take, drop, replicate, IfSome, IfNone};
 ghost use Rattle.vio_bytes.specs.Place.{number_at};
-ghost use Rattle.ldc_packet.specs.Fault.{IsFirstFault};
+ghost use Rattle.ldc_packet.specs.Decoding.{Unpacks};
+ghost use Rattle.ldc_packet.specs.Fault.{first_fault, is_ctrl, is_length, is_subtype};
 ghost use Rattle.ldc_packet.specs.Form.{HasForm, IsWellFormed};
 ghost use Rattle.ldc_packet.specs.Spelling.{ctrl_at, env_at, payload_at, subtype_code, type_at, type_code, SpellsBody, SpellsPacket};
 ghost use Rattle.ldc_packet.specs.declared.packet.Subtype.TheVariants.{Info};
@@ -20,12 +21,11 @@ use vio_bytes::{get_field, get_u8, get_u16, get_u32};
 /// Bytes that the packet's form doesn't name are free: a peer may leave old bytes there. Those of a
 /// part past its length are zeros in the answer.
 pub fn decode(bytes: &[u8; 64]) -> Result<Packet, PacketFault>
-    ensures packet { IfOk result (λ packet. IsWellFormed packet × SpellsPacket bytes.now packet) }
-    ensures fault { IfErr result (λ fault. IsFirstFault bytes.now fault) }
+    ensures decodes { Unpacks bytes.now result }
 
     // No other packet is spelled by the bytes, and no other fault is their first.
     ensures only { (packet : Packet) → IsWellFormed packet → SpellsPacket bytes.now packet → result ≡ Ok packet }
-    ensures refused { (fault : PacketFault) → IsFirstFault bytes.now fault → result ≡ Err fault }
+    ensures refused { (fault : PacketFault) → first_fault bytes.now ≡ Some fault → result ≡ Err fault }
 {
     match get_field!(get_u8, PACKET_HEAD, bytes, TYPE) {
         LDC_CTRL => control(bytes),
@@ -37,8 +37,7 @@ pub fn decode(bytes: &[u8; 64]) -> Result<Packet, PacketFault>
 // A control packet.
 fn control(bytes: &[u8; 64]) -> Result<Packet, PacketFault>
     requires { type_at bytes.now ≡ 1 }
-    ensures packet { IfOk result (λ packet. IsWellFormed packet × SpellsPacket bytes.now packet) }
-    ensures fault { IfErr result (λ fault. IsFirstFault bytes.now fault) }
+    ensures decodes { Unpacks bytes.now result }
 {
     let Some(subtype) = subtype_of(get_field!(get_u8, PACKET_HEAD, bytes, STYPE)) else {
         return Err(PacketFault::Subtype);
@@ -57,8 +56,7 @@ fn control(bytes: &[u8; 64]) -> Result<Packet, PacketFault>
 // A data packet, which has the subtype INFO.
 fn data(bytes: &[u8; 64]) -> Result<Packet, PacketFault>
     requires { type_at bytes.now ≡ 2 }
-    ensures packet { IfOk result (λ packet. IsWellFormed packet × SpellsPacket bytes.now packet) }
-    ensures fault { IfErr result (λ fault. IsFirstFault bytes.now fault) }
+    ensures decodes { Unpacks bytes.now result }
 {
     if get_field!(get_u8, PACKET_HEAD, bytes, STYPE) != LDC_INFO {
         return Err(PacketFault::Subtype);
@@ -76,7 +74,7 @@ fn data(bytes: &[u8; 64]) -> Result<Packet, PacketFault>
 
 fn subtype_of(code: u8) -> Option<Subtype>
     ensures some { IfSome result (λ subtype. code ≡ subtype_code subtype) }
-    ensures none { IfNone result ((code ≢ 1) × (code ≢ 2) × (code ≢ 4)) }
+    ensures none { IfNone result (is_subtype 1 code ≡ false) }
 {
     match code {
         LDC_INFO => Some(Subtype::Info),
@@ -88,7 +86,7 @@ fn subtype_of(code: u8) -> Option<Subtype>
 
 fn control_body(bytes: &[u8; 64]) -> Option<Body>
     ensures some { IfSome result (λ body. (type_code body ≡ 1) × SpellsBody bytes.now body) }
-    ensures none { IfNone result ((ctrl_at bytes.now ≡ 0) ⊎ (4 < ctrl_at bytes.now)) }
+    ensures none { IfNone result (is_ctrl 1 (ctrl_at bytes.now) ≡ false) }
 {
     let mode = get_field!(get_u8, PACKET_HEAD, bytes, ENV);
     match get_field!(get_u8, PACKET_HEAD, bytes, CTRL) {
@@ -105,7 +103,7 @@ fn control_body(bytes: &[u8; 64]) -> Option<Body>
 
 fn part(bytes: &[u8; 64]) -> Option<Body>
     ensures some { IfSome result (λ body. (type_code body ≡ 2) × HasForm Info body × SpellsBody bytes.now body) }
-    ensures none { IfNone result ((env_at bytes.now % 64 ≡ 0) ⊎ (56 < env_at bytes.now % 64)) }
+    ensures none { IfNone result (is_length 2 (env_at bytes.now) ≡ false) }
 {
     let env = part_env_of(get_field!(get_u8, PACKET_HEAD, bytes, ENV));
     let len = env.len as usize;

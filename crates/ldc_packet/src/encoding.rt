@@ -1,8 +1,9 @@
 // From a packet to bytes.
 
-ghost use Rattle.std.specs.Prelude.{◌≡◌, ◌++◌, length, take, drop, replicate};
-ghost use Rattle.ldc_packet.specs.Form.{IsWellFormed};
-ghost use Rattle.ldc_packet.specs.Spelling.{canonical, ctrl_byte, env_byte, payload, subtype_code, type_code};
+ghost use Rattle.std.specs.Prelude.{◌≡◌, ◌<◌, ◌++◌, Ok, take, drop, replicate};
+ghost use Rattle.ldc_packet.specs.Decoding.{Unpacks};
+ghost use Rattle.ldc_packet.specs.Form.{BodyHasWidths, HasWidths, IsWellFormed};
+ghost use Rattle.ldc_packet.specs.Spelling.{SpellsPacket, canonical, ctrl_byte, env_byte, payload, subtype_code, type_code};
 
 use crate::flags::{PartEnv, env_of_part};
 use crate::layout::{
@@ -15,15 +16,33 @@ use vio_bytes::{put_field, put_u8, put_u16, put_u32};
 /// Writes the canonical spelling of a well-formed packet: its fields, and zeros elsewhere.
 pub fn encode(packet: &Packet, out: &mut [u8; 64])
     requires { IsWellFormed packet.now }
-    ensures { out.new ≡ canonical packet.now }
+    ensures written { out.new ≡ canonical packet.now }
+    ensures spells { SpellsPacket out.new packet.now }
+    ensures decodes { Unpacks out.new (Ok packet.now) }
 {
+    put_packet(packet, out);
+}
+
+#[tactic(auto, unfolding(crate::specs::Spelling::canonical))]
+fn put_packet(packet: &Packet, out: &mut [u8; 64])
+    requires { IsWellFormed packet.now }
+    ensures written { out.new ≡ canonical packet.now }
+
+    // A number behind a reference is of its type once it is read, as those of a packet are here.
+    ensures widths { HasWidths packet.now }
+{
+    let Packet {
+        subtype,
+        seqid,
+        body,
+    } = *packet;
     out.fill(0);
-    put_field!(put_u8, PACKET_HEAD, out, TYPE, type_of(&packet.body));
-    put_field!(put_u8, PACKET_HEAD, out, STYPE, code_of(packet.subtype));
-    put_field!(put_u8, PACKET_HEAD, out, CTRL, ctrl_of(&packet.body));
+    put_field!(put_u8, PACKET_HEAD, out, TYPE, type_of(&body));
+    put_field!(put_u8, PACKET_HEAD, out, STYPE, code_of(subtype));
+    put_field!(put_u8, PACKET_HEAD, out, CTRL, ctrl_of(&body));
     put_field!(put_u8, PACKET_HEAD, out, ENV, env_of(packet));
-    put_field!(put_u32, PACKET_HEAD, out, SEQID, packet.seqid);
-    put_payload(&packet.body, out);
+    put_field!(put_u32, PACKET_HEAD, out, SEQID, seqid);
+    put_payload(&body, out);
 }
 
 fn type_of(body: &Body) -> u8
@@ -75,8 +94,10 @@ fn env_of(packet: &Packet) -> u8
 
 // Writes the payload over zeros.
 fn put_payload(body: &Body, out: &mut [u8; 64])
-    requires { drop 8 out.old ≡ replicate 56 0 }
-    ensures { out.new ≡ take 8 out.old ++ payload body.now }
+    requires zeros { drop 8 out.old ≡ replicate 56 0 }
+    requires env { env_byte body.now < 256 }
+    ensures written { out.new ≡ take 8 out.old ++ payload body.now }
+    ensures widths { BodyHasWidths body.now }
 {
     match body {
         Body::Vers { major, minor } => {

@@ -1,6 +1,7 @@
 // The layout of a packet: Linux's `struct ldc_packet` and `struct ldc_version`.
 
-ghost use Rattle.vio_bytes.specs.Layout.{AreApart};
+ghost use Rattle.std.specs.Prelude.{◌∷◌, []};
+ghost use Rattle.vio_bytes.specs.Layout.{IsLayout};
 
 use vio_bytes::Table;
 
@@ -69,8 +70,9 @@ pub(crate) const MAJOR: usize = 0;
 
 pub(crate) const MINOR: usize = 1;
 
-/// The fields of the head don't overlap and lie within the packet, and so do those of the version.
+/// Each table has the struct's places, widths and length, so its fields don't overlap and lie within the
+/// packet.
 pub fn layouts_are_sound()
-    ensures packet_head { AreApart PACKET_HEAD.fields PACKET_HEAD.length }
-    ensures vers_payload { AreApart VERS_PAYLOAD.fields VERS_PAYLOAD.length }
+    ensures packet_head { IsLayout PACKET_HEAD.fields PACKET_HEAD.length (0 ∷ 1 ∷ 2 ∷ 3 ∷ 4 ∷ []) (1 ∷ 1 ∷ 1 ∷ 1 ∷ 4 ∷ []) 64 }
+    ensures vers_payload { IsLayout VERS_PAYLOAD.fields VERS_PAYLOAD.length (8 ∷ 10 ∷ []) (2 ∷ 2 ∷ []) 64 }
 {}

@@ -13,7 +13,7 @@ mod packet;
 
 pub use decoding::decode;
 pub use encoding::encode;
-pub use laws::spellings_are_unique;
+pub use laws::{bytes_decode_once, spellings_are_unique};
 pub use layout::layouts_are_sound;
 pub use packet::{Body, Packet, PacketFault, Subtype};
 

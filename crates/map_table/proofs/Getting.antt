@@ -1,10 +1,10 @@
 -- A list of cookies by its places.
-use Rattle.std.proofs.Common.{◌≡◌, ℕ, zero, suc, ◌+◌, ◌*◌, ◌^◌, ◌<◌, List, [], ◌∷◌, ◌++◌, length, get_or, refl, sym, ap, ◌∙◌, arith}
-use Rattle.std.proofs.lemmas.List.{append_assoc, drop_at, length-append, same_lists}
+use Rattle.std.proofs.Common.{◌≡◌, ℕ, zero, suc, ◌+◌, ◌*◌, ◌^◌, ◌<◌, ◌≤◌, List, [], ◌∷◌, ◌++◌, length, get_or, take, drop, refl, sym, ap, ◌∙◌, arith}
+use Rattle.std.proofs.lemmas.List.{append_assoc, drop_at, length-append, length-take-le, same_lists}
 use Rattle.std.specs.List.{AllByRecursion}
 use Rattle.byteorder.specs.Endian.{big_bytes, big_number}
 use Rattle.byteorder.specs.Numbers.{big_number-reads_back, length-bytes_high_first}
-use Rattle.vio_bytes.specs.Place.{number_at}
+use Rattle.vio_bytes.specs.Place.{number_at, put_at}
 use Rattle.map_table.specs.Cookies.{IsCookie, cookie_at, cookie_bytes, cookies_at, cookies_bytes}
 use Rattle.map_table.specs.declared.cookie.Cookie.{Cookie}
 
@@ -65,3 +65,14 @@ cookies_at-bytes (cookie ∷ cookies) front rest each =
     let tail : cookies_at (length front + 16) (length cookies) bytes ≡ cookies =
     ap (λ (p : ℕ). cookies_at p (length cookies) bytes) (sym long) ∙ ap (cookies_at (length next) (length cookies)) second ∙ cookies_at-bytes cookies next rest each.1 in
     ap (λ (c : Cookie). c ∷ cookies_at (length front + 16) (length cookies) bytes) head ∙ ap (λ (cs : List Cookie). cookie ∷ cs) tail
+
+-- cookies that were put read back
+pub cookies_at-put : (at : ℕ) (cookies : List Cookie) (bytes new : List ℕ) → AllByRecursion IsCookie cookies → at ≤ length bytes
+    → new ≡ put_at at (cookies_bytes cookies) bytes → cookies_at at (length cookies) new ≡ cookies
+cookies_at-put at cookies bytes new each room is =
+    let front : List ℕ = take at bytes in
+    let rest : List ℕ = drop (at + length (cookies_bytes cookies)) bytes in
+    let long : length front ≡ at = length-take-le at bytes room in
+    ap (λ (xs : List ℕ). cookies_at at (length cookies) xs) is
+    ∙ ap (λ (p : ℕ). cookies_at p (length cookies) (front ++ (cookies_bytes cookies ++ rest))) (sym long)
+    ∙ cookies_at-bytes cookies front rest each

@@ -1,2 +1,3 @@
+pub mod Each
 pub mod Getting
 pub mod Putting

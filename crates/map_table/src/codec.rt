@@ -1,5 +1,6 @@
 ghost use Rattle.std.specs.Prelude.{◌≡◌, ◌+◌, ◌*◌, ◌≤◌, length};
-ghost use Rattle.map_table.specs.Cookies.{cookie_at, cookies_at, cookie_bytes, cookies_bytes};
+ghost use Rattle.std.specs.List.{AllByRecursion};
+ghost use Rattle.map_table.specs.Cookies.{IsCookie, cookie_at, cookies_at, cookie_bytes, cookies_bytes};
 ghost use Rattle.vio_bytes.specs.Place.{put_at};
 
 use crate::cookie::Cookie;
@@ -15,10 +16,15 @@ pub fn get_cookies(bytes: &[u8], at: usize, cookies: &mut [Cookie])
     }
 }
 
-/// Writes cookies one after another from place `at` on. All other bytes stay.
+/// Writes cookies one after another from place `at` on. All other bytes stay, and `get_cookies` reads
+/// back what was written.
 pub fn put_cookies(bytes: &mut [u8], at: usize, cookies: &[Cookie])
     requires { at + 16 * length cookies.now ≤ length bytes.old }
-    ensures { bytes.new ≡ put_at at (cookies_bytes cookies.now) bytes.old }
+    ensures written { bytes.new ≡ put_at at (cookies_bytes cookies.now) bytes.old }
+    ensures reads_back { cookies_at at (length cookies.now) bytes.new ≡ cookies.now }
+
+    // As each cookie of a program is, which a caller can't see behind a slice.
+    ensures each { AllByRecursion IsCookie cookies.now }
 {
     for (i, cookie) in cookies.iter().enumerate() {
         put_cookie(bytes, at + 16 * i, cookie);
@@ -37,7 +43,8 @@ fn get_cookie(bytes: &[u8], at: usize) -> Cookie
 
 fn put_cookie(bytes: &mut [u8], at: usize, cookie: &Cookie)
     requires { at + 16 ≤ length bytes.old }
-    ensures { bytes.new ≡ put_at at (cookie_bytes cookie.now) bytes.old }
+    ensures written { bytes.new ≡ put_at at (cookie_bytes cookie.now) bytes.old }
+    ensures is { IsCookie cookie.now }
 {
     put_u64(bytes, at, cookie.address);
     put_u64(bytes, at + 8, cookie.size);

@@ -1,28 +1,34 @@
--- Which 128 bytes are a disk descriptor (`struct vio_disk_desc` of Linux's vio.h). Bytes that no field
--- names are free; the canonical spelling has zeros there.
+-- A disk descriptor as 128 bytes (`struct vio_disk_desc` of Linux's vio.h). Bytes that no field names are
+-- free; the canonical spelling has zeros there.
 use Rattle.std.specs.Prelude.{◌≡◌, ℕ, ◌^◌, ◌<◌, List, ◌++◌, length, replicate}
 use Rattle.std.specs.List.{AllByRecursion}
 use Rattle.byteorder.specs.Endian.{big_bytes}
 use Rattle.vio_bytes.specs.Place.{number_at}
 use Rattle.map_table.specs.Cookies.{IsCookie, cookies_at, cookies_bytes}
+use Rattle.map_table.specs.declared.cookie.Cookie.{Cookie}
 use Rattle.vdisk_msg.specs.declared.desc.DiskDesc.{DiskDesc}
 
--- each field stands at its place
-pub record SpellsDescriptor (bytes : List ℕ) (desc : DiskDesc) : Type 0 where
-  pub long : length bytes ≡ 128
-  pub state : desc.state ≡ number_at 1 0 bytes
-  pub ack : desc.ack ≡ number_at 1 1 bytes
-  pub id : desc.id ≡ number_at 8 8 bytes
-  pub operation : desc.operation ≡ number_at 1 16 bytes
-  pub slice : desc.slice ≡ number_at 1 17 bytes
-  pub status : desc.status ≡ number_at 4 20 bytes
-  pub offset : desc.offset ≡ number_at 8 24 bytes
-  pub size : desc.size ≡ number_at 8 32 bytes
-  pub count : desc.count ≡ number_at 4 40 bytes
-  pub cookies : desc.cookies ≡ cookies_at 48 5 bytes
+-- the number at each field's place, and these cookies
+abbrev pub disk_desc_with : List ℕ → List Cookie → DiskDesc
+disk_desc_with bytes cookies = record {
+  state = number_at 1 0 bytes;
+  ack = number_at 1 1 bytes;
+  id = number_at 8 8 bytes;
+  operation = number_at 1 16 bytes;
+  slice = number_at 1 17 bytes;
+  status = number_at 4 20 bytes;
+  offset = number_at 8 24 bytes;
+  size = number_at 8 32 bytes;
+  count = number_at 4 40 bytes;
+  cookies = cookies;
+}
 
--- each field has a number of its width, and there are five cookies: so each `DiskDesc` is
-pub record HasWidths (desc : DiskDesc) : Type 0 where
+-- the descriptor of 128 bytes: its fields, and the five cookies behind them
+abbrev pub disk_desc_of : List ℕ → DiskDesc
+disk_desc_of bytes = disk_desc_with bytes (cookies_at 48 5 bytes)
+
+-- each field of the head has a number of its width
+pub record HeadHasWidths (desc : DiskDesc) : Type 0 where
   pub state : desc.state < 2 ^ 8
   pub ack : desc.ack < 2 ^ 8
   pub id : desc.id < 2 ^ 64
@@ -32,6 +38,10 @@ pub record HasWidths (desc : DiskDesc) : Type 0 where
   pub offset : desc.offset < 2 ^ 64
   pub size : desc.size < 2 ^ 64
   pub count : desc.count < 2 ^ 32
+
+-- and there are five cookies: so each `DiskDesc` is
+pub record HasWidths (desc : DiskDesc) : Type 0 where
+  pub head : HeadHasWidths desc
   pub five : length desc.cookies ≡ 5
   pub cookies : AllByRecursion IsCookie desc.cookies
 

@@ -1,5 +1,5 @@
 -- The word that a write repeats, and requests that carry one.
-use Rattle.std.specs.Prelude.{◌≡◌, ℕ, ◌-◌, ◌≤◌, length, drop, replicate, ⊤}
+use Rattle.std.specs.Prelude.{◌≡◌, ◌-◌, ◌≤◌, length, drop, replicate, ⊤}
 use Rattle.vdisk_msg.specs.declared.request.Fill.{Fill}
 use Rattle.vdisk_msg.specs.declared.request.Request.{Request}
 use Rattle.vdisk_msg.specs.declared.request.Request.TheVariants.{Read, Write, Flush}

@@ -1,3 +1,6 @@
 pub mod Check
 pub mod Descriptor
 pub mod Fills
+pub mod Requests
+pub mod Requested
+pub mod Pieces

@@ -1,7 +1,7 @@
 // From a descriptor to bytes.
 
-ghost use Rattle.std.specs.Prelude.{◌≡◌, ◌+◌, ◌*◌, ◌≤◌};
-ghost use Rattle.vdisk_msg.specs.Descriptor.{SpellsDescriptor, canonical, head_bytes};
+ghost use Rattle.std.specs.Prelude.{◌≡◌};
+ghost use Rattle.vdisk_msg.specs.Descriptor.{HeadHasWidths, canonical, disk_desc_of, head_bytes};
 
 use crate::desc::DiskDesc;
 use crate::layout::{
@@ -12,15 +12,18 @@ use vio_bytes::{put_field, put_u8, put_u32, put_u64};
 
 /// Writes the canonical spelling of the descriptor: zeros stand in the bytes that no field names.
 pub fn encode(desc: &DiskDesc, out: &mut [u8; 128])
-    ensures { out.new ≡ canonical desc.now }
+    ensures written { out.new ≡ canonical desc.now }
+    ensures reads_back { disk_desc_of out.new ≡ desc.now }
 {
-    let head = head_of(desc);
+    let head = head_of(*desc);
     out[..HEAD].copy_from_slice(&head);
     put_cookies(out, HEAD, &desc.cookies);
 }
 
-fn head_of(desc: &DiskDesc) -> [u8; 48]
-    ensures { result ≡ head_bytes desc.now }
+// By value, so that each field is known to be of its width.
+fn head_of(desc: DiskDesc) -> [u8; 48]
+    ensures written { result ≡ head_bytes desc }
+    ensures widths { HeadHasWidths desc }
 {
     let mut head = [0; HEAD];
     put_field!(put_u8, DISK_DESC, &mut head, STATE, desc.state);

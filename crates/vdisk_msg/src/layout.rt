@@ -1,6 +1,7 @@
 // The layout of a disk descriptor.
 
-ghost use Rattle.vio_bytes.specs.Layout.{AreApart};
+ghost use Rattle.std.specs.Prelude.{◌∷◌, []};
+ghost use Rattle.vio_bytes.specs.Layout.{IsLayout};
 
 use vio_bytes::Table;
 
@@ -57,7 +58,7 @@ pub(crate) const NCOOKIES: usize = 8;
 /// The most cookies of one descriptor.
 pub(crate) const MOST_COOKIES: u32 = 5;
 
-/// The fields of the head don't overlap, and lie within it.
+/// The table has the struct's places, widths and length, so its fields don't overlap and lie within it.
 pub fn layouts_are_sound()
-    ensures { AreApart DISK_DESC.fields DISK_DESC.length }
+    ensures { IsLayout DISK_DESC.fields DISK_DESC.length (0 ∷ 1 ∷ 8 ∷ 16 ∷ 17 ∷ 20 ∷ 24 ∷ 32 ∷ 40 ∷ []) (1 ∷ 1 ∷ 8 ∷ 1 ∷ 1 ∷ 4 ∷ 8 ∷ 8 ∷ 4 ∷ []) 48 }
 {}

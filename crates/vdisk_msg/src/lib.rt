@@ -18,7 +18,7 @@ pub use checking::check;
 pub use decoding::decode;
 pub use desc::{DescFault, DiskDesc};
 pub use encoding::encode;
-pub use laws::spellings_are_unique;
+pub use laws::descriptors_read_back;
 pub use layout::layouts_are_sound;
 pub use request::{Fill, Request};
 

@@ -1,5 +1,5 @@
 -- Layouts: lists of fields, each a place and a width in bytes, and a length.
-use Rattle.std.specs.Prelude.{◌≡◌, ℕ, ◌+◌, ◌<◌, ◌≤◌, ◌⊎◌, List, [], ◌∷◌, length, get_or}
+use Rattle.std.specs.Prelude.{◌≡◌, ℕ, ◌+◌, ◌<◌, ◌≤◌, ◌⊎◌, List, [], ◌∷◌, length, get_or, map}
 
 -- what a field may be wide
 abbrev pub IsFieldWidth : ℕ → Type 0
@@ -15,6 +15,13 @@ AreInOrder from (field ∷ fields) len =
 -- last ends at or before the layout's length
 abbrev pub IsSoundTable : List (ℕ × ℕ) → ℕ → Type 0
 IsSoundTable fields len = AreInOrder 0 fields len
+
+-- the table of a layout of so many bytes is sound, and has its fields at these places and of these widths
+pub record IsLayout (fields : List (ℕ × ℕ)) (length : ℕ) (places widths : List ℕ) (bytes : ℕ) : Type 0 where
+  pub sound : IsSoundTable fields length
+  pub at_places : map (λ field. field.0) fields ≡ places
+  pub of_widths : map (λ field. field.1) fields ≡ widths
+  pub of_bytes : length ≡ bytes
 
 -- where a field ends
 abbrev pub end_of : List (ℕ × ℕ) → ℕ → ℕ

@@ -1,7 +1,8 @@
 // Fields of a layout by their place in its table.
 
 /// The number in the `k`-th field of a layout: calls `get`, the function of that field's width, at
-/// the place that the table has for it.
+/// the place that the table has for it. The layout's law pins its places and widths, and the
+/// caller's contract the width that is read: so neither can be another.
 ///
 /// `get_field!(get_u32, PACKET_HEAD, bytes, SEQID)`
 #[macro_export]

@@ -100,6 +100,7 @@ addresses_spelled front rest addresses long seven each =
 -- the fields behind the tag read back
 body_spelled : (s : Subtype) (n : ℕ) (body : MsgBody) → HasForm body → BodyHasWidths body
     → SpellsBody (canonical (record { subtype = s; sid = n; body = body })) body
+unfolding canonical
 body_spelled s n (Ver major minor class) form fits =
     let bytes : List ℕ = canonical (record { subtype = s; sid = n; body = Ver major minor class }) in
     (sym (big_number-reads_back 2 major (drop 10 bytes) fits.0), sym (big_number-reads_back 2 minor (drop 12 bytes) fits.1), sym (big_number-reads_back 1 class (drop 13 bytes) fits.2))
@@ -135,6 +136,7 @@ body_spelled s n (Plain envelope) form fits = tt
 
 -- the canonical spelling spells its message
 pub canonical_spells : (message : Message) → IsWellFormed message → HasWidths message → SpellsMessage (canonical message) message
+unfolding canonical
 canonical_spells message form fits =
     let bytes : List ℕ = canonical message in
     let long : 8 + length (body_bytes message.body) ≡ length bytes = omega arith in
@@ -146,6 +148,31 @@ canonical_spells message form fits =
       long = subst (λ (n : ℕ). HasLength n message.body) long (body_length message.body form fits.1);
       body = body_spelled message.subtype message.sid message.body form fits.1;
     }
+
+-- the bytes behind the tag are 248 at most, 16 for each of 14 cookies behind a registration's head
+body_within : (body : MsgBody) → HasForm body → BodyHasWidths body → length (body_bytes body) ≤ 248
+body_within (Ver major minor class) form fits = omega arith
+body_within (Attr bytes) form fits = omega (arith, fits)
+body_within (DringReg ident slots slot_size options count cookies) form fits =
+    let long = body_length (DringReg ident slots slot_size options count cookies) form fits in omega (arith, long, form.most)
+body_within (DringUnreg ident) form fits = omega arith
+body_within Rdx form fits = omega arith
+body_within (DringData seq ident start end state) form fits = omega arith
+body_within (Mcast set count addresses) form fits =
+    let long = body_length (Mcast set count addresses) form fits in omega (arith, long)
+body_within (Plain envelope) form fits = omega arith
+
+-- the canonical bytes of a message are those of its tag and of its body
+pub length_canonical : (message : Message) → length (canonical message) ≡ 8 + length (body_bytes message.body)
+unfolding canonical
+length_canonical message = omega arith
+
+-- so they are 8 to 256
+pub canonical_within : (message : Message) → IsWellFormed message → HasWidths message
+    → (8 ≤ length (canonical message)) × (length (canonical message) ≤ 256)
+canonical_within message form fits =
+    let long = length_canonical message in
+    let within = body_within message.body form fits.1 in (omega (arith, long), omega (arith, long, within))
 
 -- messages with the same canonical spelling are equal
 pub same_bytes : (one other : Message) → IsWellFormed one → IsWellFormed other → HasWidths one → HasWidths other

@@ -1,33 +1,37 @@
 -- The attributes of devices: the 48 bytes behind the tag of an ATTR_INFO, as Linux's `struct
 -- vio_disk_attr_info` and `struct vio_net_attr_info` have them. Bytes that no field names are free.
-use Rattle.std.specs.Prelude.{◌≡◌, ℕ, ◌^◌, ◌<◌, List, ◌++◌, replicate}
+use Rattle.std.specs.Prelude.{ℕ, ◌^◌, ◌<◌, List, ◌++◌, replicate}
 use Rattle.byteorder.specs.Endian.{big_bytes}
 use Rattle.vio_bytes.specs.Place.{number_at}
 use Rattle.vio_tag.specs.declared.attributes.DiskAttr.{DiskAttr}
 use Rattle.vio_tag.specs.declared.attributes.NetAttr.{NetAttr}
 
--- each field of a disk's attributes stands at its place
-pub record SpellsDiskAttr (bytes : List ℕ) (attr : DiskAttr) : Type 0 where
-  pub mode : attr.mode ≡ number_at 1 0 bytes
-  pub kind : attr.kind ≡ number_at 1 1 bytes
-  pub media : attr.media ≡ number_at 1 2 bytes
-  pub block_size : attr.block_size ≡ number_at 4 4 bytes
-  pub operations : attr.operations ≡ number_at 8 8 bytes
-  pub blocks : attr.blocks ≡ number_at 8 16 bytes
-  pub max_transfer : attr.max_transfer ≡ number_at 8 24 bytes
-  pub physical : attr.physical ≡ number_at 4 32 bytes
+-- a disk's attributes: the number at each field's place
+abbrev pub disk_attr_of : List ℕ → DiskAttr
+disk_attr_of bytes = record {
+  mode = number_at 1 0 bytes;
+  kind = number_at 1 1 bytes;
+  media = number_at 1 2 bytes;
+  block_size = number_at 4 4 bytes;
+  operations = number_at 8 8 bytes;
+  blocks = number_at 8 16 bytes;
+  max_transfer = number_at 8 24 bytes;
+  physical = number_at 4 32 bytes;
+}
 
--- each field of a network device's attributes stands at its place
-pub record SpellsNetAttr (bytes : List ℕ) (attr : NetAttr) : Type 0 where
-  pub mode : attr.mode ≡ number_at 1 0 bytes
-  pub address_kind : attr.address_kind ≡ number_at 1 1 bytes
-  pub ack_freq : attr.ack_freq ≡ number_at 2 2 bytes
-  pub link : attr.link ≡ number_at 1 4 bytes
-  pub options : attr.options ≡ number_at 1 5 bytes
-  pub address : attr.address ≡ number_at 8 8 bytes
-  pub mtu : attr.mtu ≡ number_at 8 16 bytes
-  pub cflags : attr.cflags ≡ number_at 2 24 bytes
-  pub lso : attr.lso ≡ number_at 2 26 bytes
+-- a network device's attributes, likewise
+abbrev pub net_attr_of : List ℕ → NetAttr
+net_attr_of bytes = record {
+  mode = number_at 1 0 bytes;
+  address_kind = number_at 1 1 bytes;
+  ack_freq = number_at 2 2 bytes;
+  link = number_at 1 4 bytes;
+  options = number_at 1 5 bytes;
+  address = number_at 8 8 bytes;
+  mtu = number_at 8 16 bytes;
+  cflags = number_at 2 24 bytes;
+  lso = number_at 2 26 bytes;
+}
 
 -- the canonical spellings, with zeros in the bytes that no field names
 abbrev pub disk_attr_bytes : DiskAttr → List ℕ

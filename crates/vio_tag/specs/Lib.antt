@@ -1,5 +1,6 @@
 pub mod Attributes
 pub mod CauseText
+pub mod Decoding
 pub mod Fault
 pub mod Form
 pub mod Spelling

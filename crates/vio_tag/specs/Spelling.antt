@@ -127,5 +127,5 @@ body_bytes (Mcast set count addresses) =
 body_bytes (Plain envelope) = []
 
 -- the canonical spelling
-abbrev pub canonical : Message → List ℕ
+unfoldable pub canonical : Message → List ℕ
 canonical message = tag_bytes message ++ body_bytes message.body

@@ -1,9 +1,7 @@
 // The attributes of devices, and their bytes.
 
 ghost use Rattle.std.specs.Prelude.{◌≡◌};
-ghost use Rattle.vio_tag.specs.Attributes.{SpellsDiskAttr, SpellsNetAttr, disk_attr_bytes, net_attr_bytes};
-ghost use Rattle.vio_tag.specs.declared.attributes.DiskAttr.{DiskAttr};
-ghost use Rattle.vio_tag.specs.declared.attributes.NetAttr.{NetAttr};
+ghost use Rattle.vio_tag.specs.Attributes.{DiskAttrHasWidths, NetAttrHasWidths, disk_attr_bytes, disk_attr_of, net_attr_bytes, net_attr_of};
 
 use crate::layout::{
     ACK_FREQ, ADDR, ADDR_TYPE, ATTR_LENGTH, CFLAGS, DISK_ATTR, DISK_XFER_MODE, IPV4_LSO_MAXLEN,
@@ -55,10 +53,9 @@ pub struct NetAttr {
     pub lso: u16,
 }
 
-/// The disk's attributes that the bytes behind the tag spell.
+/// The disk's attributes that the bytes behind the tag spell: all do.
 pub fn disk_attr(bytes: &[u8; 48]) -> DiskAttr
-    ensures spelled { SpellsDiskAttr bytes.now result }
-    ensures only { (attr : DiskAttr) → SpellsDiskAttr bytes.now attr → attr ≡ result }
+    ensures { result ≡ disk_attr_of bytes.now }
 {
     DiskAttr {
         mode: get_field!(get_u8, DISK_ATTR, bytes, DISK_XFER_MODE),
@@ -74,7 +71,16 @@ pub fn disk_attr(bytes: &[u8; 48]) -> DiskAttr
 
 /// The canonical bytes of a disk's attributes, behind the tag.
 pub fn put_disk_attr(attr: &DiskAttr) -> [u8; 48]
-    ensures { result ≡ disk_attr_bytes attr.now }
+    ensures written { result ≡ disk_attr_bytes attr.now }
+    ensures reads_back { disk_attr_of result ≡ attr.now }
+{
+    disk_bytes_of(*attr)
+}
+
+// By value, so that each field is known to be of its width.
+fn disk_bytes_of(attr: DiskAttr) -> [u8; 48]
+    ensures written { result ≡ disk_attr_bytes attr }
+    ensures widths { DiskAttrHasWidths attr }
 {
     let mut bytes = [0; ATTR_LENGTH];
     put_field!(put_u8, DISK_ATTR, &mut bytes, DISK_XFER_MODE, attr.mode);
@@ -106,10 +112,9 @@ pub fn put_disk_attr(attr: &DiskAttr) -> [u8; 48]
     bytes
 }
 
-/// The network device's attributes that the bytes behind the tag spell.
+/// The network device's attributes that the bytes behind the tag spell: all do.
 pub fn net_attr(bytes: &[u8; 48]) -> NetAttr
-    ensures spelled { SpellsNetAttr bytes.now result }
-    ensures only { (attr : NetAttr) → SpellsNetAttr bytes.now attr → attr ≡ result }
+    ensures { result ≡ net_attr_of bytes.now }
 {
     NetAttr {
         mode: get_field!(get_u8, NET_ATTR, bytes, NET_XFER_MODE),
@@ -126,7 +131,16 @@ pub fn net_attr(bytes: &[u8; 48]) -> NetAttr
 
 /// The canonical bytes of a network device's attributes, behind the tag.
 pub fn put_net_attr(attr: &NetAttr) -> [u8; 48]
-    ensures { result ≡ net_attr_bytes attr.now }
+    ensures written { result ≡ net_attr_bytes attr.now }
+    ensures reads_back { net_attr_of result ≡ attr.now }
+{
+    net_bytes_of(*attr)
+}
+
+// By value, so that each field is known to be of its width.
+fn net_bytes_of(attr: NetAttr) -> [u8; 48]
+    ensures written { result ≡ net_attr_bytes attr }
+    ensures widths { NetAttrHasWidths attr }
 {
     let mut bytes = [0; ATTR_LENGTH];
     put_field!(put_u8, NET_ATTR, &mut bytes, NET_XFER_MODE, attr.mode);

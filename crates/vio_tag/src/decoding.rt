@@ -4,6 +4,7 @@ ghost use Rattle.std.specs.Prelude.{◌≡◌, ◌≢◌, ◌-◌, ◌+◌, ◌*
 ghost use Rattle.vio_bytes.specs.Place.{number_at};
 ghost use Rattle.map_table.specs.Cookies.{cookies_at};
 ghost use Rattle.ldc_packet.specs.Spelling.{subtype_code};
+ghost use Rattle.vio_tag.specs.Decoding.{Decodes};
 ghost use Rattle.vio_tag.specs.Fault.{body_fault, first_fault, is_subtype};
 ghost use Rattle.vio_tag.specs.Form.{HasForm, IsWellFormed, no_cookie};
 ghost use Rattle.vio_tag.specs.Spelling.{SpellsBodyOf, SpellsMessage, addresses_at, bytes_at, count_at, envelope_at, type_at};
@@ -29,8 +30,7 @@ use vio_bytes::{get_field, get_u8, get_u16, get_u32, get_u64};
 ///
 /// Bytes that the message's form doesn't name are free, and of a plain message all behind the tag.
 pub fn decode(bytes: &[u8]) -> Result<Message, TagFault>
-    ensures message { IfOk result (λ message. IsWellFormed message × SpellsMessage bytes.now message) }
-    ensures fault { IfErr result (λ fault. first_fault bytes.now ≡ Some fault) }
+    ensures decodes { Decodes bytes.now result }
 
     // No other message is spelled by the bytes, and no other fault is their first.
     ensures only { (message : Message) → IsWellFormed message → SpellsMessage bytes.now message → result ≡ Ok message }

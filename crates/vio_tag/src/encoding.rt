@@ -1,12 +1,13 @@
 // From a message to bytes.
 
-ghost use Rattle.std.specs.Prelude.{◌≡◌, ◌+◌, ◌*◌, ◌≤◌, ◌++◌, [], length, take, drop, replicate};
-ghost use Rattle.std.specs.List.{flat_map};
+ghost use Rattle.std.specs.Prelude.{◌≡◌, ◌+◌, ◌*◌, ◌^◌, ◌<◌, ◌≤◌, ◌++◌, [], Ok, length, take, drop, replicate};
+ghost use Rattle.std.specs.List.{AllByRecursion, flat_map};
 ghost use Rattle.vio_bytes.specs.Place.{put_at};
-ghost use Rattle.map_table.specs.Cookies.{cookies_bytes};
+ghost use Rattle.map_table.specs.Cookies.{IsCookie, cookies_bytes};
 ghost use Rattle.ldc_packet.specs.Spelling.{subtype_code};
-ghost use Rattle.vio_tag.specs.Form.{AreCookies, HasForm, IsWellFormed};
-ghost use Rattle.vio_tag.specs.Spelling.{body_bytes, canonical, envelope_code, tag_bytes, type_code};
+ghost use Rattle.vio_tag.specs.Decoding.{Decodes};
+ghost use Rattle.vio_tag.specs.Form.{AreCookies, BodyHasWidths, HasForm, IsWellFormed};
+ghost use Rattle.vio_tag.specs.Spelling.{SpellsMessage, body_bytes, canonical, envelope_code, tag_bytes, type_code};
 
 use crate::layout::{
     COUNT, DATA_IDENT, DATA_STATE, DESCR_SIZE, DEV_CLASS, DRING_DATA, DRING_IDENT, DRING_REG,
@@ -23,11 +24,16 @@ use vio_bytes::{put_field, put_u8, put_u16, put_u32, put_u64};
 
 /// Writes the canonical spelling of a well-formed message to the front of `out`, its fields and zeros
 /// elsewhere, and answers its length. The bytes behind it stay.
+#[tactic(auto, unfolding(crate::specs::Spelling::canonical))]
 pub fn encode(message: &Message, out: &mut [u8; 256]) -> usize
     requires { IsWellFormed message.now }
     ensures length { result ≡ length (canonical message.now) }
     ensures room { result ≤ 256 }
     ensures written { out.new ≡ canonical message.now ++ drop (length (canonical message.now)) out.old }
+
+    // What was written spells the message, and decodes to it.
+    ensures spells { SpellsMessage (take result out.new) message.now }
+    ensures decodes { Decodes (take result out.new) (Ok message.now) }
 {
     let length = put_body(&message.body, out);
     let tag = tag_of(message);
@@ -36,7 +42,8 @@ pub fn encode(message: &Message, out: &mut [u8; 256]) -> usize
 }
 
 fn tag_of(message: &Message) -> [u8; 8]
-    ensures { result ≡ tag_bytes message.now }
+    ensures written { result ≡ tag_bytes message.now }
+    ensures width { message.now.sid < 2 ^ 32 }
 {
     let mut tag = [0; TAG_LENGTH];
     put_field!(put_u8, TAG, &mut tag, TYPE, type_of(&message.body));
@@ -92,6 +99,9 @@ fn put_body(body: &MsgBody, out: &mut [u8; 256]) -> usize
     ensures length { result ≡ 8 + length (body_bytes body.now) }
     ensures room { result ≤ 256 }
     ensures written { out.new ≡ replicate 8 0 ++ body_bytes body.now ++ drop (8 + length (body_bytes body.now)) out.old }
+
+    // A number behind a reference is of its type once it is read, as all are here.
+    ensures widths { BodyHasWidths body.now }
 {
     match body {
         MsgBody::Ver {
@@ -109,7 +119,7 @@ fn put_body(body: &MsgBody, out: &mut [u8; 256]) -> usize
             cookies,
         } => {
             let head = dring_reg_head(*ident, *slots, *slot_size, *options, *count);
-            put_dring_reg(&head, &cookies[..*count as usize], out)
+            put_dring_reg(&head, first_cookies(cookies, *count), out)
         }
         MsgBody::DringUnreg { ident } => put_front(&dring_unreg(*ident), out),
         MsgBody::Rdx => put_front(&[0; FIXED_LENGTH], out),
@@ -178,7 +188,8 @@ fn dring_data(seq: u64, ident: u64, start: u32, end: u32, state: u8) -> [u8; 56]
 }
 
 fn mcast_info(set: u8, count: u8, addresses: &[[u8; 6]; 7]) -> [u8; 56]
-    ensures { result ≡ replicate 8 0 ++ body_bytes (MsgBody.Mcast set count addresses.now) }
+    ensures widths { BodyHasWidths (MsgBody.Mcast set count addresses.now) }
+    ensures written { result ≡ replicate 8 0 ++ body_bytes (MsgBody.Mcast set count addresses.now) }
 {
     let mut bytes = [0; FIXED_LENGTH];
     put_field!(put_u8, MCAST_INFO, &mut bytes, SET, set);
@@ -188,6 +199,7 @@ fn mcast_info(set: u8, count: u8, addresses: &[[u8; 6]; 7]) -> [u8; 56]
 }
 
 fn put_addresses(bytes: &mut [u8; 56], addresses: &[[u8; 6]; 7])
+    ensures each { AllByRecursion (λ address. length address ≡ 6) addresses.now }
     ensures long { length (flat_map (λ address. address) addresses.now) ≡ 42 }
     ensures written { bytes.new ≡ put_at 10 (flat_map (λ address. address) addresses.now) bytes.old }
 {
@@ -197,9 +209,19 @@ fn put_addresses(bytes: &mut [u8; 56], addresses: &[[u8; 6]; 7])
     }
 }
 
+/// The first `count` of the cookies.
+fn first_cookies(cookies: &[Cookie; 14], count: u32) -> &[Cookie]
+    requires { count ≤ 14 }
+    ensures first { result.now ≡ take count cookies.now }
+    ensures fourteen { length cookies.now ≡ 14 }
+{
+    &cookies[..count as usize]
+}
+
 /// Writes a registration, with its cookies behind its head, and answers its length.
 fn put_dring_reg(head: &[u8; 32], cookies: &[Cookie], out: &mut [u8; 256]) -> usize
     requires { length cookies.now ≤ 14 }
+    ensures each { AllByRecursion IsCookie cookies.now }
     ensures length { result ≡ 32 + 16 * length cookies.now }
     ensures written { out.new ≡ head.now ++ (cookies_bytes cookies.now ++ drop (32 + 16 * length cookies.now) out.old) }
 {

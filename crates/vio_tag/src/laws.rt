@@ -1,12 +1,15 @@
 // What follows from the definitions.
 
-ghost use Rattle.std.specs.Prelude.{◌≡◌, ◌↔◌, ℕ, List};
-ghost use Rattle.vio_tag.specs.Attributes.{DiskAttrHasWidths, NetAttrHasWidths, SpellsDiskAttr, SpellsNetAttr, disk_attr_bytes, net_attr_bytes};
+ghost use Rattle.std.specs.Prelude.{◌≡◌, ◌≢◌, ◌↔◌, ℕ, List, Result, Some};
+ghost use Rattle.vio_tag.specs.Attributes.{DiskAttrHasWidths, NetAttrHasWidths, disk_attr_bytes, disk_attr_of, net_attr_bytes, net_attr_of};
+ghost use Rattle.vio_tag.specs.Decoding.{Decodes};
+ghost use Rattle.vio_tag.specs.Fault.{first_fault};
 ghost use Rattle.vio_tag.specs.Form.{HasWidths, IsWellFormed};
 ghost use Rattle.vio_tag.specs.Spelling.{SpellsMessage, canonical};
 ghost use Rattle.vio_tag.specs.declared.attributes.DiskAttr.{DiskAttr};
 ghost use Rattle.vio_tag.specs.declared.attributes.NetAttr.{NetAttr};
 ghost use Rattle.vio_tag.specs.declared.message.Message.{Message};
+ghost use Rattle.vio_tag.specs.declared.message.TagFault.{TagFault};
 
 /// Bytes spell at most one well-formed message, and its canonical bytes spell it: so decoding what was
 /// encoded gives the message back, and messages with the same canonical bytes are the same.
@@ -18,8 +21,17 @@ pub fn spellings_are_unique()
         → (one ≡ other) ↔ (canonical one ≡ canonical other) }
 {}
 
-/// The canonical bytes of attributes spell them: so reading what was put gives the attributes back.
+/// Bytes decode to exactly one result: they spell a well-formed message or have a first fault, and
+/// never two messages, two first faults, or a message and a fault.
+pub fn bytes_decode_once()
+    ensures some_result { (bytes : List ℕ) → (d : Result Message TagFault) × Decodes bytes d }
+    ensures one_result { (bytes : List ℕ) (one other : Result Message TagFault) → Decodes bytes one → Decodes bytes other → one ≡ other }
+    ensures never_both { (bytes : List ℕ) (message : Message) (fault : TagFault) → IsWellFormed message → SpellsMessage bytes message
+        → first_fault bytes ≢ Some fault }
+{}
+
+/// The canonical bytes of attributes read back as the attributes.
 pub fn attributes_read_back()
-    ensures disk { (attr : DiskAttr) → DiskAttrHasWidths attr → SpellsDiskAttr (disk_attr_bytes attr) attr }
-    ensures net { (attr : NetAttr) → NetAttrHasWidths attr → SpellsNetAttr (net_attr_bytes attr) attr }
+    ensures disk { (attr : DiskAttr) → DiskAttrHasWidths attr → disk_attr_of (disk_attr_bytes attr) ≡ attr }
+    ensures net { (attr : NetAttr) → NetAttrHasWidths attr → net_attr_of (net_attr_bytes attr) ≡ attr }
 {}

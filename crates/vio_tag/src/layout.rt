@@ -1,7 +1,8 @@
 // The layouts of messages, by their places in the message, and of attributes, by their places in the 48
 // bytes behind the tag: the structs of Linux's vio.h.
 
-ghost use Rattle.vio_bytes.specs.Layout.{AreApart};
+ghost use Rattle.std.specs.Prelude.{◌∷◌, []};
+ghost use Rattle.vio_bytes.specs.Layout.{IsLayout};
 
 use vio_bytes::Table;
 
@@ -226,14 +227,14 @@ pub(crate) const CFLAGS: usize = 7;
 
 pub(crate) const IPV4_LSO_MAXLEN: usize = 8;
 
-/// The fields of each layout don't overlap, and lie within its length.
+/// Each table has the struct's places, widths and length, so its fields don't overlap and lie within it.
 pub fn layouts_are_sound()
-    ensures tag { AreApart TAG.fields TAG.length }
-    ensures ver_info { AreApart VER_INFO.fields VER_INFO.length }
-    ensures dring_reg { AreApart DRING_REG.fields DRING_REG.length }
-    ensures dring_unreg { AreApart DRING_UNREG.fields DRING_UNREG.length }
-    ensures dring_data { AreApart DRING_DATA.fields DRING_DATA.length }
-    ensures mcast_info { AreApart MCAST_INFO.fields MCAST_INFO.length }
-    ensures disk_attr { AreApart DISK_ATTR.fields DISK_ATTR.length }
-    ensures net_attr { AreApart NET_ATTR.fields NET_ATTR.length }
+    ensures tag { IsLayout TAG.fields TAG.length (0 ∷ 1 ∷ 2 ∷ 4 ∷ []) (1 ∷ 1 ∷ 2 ∷ 4 ∷ []) 8 }
+    ensures ver_info { IsLayout VER_INFO.fields VER_INFO.length (8 ∷ 10 ∷ 12 ∷ []) (2 ∷ 2 ∷ 1 ∷ []) 56 }
+    ensures dring_reg { IsLayout DRING_REG.fields DRING_REG.length (8 ∷ 16 ∷ 20 ∷ 24 ∷ 28 ∷ []) (8 ∷ 4 ∷ 4 ∷ 2 ∷ 4 ∷ []) 32 }
+    ensures dring_unreg { IsLayout DRING_UNREG.fields DRING_UNREG.length (8 ∷ []) (8 ∷ []) 56 }
+    ensures dring_data { IsLayout DRING_DATA.fields DRING_DATA.length (8 ∷ 16 ∷ 24 ∷ 28 ∷ 32 ∷ []) (8 ∷ 8 ∷ 4 ∷ 4 ∷ 1 ∷ []) 56 }
+    ensures mcast_info { IsLayout MCAST_INFO.fields MCAST_INFO.length (8 ∷ 9 ∷ 10 ∷ 16 ∷ 22 ∷ 28 ∷ 34 ∷ 40 ∷ 46 ∷ []) (1 ∷ 1 ∷ 6 ∷ 6 ∷ 6 ∷ 6 ∷ 6 ∷ 6 ∷ 6 ∷ []) 56 }
+    ensures disk_attr { IsLayout DISK_ATTR.fields DISK_ATTR.length (0 ∷ 1 ∷ 2 ∷ 4 ∷ 8 ∷ 16 ∷ 24 ∷ 32 ∷ []) (1 ∷ 1 ∷ 1 ∷ 4 ∷ 8 ∷ 8 ∷ 8 ∷ 4 ∷ []) 48 }
+    ensures net_attr { IsLayout NET_ATTR.fields NET_ATTR.length (0 ∷ 1 ∷ 2 ∷ 4 ∷ 5 ∷ 8 ∷ 16 ∷ 24 ∷ 26 ∷ []) (1 ∷ 1 ∷ 2 ∷ 1 ∷ 1 ∷ 8 ∷ 8 ∷ 2 ∷ 2 ∷ []) 48 }
 {}

@@ -2,13 +2,19 @@ use Rattle.std.proofs.Common.{ℕ, List, ◌≡◌, ◌++◌, length, drop, refl
 use Rattle.map_table.proofs.Putting.{length-cookies_bytes, put_last}
 use Rattle.map_table.specs.Cookies.{cookies_bytes}
 use Rattle.vio_bytes.specs.Place.{put_at}
-use Rattle.vdisk_msg.specs.Descriptor.{head_bytes}
+use Rattle.vdisk_msg.specs.Descriptor.{HasWidths, disk_desc_of, head_bytes}
+use Rattle.vdisk_msg.proofs.Spelling.{canonical_reads_back}
 use Rattle.vdisk_msg.proofs.encoding.encode.Goals as goal
 
-pub returns : goal.returns
-returns c =
+pub returns-clause-written : goal.returns-clause-written
+returns-clause-written c =
     let cookies = c.args.desc.now.cookies in
     let five : length cookies ≡ 5 = omega arith in
-    let head : c.copy_from_slice.new.self ≡ head_bytes c.args.desc.now = c.copy_from_slice.ensures.after ∙ c.head_of-head.ensures in
+    let head : c.copy_from_slice.new.self ≡ head_bytes c.args.desc.now = c.copy_from_slice.ensures.after ∙ c.head_of-head.ensures.written in
     put_last 48 (head_bytes c.args.desc.now) (cookies_bytes cookies) c.args.out.now c.put_cookies.new.bytes refl
-    (omega (arith, length-cookies_bytes cookies)) (c.put_cookies.ensures ∙ ap (λ (xs : List ℕ). put_at 48 (cookies_bytes cookies) (xs ++ drop 48 c.args.out.now)) head)
+    (omega (arith, length-cookies_bytes cookies)) (c.put_cookies.ensures.written ∙ ap (λ (xs : List ℕ). put_at 48 (cookies_bytes cookies) (xs ++ drop 48 c.args.out.now)) head)
+
+pub returns-clause-reads_back : goal.returns-clause-reads_back
+returns-clause-reads_back c =
+    let fits : HasWidths c.args.desc.now = record { head = c.head_of-head.ensures.widths; five = omega arith; cookies = c.put_cookies.ensures.each } in
+    ap disk_desc_of (returns-clause-written c) ∙ canonical_reads_back c.args.desc.now fits

@@ -10,5 +10,5 @@ returns-clause-written c =
     let out = c.args.out.now in
     let piece : List ℕ = cookies_bytes c.args.cookies.now in
     put_behind 32 head piece out c.put_cookies.new.bytes (omega arith)
-    (c.put_cookies.ensures ∙ ap (λ (xs : List ℕ). put_at 32 piece (xs ++ drop 32 out)) c.copy_from_slice.ensures.after)
+    (c.put_cookies.ensures.written ∙ ap (λ (xs : List ℕ). put_at 32 piece (xs ++ drop 32 out)) c.copy_from_slice.ensures.after)
     ∙ ap (λ (n : ℕ). head ++ (piece ++ drop (32 + n) out)) (length-cookies_bytes c.args.cookies.now)
