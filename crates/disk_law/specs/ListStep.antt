@@ -1,5 +1,5 @@
 -- One thing that happens to a disk on a plain list of requests.
-use Rattle.std.specs.Prelude.{◌≡◌, ℕ, ◌+◌, ◌*◌, ◌-◌, ◌<◌, ◌≤◌, ◌⊎◌, min, List, [], ◌∷◌, ◌++◌, length, Option, Some, None}
+use Rattle.std.specs.Prelude.{◌≡◌, ℕ, ◌+◌, ◌*◌, ◌-◌, ◌%◌, ◌<◌, ◌≤◌, ◌⊎◌, min, List, [], ◌∷◌, ◌++◌, length, Option, Some, None}
 use Rattle.vio_io.specs.Causes.{Rose}
 use Rattle.vio_io.specs.Stores.{ReadsRange, WritesRange, KeepsOutside}
 use Rattle.vdisk_msg.specs.declared.request.Fill.{Fill}
@@ -24,11 +24,13 @@ Succeeds (Read block count) bytes before now = (length bytes ≡ 512 * count) ×
 Succeeds (Write block count fill) bytes before now = (bytes ≡ []) × WritesRange before now (512 * block) (written fill count)
 Succeeds Flush bytes before now = (bytes ≡ []) × (now ≡ before)
 
--- a write that a failed call cut off: a front of its bytes was written, of what is behind at most the next 8,192 bytes may
--- be anything, and all else is as it was
+-- A write that a failed call cut off. Each unit of 8,192 bytes is written by one call, the last one may be shorter: some
+-- whole units were written, in the one behind them, which failed, anything may stand, and all else is as it was.
 pub record StopsWriting (fill : Fill) (start total : ℕ) (before now : Option (List ℕ)) : Type 0 where
   -- how many of the bytes were written
   pub done : ℕ
+  pub units : done % 8192 ≡ 0
+  pub some_left : done < total
   pub middle : Option (List ℕ)
   pub front : WritesRange before middle start (repeated fill 0 done)
   pub next : KeepsOutside middle now (start + done) (min 8192 (total - done))

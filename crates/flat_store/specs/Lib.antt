@@ -2,3 +2,4 @@ pub mod HostDiskState
 pub mod Hosts
 pub mod ListHostState
 pub mod MemStoreState
+pub mod Zeros

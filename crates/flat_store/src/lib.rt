@@ -5,10 +5,12 @@
 mod list_host;
 mod mem_store;
 mod std_host;
+mod zero_store;
 
 pub use list_host::ListHost;
 pub use mem_store::MemStore;
 pub use std_host::{HostDisk, StdHost};
+pub use zero_store::ZeroStore;
 
 #[cfg(test)]
 mod tests;

@@ -1,8 +1,8 @@
-ghost use Rattle.std.specs.Prelude.{◌≡◌, ◌≤◌, Some, [], IfOk, IsOk, IsTrue, IsFalse, codes, string_bytes, refl, if◌then◌else◌};
-ghost use Rattle.std.specs.Str.{bytes_eq};
-ghost use Rattle.vio_io.specs.Causes.{Rose};
+ghost use Rattle.std.specs.Prelude.{◌≡◌, ◌≤◌, ◌↔◌, Some, IfOk, OnErr, OnOk, IsTrue, string_bytes, refl};
+ghost use Rattle.vio_io.specs.Causes.{Rose, next_count};
+ghost use Rattle.vio_io.specs.Given.{next_given};
 ghost use Rattle.flat_store.specs.Hosts.{one_image};
-ghost use Rattle.flat_store.specs.ListHostState.{ListHostState, refuses};
+ghost use Rattle.flat_store.specs.ListHostState.{ListHostState, after_giving, after_none, disk_plan, refuses};
 
 use crate::MemStore;
 use std::alloc::Global;
@@ -18,6 +18,7 @@ pub struct ListHost {
     failing: Vec<u64>,
     attach_fails: bool,
     faults: u64,
+    given: u64,
 }
 
 impl Model for ListHost {
@@ -29,6 +30,7 @@ impl Model for ListHost {
       failing = h.failing.items;
       attach_fails = h.attach_fails;
       faults = h.faults;
+      given = h.given;
     } };
 }
 
@@ -48,6 +50,7 @@ impl ListHost {
           failing = failing.now;
           attach_fails = attach_fails;
           faults = 0;
+          given = 0;
         }) }
     {
         Ok(ListHost {
@@ -56,16 +59,33 @@ impl ListHost {
             failing: Vec::from_slice(alloc, failing)?,
             attach_fails,
             faults: 0,
+            given: 0,
         })
+    }
+
+    /// How often it refused to attach an image.
+    pub fn faults(&self) -> u64
+        ensures { result ≡ self.now.faults }
+    {
+        self.faults
     }
 
     fn fail(&mut self) -> AttachFault
         ensures fault { result ≡ AttachFault.Failed }
+        ensures state { self.new ≡ record self.old { faults = next_count self.old.faults } }
         ensures count { self.old.faults ≤ self.new.faults }
         ensures cause { Rose self.old.faults self.new.faults }
     {
         self.faults = self.faults.saturating_add(1);
         AttachFault::Failed
+    }
+
+    fn give(&mut self, disk: MemStore) -> MemStore
+        ensures disk { result ≡ disk }
+        ensures state { self.new ≡ after_giving self.old }
+    {
+        self.given = self.given.wrapping_add(1);
+        disk
     }
 }
 
@@ -76,26 +96,35 @@ impl Host for ListHost {
 
     ghost faults = { λ h. h.faults };
 
+    ghost given = { λ h. h.given };
+
     ghost dash = { λ h least. refl };
 
     fn attach(&mut self, alloc: Global, name: &str, least: u64) -> Result<MemStore, AttachFault>
         ensures gives { IfOk result (λ disk. Some disk.bytes ≡ one_image self.old.name self.old.image name.now least) }
         ensures fresh { IfOk result (λ disk. disk.plan.faults ≡ 0) }
+        ensures given { OnOk result (self.new.given ≡ next_given self.old.given) }
+        ensures none { OnErr result (self.new.given ≡ self.old.given) }
+        ensures ok { OnOk result (self.new.faults ≡ self.old.faults) }
+        ensures memory { result ≡ Err AttachFault.Memory → self.new.faults ≡ self.old.faults }
         ensures count { self.old.faults ≤ self.new.faults }
         ensures cause { result ≡ Err AttachFault.Failed → Rose self.old.faults self.new.faults }
 
-        ensures refuses { result ≡ Err AttachFault.Failed → IsTrue (refuses self.old name.now) }
-        ensures attaches { IsOk result → IsFalse (refuses self.old name.now) }
-        ensures failing { IfOk result (λ disk. disk.plan.failing ≡ (if bytes_eq name.now (codes "-") then [] else self.old.failing)) }
+        ensures refuses { result ≡ Err AttachFault.Failed ↔ IsTrue (refuses self.old name.now) }
+        ensures gave { OnOk result (self.new ≡ after_giving self.old) }
+        ensures gave_none { OnErr result (self.new ≡ after_none self.old name.now) }
+        ensures plan { IfOk result (λ disk. disk.plan ≡ disk_plan self.old name.now) }
     {
         if self.attach_fails {
             return Err(self.fail());
         }
         if name == "-" {
-            return Ok(MemStore::zeros(alloc, least as usize)?);
+            let zeros = MemStore::zeros(alloc, least as usize)?;
+            return Ok(self.give(zeros));
         }
         if name == self.name.as_str() {
-            return Ok(MemStore::new(alloc, &self.image, &self.failing)?);
+            let disk = MemStore::new(alloc, &self.image, &self.failing)?;
+            return Ok(self.give(disk));
         }
         Err(self.fail())
     }

@@ -1,7 +1,8 @@
 ghost use Rattle.std.specs.Prelude.{◌≡◌, ◌+◌, ◌≤◌, ◌↔◌, Some, length, [], replicate, refl, IsErr, IsTrue, IfOk, OnErr, OnOk};
-ghost use Rattle.vio_io.specs.Causes.{Rose};
-ghost use Rattle.vio_io.specs.FaultPlan.{after_call, fails_next};
-ghost use Rattle.vio_io.specs.Stores.{IsUnitRange, KeepsOutside, ReadsRange, WritesRange, overwritten};
+ghost use Rattle.vio_bytes.specs.Place.{put_at};
+ghost use Rattle.vio_io.specs.Causes.{Rose, next_count};
+ghost use Rattle.vio_io.specs.FaultPlan.{after_call, fails_next, unused};
+ghost use Rattle.vio_io.specs.Stores.{IsUnitRange, KeepsOutside, ReadsRange, WritesRange};
 ghost use Rattle.flat_store.specs.MemStoreState.{MemStoreState};
 
 use std::alloc::Global;
@@ -25,7 +26,7 @@ impl Model for MemStore {
 impl MemStore {
     /// A store of these bytes.
     pub fn new(alloc: Global, bytes: &[u8], failing: &[u64]) -> Result<Self, NoMemory>
-        ensures { IfOk result (λ s. s ≡ record { bytes = bytes.now; plan = record { failing = failing.now; calls = 0; faults = 0 } }) }
+        ensures { IfOk result (λ s. s ≡ record { bytes = bytes.now; plan = unused failing.now }) }
     {
         Ok(MemStore {
             bytes: Vec::from_slice(alloc, bytes)?,
@@ -35,7 +36,7 @@ impl MemStore {
 
     /// A store of zeros that never fails.
     pub fn zeros(alloc: Global, length: usize) -> Result<Self, NoMemory>
-        ensures { IfOk result (λ s. s ≡ record { bytes = replicate length 0; plan = record { failing = []; calls = 0; faults = 0 } }) }
+        ensures { IfOk result (λ s. s ≡ record { bytes = replicate length 0; plan = unused [] }) }
     {
         let mut bytes = Vec::with_capacity(alloc, length)?;
         bytes.resize(length, 0)?;
@@ -59,6 +60,8 @@ impl Store for MemStore {
 
     ghost size = { λ s. length s.bytes };
 
+    ghost calls = { λ s. s.plan.calls };
+
     ghost faults = { λ s. s.plan.faults };
 
     ghost told_size = { λ s. refl };
@@ -72,9 +75,11 @@ impl Store for MemStore {
         ensures told { OnOk result (ReadsRange (Some self.old.bytes) at buf.new) }
         ensures content { Some self.new.bytes ≡ Some self.old.bytes }
         ensures size { length self.new.bytes ≡ length self.old.bytes }
+        ensures calls { self.new.plan.calls ≡ next_count self.old.plan.calls }
         ensures ok { OnOk result (self.new.plan.faults ≡ self.old.plan.faults) }
         ensures count { self.old.plan.faults ≤ self.new.plan.faults }
         ensures cause { OnErr result (Rose self.old.plan.faults self.new.plan.faults) }
+        ensures once { OnErr result (self.new.plan.faults ≡ next_count self.old.plan.faults) }
 
         ensures fails { IsErr result ↔ IsTrue (fails_next self.old.plan) }
         ensures plan { self.new.plan ≡ after_call self.old.plan }
@@ -90,9 +95,11 @@ impl Store for MemStore {
         ensures told { OnOk result (WritesRange (Some self.old.bytes) (Some self.new.bytes) at bytes.now) }
         ensures outside { KeepsOutside (Some self.old.bytes) (Some self.new.bytes) at (length bytes.now) }
         ensures size { length self.new.bytes ≡ length self.old.bytes }
+        ensures calls { self.new.plan.calls ≡ next_count self.old.plan.calls }
         ensures ok { OnOk result (self.new.plan.faults ≡ self.old.plan.faults) }
         ensures count { self.old.plan.faults ≤ self.new.plan.faults }
         ensures cause { OnErr result (Rose self.old.plan.faults self.new.plan.faults) }
+        ensures once { OnErr result (self.new.plan.faults ≡ next_count self.old.plan.faults) }
 
         ensures fails { IsErr result ↔ IsTrue (fails_next self.old.plan) }
         ensures plan { self.new.plan ≡ after_call self.old.plan }
@@ -106,9 +113,11 @@ impl Store for MemStore {
     fn flush(&mut self) -> Result<(), Failed>
         ensures content { Some self.new.bytes ≡ Some self.old.bytes }
         ensures size { length self.new.bytes ≡ length self.old.bytes }
+        ensures calls { self.new.plan.calls ≡ next_count self.old.plan.calls }
         ensures ok { OnOk result (self.new.plan.faults ≡ self.old.plan.faults) }
         ensures count { self.old.plan.faults ≤ self.new.plan.faults }
         ensures cause { OnErr result (Rose self.old.plan.faults self.new.plan.faults) }
+        ensures once { OnErr result (self.new.plan.faults ≡ next_count self.old.plan.faults) }
 
         ensures fails { IsErr result ↔ IsTrue (fails_next self.old.plan) }
         ensures plan { self.new.plan ≡ after_call self.old.plan }
@@ -121,9 +130,10 @@ impl Store for MemStore {
     }
 }
 
-fn write_range(content: &mut [u8], at: usize, bytes: &[u8])
+/// Writes bytes at a place.
+pub(crate) fn write_range(content: &mut [u8], at: usize, bytes: &[u8])
     requires { at + length bytes.now ≤ length content.old }
-    ensures { content.new ≡ overwritten content.old at bytes.now }
+    ensures { content.new ≡ put_at at bytes.now content.old }
 {
     content[at..at + bytes.len()].copy_from_slice(bytes);
 }

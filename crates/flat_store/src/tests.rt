@@ -32,6 +32,7 @@ fn a_host_attaches_its_image_and_zeros(rt: HostRuntime) -> Result<(), Fail> {
         Ok(_) => panic!(rt; "no image has this name"),
         Err(fault) => assert_eq!(rt; fault, AttachFault::Failed),
     }
+    assert_eq!(rt; host.faults(), 1);
     let mut failing = ListHost::new(alloc, "img", &[5; 512], &[], true)?;
     match failing.attach(alloc, "-", 1024) {
         Ok(_) => panic!(rt; "every attach fails"),

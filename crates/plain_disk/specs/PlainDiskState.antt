@@ -1,4 +1,4 @@
--- A disk on a plain list, with what its last completion gave.
+-- A disk on a plain list, with what its last completion gave and how often its image was called.
 use Rattle.std.specs.Prelude.{ℕ, List, [], ◌∷◌}
 use Rattle.vdisk_msg.specs.declared.request.Request.{Request}
 use Rattle.disk_law.specs.Requests.{BadCount, BadRange, given_count}
@@ -11,6 +11,8 @@ pub record PlainDiskState : Type 0 where
   pub list : ListState
   -- the bytes that the last completion gave
   pub last : List ℕ
+  -- how often the image was asked to read, to write or to flush
+  pub calls : ℕ
 
 -- what a refusal is as an event
 abbrev pub refusal : IssueFault → Request → DiskEvent

@@ -63,6 +63,7 @@ impl<D: Store> Model for PlainDisk<D> {
         faults = D.faults d.image;
       };
       last = take d.given d.buffer.items;
+      calls = D.calls d.image;
     } };
 
     ghost invariant = { λ d. record {
@@ -78,6 +79,8 @@ impl<D: Store> Model for PlainDisk<D> {
 }
 
 impl<D: Store> PlainDisk<D> {
+    ghost use Rattle.vio_io.specs.Causes.{count_after, next_count};
+    ghost use Rattle.plain_disk.specs.Calls.{StopsCalling, front_calls};
     ghost use Rattle.plain_disk.specs.PlainDiskState.{front_count, refusal};
 
     /// A disk of so many blocks, up to 65,536, over an image that holds them, with room for so many pending requests.
@@ -86,6 +89,7 @@ impl<D: Store> PlainDisk<D> {
         requires few { blocks ≤ 65536 }
         requires image { 512 * blocks ≤ D.size image }
         ensures made { IfOk result (λ d. d.list ≡ fresh blocks ring (D.content image) (D.faults image)) }
+        ensures unasked { IfOk result (λ d. d.calls ≡ D.calls image) }
         ensures given_back { IfErr result (λ e. e.1 ≡ image) }
     {
         match rooms(alloc, ring) {
@@ -109,6 +113,7 @@ impl<D: Store> PlainDisk<D> {
         ensures accepted { IfOk result (λ id. ListStep self.old.list (Accepted id request.now) self.new.list) }
         ensures refused { IfErr result (λ fault. ListStep self.old.list (refusal fault request.now) self.new.list) }
         ensures last { self.new.last ≡ self.old.last }
+        ensures unasked { self.new.calls ≡ self.old.calls }
     {
         check_blocks(self.blocks, request)?;
         let id = self.done + self.pending.len() as u64;
@@ -135,11 +140,15 @@ impl<D: Store> PlainDisk<D> {
         }
     }
 
-    /// Completes the first pending request. What it gave are the disk's `bytes` then.
+    /// Completes the first pending request, by one call of the image for each unit of 8,192 bytes, or for a flush. What
+    /// it gave are the disk's `bytes` then.
     pub fn complete(&mut self) -> Completion
         requires { 0 < length self.old.list.pending }
         ensures step { ListStep self.old.list (Done result.id result.operation result.status self.new.last) self.new.list }
         ensures given { length self.new.last ≤ front_count self.old.list.pending }
+        ensures calls { result.status ≡ 0 → self.new.calls ≡ count_after (front_calls self.old.list.pending) self.old.calls }
+        ensures stopped { result.status ≡ 5 → StopsCalling (front_calls self.old.list.pending) self.old.calls self.new.calls }
+        ensures once { result.status ≡ 5 → self.new.list.faults ≡ next_count self.old.list.faults }
     {
         let request = match self.pending.pop_front() {
             Some(request) => request,
@@ -184,6 +193,7 @@ impl<D: Store> PlainDisk<D> {
     pub fn into_image(self) -> D
         ensures content { D.content result ≡ self.list.told }
         ensures faults { D.faults result ≡ self.list.faults }
+        ensures calls { D.calls result ≡ self.calls }
     {
         let PlainDisk {
             image,

@@ -8,3 +8,6 @@ mod serve;
 mod transfer;
 
 pub use disk::{Completion, IssueFault, PlainDisk};
+
+#[cfg(test)]
+mod tests;

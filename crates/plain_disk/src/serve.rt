@@ -1,10 +1,11 @@
 // One request over an image.
 ghost use Rattle.std.specs.Prelude.{◌≡◌, ◌+◌, ◌*◌, ◌%◌, ◌<◌, ◌≤◌, ◌^◌, None, length, take, IfOk, OnErr, OnOk};
-ghost use Rattle.vio_io.specs.Causes.{Rose};
+ghost use Rattle.vio_io.specs.Causes.{Rose, count_after, next_count};
 ghost use Rattle.disk_law.specs.Requests.{defect, repeated};
 ghost use Rattle.vdisk_msg.specs.Fills.{IsFill, IsRequest};
-ghost use Rattle.vio_io.specs.Stores.{KeepsOutside, WritesRange};
+ghost use Rattle.vio_io.specs.Stores.{WritesRange};
 ghost use Rattle.disk_law.specs.ListStep.{CutOff, StopsWriting, Succeeds};
+ghost use Rattle.plain_disk.specs.Calls.{StopsCalling, calls_of, units};
 
 use crate::transfer::{UNIT, lay_pattern, read_blocks, write_blocks};
 use vdisk_msg::{Fill, Request};
@@ -36,10 +37,13 @@ pub fn serve<D: Store>(
     ensures within { IfOk result (λ n. n ≤ 32768) }
     ensures succeeds { IfOk result (λ n. Succeeds request.now (take n buffer.new) (D.content image.old) (D.content image.new)) }
     ensures cut_off { OnErr result (CutOff request.now (D.content image.old) (D.content image.new)) }
+    ensures calls { OnOk result (D.calls image.new ≡ count_after (calls_of request.now) (D.calls image.old)) }
+    ensures stopped { OnErr result (StopsCalling (calls_of request.now) (D.calls image.old) (D.calls image.new)) }
     ensures size { D.size image.new ≡ D.size image.old }
     ensures ok { OnOk result (D.faults image.new ≡ D.faults image.old) }
     ensures count { D.faults image.old ≤ D.faults image.new }
     ensures cause { OnErr result (Rose (D.faults image.old) (D.faults image.new)) }
+    ensures once { OnErr result (D.faults image.new ≡ next_count (D.faults image.old)) }
 {
     match request {
         Request::Read { block, count } => {
@@ -80,10 +84,13 @@ fn serve_write<D: Store>(
     requires pattern { length pattern.old ≡ 18432 }
     ensures told { OnOk result (WritesRange (D.content image.old) (D.content image.new) start (repeated fill.now 0 total)) }
     ensures cut_off { OnErr result (StopsWriting fill.now start total (D.content image.old) (D.content image.new)) }
+    ensures calls { OnOk result (D.calls image.new ≡ count_after (units total) (D.calls image.old)) }
+    ensures stopped { OnErr result (StopsCalling (units total) (D.calls image.old) (D.calls image.new)) }
     ensures size { D.size image.new ≡ D.size image.old }
     ensures ok { OnOk result (D.faults image.new ≡ D.faults image.old) }
     ensures count { D.faults image.old ≤ D.faults image.new }
     ensures cause { OnErr result (Rose (D.faults image.old) (D.faults image.new)) }
+    ensures once { OnErr result (D.faults image.new ≡ next_count (D.faults image.old)) }
 {
     let laid = lay_pattern(pattern, fill, UNIT + fill.len as usize);
     write_blocks(image, start, total, fill, &pattern[..laid])

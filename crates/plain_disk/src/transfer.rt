@@ -1,9 +1,10 @@
 // Runs of blocks between an image and memory, unit by unit.
-ghost use Rattle.std.specs.Prelude.{◌≡◌, ◌+◌, ◌*◌, ◌-◌, ◌%◌, ◌<◌, ◌≤◌, ◌^◌, ◌++◌, length, take, IfOk, OnErr, OnOk};
-ghost use Rattle.vio_io.specs.Causes.{Rose};
+ghost use Rattle.std.specs.Prelude.{◌≡◌, ◌+◌, ◌-◌, ◌%◌, ◌<◌, ◌≤◌, ◌^◌, ◌++◌, min, length, take, IfOk, OnErr, OnOk};
+ghost use Rattle.vio_io.specs.Causes.{Rose, count_after, next_count};
 ghost use Rattle.vio_io.specs.Stores.{KeepsOutside, ReadsRange, WritesRange};
 ghost use Rattle.disk_law.specs.ListStep.{StopsWriting};
 ghost use Rattle.disk_law.specs.Requests.{repeated};
+ghost use Rattle.plain_disk.specs.Calls.{StopsCalling, units};
 
 use vdisk_msg::Fill;
 use vio_io::{Failed, Store};
@@ -19,10 +20,13 @@ pub fn read_blocks<D: Store>(image: &mut D, start: u64, bytes: &mut [u8]) -> Res
     requires small { start + length bytes.old < 2 ^ 64 }
     ensures told { OnOk result (ReadsRange (D.content image.old) start bytes.new) }
     ensures content { D.content image.new ≡ D.content image.old }
+    ensures calls { OnOk result (D.calls image.new ≡ count_after (units (length bytes.old)) (D.calls image.old)) }
+    ensures stopped { OnErr result (StopsCalling (units (length bytes.old)) (D.calls image.old) (D.calls image.new)) }
     ensures size { D.size image.new ≡ D.size image.old }
     ensures ok { OnOk result (D.faults image.new ≡ D.faults image.old) }
     ensures count { D.faults image.old ≤ D.faults image.new }
     ensures cause { OnErr result (Rose (D.faults image.old) (D.faults image.new)) }
+    ensures once { OnErr result (D.faults image.new ≡ next_count (D.faults image.old)) }
 {
     let mut at = 0;
     while at < bytes.len() {
@@ -45,13 +49,15 @@ fn read_unit<D: Store>(
     requires within { start + length bytes.old ≤ D.size image.old }
     requires small { start + length bytes.old < 2 ^ 64 }
     requires so_far { ReadsRange (D.content image.old) start (take at bytes.old) }
-    ensures next { IfOk result (λ end. (at < end) × (end ≤ length bytes.new) × (end % 512 ≡ 0)) }
+    ensures next { IfOk result (λ end. end ≡ min (length bytes.old) (at + 8192)) }
     ensures told { IfOk result (λ end. ReadsRange (D.content image.new) start (take end bytes.new)) }
     ensures content { D.content image.new ≡ D.content image.old }
+    ensures calls { D.calls image.new ≡ next_count (D.calls image.old) }
     ensures size { D.size image.new ≡ D.size image.old }
     ensures ok { OnOk result (D.faults image.new ≡ D.faults image.old) }
     ensures count { D.faults image.old ≤ D.faults image.new }
     ensures cause { OnErr result (Rose (D.faults image.old) (D.faults image.new)) }
+    ensures once { OnErr result (D.faults image.new ≡ next_count (D.faults image.old)) }
 {
     let end = bytes.len().min(at + UNIT);
     image.read_at(start + at as u64, &mut bytes[at..end])?;
@@ -76,10 +82,13 @@ pub fn write_blocks<D: Store>(
     requires long { fill.now.len + 8192 ≤ length pattern.now }
     ensures told { OnOk result (WritesRange (D.content image.old) (D.content image.new) start (repeated fill.now 0 total)) }
     ensures cut_off { OnErr result (StopsWriting fill.now start total (D.content image.old) (D.content image.new)) }
+    ensures calls { OnOk result (D.calls image.new ≡ count_after (units total) (D.calls image.old)) }
+    ensures stopped { OnErr result (StopsCalling (units total) (D.calls image.old) (D.calls image.new)) }
     ensures size { D.size image.new ≡ D.size image.old }
     ensures ok { OnOk result (D.faults image.new ≡ D.faults image.old) }
     ensures count { D.faults image.old ≤ D.faults image.new }
     ensures cause { OnErr result (Rose (D.faults image.old) (D.faults image.new)) }
+    ensures once { OnErr result (D.faults image.new ≡ next_count (D.faults image.old)) }
 {
     let mut at = 0;
     while at < total {
@@ -109,10 +118,12 @@ fn write_unit<D: Store>(
     requires long { fill.now.len + 8192 ≤ length pattern.now }
     ensures told { OnOk result (WritesRange (D.content image.old) (D.content image.new) place (repeated fill.now at size)) }
     ensures outside { KeepsOutside (D.content image.old) (D.content image.new) place size }
+    ensures calls { D.calls image.new ≡ next_count (D.calls image.old) }
     ensures size { D.size image.new ≡ D.size image.old }
     ensures ok { OnOk result (D.faults image.new ≡ D.faults image.old) }
     ensures count { D.faults image.old ≤ D.faults image.new }
     ensures cause { OnErr result (Rose (D.faults image.old) (D.faults image.new)) }
+    ensures once { OnErr result (D.faults image.new ≡ next_count (D.faults image.old)) }
 {
     let within = at % fill.len as usize;
     image.write_at(place, &pattern[within..within + size])

@@ -1,10 +1,19 @@
 -- What a count of faults says of an answer. The count of a source, a sink, a store or a host never falls,
--- and stands still at the last value of a u64.
-use Rattle.std.specs.Prelude.{ℕ, ◌-◌, ◌^◌, ◌<◌}
+-- and stands still at the last value of a u64, as a store's count of calls does.
+use Rattle.std.specs.Prelude.{ℕ, zero, suc, ◌+◌, ◌-◌, ◌^◌, ◌<◌, min}
 
 -- where the count stops
 abbrev pub last_count : ℕ
 last_count = 2 ^ 64 - 1
+
+-- a count one higher
+abbrev pub next_count : ℕ → ℕ
+next_count count = min (count + 1) last_count
+
+-- a count behind n more
+abbrev pub count_after : ℕ → ℕ → ℕ
+count_after zero count = count
+count_after (suc n) count = next_count (count_after n count)
 
 -- The count rose, or stands at its last value.
 abbrev pub Rose : ℕ → ℕ → Type 0

@@ -1,7 +1,7 @@
 -- Which calls of an object in memory fail.
-use Rattle.std.specs.Prelude.{ℕ, ◌+◌, List, Bool, ◌==◌, min, if◌then◌else◌}
+use Rattle.std.specs.Prelude.{ℕ, zero, suc, List, Bool, ◌==◌, if◌then◌else◌}
 use Rattle.std.specs.List.{list_any}
-use Rattle.vio_io.specs.Causes.{last_count}
+use Rattle.vio_io.specs.Causes.{next_count}
 
 pub record Plan : Type 0 where
   -- the numbers of the calls that fail, counted from 0
@@ -10,14 +10,23 @@ pub record Plan : Type 0 where
   pub calls : ℕ
   pub faults : ℕ
 
--- a count one higher, which stands still at its last value
-abbrev pub next_count : ℕ → ℕ
-next_count n = min (n + 1) last_count
+-- no call was made yet; those with these numbers will fail
+abbrev pub unused : List ℕ → Plan
+unused failing = record { failing = failing; calls = 0; faults = 0 }
 
 -- whether the next call fails
 abbrev pub fails_next : Plan → Bool
 fails_next p = list_any (λ n. n == p.calls) p.failing
 
+-- behind a call, which counts a fault where it failed
+abbrev pub noted : Plan → Bool → Plan
+noted p failed = record { failing = p.failing; calls = next_count p.calls; faults = if failed then next_count p.faults else p.faults }
+
 -- behind the next call
 abbrev pub after_call : Plan → Plan
-after_call p = record { failing = p.failing; calls = next_count p.calls; faults = if fails_next p then next_count p.faults else p.faults }
+after_call p = noted p (fails_next p)
+
+-- behind the next n calls
+abbrev pub after_calls : ℕ → Plan → Plan
+after_calls zero p = p
+after_calls (suc n) p = after_call (after_calls n p)

@@ -1,4 +1,5 @@
 pub mod Causes
 pub mod FaultPlan
+pub mod Given
 pub mod Stores
 pub mod Lists

@@ -1,6 +1,6 @@
 -- A list of bytes as a source, and as a sink.
 use Rattle.std.specs.Prelude.{ℕ, List, Bool, ◌==◌, ◌||◌}
-use Rattle.vio_io.specs.FaultPlan.{Plan, fails_next}
+use Rattle.vio_io.specs.FaultPlan.{Plan, fails_next, noted}
 
 pub record ListSourceState : Type 0 where
   -- the bytes that are left
@@ -18,3 +18,7 @@ pub record ListSinkState : Type 0 where
 -- whether the next write fails
 abbrev pub refuses_next : ListSinkState → Bool
 refuses_next s = fails_next s.plan || (s.room == 0)
+
+-- the plan behind the next write, which is a fault also where no room is left
+abbrev pub after_write : ListSinkState → Plan
+after_write s = noted s.plan (refuses_next s)

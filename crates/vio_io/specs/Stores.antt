@@ -1,5 +1,6 @@
 -- Ranges of a store's list of bytes, where it tells them.
-use Rattle.std.specs.Prelude.{◌≡◌, ℕ, ◌+◌, ◌%◌, ◌≤◌, List, ◌++◌, length, take, drop, ⊤, Option, Some, None}
+use Rattle.std.specs.Prelude.{◌≡◌, ℕ, ◌+◌, ◌%◌, ◌≤◌, List, length, take, drop, ⊤, Option, Some, None}
+use Rattle.vio_bytes.specs.Place.{put_at}
 
 -- a run of whole blocks within a store, of at most one unit: n bytes from the place `at`
 pub record IsUnitRange (size at n : ℕ) : Type 0 where
@@ -8,10 +9,6 @@ pub record IsUnitRange (size at n : ℕ) : Type 0 where
   pub some : 512 ≤ n
   pub unit : n ≤ 8192
   pub within : at + n ≤ size
-
--- the content with these bytes from the place `at` on
-abbrev pub overwritten : List ℕ → ℕ → List ℕ → List ℕ
-overwritten content at bytes = take at content ++ bytes ++ drop (at + length bytes) content
 
 -- these are the bytes of the content from the place `at` on
 abbrev pub ReadsRange : Option (List ℕ) → ℕ → List ℕ → Type 0
@@ -22,7 +19,7 @@ ReadsRange (Some content) at bytes = bytes ≡ take (length bytes) (drop at cont
 abbrev pub WritesRange : Option (List ℕ) → Option (List ℕ) → ℕ → List ℕ → Type 0
 WritesRange None new at bytes = ⊤
 WritesRange (Some old) None at bytes = ⊥
-WritesRange (Some old) (Some new) at bytes = new ≡ overwritten old at bytes
+WritesRange (Some old) (Some new) at bytes = new ≡ put_at at bytes old
 
 -- all bytes outside the n bytes from the place `at` on stay
 abbrev pub KeepsOutside : Option (List ℕ) → Option (List ℕ) → ℕ → ℕ → Type 0

@@ -1,6 +1,6 @@
 ghost use Rattle.std.specs.Prelude.{◌≡◌, ◌↔◌, ◌≤◌, IsErr, IfOk, IsTrue, OnErr, OnOk};
-ghost use Rattle.vio_io.specs.Causes.{Rose};
-ghost use Rattle.vio_io.specs.FaultPlan.{Plan, after_call, fails_next, next_count};
+ghost use Rattle.vio_io.specs.Causes.{Rose, next_count};
+ghost use Rattle.vio_io.specs.FaultPlan.{Plan, after_call, fails_next, unused};
 
 use crate::{Failed, NoMemory};
 use std::alloc::Global;
@@ -23,7 +23,7 @@ impl Model for FaultPlan {
 impl FaultPlan {
     /// No call was made yet; the calls with these numbers, counted from 0, will fail.
     pub fn new(alloc: Global, failing: &[u64]) -> Result<Self, NoMemory>
-        ensures { IfOk result (λ p. p ≡ record { failing = failing.now; calls = 0; faults = 0 }) }
+        ensures { IfOk result (λ p. p ≡ unused failing.now) }
     {
         Ok(FaultPlan {
             failing: Vec::from_slice(alloc, failing)?,
@@ -38,6 +38,7 @@ impl FaultPlan {
         ensures after { self.new ≡ after_call self.old }
         ensures count { self.old.faults ≤ self.new.faults }
         ensures cause { OnErr result (Rose self.old.faults self.new.faults) }
+        ensures once { OnErr result (self.new.faults ≡ next_count self.old.faults) }
         ensures ok { OnOk result (self.new.faults ≡ self.old.faults) }
     {
         let fails = self.failing.contains(&self.calls);

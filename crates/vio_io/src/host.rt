@@ -1,5 +1,6 @@
 ghost use Rattle.std.specs.Prelude.{◌≡◌, ℕ, ◌≤◌, List, Option, Some, IfOk, OnErr, OnOk, replicate, codes};
 ghost use Rattle.vio_io.specs.Causes.{Rose};
+ghost use Rattle.vio_io.specs.Given.{next_given};
 ghost use Rattle.vio_io.specs.declared.host.AttachFault.TheVariants.{Memory};
 
 use crate::{NoMemory, Store};
@@ -31,10 +32,17 @@ pub trait Host {
     /// How often it failed.
     ghost faults: { Self → ℕ };
 
+    /// How many disks it gave, modulo 2^64: so each one that it gives changes the count.
+    ghost given: { Self → ℕ };
+
     /// Attaches the image of a name. `least` is how many bytes are wanted of an image that is made by this call.
     fn attach(&mut self, alloc: Global, name: &str, least: u64) -> Result<Self::Disk, AttachFault>
         ensures gives { IfOk result (λ disk. Self.Disk.content disk ≡ gives self.old name.now least) }
         ensures fresh { IfOk result (λ disk. Self.Disk.faults disk ≡ 0) }
+        ensures given { OnOk result (given self.new ≡ next_given (given self.old)) }
+        ensures none { OnErr result (given self.new ≡ given self.old) }
+        ensures ok { OnOk result (faults self.new ≡ faults self.old) }
+        ensures memory { result ≡ Err AttachFault.Memory → faults self.new ≡ faults self.old }
         ensures count { faults self.old ≤ faults self.new }
         ensures cause { result ≡ Err AttachFault.Failed → Rose (faults self.old) (faults self.new) };
 

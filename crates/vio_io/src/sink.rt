@@ -1,7 +1,8 @@
-ghost use Rattle.std.specs.Prelude.{◌≡◌, ℕ, ◌<◌, ◌≤◌, ◌+◌, ◌↔◌, List, [], Option, Some, length, min, vec_capacity, IsErr, IsTrue, OnErr, IfOk};
+ghost use Rattle.std.specs.Prelude.{◌≡◌, ℕ, ◌<◌, ◌≤◌, ◌+◌, ◌↔◌, List, [], Option, Some, length, min, vec_capacity, IsErr, IsTrue, OnErr, OnOk, IfOk};
 ghost use Rattle.std.specs.Io.KnownBytes.{WriteAppends};
 ghost use Rattle.vio_io.specs.Causes.{Rose};
-ghost use Rattle.vio_io.specs.Lists.{ListSinkState, refuses_next};
+ghost use Rattle.vio_io.specs.FaultPlan.{unused};
+ghost use Rattle.vio_io.specs.Lists.{ListSinkState, after_write, refuses_next};
 
 use crate::{Failed, FaultPlan, NoMemory};
 use std::alloc::Global;
@@ -21,6 +22,7 @@ pub trait Sink {
         ensures some { IfOk result (λ n. 0 < n) }
         ensures within { IfOk result (λ n. n ≤ length buf.now) }
         ensures told { WriteAppends (written self.old) (written self.new) result buf.now }
+        ensures ok { OnOk result (faults self.new ≡ faults self.old) }
         ensures count { faults self.old ≤ faults self.new }
         ensures cause { OnErr result (Rose (faults self.old) (faults self.new)) };
 }
@@ -48,7 +50,7 @@ impl ListSink {
         ensures { IfOk result (λ s. s ≡ record {
           written = [];
           room = room;
-          plan = record { failing = failing.now; calls = 0; faults = 0 };
+          plan = unused failing.now;
         }) }
     {
         Ok(ListSink {
@@ -64,6 +66,13 @@ impl ListSink {
     {
         &self.written
     }
+
+    /// How often a write failed.
+    pub fn faults(&self) -> u64
+        ensures { result ≡ self.now.plan.faults }
+    {
+        self.plan.faults()
+    }
 }
 
 impl Sink for ListSink {
@@ -77,6 +86,7 @@ impl Sink for ListSink {
         ensures some { IfOk result (λ n. 0 < n) }
         ensures within { IfOk result (λ n. n ≤ length buf.now) }
         ensures told { WriteAppends (Some self.old.written) (Some self.new.written) result buf.now }
+        ensures ok { OnOk result (self.new.plan.faults ≡ self.old.plan.faults) }
         ensures count { self.old.plan.faults ≤ self.new.plan.faults }
         ensures cause { OnErr result (Rose self.old.plan.faults self.new.plan.faults) }
 
@@ -84,6 +94,7 @@ impl Sink for ListSink {
         ensures takes { IfOk result (λ n. n ≡ min (length buf.now) self.old.room) }
         ensures room { IfOk result (λ n. self.new.room + n ≡ self.old.room) }
         ensures refused { OnErr result (self.new.room ≡ self.old.room) }
+        ensures plan { self.new.plan ≡ after_write self.old }
     {
         self.plan.call()?;
         let taken = buf.len().min(self.room);

@@ -1,7 +1,7 @@
 ghost use Rattle.std.specs.Prelude.{◌≡◌, ℕ, ◌<◌, ◌≤◌, ◌↔◌, List, Option, Some, length, min, drop, IsErr, IsTrue, OnErr, OnOk, IfOk};
 ghost use Rattle.std.specs.Io.KnownBytes.{ReadConsumes};
 ghost use Rattle.vio_io.specs.Causes.{Rose};
-ghost use Rattle.vio_io.specs.FaultPlan.{after_call, fails_next};
+ghost use Rattle.vio_io.specs.FaultPlan.{after_call, fails_next, unused};
 ghost use Rattle.vio_io.specs.Lists.{ListSourceState};
 
 use crate::{FaultPlan, NoMemory};
@@ -27,6 +27,7 @@ pub trait Source {
         requires { 0 < length buf.old }
         ensures within { IfOk result (λ n. n ≤ length buf.old) }
         ensures told { ReadConsumes (left self.old) (left self.new) result buf.new }
+        ensures ok { OnOk result (faults self.new ≡ faults self.old) }
         ensures count { faults self.old ≤ faults self.new }
         ensures cause { OnErr result (Rose (faults self.old) (faults self.new)) };
 }
@@ -56,7 +57,7 @@ impl ListSource {
         ensures { IfOk result (λ s. s ≡ record {
           left = bytes.now;
           piece = piece;
-          plan = record { failing = failing.now; calls = 0; faults = 0 };
+          plan = unused failing.now;
         }) }
     {
         Ok(ListSource {
@@ -65,6 +66,13 @@ impl ListSource {
             piece,
             plan: FaultPlan::new(alloc, failing)?,
         })
+    }
+
+    /// How often a read failed.
+    pub fn faults(&self) -> u64
+        ensures { result ≡ self.now.plan.faults }
+    {
+        self.plan.faults()
     }
 }
 
@@ -77,6 +85,7 @@ impl Source for ListSource {
         requires { 0 < length buf.old }
         ensures within { IfOk result (λ n. n ≤ length buf.old) }
         ensures told { ReadConsumes (Some self.old.left) (Some self.new.left) result buf.new }
+        ensures ok { OnOk result (self.new.plan.faults ≡ self.old.plan.faults) }
         ensures count { self.old.plan.faults ≤ self.new.plan.faults }
         ensures cause { OnErr result (Rose self.old.plan.faults self.new.plan.faults) }
 

@@ -1,11 +1,15 @@
-ghost use Rattle.std.specs.Prelude.{◌≡◌, ◌<◌, ◌≤◌, length, IfOk, OnErr};
+ghost use Rattle.std.specs.Prelude.{◌≡◌, ◌<◌, ◌≤◌, length, IfOk, OnErr, OnOk};
 ghost use Rattle.std.specs.Io.KnownBytes.{ReadConsumes, WriteAppends};
-ghost use Rattle.vio_io.specs.Causes.{Rose};
+ghost use Rattle.vio_io.specs.Causes.{Rose, next_count};
 
 use crate::{Failed, Sink, Source};
-use std::io::{Read, Write};
+use std::io::{ErrorKind, Read, Write};
 
-/// A reader of std as a source: the trusted edge. Of the bytes it tells what std tells.
+/// How often in a row a read or a write is tried before its interruptions are a fault.
+const MOST_TRIES: u32 = 10_000;
+
+/// A reader of std as a source: the trusted edge. Of the bytes it tells what std tells. A read that the system
+/// interrupted is tried again, up to 10,000 times in a row, and is no fault.
 #[derive(Drop)]
 pub struct StdSource<R: Read> {
     reader: R,
@@ -27,15 +31,39 @@ impl<R: Read> Source for StdSource<R> {
 
     ghost faults = { λ s. s.faults };
 
-    fn read(&mut self, buf: &mut [u8]) -> Result<usize, Failed> {
-        match self.reader.read(buf) {
+    fn read(&mut self, buf: &mut [u8]) -> Result<usize, Failed>
+        requires { 0 < length buf.old }
+        ensures within { IfOk result (λ n. n ≤ length buf.old) }
+        ensures told { ReadConsumes (R.remaining self.old.reader) (R.remaining self.new.reader) result buf.new }
+        ensures ok { OnOk result (self.new.faults ≡ self.old.faults) }
+        ensures count { self.old.faults ≤ self.new.faults }
+        ensures cause { OnErr result (Rose self.old.faults self.new.faults) }
+
+        ensures once { OnErr result (self.new.faults ≡ next_count self.old.faults) }
+    {
+        match try_read(&mut self.reader, buf) {
             Ok(taken) => Ok(taken),
-            Err(_) => {
+            Err(Failed) => {
                 self.faults = self.faults.saturating_add(1);
                 Err(Failed)
             }
         }
     }
+}
+
+// One read, tried again where the system interrupts it.
+fn try_read<R: Read>(reader: &mut R, buf: &mut [u8]) -> Result<usize, Failed>
+    ensures within { IfOk result (λ n. n ≤ length buf.old) }
+    ensures told { ReadConsumes (R.remaining reader.old) (R.remaining reader.new) result buf.new }
+{
+    for _ in 0..MOST_TRIES {
+        match reader.read(buf) {
+            Ok(taken) => return Ok(taken),
+            Err(error) if error.kind() == ErrorKind::Interrupted => {}
+            Err(_) => return Err(Failed),
+        }
+    }
+    Err(Failed)
 }
 
 /// A writer of std as a sink, likewise. A write that takes 0 bytes is counted as a fault.
@@ -60,13 +88,40 @@ impl<W: Write> Sink for StdSink<W> {
 
     ghost faults = { λ s. s.faults };
 
-    fn write(&mut self, buf: &[u8]) -> Result<usize, Failed> {
-        match self.writer.write(buf) {
-            Ok(taken) if taken > 0 => Ok(taken),
-            _ => {
+    fn write(&mut self, buf: &[u8]) -> Result<usize, Failed>
+        requires { 0 < length buf.now }
+        ensures some { IfOk result (λ n. 0 < n) }
+        ensures within { IfOk result (λ n. n ≤ length buf.now) }
+        ensures told { WriteAppends (W.contents self.old.writer) (W.contents self.new.writer) result buf.now }
+        ensures ok { OnOk result (self.new.faults ≡ self.old.faults) }
+        ensures count { self.old.faults ≤ self.new.faults }
+        ensures cause { OnErr result (Rose self.old.faults self.new.faults) }
+
+        ensures once { OnErr result (self.new.faults ≡ next_count self.old.faults) }
+    {
+        match try_write(&mut self.writer, buf) {
+            Ok(taken) => Ok(taken),
+            Err(Failed) => {
                 self.faults = self.faults.saturating_add(1);
                 Err(Failed)
             }
         }
     }
+}
+
+// One write, tried again where the system interrupts it.
+fn try_write<W: Write>(writer: &mut W, buf: &[u8]) -> Result<usize, Failed>
+    ensures some { IfOk result (λ n. 0 < n) }
+    ensures within { IfOk result (λ n. n ≤ length buf.now) }
+    ensures told { WriteAppends (W.contents writer.old) (W.contents writer.new) result buf.now }
+{
+    for _ in 0..MOST_TRIES {
+        match writer.write(buf) {
+            Ok(0) => return Err(Failed),
+            Ok(taken) => return Ok(taken),
+            Err(error) if error.kind() == ErrorKind::Interrupted => {}
+            Err(_) => return Err(Failed),
+        }
+    }
+    Err(Failed)
 }

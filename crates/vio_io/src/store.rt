@@ -1,5 +1,5 @@
 ghost use Rattle.std.specs.Prelude.{◌≡◌, ℕ, ◌<◌, ◌≤◌, ◌↔◌, List, Option, length, IsTrue, OnErr, OnOk, IfSome};
-ghost use Rattle.vio_io.specs.Causes.{Rose};
+ghost use Rattle.vio_io.specs.Causes.{Rose, next_count};
 ghost use Rattle.vio_io.specs.Stores.{IsUnitRange, KeepsOutside, ReadsRange, WritesRange};
 
 use crate::Failed;
@@ -12,7 +12,10 @@ pub trait Store: Drop {
     /// The list's length in bytes.
     ghost size: { Self → ℕ };
 
-    /// How often it failed.
+    /// How often it was asked to read, to write or to flush.
+    ghost calls: { Self → ℕ };
+
+    /// How often it failed: each call that fails counts one fault.
     ghost faults: { Self → ℕ };
 
     /// The length of the list, in bytes.
@@ -25,9 +28,11 @@ pub trait Store: Drop {
         ensures told { OnOk result (ReadsRange (content self.old) at buf.new) }
         ensures content { content self.new ≡ content self.old }
         ensures size { size self.new ≡ size self.old }
+        ensures calls { calls self.new ≡ next_count (calls self.old) }
         ensures ok { OnOk result (faults self.new ≡ faults self.old) }
         ensures count { faults self.old ≤ faults self.new }
-        ensures cause { OnErr result (Rose (faults self.old) (faults self.new)) };
+        ensures cause { OnErr result (Rose (faults self.old) (faults self.new)) }
+        ensures once { OnErr result (faults self.new ≡ next_count (faults self.old)) };
 
     /// Writes exactly the range from the place `at`. After `Failed` the bytes outside it stay.
     fn write_at(&mut self, at: u64, bytes: &[u8]) -> Result<(), Failed>
@@ -35,17 +40,21 @@ pub trait Store: Drop {
         ensures told { OnOk result (WritesRange (content self.old) (content self.new) at bytes.now) }
         ensures outside { KeepsOutside (content self.old) (content self.new) at (length bytes.now) }
         ensures size { size self.new ≡ size self.old }
+        ensures calls { calls self.new ≡ next_count (calls self.old) }
         ensures ok { OnOk result (faults self.new ≡ faults self.old) }
         ensures count { faults self.old ≤ faults self.new }
-        ensures cause { OnErr result (Rose (faults self.old) (faults self.new)) };
+        ensures cause { OnErr result (Rose (faults self.old) (faults self.new)) }
+        ensures once { OnErr result (faults self.new ≡ next_count (faults self.old)) };
 
     /// What was written before is to last. It changes no byte.
     fn flush(&mut self) -> Result<(), Failed>
         ensures content { content self.new ≡ content self.old }
         ensures size { size self.new ≡ size self.old }
+        ensures calls { calls self.new ≡ next_count (calls self.old) }
         ensures ok { OnOk result (faults self.new ≡ faults self.old) }
         ensures count { faults self.old ≤ faults self.new }
-        ensures cause { OnErr result (Rose (faults self.old) (faults self.new)) };
+        ensures cause { OnErr result (Rose (faults self.old) (faults self.new)) }
+        ensures once { OnErr result (faults self.new ≡ next_count (faults self.old)) };
 
     /// Whether it ever failed.
     fn faulty(&self) -> bool
