@@ -14,6 +14,10 @@ fill_length word fill spells =
     let taken : length (take fill.len fill.bytes) ≡ fill.len = length-take-le fill.len fill.bytes (omega (arith, spells.limits.most, spells.limits.room)) in
     omega (arith, long, taken)
 
+pub taken_length : (word : List ℕ) (fill : Fill) → SpellsFill word fill → length (take fill.len fill.bytes) ≡ length word / 2
+taken_length word fill spells =
+    length-take-le fill.len fill.bytes (omega (arith, spells.limits.most, spells.limits.room)) ∙ sym (fill_length word fill spells)
+
 -- a word of no byte or of too many spells nothing
 pub fill_within : (word : List ℕ) (fill : Fill) → SpellsFill word fill → (1 ≤ length word / 2) × (length word / 2 ≤ 1024)
 fill_within word fill spells =

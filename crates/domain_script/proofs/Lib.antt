@@ -13,3 +13,6 @@ pub mod Naming
 pub mod PowersOfTwo
 pub mod Spelling
 pub mod OneEvent
+pub mod ComputedEvents
+mod ExampleScript
+pub mod LowerDigits

@@ -1,8 +1,8 @@
 -- Lines of lists of bytes that have no line feed.
-use Rattle.std.proofs.Common.{◌≡◌, ◌≢◌, ℕ, Bool, false, eqb, cond, List, [], ◌∷◌, ◌++◌, length, append_assoc, Option, Some, None, refl, sym, ◌∙◌, ap, arith, ⊎_elim}
+use Rattle.std.proofs.Common.{◌≡◌, ◌≢◌, inl, inr, ℕ, ◌+◌, ◌≤◌, Bool, false, eqb, cond, List, [], ◌∷◌, ◌++◌, length, append_assoc, Option, Some, None, refl, sym, ◌∙◌, ap, arith, ⊎_elim}
 use Rattle.std.proofs.lemmas.Bool.Decides.{eqb_tells}
-use Rattle.std.proofs.lemmas.List.{length-append}
-use Rattle.domain_script.specs.ScriptLines.{script_lines, with_front, BeginsWithLonger, TakesLine, TakesLines}
+use Rattle.std.proofs.lemmas.List.{append-nil, length-append}
+use Rattle.domain_script.specs.ScriptLines.{script_lines, with_front, fed, AreBytesOf, AreShort, BeginsWithLonger, LinesTaken, TakesLine, TakesLines}
 use Rattle.domain_script.specs.Pieces.{HasNoFeed, IsTooLong}
 
 not_feed : (b : ℕ) → b ≢ 10 → eqb b 10 ≡ false
@@ -66,12 +66,52 @@ begins_longer bytes long =
 -- no line was taken yet
 pub takes_none : (start : Option (List ℕ)) → TakesLines start start []
 takes_none None = tt
-takes_none (Some bytes) = refl
+takes_none (Some bytes) = (refl, inl refl)
+
+fed-append : (xs ys : List (List ℕ)) → fed (xs ++ ys) ≡ fed xs ++ fed ys
+fed-append [] ys = refl
+fed-append (x ∷ xs) ys = ap (λ (l : List ℕ). x ++ 10 ∷ l) (fed-append xs ys) ∙ sym (append_assoc x (10 ∷ fed xs) (fed ys))
+
+-- behind a last line there is none
+last_bytes : (bytes rest left : List ℕ) (xs ys : List (List ℕ)) → bytes ++ 10 ∷ [] ≡ fed xs → rest ≡ [] → script_lines rest ≡ ys ++ script_lines left → AreBytesOf ys left rest → AreBytesOf (xs ++ ys) left bytes
+last_bytes bytes rest left xs [] all none lines (inl is) = inr (all ∙ ap (λ (l : List (List ℕ)). fed l) (sym (append-nil xs)), sym is ∙ none)
+last_bytes bytes rest left xs [] all none lines (inr is) = absurd (omega (arith, length-append rest (10 ∷ []), ap (λ (l : List ℕ). length l) is.0))
+last_bytes bytes rest left xs (y ∷ ys) all none lines is =
+    absurd (omega (arith, ap (λ (l : List (List ℕ)). length l) (ap (λ (l : List ℕ). script_lines l) (sym none) ∙ lines)))
+
+bytes-append : (bytes rest left : List ℕ) (xs ys : List (List ℕ)) → script_lines rest ≡ ys ++ script_lines left → AreBytesOf xs rest bytes → AreBytesOf ys left rest → AreBytesOf (xs ++ ys) left bytes
+bytes-append bytes rest left xs ys lines (inl first) (inl second) =
+    inl (first ∙ ap (λ (l : List ℕ). fed xs ++ l) second ∙ sym (append_assoc (fed xs) (fed ys) left) ∙ ap (λ (l : List ℕ). l ++ left) (sym (fed-append xs ys)))
+bytes-append bytes rest left xs ys lines (inl first) (inr second) =
+    inr (ap (λ (l : List ℕ). l ++ 10 ∷ []) first ∙ append_assoc (fed xs) rest (10 ∷ []) ∙ ap (λ (l : List ℕ). fed xs ++ l) second.0 ∙ sym (fed-append xs ys), second.1)
+bytes-append bytes rest left xs ys lines (inr first) second = last_bytes bytes rest left xs ys first.0 first.1 lines second
+
+-- lines were taken, and then others
+pub takes-append : (start mid left : Option (List ℕ)) (xs ys : List (List ℕ)) → TakesLines start mid xs → TakesLines mid left ys → TakesLines start left (xs ++ ys)
+takes-append None mid left xs ys first second = tt
+takes-append (Some bytes) None left xs ys first second = absurd first
+takes-append (Some bytes) (Some rest) None xs ys first second = absurd second
+takes-append (Some bytes) (Some rest) (Some left) xs ys first second = (
+  first.0 ∙ ap (λ (l : List (List ℕ)). xs ++ l) second.0 ∙ sym (append_assoc xs ys (script_lines left)),
+  bytes-append bytes rest left xs ys second.0 first.1 second.1,
+)
+
+pub short-append : (xs ys : List (List ℕ)) → AreShort xs → AreShort ys → AreShort (xs ++ ys)
+short-append [] ys first second = second
+short-append (x ∷ xs) ys first second = (first.0, short-append xs ys first.1 second)
+
+pub taken_none : (start : Option (List ℕ)) → LinesTaken start start []
+taken_none start = record { taken = takes_none start; short = tt; few = omega arith }
+
+-- lines were taken within the limits, and then others
+pub taken-append : (start mid left : Option (List ℕ)) (xs ys : List (List ℕ)) → LinesTaken start mid xs → LinesTaken mid left ys → length xs + length ys ≤ 20000 → LinesTaken start left (xs ++ ys)
+taken-append start mid left xs ys first second few = record {
+  taken = takes-append start mid left xs ys first.taken second.taken;
+  short = short-append xs ys first.short second.short;
+  few = omega (arith, few, length-append xs ys);
+}
 
 -- one line more was taken
-pub takes_more : (start rest left : Option (List ℕ)) (texts : List (List ℕ)) (text : List ℕ) → TakesLines start rest texts → TakesLine rest left text → TakesLines start left (texts ++ text ∷ [])
-takes_more None rest left texts text before next = tt
-takes_more (Some bytes) None left texts text before next = absurd before
-takes_more (Some bytes) (Some rest) None texts text before next = absurd next
-takes_more (Some bytes) (Some rest) (Some left) texts text before next =
-    before ∙ ap (λ (l : List (List ℕ)). texts ++ l) next ∙ sym (append_assoc texts (text ∷ []) (script_lines left))
+pub taken_more : (start rest left : Option (List ℕ)) (texts : List (List ℕ)) (text : List ℕ) → LinesTaken start rest texts → TakesLine rest left text → length text ≤ 3100 → length texts + 1 ≤ 20000 → LinesTaken start left (texts ++ text ∷ [])
+taken_more start rest left texts text before next short few =
+    taken-append start rest left texts (text ∷ []) before (record { taken = next; short = (short, tt); few = omega arith }) few

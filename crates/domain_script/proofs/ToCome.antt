@@ -1,5 +1,5 @@
 -- What is still to come while a line is read.
-use Rattle.std.proofs.Common.{◌≡◌, ◌≢◌, ℕ, eqb, not, Bool, true, false, List, [], ◌∷◌, ◌++◌, length, Option, Some, None, Ok, Err, IfSome, refl, sym, ◌∙◌, ap, subst, append-nil, append_assoc}
+use Rattle.std.proofs.Common.{◌≡◌, ◌≢◌, inl, inr, ℕ, eqb, not, Bool, true, false, List, [], ◌∷◌, ◌++◌, length, Option, Some, None, Ok, Err, IfSome, refl, sym, ◌∙◌, ap, subst, append-nil, append_assoc}
 use Rattle.std.proofs.Math.Dec.{eqb-suc-zero}
 use Rattle.std.proofs.KnownBytes.{Keeps-trans}
 use Rattle.std.specs.Io.KnownBytes.{Keeps, IsAtEnd, prepend_known}
@@ -26,8 +26,10 @@ pub takes_line : (rest left : Option (List ℕ)) (line piece line_after piece_af
 takes_line None left line piece line_after piece_after told is clean = tt
 takes_line (Some bytes) None line piece line_after piece_after told is clean = absurd told
 takes_line (Some bytes) (Some x) line piece line_after piece_after told is clean =
-    ap (λ (l : List ℕ). script_lines l) (sym told ∙ ap (λ (l : List ℕ). l ++ x) is ∙ append_assoc line_after (10 ∷ piece_after) x)
-    ∙ lines_feed line_after (piece_after ++ x) clean
+    let all : bytes ≡ line_after ++ 10 ∷ (piece_after ++ x) = sym told ∙ ap (λ (l : List ℕ). l ++ x) is ∙ append_assoc line_after (10 ∷ piece_after) x in (
+      ap (λ (l : List ℕ). script_lines l) all ∙ lines_feed line_after (piece_after ++ x) clean,
+      inl (all ∙ sym (append_assoc line_after (10 ∷ []) (piece_after ++ x))),
+    )
 
 -- a last line without a line feed was taken
 pub takes_last : (rest left : Option (List ℕ)) (line piece : List ℕ) → Keeps rest (prepend_known (line ++ piece) left) → piece ≡ [] → IsAtEnd left
@@ -36,8 +38,10 @@ takes_last None left line piece told none end clean some = tt
 takes_last (Some bytes) None line piece told none end clean some = absurd told
 takes_last (Some bytes) (Some x) line piece told none end clean some =
     let all : bytes ≡ line = sym told ∙ ap (λ (l : List ℕ). (line ++ l) ++ x) none ∙ ap (λ (l : List ℕ). (line ++ []) ++ l) end ∙ append-nil (line ++ []) ∙ append-nil line in
-    let behind : piece ++ x ≡ [] = ap (λ (l : List ℕ). l ++ x) none ∙ end in
-    ap (λ (l : List ℕ). script_lines l) all ∙ lines_last line clean some ∙ ap (λ (l : List ℕ). line ∷ script_lines l) (sym behind)
+    let behind : piece ++ x ≡ [] = ap (λ (l : List ℕ). l ++ x) none ∙ end in (
+      ap (λ (l : List ℕ). script_lines l) all ∙ lines_last line clean some ∙ ap (λ (l : List ℕ). line ∷ script_lines l) (sym behind),
+      inr (ap (λ (l : List ℕ). l ++ 10 ∷ []) all, behind),
+    )
 
 -- nothing is to come
 pub at_end : (rest left : Option (List ℕ)) (line piece : List ℕ) → Keeps rest (prepend_known (line ++ piece) left) → piece ≡ [] → IsAtEnd left → line ≡ [] → IsAtEnd rest

@@ -7,3 +7,5 @@ pub mod Reader
 pub mod Fills
 pub mod Words
 pub mod Spells
+pub mod ScriptEvents
+pub mod Computed

@@ -5,6 +5,7 @@ use Rattle.domain_script.specs.declared.lines.LinesFault.{LinesFault}
 use Rattle.domain_script.specs.declared.lines.LinesFault.TheVariants.{Source, Long, Many, Memory}
 use Rattle.domain_script.specs.declared.lines.LinesStop.{LinesStop}
 use Rattle.domain_script.specs.declared.lines.LinesStop.TheVariants.{Going, Ended, TooLong, TooMany}
+use Rattle.domain_script.specs.Pieces.{HasNoFeed}
 use Rattle.domain_script.specs.ScriptLines.{TakesLine, BeginsWithLonger}
 
 pub record LinesState : Type 0 where
@@ -36,11 +37,12 @@ pub record GivesNone (rest left : Option (List ℕ)) (before after : LinesState)
   pub count : after.number ≡ before.number
   pub stop : after.stop ≡ why
 
--- an answer of a reader that goes on: `rest` is to come before the call, `left` behind it
+-- An answer of a reader that goes on: `rest` is to come before the call, `left` behind it. Where the source failed, no
+-- whole line is held.
 abbrev pub Reads : Option (List ℕ) → Option (List ℕ) → LinesState → Result Bool LinesFault → LinesState → Type 0
 Reads rest left before (Ok true) after = GivesLine rest left before after
 Reads rest left before (Ok false) after = GivesNone rest left before after Ended × IsAtEnd rest
-Reads rest left before (Err Source) after = GivesNone rest left before after Going
+Reads rest left before (Err Source) after = GivesNone rest left before after Going × HasNoFeed after.held
 Reads rest left before (Err Memory) after = GivesNone rest left before after Going
 Reads rest left before (Err Long) after = GivesNone rest left before after TooLong × (before.number < 20000) × IfSome rest (BeginsWithLonger 3100)
 Reads rest left before (Err Many) after = GivesNone rest left before after TooMany × (before.number ≡ 20000) × IfSome rest (λ bytes. bytes ≢ [])

@@ -43,7 +43,7 @@ MovesPart piece line (Err Many) piece_after line_after = ⊥
 abbrev pub ReadsLine : Option (List ℕ) → Result Bool LinesFault → List ℕ → List ℕ → Option (List ℕ) → Type 0
 ReadsLine rest (Ok true) line piece left = TakesLine rest (prepend_known piece left) line
 ReadsLine rest (Ok false) line piece left = Keeps rest (prepend_known (line ++ piece) left) × (line ≡ []) × IsAtEnd rest
-ReadsLine rest (Err Source) line piece left = Keeps rest (prepend_known (line ++ piece) left)
+ReadsLine rest (Err Source) line piece left = Keeps rest (prepend_known (line ++ piece) left) × HasNoFeed (line ++ piece)
 ReadsLine rest (Err Memory) line piece left = Keeps rest (prepend_known (line ++ piece) left)
 ReadsLine rest (Err Long) line piece left = Keeps rest (prepend_known (line ++ piece) left) × IfSome rest (BeginsWithLonger 3100)
 ReadsLine rest (Err Many) line piece left = ⊥

@@ -2,6 +2,7 @@
 //! line spells. The journal and the world stand on it. A line gives an event exactly where it spells one.
 #![tactic(auto)]
 
+mod digits;
 mod event;
 mod lines;
 mod names;
@@ -15,6 +16,7 @@ mod spellings;
 mod tests;
 mod words;
 
+pub use digits::decode_lower;
 pub use event::{DiskDecl, Event, Lane, LineFault, Name};
 pub use lines::{Lines, LinesFault};
 pub use names::Names;

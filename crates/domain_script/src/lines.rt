@@ -114,6 +114,7 @@ impl Lines {
 
         // Behind a stop the source isn't asked.
         ensures stays { self.old.stop ≢ LinesStop.Going → source.new ≡ source.old }
+        ensures unfailed { result ≢ Err LinesFault.Source → S.faults source.new ≡ S.faults source.old }
         ensures count { S.faults source.old ≤ S.faults source.new }
         ensures cause { result ≡ Err LinesFault.Source → Rose (S.faults source.old) (S.faults source.new) }
     {
@@ -143,6 +144,7 @@ impl Lines {
     fn go_on<S: Source>(&mut self, source: &mut S) -> Result<bool, LinesFault>
         requires { self.old.stop ≡ LinesStop.Going }
         ensures reads { Reads (to_come self.old (S.left source.old)) (to_come self.new (S.left source.new)) self.old result self.new }
+        ensures unfailed { result ≢ Err LinesFault.Source → S.faults source.new ≡ S.faults source.old }
         ensures count { S.faults source.old ≤ S.faults source.new }
         ensures cause { result ≡ Err LinesFault.Source → Rose (S.faults source.old) (S.faults source.new) }
     {
@@ -170,6 +172,7 @@ impl Lines {
         requires forgotten { self.old.line ≡ [] }
         requires few { self.old.number < 20000 }
         ensures reads { Reads (to_come self.old (S.left source.old)) (to_come self.new (S.left source.new)) self.old result self.new }
+        ensures unfailed { result ≢ Err LinesFault.Source → S.faults source.new ≡ S.faults source.old }
         ensures count { S.faults source.old ≤ S.faults source.new }
         ensures cause { result ≡ Err LinesFault.Source → Rose (S.faults source.old) (S.faults source.new) }
     {
@@ -198,6 +201,7 @@ impl Lines {
         requires forgotten { self.old.line ≡ [] }
         requires all { self.old.number ≡ 20000 }
         ensures reads { Reads (to_come self.old (S.left source.old)) (to_come self.new (S.left source.new)) self.old result self.new }
+        ensures unfailed { result ≢ Err LinesFault.Source → S.faults source.new ≡ S.faults source.old }
         ensures count { S.faults source.old ≤ S.faults source.new }
         ensures cause { result ≡ Err LinesFault.Source → Rose (S.faults source.old) (S.faults source.new) }
     {

@@ -1,4 +1,4 @@
-ghost use Rattle.std.specs.Prelude.{◌≡◌, ◌≢◌, ◌↔◌, ℕ, ◌<◌, ◌≤◌, [], ◌++◌, length, drop, IfOk, IsTrue, OnErr, MatchResult};
+ghost use Rattle.std.specs.Prelude.{◌≡◌, ◌≢◌, ◌↔◌, ℕ, ◌<◌, ◌≤◌, [], ◌++◌, length, drop, IfOk, IsTrue, OnErr, OnOk};
 ghost use Rattle.std.specs.Io.KnownBytes.{IsAtEnd, Keeps, prepend_known};
 ghost use Rattle.vio_io.specs.Causes.{Rose};
 
@@ -74,7 +74,9 @@ impl Piece {
         ensures told { Keeps (prepend_known self.old (S.left source.old)) (prepend_known self.new (S.left source.new)) }
         ensures some { IfOk result (λ more. IsTrue more ↔ (self.new ≢ [])) }
         ensures end { IfOk result (λ more. self.new ≡ [] → IsAtEnd (S.left source.new)) }
-        ensures same { OnErr result (self.new ≡ self.old) }
+        ensures drained { OnErr result (self.old ≡ []) }
+        ensures same { OnErr result (self.new ≡ []) }
+        ensures ok { OnOk result (S.faults source.new ≡ S.faults source.old) }
         ensures count { S.faults source.old ≤ S.faults source.new }
         ensures cause { OnErr result (Rose (S.faults source.old) (S.faults source.new)) }
     {
@@ -91,6 +93,7 @@ impl Piece {
         ensures some { IfOk result (λ more. IsTrue more ↔ (self.new ≢ [])) }
         ensures end { IfOk result (λ more. self.new ≡ [] → IsAtEnd (S.left source.new)) }
         ensures same { OnErr result (self.new ≡ []) }
+        ensures ok { OnOk result (S.faults source.new ≡ S.faults source.old) }
         ensures count { S.faults source.old ≤ S.faults source.new }
         ensures cause { OnErr result (Rose (S.faults source.old) (S.faults source.new)) }
     {

@@ -1,4 +1,4 @@
-ghost use Rattle.std.specs.Prelude.{◌≡◌, ℕ, ◌≤◌, ◌++◌, length};
+ghost use Rattle.std.specs.Prelude.{◌≡◌, ◌≢◌, ℕ, ◌≤◌, ◌++◌, length};
 ghost use Rattle.std.specs.Io.KnownBytes.{prepend_known};
 ghost use Rattle.vio_io.specs.Causes.{Rose};
 ghost use Rattle.domain_script.specs.Pieces.{Extends, HasNoFeed, MovesPart, ReadsLine};
@@ -56,6 +56,7 @@ pub fn read_line<S: Source>(
     ensures reads { ReadsLine (prepend_known (line.old.items ++ piece.old) (S.left source.old)) result line.new.items piece.new (S.left source.new) }
     ensures short { length line.new.items ≤ 3100 }
     ensures no_feed { HasNoFeed line.new.items }
+    ensures unfailed { result ≢ Err LinesFault.Source → S.faults source.new ≡ S.faults source.old }
     ensures count { S.faults source.old ≤ S.faults source.new }
     ensures cause { result ≡ Err LinesFault.Source → Rose (S.faults source.old) (S.faults source.new) }
 {

@@ -5,6 +5,7 @@ ghost use Rattle.domain_script.specs.declared.event.Name.{Name as name_data};
 ghost use Rattle.vdisk_msg.specs.declared.request.Fill.{Fill as fill_data};
 ghost use Rattle.domain_script.specs.Words.{is_name_byte, IsNameWord, SpellsFill, SpellsName};
 
+use crate::digits::decode_lower;
 use crate::{Fill, Name};
 
 /// The most bytes that a write repeats.
@@ -59,7 +60,7 @@ pub fn fill(word: &[u8]) -> Option<Fill>
         return None;
     }
     let mut bytes = [0; MOST_FILL];
-    if !decode_front(word, &mut bytes) || !is_text_of(word, &bytes[..len]) {
+    if !decode_front(word, &mut bytes) {
         return None;
     }
     Some(Fill {
@@ -68,23 +69,14 @@ pub fn fill(word: &[u8]) -> Option<Fill>
     })
 }
 
-/// Reads a word as hexadecimal digits of either case into the front of a buffer. False where it isn't that.
+/// Reads a word as lower-case hexadecimal digits into the front of a buffer. False where it isn't that.
 fn decode_front(word: &[u8], out: &mut [u8]) -> bool
     requires { length word.now / 2 ≤ length out.old }
-    ensures some { IsTrue result → decode_of word.now ≡ Ok (take (length word.now / 2) out.new) }
+    ensures reads { IsTrue result → decode_of word.now ≡ Ok (take (length word.now / 2) out.new) }
+    ensures lower { IsTrue result → word.now ≡ encode_lower (take (length word.now / 2) out.new) }
     ensures behind { IsTrue result → drop (length word.now / 2) out.new ≡ drop (length word.now / 2) out.old }
-    ensures none { result ≡ false → (bytes : List ℕ) → decode_of word.now ≡ Ok bytes → ⊥ }
+    ensures none { result ≡ false → (bytes : List ℕ) → length bytes ≡ length word.now / 2 → decode_of word.now ≡ Ok bytes → word.now ≡ encode_lower bytes → ⊥ }
 {
     let len = word.len() / 2;
-    hex::decode_to_slice(word, &mut out[..len]).is_ok()
-}
-
-/// Whether a word is the text of bytes in lower-case hexadecimal.
-fn is_text_of(word: &[u8], bytes: &[u8]) -> bool
-    requires { length bytes.now ≤ 1024 }
-    ensures { IsTrue result ↔ (word.now ≡ encode_lower bytes.now) }
-{
-    let mut text = [0; 2 * MOST_FILL];
-    let text = &mut text[..2 * bytes.len()];
-    hex::encode_to_slice(bytes, text).is_ok() && word == &*text
+    decode_lower(word, &mut out[..len])
 }

@@ -1,11 +1,11 @@
 -- The lines of a dump, one after another.
-use Rattle.std.proofs.Common.{◌≡◌, ◌≢◌, inl, inr, ℕ, ◌+◌, ◌⊎◌, Bool, true, false, List, [], ◌∷◌, ◌++◌, length, map, refl, sym, ◌∙◌, ap, subst, length-append, arith, Option, Some}
-use Rattle.std.specs.Io.KnownBytes.{Appends}
+use Rattle.std.proofs.Common.{◌≡◌, ◌≢◌, inl, inr, ℕ, ◌+◌, ◌≤◌, ◌⊎◌, Bool, true, false, List, [], ◌∷◌, ◌++◌, length, map, refl, sym, ◌∙◌, ap, subst, length-append, arith, Option, Some, None}
+use Rattle.std.specs.Io.KnownBytes.{Appends, Keeps, prepend_known}
 use Rattle.std.specs.List.{count_by}
-use Rattle.std.proofs.lemmas.List.{flat_map_more, map-append}
+use Rattle.std.proofs.lemmas.List.{flat_map_more, length-map, map-append}
 use Rattle.std.proofs.lemmas.List.Sums.{sum_by-append}
-use Rattle.domain_script.specs.ScriptLines.{TakesLines}
-use Rattle.domain_script.proofs.ScriptLemmas.{takes_more, takes_none}
+use Rattle.domain_script.specs.ScriptLines.{LinesTaken, TakesLine}
+use Rattle.domain_script.proofs.ScriptLemmas.{taken_more, taken_none}
 use Rattle.ldom_journal.specs.declared.status.Status.{Status}
 use Rattle.ldom_journal.specs.declared.status.Status.TheVariants as the_status
 use Rattle.ldom_journal.specs.Gathered.{Gathers, WroteFront}
@@ -28,7 +28,7 @@ are_push (d ∷ all) decoded are is = (are.0, are_push all decoded are.1 is)
 -- the lines that were decoded so far
 pub record LinesSoFar (start rest old new : Option (List ℕ)) (gathered : List ℕ) (count packets faults : ℕ) : Type 0 where
   pub all : List Decoded
-  pub taken : TakesLines start rest (map (λ decoded. decoded.line) all)
+  pub taken : LinesTaken start rest (map (λ decoded. decoded.line) all)
   pub are : AreOfLines all
   pub counts : count ≡ length all
   pub packets_are : packets ≡ count_by is_packet all
@@ -38,7 +38,7 @@ pub record LinesSoFar (start rest old new : Option (List ℕ)) (gathered : List 
 pub so_far_none : (start old : Option (List ℕ)) (gathered : List ℕ) (count : ℕ) → count ≡ 0 → gathered ≡ [] → LinesSoFar start start old old gathered count 0 0
 so_far_none start old gathered count zero none = record {
   all = [];
-  taken = takes_none start;
+  taken = taken_none start;
   are = tt;
   counts = zero;
   packets_are = refl;
@@ -61,19 +61,20 @@ read_line rest left mid new bytes gathered after whether reads puts = record { l
 
 -- one line more, by how much the counts rise
 so_far_more : (start rest left old mid new : Option (List ℕ)) (bytes gathered after : List ℕ) (whether : Bool) (count next packets faults packets_next faults_next : ℕ)
-    → LinesSoFar start rest old mid gathered count packets faults → (reads : ReadsBytes rest left bytes) → next ≡ count + 1 → (puts : PutsPacket bytes mid new gathered after whether)
+    → LinesSoFar start rest old mid gathered count packets faults → (reads : ReadsBytes rest left bytes) → next ≡ count + 1 → next ≤ 20000 → (puts : PutsPacket bytes mid new gathered after whether)
     → packets_next ≡ packets + count_by is_packet (read_line rest left mid new bytes gathered after whether reads puts ∷ [])
     → faults_next ≡ faults + count_by is_fault (read_line rest left mid new bytes gathered after whether reads puts ∷ [])
     → LinesSoFar start left old new after next packets_next faults_next
-so_far_more start rest left old mid new bytes gathered after whether count next packets faults packets_next faults_next so_far reads is puts more_packets more_faults =
+so_far_more start rest left old mid new bytes gathered after whether count next packets faults packets_next faults_next so_far reads is few puts more_packets more_faults =
     let decoded : Decoded = read_line rest left mid new bytes gathered after whether reads puts in
     let text : List ℕ = decoded_text decoded in
     let here : Gathers mid new after (gathered ++ text) = gathers_more mid new puts.room after gathered text puts.wrote puts.tells.is in
     record {
       all = so_far.all ++ decoded ∷ [];
       taken =
-          subst (λ (l : List (List ℕ)). TakesLines start left l) (sym (map-append (λ (d : Decoded). d.line) so_far.all (decoded ∷ [])))
-          (takes_more start rest left (map (λ (d : Decoded). d.line) so_far.all) reads.line so_far.taken reads.taken);
+          subst (λ (l : List (List ℕ)). LinesTaken start left l) (sym (map-append (λ (d : Decoded). d.line) so_far.all (decoded ∷ [])))
+          (taken_more start rest left (map (λ (d : Decoded). d.line) so_far.all) reads.line so_far.taken reads.taken reads.short
+          (omega (arith, few, is, so_far.counts, length-map so_far.all (λ (d : Decoded). d.line))));
       are = are_push so_far.all decoded so_far.are (record { bytes = bytes; digits = reads.digits; is = record { packet = puts.tells.says; carries = puts.tells.carries } });
       counts = is ∙ ap (λ (n : ℕ). n + 1) so_far.counts ∙ sym (length-append so_far.all (decoded ∷ []));
       packets_are = count_push is_packet so_far.all decoded packets packets_next so_far.packets_are more_packets;
@@ -85,19 +86,19 @@ so_far_more start rest left old mid new bytes gathered after whether count next 
 
 -- one packet more
 pub so_far_packet : (start rest left old mid new : Option (List ℕ)) (bytes gathered after : List ℕ) (whether : Bool) (count next packets faults : ℕ)
-    → LinesSoFar start rest old mid gathered count packets faults → ReadsBytes rest left bytes → next ≡ count + 1 → PutsPacket bytes mid new gathered after whether → whether ≡ true
+    → LinesSoFar start rest old mid gathered count packets faults → ReadsBytes rest left bytes → next ≡ count + 1 → next ≤ 20000 → PutsPacket bytes mid new gathered after whether → whether ≡ true
     → LinesSoFar start left old new after next (packets + 1) faults
-so_far_packet start rest left old mid new bytes gathered after whether count next packets faults so_far reads is puts is_one =
+so_far_packet start rest left old mid new bytes gathered after whether count next packets faults so_far reads is few puts is_one =
     let one = one_packet (read_line rest left mid new bytes gathered after whether reads puts) whether puts.tells.whether_is is_one in
-    so_far_more start rest left old mid new bytes gathered after whether count next packets faults (packets + 1) faults so_far reads is puts (omega (arith, one.0)) (omega (arith, one.1))
+    so_far_more start rest left old mid new bytes gathered after whether count next packets faults (packets + 1) faults so_far reads is few puts (omega (arith, one.0)) (omega (arith, one.1))
 
 -- one line more that is no packet
 pub so_far_fault : (start rest left old mid new : Option (List ℕ)) (bytes gathered after : List ℕ) (whether : Bool) (count next packets faults : ℕ)
-    → LinesSoFar start rest old mid gathered count packets faults → ReadsBytes rest left bytes → next ≡ count + 1 → PutsPacket bytes mid new gathered after whether → whether ≡ false
+    → LinesSoFar start rest old mid gathered count packets faults → ReadsBytes rest left bytes → next ≡ count + 1 → next ≤ 20000 → PutsPacket bytes mid new gathered after whether → whether ≡ false
     → LinesSoFar start left old new after next packets (faults + 1)
-so_far_fault start rest left old mid new bytes gathered after whether count next packets faults so_far reads is puts is_none =
+so_far_fault start rest left old mid new bytes gathered after whether count next packets faults so_far reads is few puts is_none =
     let one = one_fault (read_line rest left mid new bytes gathered after whether reads puts) whether puts.tells.whether_is is_none in
-    so_far_more start rest left old mid new bytes gathered after whether count next packets faults packets (faults + 1) so_far reads is puts (omega (arith, one.0)) (omega (arith, one.1))
+    so_far_more start rest left old mid new bytes gathered after whether count next packets faults packets (faults + 1) so_far reads is few puts (omega (arith, one.0)) (omega (arith, one.1))
 
 unless_sink_fault : (why : Status) (old new : Option (List ℕ)) (gathered text : List ℕ) → IsReaders why → Gathers old new gathered text → GathersUnlessSinkFault why old new gathered text
 unless_sink_fault the_status.Done old new gathered text readers g = g
@@ -111,14 +112,15 @@ unless_sink_fault (the_status.Limit line kind) old new gathered text readers g =
 unless_sink_fault the_status.NoMemory old new gathered text readers g = g
 
 -- no further line is read
-pub lines_stop : (start rest old new : Option (List ℕ)) (why : Status) (gathered : List ℕ) (count lines packets faults : ℕ)
-    → LinesSoFar start rest old new gathered count packets faults → IsReaders why → StopsAt why rest count → lines ≡ counted_lines why count → DumpsLines start why old new gathered lines packets faults
-lines_stop start rest old new why gathered count lines packets faults so_far readers stop is = record {
+pub lines_stop : (start rest now old new : Option (List ℕ)) (held : List ℕ) (why : Status) (gathered : List ℕ) (count lines packets faults : ℕ)
+    → LinesSoFar start rest old new gathered count packets faults → IsReaders why → StopsAt why rest held now count → lines ≡ counted_lines why count → DumpsLines start now why old new gathered lines packets faults
+lines_stop start rest now old new held why gathered count lines packets faults so_far readers stop is = record {
   all = so_far.all;
   left = rest;
   taken = so_far.taken;
   are = so_far.are;
-  stop = subst (λ (n : ℕ). StopsAt why rest n) so_far.counts stop;
+  held = held;
+  stop = subst (λ (n : ℕ). StopsAt why rest held now n) so_far.counts stop;
   lines_are = λ other. is ∙ ap (λ (n : ℕ). counted_lines why n) so_far.counts;
   packets_are = so_far.packets_are;
   faults_are = so_far.faults_are;
@@ -126,23 +128,28 @@ lines_stop start rest old new why gathered count lines packets faults so_far rea
 }
 
 -- the sink failed before the next line's text was gathered
-pub lines_cut : (start rest old mid new : Option (List ℕ)) (gathered after : List ℕ) (count lines packets faults : ℕ)
-    → LinesSoFar start rest old mid gathered count packets faults → WroteFront mid new gathered → DumpsLines start the_status.SinkFault old new after lines packets faults
-lines_cut start rest old mid new gathered after count lines packets faults so_far front = record {
+pub lines_cut : (start rest now old mid new : Option (List ℕ)) (held line gathered after : List ℕ) (count lines packets faults : ℕ)
+    → LinesSoFar start rest old mid gathered count packets faults → TakesLine rest (prepend_known held now) line → WroteFront mid new gathered → DumpsLines start now the_status.SinkFault old new after lines packets faults
+lines_cut start rest now old mid new held line gathered after count lines packets faults so_far next front = record {
   all = so_far.all;
   left = rest;
   taken = so_far.taken;
   are = so_far.are;
-  stop = tt;
+  held = held;
+  stop = (line, next);
   lines_are = λ other. absurd (other refl);
   packets_are = so_far.packets_are;
   faults_are = so_far.faults_are;
   gathers = wrote_front_last old mid new gathered (decoded_lines so_far.all) so_far.gathers front;
 }
 
+nothing_held : (start : Option (List ℕ)) → Keeps start (prepend_known [] start)
+nothing_held None = tt
+nothing_held (Some bytes) = refl
+
 -- memory was wanted before the first line
-pub lines_unread : (start old : Option (List ℕ)) (gathered : List ℕ) → gathered ≡ [] → DumpsLines start the_status.NoMemory old old gathered 0 0 0
-lines_unread start old gathered none = lines_stop start start old old the_status.NoMemory gathered 0 0 0 0 (so_far_none start old gathered 0 refl none) tt tt refl
+pub lines_unread : (start old : Option (List ℕ)) (gathered : List ℕ) → gathered ≡ [] → DumpsLines start start the_status.NoMemory old old gathered 0 0 0
+lines_unread start old gathered none = lines_stop start start start old old [] the_status.NoMemory gathered 0 0 0 0 (so_far_none start old gathered 0 refl none) tt (nothing_held start) refl
 
 -- how a last line was written behind what was gathered
 ends : (why status : Status) (old mid new : Option (List ℕ)) (gathered text last whole : List ℕ) → whole ≡ text ++ last → Gathers old mid gathered text
@@ -168,9 +175,9 @@ written (the_status.Limit at kind) status old mid new gathered last all is g f =
 written the_status.NoMemory status old mid new gathered last all is g f = ends the_status.NoMemory status old mid new gathered (decoded_lines all) last (dump_text all the_status.NoMemory) (is (λ e. cc e)) g f
 
 -- the lines were read and the dump ended
-pub dumps : (start old mid new : Option (List ℕ)) (why status : Status) (gathered : List ℕ) (lines packets faults : ℕ)
-    → DumpsLines start why old mid gathered lines packets faults → Finishes why status mid new gathered (end_line lines packets faults why) → Dumps start status old new
-dumps start old mid new why status gathered lines packets faults read finishes =
+pub dumps : (start now old mid new : Option (List ℕ)) (why status : Status) (gathered : List ℕ) (lines packets faults : ℕ)
+    → DumpsLines start now why old mid gathered lines packets faults → Finishes why status mid new gathered (end_line lines packets faults why) → Dumps start now status old new
+dumps start now old mid new why status gathered lines packets faults read finishes =
     let last : why ≢ the_status.SinkFault → dump_text read.all why ≡ decoded_lines read.all ++ end_line lines packets faults why =
     λ other. ap (λ (l : List ℕ). decoded_lines read.all ++ l)
     (ap (λ (n : ℕ). end_line n (count_by is_packet read.all) (count_by is_fault read.all) why) (sym (read.lines_are other))
@@ -181,6 +188,7 @@ dumps start old mid new why status gathered lines packets faults read finishes =
       left = read.left;
       taken = read.taken;
       are = read.are;
+      held = read.held;
       why = why;
       stop = read.stop;
       written = written why status old mid new gathered (end_line lines packets faults why) read.all last read.gathers finishes;

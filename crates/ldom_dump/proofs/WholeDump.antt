@@ -1,6 +1,7 @@
 -- A script of packets alone is dumped to its end.
 use Rattle.std.proofs.Common.{◌≡◌, ◌≢◌, inl, inr, ℕ, ◌<◌, ◌≤◌, ◌⊎◌, Bool, true, false, ◌==◌, if◌then◌else◌, List, [], ◌∷◌, ◌++◌, length, map, refl, ◌∙◌, ap, subst, length-append, arith, Option, Some, None}
 use Rattle.std.specs.Prelude.{IfSome}
+use Rattle.std.specs.Io.KnownBytes.{prepend_known}
 use Rattle.std.proofs.lemmas.List.{length-map}
 use Rattle.hex.proofs.HexLemmas.{decode_of-ok}
 use Rattle.domain_script.specs.declared.event.LineFault.{LineFault}
@@ -19,16 +20,16 @@ are_behind (x ∷ xs) ys are = are_behind xs ys are.1
 
 -- the lines that are still to come are digits too
 to_come : (bytes rest : List ℕ) (texts : List (List ℕ)) → TakesLines (Some bytes) (Some rest) texts → AreDigits (script_lines bytes) → AreDigits (script_lines rest)
-to_come bytes rest texts taken are = are_behind texts (script_lines rest) (subst AreDigits taken are)
+to_come bytes rest texts taken are = are_behind texts (script_lines rest) (subst AreDigits taken.0 are)
 
 first_digits : (rest left : Option (List ℕ)) (line bytes : List ℕ) (texts : List (List ℕ)) → TakesLines (Some bytes) rest texts → TakesLine rest left line → AreDigits (script_lines bytes) → IsDigits line
 first_digits None left line bytes texts taken next are = absurd taken
 first_digits (Some rest) None line bytes texts taken next are = absurd next
-first_digits (Some rest) (Some left) line bytes texts taken next are = (subst AreDigits next (to_come bytes rest texts taken are)).0
+first_digits (Some rest) (Some left) line bytes texts taken next are = (subst AreDigits next.0 (to_come bytes rest texts taken are)).0
 
-no_fault : (rest : Option (List ℕ)) (bytes : List ℕ) (texts : List (List ℕ)) (fault : LineFault) → TakesLines (Some bytes) rest texts → IsNoDigits rest fault → AreDigits (script_lines bytes) → ⊥
-no_fault rest bytes texts fault taken is are =
-    let digits = first_digits rest is.left is.line bytes texts taken is.taken are in
+no_fault : (rest left : Option (List ℕ)) (bytes : List ℕ) (texts : List (List ℕ)) (fault : LineFault) → TakesLines (Some bytes) rest texts → IsNoDigits rest left fault → AreDigits (script_lines bytes) → ⊥
+no_fault rest left bytes texts fault taken is are =
+    let digits = first_digits rest left is.line bytes texts taken is.taken are in
     is.nothing digits.bytes digits.spells
 
 digits_length : (line : List ℕ) → IsDigits line → length line ≡ 128
@@ -55,24 +56,24 @@ lines_some (b ∷ bs) some = either_some (b == 10) b (script_lines bs)
 none_more : (rest : Option (List ℕ)) (bytes : List ℕ) (texts : List (List ℕ)) → TakesLines (Some bytes) rest texts → length texts ≡ 20000 → IfSome rest (λ left. left ≢ []) → length (script_lines bytes) ≤ 20000 → ⊥
 none_more None bytes texts taken all some few = absurd taken
 none_more (Some rest) bytes texts taken all some few =
-    omega (arith, ap (λ (l : List (List ℕ)). length l) taken, length-append texts (script_lines rest), lines_some rest some)
+    omega (arith, ap (λ (l : List (List ℕ)). length l) taken.0, length-append texts (script_lines rest), lines_some rest some)
 
 -- each other reason to end has its cause
-ended : (why status : Status) (old new rest : Option (List ℕ)) (all : List Decoded) (bytes : List ℕ) → TakesLines (Some bytes) rest (map (λ decoded. decoded.line) all) → StopsAt why rest (length all) → Written why status old new all → IsWhole bytes
+ended : (why status : Status) (old new rest now : Option (List ℕ)) (held : List ℕ) (all : List Decoded) (bytes : List ℕ) → TakesLines (Some bytes) rest (map (λ decoded. decoded.line) all) → StopsAt why rest held now (length all) → Written why status old new all → IsWhole bytes
     → status ≢ the_status.SourceFault → status ≢ the_status.SinkFault → (status ≡ the_status.Done) ⊎ (status ≡ the_status.NoMemory)
-ended the_status.Done status old new rest all bytes taken stop written whole source sink = elim written [ inl wrote ↦ inl wrote.0 | inr failed ↦ absurd (sink failed.0) ]
-ended the_status.NoMemory status old new rest all bytes taken stop written whole source sink = elim written [ inl wrote ↦ inr wrote.0 | inr failed ↦ absurd (sink failed.0) ]
-ended the_status.SourceFault status old new rest all bytes taken stop written whole source sink = elim written [ inl wrote ↦ absurd (source wrote.0) | inr failed ↦ absurd (sink failed.0) ]
-ended the_status.SinkFault status old new rest all bytes taken stop written whole source sink = absurd (sink written.0)
-ended (the_status.Script at fault) status old new rest all bytes taken stop written whole source sink = absurd (no_fault rest bytes _ fault taken stop.1 whole.digits)
-ended (the_status.Limit at Bytes) status old new rest all bytes taken stop written whole source sink = absurd (none_longer rest bytes _ taken stop.1.1 whole.digits)
-ended (the_status.Limit at Lines) status old new rest all bytes taken stop written whole source sink =
+ended the_status.Done status old new rest now held all bytes taken stop written whole source sink = elim written [ inl wrote ↦ inl wrote.0 | inr failed ↦ absurd (sink failed.0) ]
+ended the_status.NoMemory status old new rest now held all bytes taken stop written whole source sink = elim written [ inl wrote ↦ inr wrote.0 | inr failed ↦ absurd (sink failed.0) ]
+ended the_status.SourceFault status old new rest now held all bytes taken stop written whole source sink = elim written [ inl wrote ↦ absurd (source wrote.0) | inr failed ↦ absurd (sink failed.0) ]
+ended the_status.SinkFault status old new rest now held all bytes taken stop written whole source sink = absurd (sink written.0)
+ended (the_status.Script at fault) status old new rest now held all bytes taken stop written whole source sink = absurd (no_fault rest (prepend_known held now) bytes _ fault taken stop.2 whole.digits)
+ended (the_status.Limit at Bytes) status old new rest now held all bytes taken stop written whole source sink = absurd (none_longer rest bytes _ taken stop.1.1 whole.digits)
+ended (the_status.Limit at Lines) status old new rest now held all bytes taken stop written whole source sink =
     absurd (none_more rest bytes _ taken (length-map all (λ (d : Decoded). d.line) ∙ stop.1.0) stop.1.1 whole.few)
-ended the_status.Usage status old new rest all bytes taken stop written whole source sink = absurd stop
-ended the_status.HostFault status old new rest all bytes taken stop written whole source sink = absurd stop
-ended the_status.StoreFault status old new rest all bytes taken stop written whole source sink = absurd stop
+ended the_status.Usage status old new rest now held all bytes taken stop written whole source sink = absurd stop
+ended the_status.HostFault status old new rest now held all bytes taken stop written whole source sink = absurd stop
+ended the_status.StoreFault status old new rest now held all bytes taken stop written whole source sink = absurd stop
 
-pub completes : (start : Option (List ℕ)) (status : Status) (old new : Option (List ℕ)) (bytes : List ℕ) → Dumps start status old new → start ≡ Some bytes → IsWhole bytes
+pub completes : (start now : Option (List ℕ)) (status : Status) (old new : Option (List ℕ)) (bytes : List ℕ) → Dumps start now status old new → start ≡ Some bytes → IsWhole bytes
     → status ≢ the_status.SourceFault → status ≢ the_status.SinkFault → (status ≡ the_status.Done) ⊎ (status ≡ the_status.NoMemory)
-completes start status old new bytes dumps is whole source sink =
-    ended dumps.why status old new dumps.left dumps.all bytes (subst (λ (s : Option (List ℕ)). TakesLines s dumps.left (map (λ (d : Decoded). d.line) dumps.all)) is dumps.taken) dumps.stop dumps.written whole source sink
+completes start now status old new bytes dumps is whole source sink =
+    ended dumps.why status old new dumps.left now dumps.held dumps.all bytes (subst (λ (s : Option (List ℕ)). TakesLines s dumps.left (map (λ (d : Decoded). d.line) dumps.all)) is dumps.taken.taken) dumps.stop dumps.written whole source sink

@@ -6,14 +6,10 @@ use Rattle.ldc_packet.specs.declared.packet.Body.{Body}
 use Rattle.ldc_packet.specs.declared.packet.Body.TheVariants.{Vers, Rts, Rtr, Rdx, Part}
 use Rattle.ldc_packet.specs.declared.packet.Packet.{Packet}
 use Rattle.ldc_packet.specs.declared.packet.PacketFault.{PacketFault}
-use Rattle.ldc_packet.specs.Fault.{IsFirstFault}
-use Rattle.ldc_packet.specs.Form.{IsWellFormed}
-use Rattle.ldc_packet.specs.Spelling.{SpellsPacket}
+use Rattle.ldc_packet.specs.Decoding.{Unpacks}
 use Rattle.vio_tag.specs.declared.message.Message.{Message}
 use Rattle.vio_tag.specs.declared.message.TagFault.{TagFault}
-use Rattle.vio_tag.specs.Fault.{first_fault}
-use Rattle.vio_tag.specs.Form as message
-use Rattle.vio_tag.specs.Spelling.{SpellsMessage}
+use Rattle.vio_tag.specs.Decoding.{Decodes}
 use Rattle.ldom_dump.specs.PacketText.{packet_line}
 use Rattle.ldom_dump.specs.MessageText.{carried_line}
 
@@ -22,16 +18,6 @@ pub record SpellsBytes (line bytes : List ℕ) : Type 0 where
   pub size : length bytes ≡ 64
   pub reads : decode_of line ≡ Ok bytes
   pub lower : line ≡ encode_lower bytes
-
--- the bytes spell the packet, or the fault is their first
-abbrev pub SaysPacket : List ℕ → Result Packet PacketFault → Type 0
-SaysPacket bytes (Ok packet) = IsWellFormed packet × SpellsPacket bytes packet
-SaysPacket bytes (Err fault) = IsFirstFault bytes fault
-
--- the bytes spell the message, or the fault is their first
-abbrev pub SaysMessage : List ℕ → Result Message TagFault → Type 0
-SaysMessage bytes (Ok said) = message.IsWellFormed said × SpellsMessage bytes said
-SaysMessage bytes (Err fault) = first_fault bytes ≡ Some fault
 
 -- the message that a packet carries whole: the bytes of a part that begins and ends one
 abbrev pub carried_bytes : Body → Option (List ℕ)
@@ -44,7 +30,7 @@ carried_bytes (Rtr mode) = None
 carried_bytes Rdx = None
 
 abbrev pub Carries : Option (List ℕ) → Option (Result Message TagFault) → Type 0
-Carries (Some bytes) (Some said) = SaysMessage bytes said
+Carries (Some bytes) (Some said) = Decodes bytes said
 Carries (Some bytes) None = ⊥
 Carries None (Some said) = ⊥
 Carries None None = ⊤
@@ -62,7 +48,7 @@ pub record Decoded : Type 0 where
 
 -- the packet and the message are those of these bytes
 pub record IsDecoded (bytes : List ℕ) (decoded : Decoded) : Type 0 where
-  pub packet : SaysPacket bytes decoded.packet
+  pub packet : Unpacks bytes decoded.packet
   pub carries : CarriesIn decoded.packet decoded.said
 
 pub record IsOfLine (decoded : Decoded) : Type 0 where

@@ -2,7 +2,7 @@
 use Rattle.std.specs.Prelude.{◌≡◌, ℕ, ◌⊎◌, List, ◌++◌, length, map, codes, Option}
 use Rattle.std.specs.Io.KnownBytes.{Appends}
 use Rattle.std.specs.List.{count_by}
-use Rattle.domain_script.specs.ScriptLines.{TakesLines}
+use Rattle.domain_script.specs.ScriptLines.{LinesTaken}
 use Rattle.ldom_journal.specs.declared.status.Status.{Status}
 use Rattle.ldom_journal.specs.declared.status.Status.TheVariants.{SinkFault}
 use Rattle.ldom_journal.specs.Gathered.{WroteFront}
@@ -31,13 +31,16 @@ abbrev pub Written : Status → Status → Option (List ℕ) → Option (List �
 Written SinkFault status old new all = (status ≡ SinkFault) × WroteFront old new (decoded_lines all)
 Written why status old new all = ((status ≡ why) × Appends old new (dump_text all why)) ⊎ ((status ≡ SinkFault) × WroteFront old new (dump_text all why))
 
--- These lines were read and decoded from the front of what a source gives, and then no further one.
-pub record Dumps (start : Option (List ℕ)) (status : Status) (old new : Option (List ℕ)) : Type 0 where
+-- These lines were read and decoded from the front of what a source had, and then no further one. It has `now` left.
+pub record Dumps (start now : Option (List ℕ)) (status : Status) (old new : Option (List ℕ)) : Type 0 where
   pub all : List Decoded
+  -- what was to come behind these lines
   pub left : Option (List ℕ)
-  pub taken : TakesLines start left (map (λ decoded. decoded.line) all)
+  pub taken : LinesTaken start left (map (λ decoded. decoded.line) all)
   pub are : AreOfLines all
+  -- bytes that were taken from the source and are in no line
+  pub held : List ℕ
   -- why reading ended
   pub why : Status
-  pub stop : StopsAt why left (length all)
+  pub stop : StopsAt why left held now (length all)
   pub written : Written why status old new all

@@ -2,17 +2,19 @@
 use Rattle.std.specs.Prelude.{◌≡◌, ◌≢◌, ℕ, ◌⊎◌, Bool, List, ◌++◌, length, map, Option}
 use Rattle.std.specs.Io.KnownBytes.{Appends}
 use Rattle.std.specs.List.{count_by}
-use Rattle.domain_script.specs.ScriptLines.{TakesLines}
+use Rattle.domain_script.specs.ScriptLines.{LinesTaken}
 use Rattle.ldc_packet.specs.declared.packet.Packet.{Packet}
 use Rattle.ldc_packet.specs.declared.packet.PacketFault.{PacketFault}
 use Rattle.vio_tag.specs.declared.message.Message.{Message}
 use Rattle.vio_tag.specs.declared.message.TagFault.{TagFault}
 use Rattle.std.specs.Prelude.{Result}
+use Rattle.ldc_packet.specs.Decoding.{Unpacks}
+use Rattle.vio_tag.specs.Decoding.{Decodes}
 use Rattle.ldom_journal.specs.declared.status.Status.{Status}
 use Rattle.ldom_journal.specs.declared.status.Status.TheVariants.{SinkFault}
 use Rattle.ldom_journal.specs.Gathered.{Gathers, WroteFront}
 use Rattle.ldom_journal.specs.LinesEnd.{counted_lines}
-use Rattle.ldom_dump.specs.Decoded.{AreOfLines, Carries, CarriesIn, Decoded, SaysMessage, SaysPacket, decoded_lines, is_fault, is_ok, is_packet}
+use Rattle.ldom_dump.specs.Decoded.{AreOfLines, Carries, CarriesIn, Decoded, decoded_lines, is_fault, is_ok, is_packet}
 use Rattle.ldom_dump.specs.MessageText.{carried_line, message_line}
 use Rattle.ldom_dump.specs.PacketText.{packet_line}
 use Rattle.ldom_dump.specs.Reading.{StopsAt}
@@ -20,7 +22,7 @@ use Rattle.ldom_dump.specs.Reading.{StopsAt}
 -- the line of the message that these bytes spell was put behind a text, or that of their fault
 pub record TellsMessage (bytes old new : List ℕ) : Type 0 where
   pub said : Result Message TagFault
-  pub says : SaysMessage bytes said
+  pub says : Decodes bytes said
   pub is : new ≡ old ++ message_line said
 
 -- the line of the message that is carried, if one is
@@ -33,7 +35,7 @@ pub record TellsCarried (bytes : Option (List ℕ)) (old new : List ℕ) : Type 
 pub record TellsPacket (bytes old new : List ℕ) (whether : Bool) : Type 0 where
   pub packet : Result Packet PacketFault
   pub said : Option (Result Message TagFault)
-  pub says : SaysPacket bytes packet
+  pub says : Unpacks bytes packet
   pub carries : CarriesIn packet said
   pub whether_is : whether ≡ is_ok packet
   pub is : new ≡ old ++ (packet_line packet ++ carried_line said)
@@ -50,12 +52,13 @@ GathersUnlessSinkFault SinkFault old new gathered text = WroteFront old new text
 GathersUnlessSinkFault why old new gathered text = Gathers old new gathered text
 
 -- These lines were decoded from the front of what is to come, and then no further one. Their text is gathered.
-pub record DumpsLines (start : Option (List ℕ)) (why : Status) (old new : Option (List ℕ)) (gathered : List ℕ) (lines packets faults : ℕ) : Type 0 where
+pub record DumpsLines (start now : Option (List ℕ)) (why : Status) (old new : Option (List ℕ)) (gathered : List ℕ) (lines packets faults : ℕ) : Type 0 where
   pub all : List Decoded
   pub left : Option (List ℕ)
-  pub taken : TakesLines start left (map (λ decoded. decoded.line) all)
+  pub taken : LinesTaken start left (map (λ decoded. decoded.line) all)
   pub are : AreOfLines all
-  pub stop : StopsAt why left (length all)
+  pub held : List ℕ
+  pub stop : StopsAt why left held now (length all)
   pub lines_are : why ≢ SinkFault → lines ≡ counted_lines why (length all)
   pub packets_are : packets ≡ count_by is_packet all
   pub faults_are : faults ≡ count_by is_fault all

@@ -1,8 +1,9 @@
 -- Why no further line of a dump is decoded.
-use Rattle.std.specs.Prelude.{◌≡◌, ℕ, ◌+◌, List, Option, ⊤}
-use Rattle.std.specs.Io.KnownBytes.{IsAtEnd}
+use Rattle.std.specs.Prelude.{◌≡◌, ℕ, ◌+◌, ◌≤◌, List, length, Option, ⊤}
+use Rattle.std.specs.Io.KnownBytes.{IsAtEnd, Keeps, prepend_known}
 use Rattle.domain_script.specs.declared.event.LineFault.{LineFault}
 use Rattle.domain_script.specs.declared.event.LineFault.TheVariants.{Hex}
+use Rattle.domain_script.specs.Pieces.{HasNoFeed}
 use Rattle.domain_script.specs.ScriptLines.{TakesLine}
 use Rattle.ldom_journal.specs.declared.status.Status.{Status}
 use Rattle.ldom_journal.specs.declared.status.Status.TheVariants as status
@@ -13,27 +14,29 @@ use Rattle.ldom_dump.specs.Decoded.{SpellsBytes}
 pub record ReadsBytes (rest left : Option (List ℕ)) (bytes : List ℕ) : Type 0 where
   pub line : List ℕ
   pub taken : TakesLine rest left line
+  pub short : length line ≤ 3100
   pub digits : SpellsBytes line bytes
 
 -- the next line isn't 128 lower-case hexadecimal digits
-pub record IsNoDigits (rest : Option (List ℕ)) (fault : LineFault) : Type 0 where
+pub record IsNoDigits (rest left : Option (List ℕ)) (fault : LineFault) : Type 0 where
   pub line : List ℕ
-  pub left : Option (List ℕ)
   pub taken : TakesLine rest left line
+  pub short : length line ≤ 3100
   pub nothing : (bytes : List ℕ) → SpellsBytes line bytes → ⊥
   pub hex : fault ≡ Hex
 
--- why no further line is decoded behind so many, with these bytes still to come
-abbrev pub StopsAt : Status → Option (List ℕ) → ℕ → Type 0
-StopsAt (status.Script at fault) rest count = (at ≡ count + 1) × IsNoDigits rest fault
-StopsAt (status.Limit at kind) rest count = (at ≡ count + 1) × IsPast kind rest count
-StopsAt status.Done rest count = IsAtEnd rest
-StopsAt status.SourceFault rest count = ⊤
-StopsAt status.SinkFault rest count = ⊤
-StopsAt status.NoMemory rest count = ⊤
-StopsAt status.StoreFault rest count = ⊥
-StopsAt status.HostFault rest count = ⊥
-StopsAt status.Usage rest count = ⊥
+-- Why no further line is decoded behind so many: `rest` is to come behind them, and then `held` and what the source has
+-- left. Where the source failed, no whole line is held; where the sink did, one more line was read.
+abbrev pub StopsAt : Status → Option (List ℕ) → List ℕ → Option (List ℕ) → ℕ → Type 0
+StopsAt (status.Script at fault) rest held now count = (at ≡ count + 1) × (at ≤ 20000) × IsNoDigits rest (prepend_known held now) fault
+StopsAt (status.Limit at kind) rest held now count = (at ≡ count + 1) × IsPast kind rest count × Keeps rest (prepend_known held now)
+StopsAt status.Done rest held now count = IsAtEnd rest × Keeps rest (prepend_known held now)
+StopsAt status.SourceFault rest held now count = HasNoFeed held × Keeps rest (prepend_known held now)
+StopsAt status.SinkFault rest held now count = (line : List ℕ) × TakesLine rest (prepend_known held now) line
+StopsAt status.NoMemory rest held now count = Keeps rest (prepend_known held now)
+StopsAt status.StoreFault rest held now count = ⊥
+StopsAt status.HostFault rest held now count = ⊥
+StopsAt status.Usage rest held now count = ⊥
 
 -- a status with which reading ends, before its text is written
 abbrev pub IsReaders : Status → Type 0

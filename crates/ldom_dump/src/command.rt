@@ -1,5 +1,5 @@
 // The command `dump`.
-ghost use Rattle.std.specs.Prelude.{◌≡◌, ◌≤◌, ◌⊎◌, ℕ, List, Some};
+ghost use Rattle.std.specs.Prelude.{◌≡◌, ◌≢◌, ◌≤◌, ◌⊎◌, ℕ, List, Some};
 ghost use Rattle.vio_io.specs.Causes.{Rose};
 ghost use Rattle.ldom_dump.specs.DumpReport.{Dumps};
 ghost use Rattle.ldom_dump.specs.Whole.{IsWhole};
@@ -19,15 +19,18 @@ use vio_io::{Sink, Source};
 pub fn dump<S: Source, K: Sink>(alloc: Global, script: &mut S, out: &mut K) -> Status
     // The text is that of the lines up to where the reading ended, and an end line that says why. Of it all was written,
     // or a front where the sink failed.
-    ensures dumps { Dumps (S.left script.old) result (K.written out.old) (K.written out.new) }
+    ensures dumps { Dumps (S.left script.old) (S.left script.new) result (K.written out.old) (K.written out.new) }
 
     // A script of packets alone is dumped to its end, unless something failed.
     ensures complete { (bytes : List ℕ) → S.left script.old ≡ Some bytes → IsWhole bytes → ¬ Rose (S.faults script.old) (S.faults script.new) → ¬ Rose (K.faults out.old) (K.faults out.new)
         → (result ≡ Status.Done) ⊎ (result ≡ Status.NoMemory) }
 
-    // A fault of the outside is answered only where its count rose.
+    // A fault of the outside is answered only where its count rose, and where another status is answered, it stays: a
+    // fault of the sink, which comes last, may hide one of the source.
     ensures source_fault { result ≡ Status.SourceFault → Rose (S.faults script.old) (S.faults script.new) }
     ensures sink_fault { result ≡ Status.SinkFault → Rose (K.faults out.old) (K.faults out.new) }
+    ensures source_unfailed { result ≢ Status.SourceFault → result ≢ Status.SinkFault → S.faults script.new ≡ S.faults script.old }
+    ensures sink_unfailed { result ≢ Status.SinkFault → K.faults out.new ≡ K.faults out.old }
     ensures source_count { S.faults script.old ≤ S.faults script.new }
     ensures sink_count { K.faults out.old ≤ K.faults out.new }
 {

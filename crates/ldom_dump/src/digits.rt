@@ -1,5 +1,5 @@
 // A line of hexadecimal digits.
-ghost use Rattle.std.specs.Prelude.{◌≡◌, ◌+◌, ◌≤◌, ℕ, List, IfErr, IfNone, IfOk, IfSome};
+ghost use Rattle.std.specs.Prelude.{◌≡◌, ◌≢◌, ◌+◌, ◌≤◌, ℕ, List, IfErr, IfNone, IfOk, IfSome};
 ghost use Rattle.vio_io.specs.Causes.{Rose};
 ghost use Rattle.domain_script.specs.declared.lines.LinesStop.TheVariants.{Going};
 ghost use Rattle.domain_script.specs.LinesState.{to_come};
@@ -7,7 +7,7 @@ ghost use Rattle.ldom_journal.specs.LinesEnd.{counted_lines};
 ghost use Rattle.ldom_dump.specs.Decoded.{SpellsBytes};
 ghost use Rattle.ldom_dump.specs.Reading.{IsReaders, ReadsBytes, StopsAt};
 
-use domain_script::Lines;
+use domain_script::{Lines, decode_lower};
 use ldom_journal::{LineFault, Status};
 use vio_io::Source;
 
@@ -20,14 +20,11 @@ pub fn bytes_of(line: &[u8]) -> Option<[u8; 64]>
     ensures none { IfNone result ((bytes : List ℕ) → SpellsBytes line.now bytes → ⊥) }
 {
     let mut bytes = [0; PACKET_LENGTH];
-    let mut text = [0; 2 * PACKET_LENGTH];
-    if hex::decode_to_slice(line, &mut bytes).is_err() {
-        return None;
+    if decode_lower(line, &mut bytes) {
+        Some(bytes)
+    } else {
+        None
     }
-    if hex::encode_to_slice(&bytes, &mut text).is_err() || line != text.as_slice() {
-        return None;
-    }
-    Some(bytes)
 }
 
 /// The bytes of the next line; else why there are none, `Done` at the end.
@@ -38,9 +35,10 @@ pub fn read_bytes<S: Source>(lines: &mut Lines, source: &mut S) -> Result<[u8; 6
     ensures bytes { IfOk result (ReadsBytes (to_come lines.old (S.left source.old)) (to_come lines.new (S.left source.new))) }
     ensures next { IfOk result (λ _. (lines.new.number ≡ lines.old.number + 1) × (lines.new.number ≤ 20000) × (lines.new.stop ≡ Going)) }
 
-    ensures stop { IfErr result (λ status. StopsAt status (to_come lines.old (S.left source.old)) lines.old.number) }
+    ensures stop { IfErr result (λ status. StopsAt status (to_come lines.old (S.left source.old)) lines.new.held (S.left source.new) lines.old.number) }
     ensures readers { IfErr result IsReaders }
     ensures lines { IfErr result (λ status. lines.new.number ≡ counted_lines status lines.old.number) }
+    ensures unfailed { result ≢ Err Status.SourceFault → S.faults source.new ≡ S.faults source.old }
     ensures count { S.faults source.old ≤ S.faults source.new }
     ensures cause { result ≡ Err Status.SourceFault → Rose (S.faults source.old) (S.faults source.new) }
 {

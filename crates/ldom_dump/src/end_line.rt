@@ -38,6 +38,7 @@ fn push_end(text: &mut Text, ended: &Ended)
 fn put_end<K: Sink>(text: &mut Text, ended: &Ended, out: &mut K) -> Result<(), Failed>
     ensures told { OnOk result (Appends (K.written out.old) (K.written out.new) (text.old ++ end_line ended.now.lines ended.now.packets ended.now.faults ended.now.why)) }
     ensures front { OnErr result (WroteFront (K.written out.old) (K.written out.new) (text.old ++ end_line ended.now.lines ended.now.packets ended.now.faults ended.now.why)) }
+    ensures ok { OnOk result (K.faults out.new ≡ K.faults out.old) }
     ensures count { K.faults out.old ≤ K.faults out.new }
     ensures cause { OnErr result (Rose (K.faults out.old) (K.faults out.new)) }
 {
@@ -49,6 +50,7 @@ fn put_end<K: Sink>(text: &mut Text, ended: &Ended, out: &mut K) -> Result<(), F
 /// Ends a dump, unless the sink failed before. Answers its status.
 pub fn finish<K: Sink>(text: &mut Text, ended: &Ended, out: &mut K) -> Status
     ensures finishes { Finishes ended.now.why result (K.written out.old) (K.written out.new) text.old (end_line ended.now.lines ended.now.packets ended.now.faults ended.now.why) }
+    ensures unfailed { result ≢ Status.SinkFault → K.faults out.new ≡ K.faults out.old }
     ensures other { result ≢ Status.SinkFault → result ≡ ended.now.why }
     ensures count { K.faults out.old ≤ K.faults out.new }
     ensures cause { result ≡ Status.SinkFault → ended.now.why ≢ Status.SinkFault → Rose (K.faults out.old) (K.faults out.new) }

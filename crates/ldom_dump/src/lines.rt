@@ -66,6 +66,7 @@ fn push_packet_of(text: &mut Text, bytes: &[u8; 64]) -> bool
 fn put_packet<K: Sink>(text: &mut Text, bytes: &[u8; 64], out: &mut K) -> Result<bool, Failed>
     ensures told { IfOk result (PutsPacket bytes.now (K.written out.old) (K.written out.new) text.old text.new) }
     ensures front { OnErr result (WroteFront (K.written out.old) (K.written out.new) text.old) }
+    ensures ok { OnOk result (K.faults out.new ≡ K.faults out.old) }
     ensures count { K.faults out.old ≤ K.faults out.new }
     ensures cause { OnErr result (Rose (K.faults out.old) (K.faults out.new)) }
 {
@@ -93,7 +94,9 @@ pub fn dump_all<S: Source, K: Sink>(
     out: &mut K,
 ) -> Ended
     requires { text.old ≡ [] }
-    ensures dumps { DumpsLines (S.left source.old) result.why (K.written out.old) (K.written out.new) text.new result.lines result.packets result.faults }
+    ensures dumps { DumpsLines (S.left source.old) (S.left source.new) result.why (K.written out.old) (K.written out.new) text.new result.lines result.packets result.faults }
+    ensures source_unfailed { result.why ≢ Status.SourceFault → S.faults source.new ≡ S.faults source.old }
+    ensures sink_unfailed { result.why ≢ Status.SinkFault → K.faults out.new ≡ K.faults out.old }
     ensures source_count { S.faults source.old ≤ S.faults source.new }
     ensures sink_count { K.faults out.old ≤ K.faults out.new }
     ensures source_fault { result.why ≡ Status.SourceFault → Rose (S.faults source.old) (S.faults source.new) }
@@ -120,7 +123,9 @@ fn dump_lines<S: Source, K: Sink>(
     requires going { lines.old.stop ≡ Going }
     requires first { lines.old.number ≡ 0 }
     requires empty { text.old ≡ [] }
-    ensures dumps { DumpsLines (to_come lines.old (S.left source.old)) result.why (K.written out.old) (K.written out.new) text.new result.lines result.packets result.faults }
+    ensures dumps { DumpsLines (to_come lines.old (S.left source.old)) (S.left source.new) result.why (K.written out.old) (K.written out.new) text.new result.lines result.packets result.faults }
+    ensures source_unfailed { result.why ≢ Status.SourceFault → S.faults source.new ≡ S.faults source.old }
+    ensures sink_unfailed { result.why ≢ Status.SinkFault → K.faults out.new ≡ K.faults out.old }
     ensures source_count { S.faults source.old ≤ S.faults source.new }
     ensures sink_count { K.faults out.old ≤ K.faults out.new }
     ensures source_fault { result.why ≡ Status.SourceFault → Rose (S.faults source.old) (S.faults source.new) }

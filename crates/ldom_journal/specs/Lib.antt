@@ -4,6 +4,7 @@ pub mod EntryText
 pub mod Gathered
 pub mod HasWords
 pub mod JournalState
+pub mod Kept
 pub mod LinesEnd
 pub mod Packed
 pub mod Report

@@ -43,6 +43,7 @@ fn put_word<K: Sink>(text: &mut Text, word: &[u8], out: &mut K) -> Result<(), Fa
     requires { length word.now ≤ 512 }
     ensures told { OnOk result (Gathers (K.written out.old) (K.written out.new) text.new (text.old ++ (codes " *" ++ encode_lower word.now))) }
     ensures front { OnErr result (WroteFront (K.written out.old) (K.written out.new) text.old) }
+    ensures ok { OnOk result (K.faults out.new ≡ K.faults out.old) }
     ensures count { K.faults out.old ≤ K.faults out.new }
     ensures cause { OnErr result (Rose (K.faults out.old) (K.faults out.new)) }
 {
@@ -56,6 +57,7 @@ fn put_word<K: Sink>(text: &mut Text, word: &[u8], out: &mut K) -> Result<(), Fa
 pub fn put_blocks<K: Sink>(text: &mut Text, bytes: &Bytes, out: &mut K) -> Result<(), Failed>
     ensures told { OnOk result (Gathers (K.written out.old) (K.written out.new) text.new (text.old ++ blocks_text bytes.now.items)) }
     ensures front { OnErr result (WroteFront (K.written out.old) (K.written out.new) (text.old ++ blocks_text bytes.now.items)) }
+    ensures ok { OnOk result (K.faults out.new ≡ K.faults out.old) }
     ensures count { K.faults out.old ≤ K.faults out.new }
     ensures cause { OnErr result (Rose (K.faults out.old) (K.faults out.new)) }
 {
@@ -72,6 +74,7 @@ pub fn put_blocks<K: Sink>(text: &mut Text, bytes: &Bytes, out: &mut K) -> Resul
 fn put_plain<K: Sink>(text: &mut Text, bytes: &[u8], out: &mut K) -> Result<(), Failed>
     ensures told { OnOk result (Gathers (K.written out.old) (K.written out.new) text.new (text.old ++ blocks_text bytes.now)) }
     ensures front { OnErr result (WroteFront (K.written out.old) (K.written out.new) (text.old ++ blocks_text bytes.now)) }
+    ensures ok { OnOk result (K.faults out.new ≡ K.faults out.old) }
     ensures count { K.faults out.old ≤ K.faults out.new }
     ensures cause { OnErr result (Rose (K.faults out.old) (K.faults out.new)) }
 {

@@ -118,6 +118,7 @@ pub fn write_end<K: Sink>(
 ) -> Result<(), Failed>
     ensures told { OnOk result (Appends (K.written out.old) (K.written out.new) (last_line lines journal.now.entries status.now)) }
     ensures front { OnErr result (WroteFront (K.written out.old) (K.written out.new) (last_line lines journal.now.entries status.now)) }
+    ensures ok { OnOk result (K.faults out.new ≡ K.faults out.old) }
     ensures count { K.faults out.old ≤ K.faults out.new }
     ensures cause { OnErr result (Rose (K.faults out.old) (K.faults out.new)) }
 {

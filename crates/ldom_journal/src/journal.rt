@@ -106,6 +106,7 @@ impl Journal {
         requires words { All (HasWords names.now.disks) self.now.entries }
         ensures told { OnOk result (Appends (K.written out.old) (K.written out.new) (report_entries mode names.now.disks self.now.entries)) }
         ensures front { OnErr result (WroteFront (K.written out.old) (K.written out.new) (report_entries mode names.now.disks self.now.entries)) }
+        ensures ok { OnOk result (K.faults out.new ≡ K.faults out.old) }
         ensures count { K.faults out.old ≤ K.faults out.new }
         ensures cause { OnErr result (Rose (K.faults out.old) (K.faults out.new)) }
     {

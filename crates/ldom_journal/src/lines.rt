@@ -138,7 +138,7 @@ fn push_head(text: &mut Text, entry: &Entry, names: &Names)
     match entry {
         Entry::Accepted { disk, id, request } => {
             push_id(text, b"accepted ", *disk, *id, names);
-            push_request(text, request.get());
+            push_request(text, &request.get());
         }
         Entry::Full { who } => {
             text.push(b"full ");
@@ -171,6 +171,7 @@ fn push_head(text: &mut Text, entry: &Entry, names: &Names)
 fn put_read<K: Sink>(text: &mut Text, entry: &Entry, out: &mut K) -> Result<(), Failed>
     ensures told { OnOk result (Gathers (K.written out.old) (K.written out.new) text.new (text.old ++ read_text entry.now)) }
     ensures front { OnErr result (WroteFront (K.written out.old) (K.written out.new) (text.old ++ read_text entry.now)) }
+    ensures ok { OnOk result (K.faults out.new ≡ K.faults out.old) }
     ensures count { K.faults out.old ≤ K.faults out.new }
     ensures cause { OnErr result (Rose (K.faults out.old) (K.faults out.new)) }
 {
@@ -195,6 +196,7 @@ fn put_line<K: Sink>(
     requires words { HasWords names.now.disks entry.now }
     ensures told { OnOk result (Gathers (K.written out.old) (K.written out.new) text.new (text.old ++ line_text names.now.disks entry.now)) }
     ensures front { OnErr result (WroteFront (K.written out.old) (K.written out.new) (text.old ++ line_text names.now.disks entry.now)) }
+    ensures ok { OnOk result (K.faults out.new ≡ K.faults out.old) }
     ensures count { K.faults out.old ≤ K.faults out.new }
     ensures cause { OnErr result (Rose (K.faults out.old) (K.faults out.new)) }
 {
@@ -217,6 +219,7 @@ fn put_entry<K: Sink>(
     requires words { HasWords names.now.disks entry.now }
     ensures told { OnOk result (Gathers (K.written out.old) (K.written out.new) text.new (text.old ++ entry_lines mode names.now.disks entry.now)) }
     ensures front { OnErr result (WroteFront (K.written out.old) (K.written out.new) (text.old ++ entry_lines mode names.now.disks entry.now)) }
+    ensures ok { OnOk result (K.faults out.new ≡ K.faults out.old) }
     ensures count { K.faults out.old ≤ K.faults out.new }
     ensures cause { OnErr result (Rose (K.faults out.old) (K.faults out.new)) }
 {
@@ -237,6 +240,7 @@ pub fn write_entries<K: Sink>(
     requires words { All (HasWords names.now.disks) entries.now }
     ensures told { OnOk result (Appends (K.written out.old) (K.written out.new) (report_entries mode names.now.disks entries.now)) }
     ensures front { OnErr result (WroteFront (K.written out.old) (K.written out.new) (report_entries mode names.now.disks entries.now)) }
+    ensures ok { OnOk result (K.faults out.new ≡ K.faults out.old) }
     ensures count { K.faults out.old ≤ K.faults out.new }
     ensures cause { OnErr result (Rose (K.faults out.old) (K.faults out.new)) }
 {

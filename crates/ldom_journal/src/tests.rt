@@ -87,9 +87,9 @@ fn read_of(alloc: Global, bytes: &[u8]) -> Result<Entry, NoMemory>
     })
 }
 
-/// Sixteen blocks, none of which repeats a shorter word.
-fn without_repetition() -> [u8; 8192] {
-    let mut bytes = [0; 8192];
+/// 128 blocks, none of which repeats a shorter word.
+fn without_repetition() -> [u8; 65536] {
+    let mut bytes = [0; 65536];
     for (k, byte) in bytes.iter_mut().enumerate() {
         *byte = (k / 2 % 256) as u8;
     }
@@ -202,15 +202,15 @@ fn a_failing_sink_gets_a_front_of_the_lines(rt: HostRuntime) -> Result<(), Fail>
     let alloc = rt.alloc();
     let names = one_disk();
     let journal = journal_of(alloc, read_of(alloc, &without_repetition())?)?;
-    let mut whole = ListSink::new(alloc, 20000, &[])?;
+    let mut whole = ListSink::new(alloc, 200_000, &[])?;
     journal.write_text(Mode::Run, &names, &mut whole)?;
     // A block without repetition has 1,024 digits.
     assert_eq!(rt;
         whole.bytes().len(),
-        b"done d0 0 read 0".len() + 16 * (b" *".len() + 1024) + 1
+        b"done d0 0 read 0".len() + 128 * (b" *".len() + 1024) + 1
     );
-    for (call, least) in [(0, 0), (1, 4096), (2, 8192)] {
-        let mut sink = ListSink::new(alloc, 20000, &[call])?;
+    for (call, least) in [(0, 0), (1, 61_440), (2, 122_880)] {
+        let mut sink = ListSink::new(alloc, 200_000, &[call])?;
         let result = journal.write_text(Mode::Run, &names, &mut sink);
         assert_eq!(rt; result, Err(Failed));
         assert!(rt; sink.bytes().len() >= least && sink.bytes().len() < whole.bytes().len());

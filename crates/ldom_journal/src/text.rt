@@ -9,13 +9,13 @@ use std::marker::Model;
 use vio_io::{Failed, Sink};
 
 /// The most bytes that are gathered.
-pub const TEXT_ROOM: usize = 8192;
+pub const TEXT_ROOM: usize = 65536;
 
-/// Text that is gathered in front of a sink, so that the sink is called for some kilobytes at a time. It takes no
+/// Text that is gathered in front of a sink, so that the sink is called for some sixty kilobytes at a time. It takes no
 /// memory. The sink is handed in at each call that may write.
 #[derive(Drop)]
 pub struct Text {
-    buffer: [u8; 8192],
+    buffer: [u8; 65536],
     len: usize,
 }
 
@@ -26,7 +26,7 @@ impl Model for Text {
 
     ghost view = { λ t. take t.len t.buffer };
 
-    ghost invariant = { λ t. (t.len ≤ 8192) × (length t.buffer ≡ 8192) };
+    ghost invariant = { λ t. (t.len ≤ 65536) × (length t.buffer ≡ 65536) };
 }
 
 impl Text {
@@ -35,7 +35,7 @@ impl Text {
         ensures { result ≡ [] }
     {
         Text {
-            buffer: [0; 8192],
+            buffer: [0; 65536],
             len: 0,
         }
     }
@@ -82,6 +82,7 @@ impl Text {
         ensures kept { OnErr result (self.new ≡ self.old) }
         ensures told { OnOk result (Gathers (K.written out.old) (K.written out.new) self.new self.old) }
         ensures front { OnErr result (WroteFront (K.written out.old) (K.written out.new) self.old) }
+        ensures ok { OnOk result (K.faults out.new ≡ K.faults out.old) }
         ensures count { K.faults out.old ≤ K.faults out.new }
         ensures cause { OnErr result (Rose (K.faults out.old) (K.faults out.new)) }
     {
@@ -97,6 +98,7 @@ impl Text {
         ensures kept { OnErr result (self.new ≡ self.old) }
         ensures told { OnOk result (Appends (K.written out.old) (K.written out.new) self.old) }
         ensures front { OnErr result (WroteFront (K.written out.old) (K.written out.new) self.old) }
+        ensures ok { OnOk result (K.faults out.new ≡ K.faults out.old) }
         ensures count { K.faults out.old ≤ K.faults out.new }
         ensures cause { OnErr result (Rose (K.faults out.old) (K.faults out.new)) }
     {
@@ -110,6 +112,7 @@ impl Text {
 fn write_all<K: Sink>(out: &mut K, bytes: &[u8]) -> Result<(), Failed>
     ensures told { OnOk result (Appends (K.written out.old) (K.written out.new) bytes.now) }
     ensures front { OnErr result (WroteFront (K.written out.old) (K.written out.new) bytes.now) }
+    ensures ok { OnOk result (K.faults out.new ≡ K.faults out.old) }
     ensures count { K.faults out.old ≤ K.faults out.new }
     ensures cause { OnErr result (Rose (K.faults out.old) (K.faults out.new)) }
 {

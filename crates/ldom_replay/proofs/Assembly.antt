@@ -1,5 +1,7 @@
 -- A whole run, put together from its declarations and its other lines.
 use Rattle.std.proofs.Common.{◌≡◌, ◌≢◌, inl, inr, ℕ, ◌+◌, ◌<◌, Bool, true, false, List, [], ◌∷◌, ◌++◌, length, map, refl, sym, ◌∙◌, ap, subst, append_assoc, length-append, arith, Option, Some, None, IfSome, IsTrue, ◌↔◌, zero, suc}
+use Rattle.std.specs.Io.KnownBytes.{IsAtEnd, Keeps, prepend_known}
+use Rattle.std.specs.Prelude.{IsNone}
 use Rattle.std.specs.List.{flat_map}
 use Rattle.std.proofs.lemmas.List.{map-append}
 use Rattle.std.proofs.lemmas.List.Concat.{flat_map-append}
@@ -10,7 +12,7 @@ use Rattle.domain_script.specs.declared.event.Event.{Event}
 use Rattle.domain_script.specs.declared.event.Event.TheVariants as line
 use Rattle.domain_script.specs.LinesState.{LinesState, to_come}
 use Rattle.domain_script.specs.NamesState.{NamesState, noted}
-use Rattle.domain_script.specs.ScriptLines.{script_lines, TakesLines}
+use Rattle.domain_script.proofs.ScriptLemmas.{taken-append}
 use Rattle.ldom_journal.specs.declared.entry.Entry.{Entry}
 use Rattle.domain_script.specs.declared.event.LineFault.{LineFault}
 use Rattle.ldom_journal.specs.declared.status.LimitKind.{LimitKind}
@@ -18,20 +20,16 @@ use Rattle.ldom_journal.specs.declared.status.Status.{Status}
 use Rattle.ldom_journal.specs.declared.status.Status.TheVariants as status
 use Rattle.disk_law.specs.ListState.{ListState}
 use Rattle.ldom_replay.specs.Going.{Grew, IsReaders, RunsAll, RunsLines}
-use Rattle.ldom_replay.specs.Opening.{AreOpening, Opened, Opens, OpensAndStops}
+use Rattle.ldom_replay.specs.Attached.{AreOpening, AttachesAt, ImageStands}
+use Rattle.ldom_replay.specs.Opening.{Opened, Opens, OpensAndStops}
 use Rattle.ldom_replay.specs.Parts.{Fits, FitsSoFar, LineStep}
 use Rattle.ldom_journal.specs.LinesEnd.{counted_lines}
 use Rattle.ldom_replay.specs.Reading.{StopsAt}
 use Rattle.ldom_replay.specs.Replayed.{FaultsAre, JournalIs, Replayed, Stopped, attach_status, ended_status, start_of}
-use Rattle.ldom_replay.specs.Script.{AllSpell, FitsScript, FitsCutOff, no_names}
+use Rattle.domain_script.specs.ScriptEvents.{AllSpell, no_names}
+use Rattle.ldom_replay.specs.Script.{FitsScript, FitsCutOff}
 use Rattle.ldom_replay.proofs.ReadLemmas.{read_none}
-use Rattle.ldom_replay.proofs.RunLemmas.{fits_more, fits_none}
-
-takes_append : (start mid left : Option (List ℕ)) (xs ys : List (List ℕ)) → TakesLines start mid xs → TakesLines mid left ys → TakesLines start left (xs ++ ys)
-takes_append None mid left xs ys first second = tt
-takes_append (Some bytes) None left xs ys first second = absurd first
-takes_append (Some bytes) (Some rest) None xs ys first second = absurd second
-takes_append (Some bytes) (Some rest) (Some left) xs ys first second = first ∙ ap (λ (l : List (List ℕ)). xs ++ l) second ∙ sym (append_assoc xs ys (script_lines left))
+use Rattle.ldom_replay.proofs.RunLemmas.{fits_more, fits_none, keeps_same}
 
 spell_append : (xs ys : List (List ℕ)) (a b c : NamesState) (es fs : List Event) → AllSpell xs a es b → AllSpell ys b fs c → AllSpell (xs ++ ys) a (es ++ fs) c
 spell_append [] ys a b c [] fs first second = subst (λ (n : NamesState). AllSpell ys n fs c) first second
@@ -114,10 +112,56 @@ grew_append status.HostFault s m t es fs xs ys first second = fits_append s m t 
 grew_append status.StoreFault s m t es fs xs ys first second = fits_append s m t es fs xs ys first second
 grew_append (status.Limit at kind) s m t es fs xs ys first second = fits_append s m t es fs xs ys first second
 
+opening_front : (events more : List Event) → AreOpening (events ++ more) → AreOpening events
+opening_front [] more are = tt
+opening_front (line.Blank ∷ events) more are = opening_front events more are
+opening_front (line.Disk disk ∷ events) more are = opening_front events more are
+opening_front (line.Issue disk request ∷ events) more are = are
+opening_front (line.Settle ∷ events) more are = are
+
+-- a line came that is neither blank nor a declaration
+not_opening : (opening : List Event) (event : Event) → (AreOpening (event ∷ []) → ⊥) → AreOpening (opening ++ event ∷ []) → ⊥
+not_opening [] event other are = other are
+not_opening (line.Blank ∷ opening) event other are = not_opening opening event other are
+not_opening (line.Disk disk ∷ opening) event other are = not_opening opening event other are
+not_opening (line.Issue disk request ∷ opening) event other are = are
+not_opening (line.Settle ∷ opening) event other are = are
+
+-- the image is attached at it
+attaches_first : (opening : List Event) (event : Event) (rest : Option (List ℕ)) → AreOpening opening → (AreOpening (event ∷ []) → ⊥) → AttachesAt (opening ++ event ∷ []) rest
+attaches_first [] line.Blank rest are other = absurd (other tt)
+attaches_first [] (line.Disk disk) rest are other = absurd (other tt)
+attaches_first [] (line.Issue disk request) rest are other = refl
+attaches_first [] line.Settle rest are other = refl
+attaches_first (line.Blank ∷ opening) event rest are other = attaches_first opening event rest are other
+attaches_first (line.Disk disk ∷ opening) event rest are other = attaches_first opening event rest are other
+attaches_first (line.Issue disk request ∷ opening) event rest are other = absurd are
+attaches_first (line.Settle ∷ opening) event rest are other = absurd are
+
+-- or at the end
+attaches_last : (opening : List Event) (rest : Option (List ℕ)) → AreOpening opening → IsAtEnd rest → AttachesAt opening rest
+attaches_last [] rest are end = end
+attaches_last (line.Blank ∷ opening) rest are end = attaches_last opening rest are end
+attaches_last (line.Disk disk ∷ opening) rest are end = attaches_last opening rest are end
+attaches_last (line.Issue disk request ∷ opening) rest are end = absurd are
+attaches_last (line.Settle ∷ opening) rest are end = absurd are
+
+attached_there : (events : List Event) (rest : Option (List ℕ)) → AttachesAt events rest → AreOpening events → IsAtEnd rest
+attached_there [] rest at are = at
+attached_there (line.Blank ∷ events) rest at are = attached_there events rest at are
+attached_there (line.Disk disk ∷ events) rest at are = attached_there events rest at are
+attached_there (line.Issue disk request ∷ events) rest at are = absurd are
+attached_there (line.Settle ∷ events) rest at are = absurd are
+
+-- a run that stopped behind the first such line
+abbrev stopped_behind : (start now : Option (List ℕ)) (held : List ℕ) (event : Event) (names : NamesState) (count : ℕ) (why : Status) → (opens : Opens start (prepend_known held now) event names count)
+    → StopsAt why (prepend_known held now) held now names count → count ≡ counted_lines why count → Stopped start now why (opens.opening ++ event ∷ []) names count
+stopped_behind start now held event names count why opens stop is = record { left = prepend_known held now; count = count; read = opens.read; held = held; stop = stop; lines_are = is }
+
 -- the first event that isn't a declaration, and the lines behind it
-pub runs_all : (start rest : Option (List ℕ)) (event : Event) (names after : NamesState) (s m t : ListState) (journal new : List Entry) (number lines : ℕ) (why : Status)
-    → Opens start rest event names number → Fits s event [] journal m → RunsLines rest names journal m number why after new t lines → RunsAll start names s why after new t lines
-runs_all start rest event names after s m t journal new number lines why opens fits runs =
+pub runs_all : (start rest now : Option (List ℕ)) (event : Event) (names after : NamesState) (s m t : ListState) (journal new : List Entry) (number lines : ℕ) (why : Status)
+    → Opens start rest event names number → Fits s event [] journal m → RunsLines rest now names journal m number why after new t lines → RunsAll start now names s why after new t lines
+runs_all start rest now event names after s m t journal new number lines why opens fits runs =
     let first : FitsScript s (opens.opening ++ event ∷ []) journal m =
     subst (λ (l : List Entry). FitsScript s (opens.opening ++ event ∷ []) l m) (sym fits.grew) (fits_more s s m opens.opening event [] fits.part (fits_opening s opens.opening opens.are) fits.step) in
     let count : number + length runs.texts ≡ length (opens.read.texts ++ runs.texts) = omega (arith, opens.read.counts, length-append opens.read.texts runs.texts) in
@@ -128,30 +172,34 @@ runs_all start rest event names after s m t journal new number lines why opens f
         count = number + length runs.texts;
         read = record {
           texts = opens.read.texts ++ runs.texts;
-          taken = takes_append start rest runs.left opens.read.texts runs.texts opens.read.taken runs.taken;
+          taken = taken-append start rest runs.left opens.read.texts runs.texts opens.read.taken
+              (record { taken = runs.taken; short = runs.short; few = omega (arith, runs.few) }) (omega (arith, runs.few, opens.read.counts));
           spell = spell_append opens.read.texts runs.texts no_names names after (opens.opening ++ event ∷ []) runs.events opens.read.spell runs.spell;
           counts = count;
         };
+        held = runs.held;
         stop = runs.stop;
         lines_are = runs.lines_are;
       };
       fits = subst (λ (l : List Entry). Grew why s ((opens.opening ++ event ∷ []) ++ runs.events) l t) (sym runs.grew) (grew_append why s m t (opens.opening ++ event ∷ []) runs.events journal runs.part first runs.fits);
       disks = same_disks runs.texts names after runs.events opens.ended runs.spell;
+      attached = λ _ are. not_opening opens.opening event opens.other (opening_front (opens.opening ++ event ∷ []) runs.events are);
     }
 
 -- memory was wanted in the midst of that first event
-pub runs_first_cut : (start rest : Option (List ℕ)) (event : Event) (names : NamesState) (s t : ListState) (journal : List Entry) (number : ℕ)
-    → Opens start rest event names number → FitsSoFar s event [] journal t → RunsAll start names s status.NoMemory names journal t number
-runs_first_cut start rest event names s t journal number opens fits = record {
+pub runs_first_cut : (start now : Option (List ℕ)) (held : List ℕ) (event : Event) (names : NamesState) (s t : ListState) (journal : List Entry) (number : ℕ)
+    → Opens start (prepend_known held now) event names number → FitsSoFar s event [] journal t → RunsAll start now names s status.NoMemory names journal t number
+runs_first_cut start now held event names s t journal number opens fits = record {
   events = opens.opening ++ event ∷ [];
-  stopped = record { left = rest; count = number; read = opens.read; stop = tt; lines_are = refl };
+  stopped = stopped_behind start now held event names number status.NoMemory opens (keeps_same (prepend_known held now)) refl;
   fits = inr (record { before = opens.opening; last = event; events_are = refl; front = []; middle = s; fits = fits_opening s opens.opening opens.are; so_far = fits });
   disks = refl;
+  attached = λ _. not_opening opens.opening event opens.other;
 }
 
 -- nothing but declarations
-pub runs_none_more : (start : Option (List ℕ)) (names : NamesState) (s : ListState) (lines : ℕ) → OpensAndStops start status.Done names lines → RunsAll start names s status.Done names [] s lines
-runs_none_more start names s lines opens = record { events = opens.opening; stopped = opens.stopped; fits = fits_opening s opens.opening opens.are; disks = refl }
+pub runs_none_more : (start now : Option (List ℕ)) (names : NamesState) (s : ListState) (lines : ℕ) → OpensAndStops start now status.Done names lines → RunsAll start now names s status.Done names [] s lines
+runs_none_more start now names s lines opens = record { events = opens.opening; stopped = opens.stopped; fits = fits_opening s opens.opening opens.are; disks = refl; attached = λ other. absurd (other refl) }
 
 -- what holds of each status with which reading ends
 by_readers : (P : Status → Type 0) → P status.Done → ((at : ℕ) (fault : LineFault) → P (status.Script at fault)) → P status.SourceFault → ((at : ℕ) (kind : LimitKind) → P (status.Limit at kind)) → P status.NoMemory
@@ -175,8 +223,8 @@ ended_as P why faulty readers also =
     done true p = also p
     done false p = p
 
-ended_stop : (why : Status) (faulty : Bool) (names : NamesState) (left : Option (List ℕ)) (count : ℕ) → IsReaders why → StopsAt why left names count → StopsAt (ended_status why faulty) left names count
-ended_stop why faulty names left count readers = ended_as (λ (w : Status). StopsAt w left names count) why faulty readers (λ stop. stop)
+ended_stop : (why : Status) (faulty : Bool) (names : NamesState) (left now : Option (List ℕ)) (held : List ℕ) (count : ℕ) → IsReaders why → StopsAt why left held now names count → StopsAt (ended_status why faulty) left held now names count
+ended_stop why faulty names left now held count readers = ended_as (λ (w : Status). StopsAt w left held now names count) why faulty readers (λ stop. stop)
 
 ended_count : (why : Status) (faulty : Bool) (count : ℕ) → IsReaders why → counted_lines why count ≡ counted_lines (ended_status why faulty) count
 ended_count why faulty count readers = ended_as (λ (w : Status). counted_lines why count ≡ counted_lines w count) why faulty readers (λ is. is) refl
@@ -195,6 +243,33 @@ ended_faults image why faulty faults readers tells =
     done false zero tells = (refl, refl)
     done false (suc n) tells = absurd (cc (tells.1 (omega arith)))
 
+-- a run in a world has an image
+ended_image : {D : Type 0} (image : D) (why : Status) (faulty : Bool) (events : List Event) (rest : Option (List ℕ)) (journal : List Entry) → IsReaders why → (why ≢ status.Done → AreOpening events → ⊥)
+    → ImageStands (ended_status why faulty) events rest journal (Some image)
+ended_image image why faulty events rest journal readers =
+    by_readers (λ (w : Status). (w ≢ status.Done → AreOpening events → ⊥) → ImageStands (ended_status w faulty) events rest journal (Some image))
+    (λ _. done faulty)
+    (λ at fault attached. (λ none. cc none, λ are. absurd (attached (λ is. cc) are)))
+    (λ attached. (λ none. cc none, λ are. absurd (attached (λ is. cc) are)))
+    (λ at kind attached. (λ none. cc none, λ are. absurd (attached (λ is. cc) are)))
+    (λ attached are. absurd (attached (λ is. cc) are)) why readers
+  where
+    done : (faulty : Bool) → ImageStands (ended_status status.Done faulty) events rest journal (Some image)
+    done true = refl
+    done false = refl
+
+-- a run that ended in its declarations has none
+opening_image : (D : Type 0) (why : Status) (events : List Event) (rest : Option (List ℕ)) → IsReaders why → why ≢ status.Done → AreOpening events → ImageStands {D = D} why events rest [] None
+opening_image D why events rest readers other are =
+    by_readers (λ (w : Status). w ≢ status.Done → ImageStands {D = D} w events rest [] None) (λ o. absurd (o refl)) (λ at fault o. (λ _. are, λ _. refl)) (λ o. (λ _. are, λ _. refl)) (λ at kind o. (λ _. are, λ _. refl))
+    (λ o. (refl, inl are)) why readers other
+
+-- attaching an image failed, or there was no memory for its world
+refused_image : {D : Type 0} (fault : AttachFault) (events : List Event) (rest : Option (List ℕ)) (image : Option D) → AttachesAt events rest → (fault ≡ Failed → IsNone image) → ImageStands (attach_status fault) events rest [] image
+refused_image Failed events rest image at none = (none refl, at)
+refused_image Memory events rest None at none = (refl, inr at)
+refused_image Memory events rest (Some disk) at none = attached_there events rest at
+
 opening_journal : (why : Status) (s : ListState) (events : List Event) → IsReaders why → FitsScript s events [] s → JournalIs why s events [] s
 opening_journal why s events readers fits = by_readers (λ (w : Status). JournalIs w s events [] s) fits (λ at fault. fits) fits (λ at kind. fits) (inl fits) why readers
 
@@ -209,10 +284,14 @@ none_of s (line.Disk disk) = record { part = []; grew = refl; begun = refl; run 
 none_of s (line.Issue disk request) = record { part = []; grew = refl; begun = refl; run = refl }
 none_of s line.Settle = record { part = []; grew = refl; begun = tt; run = refl }
 
-module _ {D : Type 0} (content : D → Option (List ℕ)) (faults : D → ℕ) (start : Option (List ℕ)) (gives : ℕ → Option (List ℕ)) where
+nothing_held : (start now : Option (List ℕ)) → now ≡ start → Keeps start (prepend_known [] now)
+nothing_held None now same = tt
+nothing_held (Some bytes) now same = subst (λ (o : Option (List ℕ)). Keeps (Some bytes) (prepend_known [] o)) (sym same) refl
+
+module _ {D : Type 0} (content : D → Option (List ℕ)) (faults : D → ℕ) (start now : Option (List ℕ)) (gives : ℕ → Option (List ℕ)) where
   -- a run in a world that ended
-  pub replayed_of : (why : Status) (faulty : Bool) (names after : NamesState) (s t : ListState) (journal : List Entry) (lines : ℕ) (image : D) → IsReaders why → RunsAll start names s why after journal t lines → s ≡ start_of names gives
-      → content image ≡ t.told → faults image ≡ t.faults → (IsTrue faulty ↔ (0 < t.faults)) → Replayed content faults start gives (ended_status why faulty) lines after journal (Some image)
+  pub replayed_of : (why : Status) (faulty : Bool) (names after : NamesState) (s t : ListState) (journal : List Entry) (lines : ℕ) (image : D) → IsReaders why → RunsAll start now names s why after journal t lines → s ≡ start_of names gives
+      → content image ≡ t.told → faults image ≡ t.faults → (IsTrue faulty ↔ (0 < t.faults)) → Replayed content faults start now gives (ended_status why faulty) lines after journal (Some image)
   replayed_of why faulty names after s t journal lines image readers runs begins told failed tells =
       let begin : s ≡ start_of after gives = begins ∙ ap (λ (disks : List _). start_of (record { disks = disks; ended = true }) gives) (sym runs.disks) in
       let fits : Grew why (start_of after gives) runs.events journal t = subst (λ (x : ListState). Grew why x runs.events journal t) begin runs.fits in
@@ -222,17 +301,19 @@ module _ {D : Type 0} (content : D → Option (List ℕ)) (faults : D → ℕ) (
           left = runs.stopped.left;
           count = runs.stopped.count;
           read = runs.stopped.read;
-          stop = ended_stop why faulty after runs.stopped.left runs.stopped.count readers runs.stopped.stop;
+          held = runs.stopped.held;
+          stop = ended_stop why faulty after runs.stopped.left now runs.stopped.held runs.stopped.count readers runs.stopped.stop;
           lines_are = runs.stopped.lines_are ∙ ended_count why faulty runs.stopped.count readers;
         };
         final = t;
         journal_is = ended_journal why faulty (start_of after gives) t runs.events journal readers fits;
         image_is = (told, failed);
         faults_are = ended_faults image why faulty t.faults readers tells;
+        image_stands = ended_image image why faulty runs.events runs.stopped.left journal readers runs.attached;
       }
 
   -- a run that ended before an image was attached: in its declarations
-  pub replayed_unattached : (why : Status) (names : NamesState) (lines : ℕ) → IsReaders why → why ≢ status.Done → OpensAndStops start why names lines → Replayed content faults start gives why lines names [] None
+  pub replayed_unattached : (why : Status) (names : NamesState) (lines : ℕ) → IsReaders why → why ≢ status.Done → OpensAndStops start now why names lines → Replayed content faults start now gives why lines names [] None
   replayed_unattached why names lines readers other opens = record {
     events = opens.opening;
     stopped = opens.stopped;
@@ -240,61 +321,76 @@ module _ {D : Type 0} (content : D → Option (List ℕ)) (faults : D → ℕ) (
     journal_is = opening_journal why (start_of names gives) opens.opening readers (fits_opening (start_of names gives) opens.opening opens.are);
     image_is = tt;
     faults_are = opening_faults None why (start_of names gives).faults readers other;
+    image_stands = opening_image D why opens.opening opens.stopped.left readers other opens.are;
   }
 
+  refused_stop : (fault : AttachFault) (left : Option (List ℕ)) (held : List ℕ) (names : NamesState) (count : ℕ) → Keeps left (prepend_known held now) → StopsAt (attach_status fault) left held now names count
+  refused_stop Failed left held names count kept = kept
+  refused_stop Memory left held names count kept = kept
+
+  refused_count : (fault : AttachFault) (count : ℕ) → count ≡ counted_lines (attach_status fault) count
+  refused_count Failed count = refl
+  refused_count Memory count = refl
+
+  refused_faults : (fault : AttachFault) (image : Option D) → FaultsAre (attach_status fault) image (start_of no_names gives).faults
+  refused_faults Failed image = tt
+  refused_faults Memory image = tt
+
+  refused_opening : (fault : AttachFault) (names : NamesState) (opening : List Event) → AreOpening opening → JournalIs (attach_status fault) (start_of names gives) opening [] (start_of names gives)
+  refused_opening Failed names opening are = (refl, refl)
+  refused_opening Memory names opening are = inl (fits_opening (start_of names gives) opening are)
+
+  refused_first : (fault : AttachFault) (names : NamesState) (opening : List Event) (event : Event) → AreOpening opening → JournalIs (attach_status fault) (start_of names gives) (opening ++ event ∷ []) [] (start_of names gives)
+  refused_first Failed names opening event are = (refl, refl)
+  refused_first Memory names opening event are = inr (record {
+    before = opening;
+    last = event;
+    events_are = refl;
+    front = [];
+    middle = start_of names gives;
+    fits = fits_opening (start_of names gives) opening are;
+    so_far = none_of (start_of names gives) event;
+  })
+
   -- the image couldn't be attached, or there was no memory for its world
-  pub replayed_refused : (fault : AttachFault) (left : Option (List ℕ)) (first : Option Event) (names : NamesState) (lines : ℕ) (image : Option D) → IfSome image (λ disk. (content disk ≡ (start_of names gives).told) × (faults disk ≡ 0))
-      → Opened start left first names lines → Replayed content faults start gives (attach_status fault) lines names [] image
-  replayed_refused Failed left None names lines image is opened =
-      record { events = opened.opening; stopped = no_reason status.HostFault opened tt; final = start_of names gives; journal_is = (refl, refl); image_is = is; faults_are = tt }
-    where
-      no_reason : (why : Status) → (o : OpensAndStops start status.Done names lines) → StopsAt why o.stopped.left names o.stopped.count → Stopped start status.HostFault o.opening names lines
-      no_reason why o stop = record { left = o.stopped.left; count = o.stopped.count; read = o.stopped.read; stop = tt; lines_are = o.stopped.lines_are }
-  replayed_refused Failed left (Some event) names lines image is opened =
-      record { events = opened.opening ++ event ∷ []; stopped = record { left = left; count = lines; read = opened.read; stop = tt; lines_are = refl }; final = start_of names gives; journal_is = (refl, refl); image_is = is; faults_are = tt }
-  replayed_refused Memory left None names lines image is opened =
-      record {
-        events = opened.opening;
-        stopped = record { left = opened.stopped.left; count = opened.stopped.count; read = opened.stopped.read; stop = tt; lines_are = opened.stopped.lines_are };
-        final = start_of names gives;
-        journal_is = inl (fits_opening (start_of names gives) opened.opening opened.are);
-        image_is = is;
-        faults_are = tt;
-      }
-  replayed_refused Memory left (Some event) names lines image is opened =
-      record {
-        events = opened.opening ++ event ∷ [];
-        stopped = record { left = left; count = lines; read = opened.read; stop = tt; lines_are = refl };
-        final = start_of names gives;
-        journal_is = inr (record {
-          before = opened.opening;
-          last = event;
-          events_are = refl;
-          front = [];
-          middle = start_of names gives;
-          fits = fits_opening (start_of names gives) opened.opening opened.are;
-          so_far = none_of (start_of names gives) event;
-        });
-        image_is = is;
-        faults_are = tt;
-      }
+  pub replayed_refused : (fault : AttachFault) (held : List ℕ) (first : Option Event) (names : NamesState) (lines : ℕ) (image : Option D) → IfSome image (λ disk. (content disk ≡ (start_of names gives).told) × (faults disk ≡ 0))
+      → (fault ≡ Failed → IsNone image) → Opened start held now first names lines → Replayed content faults start now gives (attach_status fault) lines names [] image
+  replayed_refused fault held None names lines image is none opened = record {
+    events = opened.opening;
+    stopped = record { left = opened.stopped.left; count = opened.stopped.count; read = opened.stopped.read; held = opened.stopped.held; stop = refused_stop fault opened.stopped.left opened.stopped.held names opened.stopped.count opened.stopped.stop.1; lines_are = opened.stopped.lines_are ∙ refused_count fault opened.stopped.count };
+    final = start_of names gives;
+    journal_is = refused_opening fault names opened.opening opened.are;
+    image_is = is;
+    faults_are = refused_faults fault image;
+    image_stands = refused_image fault opened.opening opened.stopped.left image (attaches_last opened.opening opened.stopped.left opened.are opened.stopped.stop.0) none;
+  }
+  replayed_refused fault held (Some event) names lines image is none opened = record {
+    events = opened.opening ++ event ∷ [];
+    stopped = stopped_behind start now held event names lines (attach_status fault) opened (refused_stop fault (prepend_known held now) held names lines (keeps_same (prepend_known held now))) (refused_count fault lines);
+    final = start_of names gives;
+    journal_is = refused_first fault names opened.opening event opened.are;
+    image_is = is;
+    faults_are = refused_faults fault image;
+    image_stands = refused_image fault (opened.opening ++ event ∷ []) (prepend_known held now) image (attaches_first opened.opening event (prepend_known held now) opened.are opened.other) none;
+  }
 
   -- there was no memory to read a line
-  pub replayed_none : (names : NamesState) → names ≡ no_names → Replayed content faults start gives status.NoMemory 0 names [] None
-  replayed_none names is = record {
+  pub replayed_none : (names : NamesState) → names ≡ no_names → now ≡ start → Replayed content faults start now gives status.NoMemory 0 names [] None
+  replayed_none names is same = record {
     events = [];
-    stopped = record { left = start; count = 0; read = read_none start names 0 is refl; stop = tt; lines_are = refl };
+    stopped = record { left = start; count = 0; read = read_none start names 0 is refl; held = []; stop = nothing_held start now same; lines_are = refl };
     final = start_of names gives;
     journal_is = inl (fits_none (start_of names gives));
     image_is = tt;
     faults_are = tt;
+    image_stands = (refl, inl tt);
   }
 
   -- the same run, its parts said otherwise
-  pub replayed_as : (why now : Status) (lines number : ℕ) (names : NamesState) (journal entries : List Entry) (image disk : Option D) → now ≡ why → number ≡ lines → entries ≡ journal → disk ≡ image
-      → Replayed content faults start gives why lines names journal image → Replayed content faults start gives now number names entries disk
-  replayed_as why now lines number names journal entries image disk status_is lines_are journal_is image_is replayed =
-      subst (λ (w : Status). Replayed content faults start gives w number names entries disk) (sym status_is)
-      (subst (λ (n : ℕ). Replayed content faults start gives why n names entries disk) (sym lines_are)
-      (subst (λ (l : List Entry). Replayed content faults start gives why lines names l disk) (sym journal_is)
-      (subst (λ (d : Option D). Replayed content faults start gives why lines names journal d) (sym image_is) replayed)))
+  pub replayed_as : (why ended : Status) (lines number : ℕ) (names : NamesState) (journal entries : List Entry) (image disk : Option D) → ended ≡ why → number ≡ lines → entries ≡ journal → disk ≡ image
+      → Replayed content faults start now gives why lines names journal image → Replayed content faults start now gives ended number names entries disk
+  replayed_as why ended lines number names journal entries image disk status_is lines_are journal_is image_is replayed =
+      subst (λ (w : Status). Replayed content faults start now gives w number names entries disk) (sym status_is)
+      (subst (λ (n : ℕ). Replayed content faults start now gives why n names entries disk) (sym lines_are)
+      (subst (λ (l : List Entry). Replayed content faults start now gives why lines names l disk) (sym journal_is)
+      (subst (λ (d : Option D). Replayed content faults start now gives why lines names journal d) (sym image_is) replayed)))

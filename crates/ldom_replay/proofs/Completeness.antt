@@ -1,6 +1,7 @@
 -- A clean script is run to its end, where memory suffices and no count rose.
 use Rattle.std.proofs.Common.{◌≡◌, ◌≢◌, inl, inr, ◌⊎◌, ℕ, ◌<◌, ◌≤◌, List, [], ◌∷◌, ◌++◌, length, refl, ◌∙◌, ap, subst, arith, length-append, Option, Some, None, IfSome}
 use Rattle.std.specs.Prelude.{◌==◌, if◌then◌else◌, Bool, true, false, IsSome}
+use Rattle.std.specs.Io.KnownBytes.{prepend_known}
 use Rattle.vio_io.specs.Causes.{Rose}
 use Rattle.domain_script.specs.declared.event.Event.{Event}
 use Rattle.domain_script.specs.NamesState.{NamesState}
@@ -11,16 +12,24 @@ use Rattle.ldom_journal.specs.declared.status.LimitKind.{LimitKind}
 use Rattle.ldom_journal.specs.declared.status.LimitKind.TheVariants.{Lines, Bytes}
 use Rattle.ldom_journal.specs.declared.status.Status.{Status}
 use Rattle.ldom_journal.specs.declared.status.Status.TheVariants as status
-use Rattle.ldom_replay.specs.Clean.{AreShort, IsCleanScript, StandsStill}
+use Rattle.domain_script.specs.ScriptLines.{AreShort}
+use Rattle.ldom_replay.specs.Clean.{IsCleanScript, NeverFails, StandsStill}
 use Rattle.ldom_replay.specs.Outcomes.{Reports}
 use Rattle.ldom_journal.specs.LinesEnd.{IsPast}
 use Rattle.ldom_replay.specs.Reading.{IsFaulty}
 use Rattle.ldom_replay.specs.Replayed.{Replayed}
-use Rattle.ldom_replay.specs.Script.{AllSpell, no_names}
+use Rattle.domain_script.specs.ScriptEvents.{AllSpell, no_names}
 use Rattle.ldom_replay.proofs.OneReading.{next_spells}
 
 pub still : (before now : ℕ) → StandsStill before now → Rose before now → ⊥
 still before now stands rose = omega (arith, rose stands.could_rise, stands.same)
+
+pub never : {A : Type 0} (faults : A → ℕ) (before now : A) → NeverFails faults → Rose (faults before) (faults now) → ⊥
+never faults before now none rose = omega (arith, rose (omega (arith, none before)), none before, none now)
+
+pub all_zero : {A : Type 0} (faults : A → ℕ) → NeverFails faults → (i : Option A) → IfSome i (λ x. faults x ≡ 0)
+all_zero faults none None = tt
+all_zero faults none (Some x) = none x
 
 -- no line of a clean script has a fault
 no_fault : (bytes : List ℕ) (first names after : NamesState) (left rest : Option (List ℕ)) (texts : List (List ℕ)) (text : List ℕ) (events all : List Event) → AllSpell (script_lines bytes) first all after → TakesLines (Some bytes) left texts → TakesLine left rest text
@@ -28,7 +37,7 @@ no_fault : (bytes : List ℕ) (first names after : NamesState) (left rest : Opti
 no_fault bytes first names after None rest texts text events all spelled taken next read nothing = taken
 no_fault bytes first names after (Some left) None texts text events all spelled taken next read nothing = next
 no_fault bytes first names after (Some left) (Some rest) texts text events all spelled taken next read nothing =
-    let lines : script_lines bytes ≡ texts ++ text ∷ script_lines rest = taken ∙ ap (λ (l : List (List ℕ)). texts ++ l) next in
+    let lines : script_lines bytes ≡ texts ++ text ∷ script_lines rest = taken.0 ∙ ap (λ (l : List (List ℕ)). texts ++ l) next.0 in
     let spells = next_spells texts (script_lines rest) text first names after events all read (subst (λ (l : List (List ℕ)). AllSpell l first all after) lines spelled) in
     nothing spells.0 spells.1
 
@@ -50,13 +59,13 @@ some_lines (b ∷ bs) some = either_some (b == 10) b (script_lines bs)
 no_limit : (bytes : List ℕ) (kind : LimitKind) (left : Option (List ℕ)) (texts : List (List ℕ)) (count : ℕ) → length (script_lines bytes) ≤ 20000 → AreShort (script_lines bytes) → TakesLines (Some bytes) left texts → count ≡ length texts → IsPast kind left count → ⊥
 no_limit bytes kind None texts count few short taken counts past = taken
 no_limit bytes Lines (Some left) texts count few short taken counts past =
-    omega (arith, few, ap (λ (l : List (List ℕ)). length l) taken, length-append texts (script_lines left), counts, past.0, some_lines left past.1)
+    omega (arith, few, ap (λ (l : List (List ℕ)). length l) taken.0, length-append texts (script_lines left), counts, past.0, some_lines left past.1)
 no_limit bytes Bytes (Some left) texts count few short taken counts past =
     let long : BeginsWithLonger 3100 left = past.1 in
-    let lines : script_lines bytes ≡ texts ++ long.line ∷ long.others = taken ∙ ap (λ (l : List (List ℕ)). texts ++ l) long.is in
+    let lines : script_lines bytes ≡ texts ++ long.line ∷ long.others = taken.0 ∙ ap (λ (l : List (List ℕ)). texts ++ l) long.is in
     omega (arith, long.long, short_behind texts long.others long.line (subst AreShort lines short))
 
-module _ {D : Type 0} (content : D → Option (List ℕ)) (faults : D → ℕ) (script : Option (List ℕ)) (gives : ℕ → Option (List ℕ)) (ran : Status) (lines : ℕ) (names : NamesState) (journal : List Entry) (image : Option D) (run : Replayed content faults script gives ran lines names journal image)
+module _ {D : Type 0} (content : D → Option (List ℕ)) (faults : D → ℕ) (script behind : Option (List ℕ)) (gives : ℕ → Option (List ℕ)) (ran : Status) (lines : ℕ) (names : NamesState) (journal : List Entry) (image : Option D) (run : Replayed content faults script behind gives ran lines names journal image)
     (why : Status) (old new : Option (List ℕ)) (text bytes : List ℕ) (reports : Reports ran why old new text) (known : script ≡ Some bytes) (clean : IsCleanScript bytes)
     (source : ran ≡ status.SourceFault → ⊥) (host : ran ≡ status.HostFault → ⊥) (sink : why ≡ status.SinkFault → ran ≢ status.SinkFault → ⊥) (store : IfSome image (λ disk. faults disk ≡ 0)) where
   store_works : (i : Option D) (n : ℕ) → IsSome i → IfSome i (λ d. faults d ≡ n) → IfSome i (λ d. faults d ≡ 0) → 0 < n → ⊥
@@ -67,7 +76,7 @@ module _ {D : Type 0} (content : D → Option (List ℕ)) (faults : D → ℕ) (
   counts None told n is = tt
   counts (Some d) told n is = is.1
 
-  by_ran : (now : Status) → ran ≡ now → why ≡ now → Replayed content faults (Some bytes) gives now lines names journal image → (why ≡ status.Done) ⊎ (why ≡ status.NoMemory)
+  by_ran : (now : Status) → ran ≡ now → why ≡ now → Replayed content faults (Some bytes) behind gives now lines names journal image → (why ≡ status.Done) ⊎ (why ≡ status.NoMemory)
   by_ran status.Done ended is replayed = inl is
   by_ran status.NoMemory ended is replayed = inr is
   by_ran status.Usage ended is replayed = absurd replayed.stopped.stop
@@ -77,18 +86,19 @@ module _ {D : Type 0} (content : D → Option (List ℕ)) (faults : D → ℕ) (
   by_ran status.StoreFault ended is replayed =
       absurd (store_works image replayed.final.faults replayed.faults_are.0 (counts image replayed.final.told replayed.final.faults replayed.image_is) store replayed.faults_are.1)
   by_ran (status.Script at fault) ended is replayed =
-      let faulty : IsFaulty replayed.stopped.left names fault = replayed.stopped.stop.1 in
+      let left : Option (List ℕ) = prepend_known replayed.stopped.held behind in
+      let faulty : IsFaulty replayed.stopped.left left names fault = replayed.stopped.stop.2 in
       let read = replayed.stopped.read in
-      absurd (no_fault bytes no_names names clean.names replayed.stopped.left faulty.left read.texts faulty.text replayed.events clean.events clean.spelled read.taken faulty.taken read.spell faulty.nothing)
+      absurd (no_fault bytes no_names names clean.names replayed.stopped.left left read.texts faulty.text replayed.events clean.events clean.spelled read.taken.taken faulty.taken read.spell faulty.nothing)
   by_ran (status.Limit at kind) ended is replayed =
       let read = replayed.stopped.read in
-      absurd (no_limit bytes kind replayed.stopped.left read.texts replayed.stopped.count clean.few clean.short read.taken read.counts replayed.stopped.stop.1)
+      absurd (no_limit bytes kind replayed.stopped.left read.texts replayed.stopped.count clean.few clean.short read.taken.taken read.counts replayed.stopped.stop.1)
 
   not_sink : ran ≡ status.SinkFault → ⊥
-  not_sink is = (subst (λ (w : Status). Replayed content faults script gives w lines names journal image) is run).stopped.stop
+  not_sink is = (subst (λ (w : Status). Replayed content faults script behind gives w lines names journal image) is run).stopped.stop
 
   by_report : Reports ran why old new text → (why ≡ status.Done) ⊎ (why ≡ status.NoMemory)
-  by_report (inl told) = by_ran ran refl told.0 (subst (λ (s : Option (List ℕ)). Replayed content faults s gives ran lines names journal image) known run)
+  by_report (inl told) = by_ran ran refl told.0 (subst (λ (s : Option (List ℕ)). Replayed content faults s behind gives ran lines names journal image) known run)
   by_report (inr failed) = absurd (sink failed.0 not_sink)
 
   pub completes : (why ≡ status.Done) ⊎ (why ≡ status.NoMemory)

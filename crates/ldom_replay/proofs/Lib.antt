@@ -2,12 +2,13 @@ mod Assembly
 mod Completeness
 mod FaultsRise
 mod History
+mod Holding
 mod OneReading
 mod OutsideKept
 mod PlainAgrees
 mod PlainLaw
 mod PlainLines
-mod PlainRows
+pub mod PlainRows
 mod QuietNames
 mod ReadLemmas
 mod RunFacts

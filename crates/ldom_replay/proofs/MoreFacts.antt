@@ -1,5 +1,5 @@
 -- What else holds of the journal of every run.
-use Rattle.std.proofs.Common.{◌≡◌, ℕ, ◌*◌, ◌^◌, ◌<◌, ◌≤◌, List, [], ◌∷◌, ◌++◌, length, map, replicate, refl, sym, ◌∙◌, ap, subst, arith, Option, Some, None, IfSome}
+use Rattle.std.proofs.Common.{◌≡◌, inl, inr, ℕ, ◌*◌, ◌^◌, ◌<◌, ◌≤◌, List, [], ◌∷◌, ◌++◌, length, map, replicate, refl, sym, ◌∙◌, ap, subst, arith, Option, Some, None, IfSome}
 use Rattle.std.specs.List.{flat_map}
 use Rattle.std.proofs.lemmas.List.{append-nil, map-append}
 use Rattle.std.proofs.lemmas.List.Concat.{flat_map-append}
@@ -12,12 +12,13 @@ use Rattle.domain_script.specs.declared.event.Event.{Event}
 use Rattle.domain_script.specs.NamesState.{NamesState}
 use Rattle.ldom_journal.specs.declared.entry.Entry.{Entry}
 use Rattle.ldom_journal.specs.declared.status.Status.{Status}
-use Rattle.ldom_replay.specs.Admitting.{AdmitsRequests, all_happened}
+use Rattle.ldom_journal.specs.declared.status.Status.TheVariants as status
+use Rattle.ldom_replay.specs.Admitting.{AdmitsRequests, AreParts, LacksParts, all_happened}
 use Rattle.ldom_replay.specs.Failures.{failed_count, SucceedOrFail}
 use Rattle.ldom_replay.specs.Happened.{happened}
 use Rattle.ldom_replay.specs.Outside.{KeepsOthers, accepted_requests}
 use Rattle.ldom_replay.specs.Parts.{LineStep}
-use Rattle.ldom_replay.specs.Replayed.{Replayed, start_of}
+use Rattle.ldom_replay.specs.Replayed.{FaultsAre, JournalIs, Replayed, start_of}
 use Rattle.ldom_replay.specs.Script.{FitsScript, FitsCutOff}
 use Rattle.ldom_replay.specs.Worlds.{blocks_of, ring_of}
 use Rattle.ldom_replay.proofs.RunFacts.{journal_is}
@@ -31,49 +32,98 @@ lines_happened : (s t : ListState) (lines : List (Event × List Entry)) → Run 
 lines_happened s t [] run = run
 lines_happened s t (step ∷ lines) run = run_append ListStep s run.0 t (happened 0 step.0 step.1) (all_happened lines) run.1.1 (lines_happened run.0 t lines run.2)
 
-module _ (names : NamesState) (gives : ℕ → Option (List ℕ)) where
-  script_admits : (t : ListState) (events : List Event) (journal : List Entry) → FitsScript (start_of names gives) events journal t → AdmitsRequests names.disks events journal
-  script_admits t events journal fits = record {
-    lines = fits.lines;
-    rest = [];
-    events_are = sym (append-nil (map (λ (l : Event × List Entry). l.0) fits.lines) ∙ fits.events_are);
-    parts = fits.parts;
-    admission = admission (blocks_of names.disks) (ring_of names.disks) 0 (gives (512 * blocks_of names.disks)) t (all_happened fits.lines) (lines_happened (start_of names gives) t fits.lines fits.run);
-  }
+parts_of_run : (s t : ListState) (lines : List (Event × List Entry)) → Run LineStep s lines t → AreParts lines
+parts_of_run s t [] run = tt
+parts_of_run s t (step ∷ lines) run = (run.1.0, parts_of_run run.0 t lines run.2)
 
-  cut_admits : (t : ListState) (events : List Event) (journal : List Entry) → FitsCutOff (start_of names gives) events journal t → AdmitsRequests names.disks events journal
+-- every line gave its part
+none_lacks : (why : Status) → LacksParts why [] []
+none_lacks status.NoMemory = (tt, refl)
+none_lacks status.HostFault = refl
+none_lacks status.Done = (refl, refl)
+none_lacks status.Usage = (refl, refl)
+none_lacks (status.Script at fault) = (refl, refl)
+none_lacks status.SourceFault = (refl, refl)
+none_lacks status.SinkFault = (refl, refl)
+none_lacks status.StoreFault = (refl, refl)
+none_lacks (status.Limit at kind) = (refl, refl)
+
+module _ (names : NamesState) (gives : ℕ → Option (List ℕ)) where
+  script_admits : (why : Status) (t : ListState) (events : List Event) (journal : List Entry) → FitsScript (start_of names gives) events journal t → AdmitsRequests why names.disks events journal
+  script_admits why t events journal fits =
+      let all : fits.lines ++ [] ≡ fits.lines = append-nil fits.lines in
+      record {
+        lines = fits.lines;
+        last = [];
+        rest = [];
+        events_are = sym (append-nil (map (λ (l : Event × List Entry). l.0) (fits.lines ++ [])) ∙ ap (λ (ls : List (Event × List Entry)). map (λ (l : Event × List Entry). l.0) ls) all ∙ fits.events_are);
+        parts = ap (λ (ls : List (Event × List Entry)). flat_map (λ (l : Event × List Entry). l.1) ls) all ∙ fits.parts;
+        are_parts = parts_of_run (start_of names gives) t fits.lines fits.run;
+        lacks = none_lacks why;
+        admission = admission (blocks_of names.disks) (ring_of names.disks) 0 (gives (512 * blocks_of names.disks)) t (all_happened (fits.lines ++ []))
+            (subst (λ (ls : List (Event × List Entry)). Run ListStep (start_of names gives) (all_happened ls) t) (sym all) (lines_happened (start_of names gives) t fits.lines fits.run));
+      }
+
+  cut_admits : (t : ListState) (events : List Event) (journal : List Entry) → FitsCutOff (start_of names gives) events journal t → AdmitsRequests status.NoMemory names.disks events journal
   cut_admits t events journal cut =
       let last : List (Event × List Entry) = (cut.last, cut.so_far.part) ∷ [] in
       let run : Run ListStep (start_of names gives) (all_happened cut.fits.lines ++ all_happened last) t =
       run_append ListStep (start_of names gives) cut.middle t (all_happened cut.fits.lines) (all_happened last) (lines_happened (start_of names gives) cut.middle cut.fits.lines cut.fits.run)
       (subst (λ (l : List DiskEvent). Run ListStep cut.middle l t) (sym (append-nil (happened 0 cut.last cut.so_far.part))) cut.so_far.run) in
       record {
-        lines = cut.fits.lines ++ last;
+        lines = cut.fits.lines;
+        last = last;
         rest = [];
         events_are = cut.events_are ∙ sym (append-nil (map (λ (l : Event × List Entry). l.0) (cut.fits.lines ++ last)) ∙ map-append (λ (l : Event × List Entry). l.0) cut.fits.lines last ∙ ap (λ (l : List Event). l ++ cut.last ∷ []) cut.fits.events_are);
         parts = flat_map-append (λ (l : Event × List Entry). l.1) cut.fits.lines last ∙ ap (λ (l : List Entry). flat_map (λ (x : Event × List Entry). x.1) cut.fits.lines ++ l) (append-nil cut.so_far.part)
             ∙ ap (λ (l : List Entry). l ++ cut.so_far.part) cut.fits.parts ∙ sym cut.so_far.grew;
+        are_parts = parts_of_run (start_of names gives) cut.middle cut.fits.lines cut.fits.run;
+        lacks = (cut.so_far.begun, refl);
         admission = admission (blocks_of names.disks) (ring_of names.disks) 0 (gives (512 * blocks_of names.disks)) t (all_happened (cut.fits.lines ++ last))
             (subst (λ (l : List DiskEvent). Run ListStep (start_of names gives) l t) (sym (flat_map-append (λ (l : Event × List Entry). happened 0 l.0 l.1) cut.fits.lines last)) run);
       }
 
-  none_admits : (events : List Event) → AdmitsRequests names.disks events []
+  none_admits : (events : List Event) → AdmitsRequests status.HostFault names.disks events []
   none_admits events = record {
     lines = [];
+    last = [];
     rest = events;
     events_are = refl;
     parts = refl;
+    are_parts = tt;
+    lacks = refl;
     admission = admission (blocks_of names.disks) (ring_of names.disks) 0 (gives (512 * blocks_of names.disks)) (start_of names gives) [] refl;
   }
 
-module _ {D : Type 0} (content : D → Option (List ℕ)) (faults : D → ℕ) (script : Option (List ℕ)) (gives : ℕ → Option (List ℕ)) (why : Status) (lines : ℕ) (names : NamesState) (journal : List Entry) (image : Option D) (run : Replayed content faults script gives why lines names journal image) where
+  -- by how the run ended
+  all_admits : (why : Status) (t : ListState) (events : List Event) (journal : List Entry) → JournalIs why (start_of names gives) events journal t → AdmitsRequests why names.disks events journal
+  all_admits status.NoMemory t events journal (inl fits) = script_admits status.NoMemory t events journal fits
+  all_admits status.NoMemory t events journal (inr cut) = cut_admits t events journal cut
+  all_admits status.HostFault t events journal is = subst (AdmitsRequests status.HostFault names.disks events) (sym is.0) (none_admits events)
+  all_admits status.Done t events journal is = script_admits status.Done t events journal is
+  all_admits status.Usage t events journal is = script_admits status.Usage t events journal is
+  all_admits (status.Script at fault) t events journal is = script_admits (status.Script at fault) t events journal is
+  all_admits status.SourceFault t events journal is = script_admits status.SourceFault t events journal is
+  all_admits status.SinkFault t events journal is = script_admits status.SinkFault t events journal is
+  all_admits status.StoreFault t events journal is = script_admits status.StoreFault t events journal is
+  all_admits (status.Limit at kind) t events journal is = script_admits (status.Limit at kind) t events journal is
+
+module _ {D : Type 0} (content : D → Option (List ℕ)) (faults : D → ℕ) (script now : Option (List ℕ)) (gives : ℕ → Option (List ℕ)) (why : Status) (lines : ℕ) (names : NamesState) (journal : List Entry) (image : Option D) (run : Replayed content faults script now gives why lines names journal image) where
   -- each completion has status 0 or 5
   pub statuses : SucceedOrFail journal
   statuses = journal_is SucceedOrFail why (start_of names gives) run.final run.events journal (script_statuses (start_of names gives) run.final run.events journal) (cut_off_statuses (start_of names gives) run.final run.events journal) (λ _. tt) run.journal_is
 
   -- each request got what it had to get
-  pub admits : AdmitsRequests names.disks run.events journal
-  admits = journal_is (AdmitsRequests names.disks run.events) why (start_of names gives) run.final run.events journal (script_admits names gives run.final run.events journal) (cut_admits names gives run.final run.events journal) (λ _. none_admits names gives run.events) run.journal_is
+  pub admits : AdmitsRequests why names.disks run.events journal
+  admits = all_admits names gives why run.final run.events journal run.journal_is
+
+  -- at status 0 no call of the image failed
+  pub image_unfailed : why ≡ status.Done → IfSome image (λ disk. faults disk ≡ 0)
+  image_unfailed done = of image run.image_is (subst (λ (w : Status). FaultsAre w image run.final.faults) done run.faults_are).1
+    where
+      of : (d : Option D) → IfSome d (λ disk. (content disk ≡ run.final.told) × (faults disk ≡ run.final.faults)) → run.final.faults ≡ 0 → IfSome d (λ disk. faults disk ≡ 0)
+      of None is none = tt
+      of (Some disk) is none = is.1 ∙ none
 
   -- no more completions failed than the image counts
   pub failures : length journal < 2 ^ 63 → IfSome image (λ disk. failed_count journal ≤ faults disk)

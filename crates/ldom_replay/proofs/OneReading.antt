@@ -7,7 +7,7 @@ use Rattle.domain_script.specs.NamesState.{NamesState, noted}
 use Rattle.domain_script.specs.ScriptLines.{script_lines, TakesLines}
 use Rattle.domain_script.specs.Spells.{Spells}
 use Rattle.domain_script.proofs.OneEvent.{one_spelled}
-use Rattle.ldom_replay.specs.Script.{AllSpell}
+use Rattle.domain_script.specs.ScriptEvents.{AllSpell}
 
 pub one_reading : (texts : List (List ℕ)) (names a b : NamesState) (es fs : List Event) → AllSpell texts names es a → AllSpell texts names fs b → (es ≡ fs) × (a ≡ b)
 one_reading [] names a b [] [] first second = (refl, first ∙ sym second)
@@ -40,4 +40,4 @@ next_spells (x ∷ xs) more text first middle after (e ∷ es) (f ∷ fs) read a
 -- at the end all lines were read
 pub all_read : (bytes : List ℕ) (left : Option (List ℕ)) (texts : List (List ℕ)) → IsAtEnd left → TakesLines (Some bytes) left texts → script_lines bytes ≡ texts
 all_read bytes None texts end taken = absurd taken
-all_read bytes (Some rest) texts end taken = taken ∙ ap (λ (l : List ℕ). texts ++ script_lines l) end ∙ append-nil texts
+all_read bytes (Some rest) texts end taken = taken.0 ∙ ap (λ (l : List ℕ). texts ++ script_lines l) end ∙ append-nil texts

@@ -1,7 +1,7 @@
 -- A disk on a plain list, its journal so far, and what the plain run has kept and written agree.
-use Rattle.std.proofs.Common.{◌≡◌, ℕ, ◌+◌, ◌*◌, ◌<◌, Bool, List, [], ◌∷◌, ◌++◌, length, take, drop, refl, sym, ◌∙◌, ap, subst, arith, append_assoc, Option, Some, None, inl, inr}
+use Rattle.std.proofs.Common.{◌≡◌, ℕ, zero, suc, ◌+◌, ◌*◌, ◌<◌, Bool, List, [], ◌∷◌, ◌++◌, length, take, drop, refl, sym, ◌∙◌, ap, subst, arith, append_assoc, Option, Some, None, inl, inr}
 use Rattle.std.specs.Prelude.{codes, decimal}
-use Rattle.std.specs.List.{count_by}
+use Rattle.std.specs.List.{count_by, range_with_len}
 use Rattle.std.proofs.lemmas.List.{append-nil}
 use Rattle.std.proofs.lemmas.List.Concat.{flat_map-append}
 use Rattle.std.proofs.lemmas.List.Sums.{sum_by-append}
@@ -23,6 +23,7 @@ use Rattle.ldom_journal.specs.declared.status.Mode.TheVariants as mode
 use Rattle.disk_law.specs.Requests.{operation_of, after_request}
 use Rattle.disk_law.specs.ListState.{ListState}
 use Rattle.disk_law.specs.ListStep.{Succeeds, Ends, Completes}
+use Rattle.ldom_replay.specs.Completed.{completed_id, completed_ids}
 use Rattle.ldom_replay.specs.PlainRun.{Plain, name_text, done_line, complete}
 
 pub record Agrees (disk : DiskDecl) (s : ListState) (journal : List Entry) (p : Plain) : Type 0 where
@@ -34,6 +35,7 @@ pub record Agrees (disk : DiskDecl) (s : ListState) (journal : List Entry) (p : 
   pub text_is : report_entries mode.Run (disk ∷ []) journal ≡ p.text
   pub accepted_are : accepted_count journal ≡ s.done + length s.pending
   pub done_are : done_count journal ≡ s.done
+  pub ids_are : completed_ids journal ≡ range_with_len 0 s.done
 
 -- the text grows by an entry's line
 pub text_push : (disk : DiskDecl) (journal : List Entry) (e : Entry) (text line : List ℕ) → report_entries mode.Run (disk ∷ []) journal ≡ text → entry_lines mode.Run (disk ∷ []) e ≡ line → report_entries mode.Run (disk ∷ []) (journal ++ e ∷ []) ≡ text ++ line
@@ -44,6 +46,26 @@ text_push disk journal e text line so_far is =
 
 pub count_push : (p : Entry → Bool) (journal : List Entry) (e : Entry) (n k : ℕ) → count_by p journal ≡ n → count_by p (e ∷ []) ≡ k → count_by p (journal ++ e ∷ []) ≡ n + k
 count_push p journal e n k so_far is = sum_by-append _ journal (e ∷ []) ∙ ap (λ (m : ℕ). m + count_by p (e ∷ [])) so_far ∙ ap (λ (m : ℕ). n + m) is
+
+pub ids_push : (journal : List Entry) (e : Entry) (ids more : List ℕ) → completed_ids journal ≡ ids → completed_id e ≡ more → completed_ids (journal ++ e ∷ []) ≡ ids ++ more
+ids_push journal e ids more so_far is =
+    flat_map-append completed_id journal (e ∷ []) ∙ ap (λ (l : List ℕ). l ++ (completed_id e ++ [])) so_far ∙ ap (λ (l : List ℕ). ids ++ l) (append-nil (completed_id e) ∙ is)
+
+pub ids_stay : (journal : List Entry) (e : Entry) (ids : List ℕ) → completed_ids journal ≡ ids → completed_id e ≡ [] → completed_ids (journal ++ e ∷ []) ≡ ids
+ids_stay journal e ids so_far is = ids_push journal e ids [] so_far is ∙ append-nil ids
+
+-- one number more
+range_more : (a n k : ℕ) → a + n ≡ k → range_with_len a (suc n) ≡ range_with_len a n ++ k ∷ []
+range_more a zero k is =
+    let last : a ≡ k = omega (arith, is) in
+    ap (λ (m : ℕ). m ∷ []) last
+range_more a (suc n) k is = ap (λ (l : List ℕ). a ∷ l) (range_more (a + 1) n k (omega (arith, is)))
+
+next_id_done : (done now id : ℕ) → now ≡ done + 1 → id ≡ done → range_with_len 0 done ++ id ∷ [] ≡ range_with_len 0 now
+next_id_done done now id counts is =
+    let more : suc done ≡ now = omega (arith, counts) in
+    let last : 0 + done ≡ id = omega (arith, is) in
+    sym (range_more 0 done id last) ∙ ap (λ (n : ℕ). range_with_len 0 n) more
 
 -- a line that its parts make, where nothing stands before the line feed
 bare : (a b c d : List ℕ) → b ++ c ≡ d → a ++ b ++ [] ++ c ≡ a ++ d
@@ -119,4 +141,5 @@ done_agrees disk s t journal p id operation status bytes agrees c none =
       accepted_are = count_push is_accepted journal (entry.Done 0 id operation status bytes) (s.done + length s.pending) 0 agrees.accepted_are refl
           ∙ omega (arith, c.counts, ap length c.front);
       done_are = count_push is_done journal (entry.Done 0 id operation status bytes) s.done 1 agrees.done_are refl ∙ sym c.counts;
+      ids_are = ids_push journal (entry.Done 0 id operation status bytes) (range_with_len 0 s.done) (id ∷ []) agrees.ids_are refl ∙ next_id_done s.done t.done id c.counts c.id_is;
     }

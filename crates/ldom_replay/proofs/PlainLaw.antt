@@ -1,7 +1,7 @@
 -- A quiet script that fits its journal without a fault is what the plain run makes of it.
 use Rattle.std.proofs.Common.{◌≡◌, ℕ, ◌+◌, ◌-◌, ◌≤◌, List, [], ◌∷◌, ◌++◌, length, map, refl, sym, ◌∙◌, ap, subst, arith, append_assoc, Some}
 use Rattle.std.specs.Prelude.{codes, decimal}
-use Rattle.std.specs.List.{flat_map}
+use Rattle.std.specs.List.{flat_map, range_with_len}
 use Rattle.std.proofs.lemmas.List.{append-nil}
 use Rattle.runs.specs.Run.{Run}
 use Rattle.domain_script.specs.declared.event.DiskDecl.{DiskDecl}
@@ -14,7 +14,8 @@ use Rattle.ldom_journal.specs.declared.status.Status.TheVariants as status
 use Rattle.disk_law.specs.ListState.{ListState, fresh}
 use Rattle.ldom_replay.specs.Happened.{happened}
 use Rattle.ldom_replay.specs.Parts.{LineStep}
-use Rattle.ldom_replay.specs.PlainRun.{Plain, untouched, plain_line, plain_run, plain_end, plain_text, plain_content}
+use Rattle.ldom_replay.specs.Completed.{completed_ids}
+use Rattle.ldom_replay.specs.PlainRun.{Plain, untouched, plain_line, plain_run, plain_end, plain_text, plain_content, plain_ids}
 use Rattle.ldom_replay.specs.Quiet.{AreQuiet, IsQuiet}
 use Rattle.ldom_replay.specs.Script.{FitsScript}
 use Rattle.ldom_replay.specs.Worlds.{blocks_of, ring_of}
@@ -83,14 +84,15 @@ ends_agree disk t journal p lines agrees =
     (regroup (front lines) (codes " accepted=") (decimal (p.completed + length p.waiting)) (codes " done=") (decimal p.completed) (codes " pending=") (decimal (length p.waiting)))
 
 pub plain_law : (disk : DiskDecl) (content : List ℕ) (events : List Event) (journal : List Entry) (t : ListState) → IsQuiet disk events → FitsScript (fresh (blocks_of (disk ∷ [])) (ring_of (disk ∷ [])) (Some content) 0) events journal t → t.faults ≡ 0
-    → (report mode.Run (disk ∷ []) (length events) journal status.Done ≡ plain_text disk content events) × (t.told ≡ Some (plain_content disk content events))
+    → (report mode.Run (disk ∷ []) (length events) journal status.Done ≡ plain_text disk content events) × (t.told ≡ Some (plain_content disk content events)) × (completed_ids journal ≡ plain_ids disk content events)
 plain_law disk content events journal t quiet fits none =
     let s = fresh disk.blocks disk.ring (Some content) 0 in
-    let start : Agrees disk s [] (untouched content) = record { blocks_are = refl; ring_is = refl; completed_are = refl; waiting_are = refl; content_is = refl; text_is = refl; accepted_are = refl; done_are = refl } in
+    let start : Agrees disk s [] (untouched content) = record { blocks_are = refl; ring_is = refl; completed_are = refl; waiting_are = refl; content_is = refl; text_is = refl; accepted_are = refl; done_are = refl; ids_are = refl } in
     let whole = lines_agree disk s t [] (untouched content) fits.lines (subst AllAsk (sym fits.events_are) (begins_ask disk events quiet)) start fits.run none in
     let with_journal = subst (λ (l : List Entry). Agrees disk t l (plain_run disk (untouched content) (map (λ (l : Event × List Entry). l.0) fits.lines))) fits.parts whole in
     let agrees : Agrees disk t journal (plain_run disk (untouched content) events) = subst (λ (l : List Event). Agrees disk t journal (plain_run disk (untouched content) l)) fits.events_are with_journal in
     let p = plain_run disk (untouched content) events in (
       ap (λ (l : List ℕ). l ++ end_line (length events) journal status.Done) agrees.text_is ∙ ap (λ (l : List ℕ). p.text ++ l) (ends_agree disk t journal p (length events) agrees),
       agrees.content_is,
+      agrees.ids_are ∙ ap (λ (n : ℕ). range_with_len 0 n) agrees.completed_are,
     )

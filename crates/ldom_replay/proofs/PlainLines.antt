@@ -1,7 +1,7 @@
 -- What a line of a quiet script does to a disk, it does to the plain run.
 use Rattle.std.proofs.Common.{◌≡◌, ℕ, ◌+◌, ◌≤◌, ◌<◌, Bool, true, false, List, [], ◌∷◌, ◌++◌, length, refl, sym, ◌∙◌, ap, subst, arith, append_assoc, length-append, Option, Some, None}
 use Rattle.std.specs.Prelude.{nat_le, codes, cond}
-use Rattle.std.specs.List.{count_by}
+use Rattle.std.specs.List.{count_by, range_with_len}
 use Rattle.std.proofs.lemmas.List.{append-nil}
 use Rattle.std.proofs.lemmas.Bool.Decides.{nat_tests}
 use Rattle.runs.specs.Run.{Run}
@@ -23,9 +23,10 @@ use Rattle.disk_law.specs.ListState.{ListState}
 use Rattle.disk_law.specs.ListStep.{ListStep, Completes, Accepted}
 use Rattle.ldom_replay.specs.Happened.{happened}
 use Rattle.ldom_replay.specs.Parts.{Answers, AreDone, LineStep}
+use Rattle.ldom_replay.specs.Completed.{completed_id}
 use Rattle.ldom_replay.specs.PlainRun.{Plain, name_text, refusal_line, asked, complete, complete_all, settled, plain_line}
 use Rattle.ldom_replay.proofs.FaultsRise.{faults_run}
-use Rattle.ldom_replay.proofs.PlainAgrees.{Agrees, text_push, count_push, refused_count, refused_range, full_line, settled_line, done_agrees}
+use Rattle.ldom_replay.proofs.PlainAgrees.{Agrees, text_push, count_push, ids_stay, refused_count, refused_range, full_line, settled_line, done_agrees}
 
 none_below : (n : ℕ) → n ≤ 0 → n ≡ 0
 none_below n le = omega arith
@@ -42,6 +43,7 @@ rested_agrees disk s journal p agrees rests =
       text_is = text_push disk journal entry.Settled p.text (codes "settled\n") agrees.text_is (settled_line disk);
       accepted_are = count_push is_accepted journal entry.Settled (s.done + length s.pending) 0 agrees.accepted_are refl ∙ omega arith;
       done_are = count_push is_done journal entry.Settled s.done 0 agrees.done_are refl ∙ omega arith;
+      ids_are = ids_stay journal entry.Settled (range_with_len 0 s.done) agrees.ids_are refl;
     })
 
 settle_agrees : (disk : DiskDecl) (dones : List Entry) (s t : ListState) (journal : List Entry) (p : Plain) → AreDone dones → Agrees disk s journal p → Run ListStep s (happened 0 line.Settle (dones ++ entry.Settled ∷ [])) t → t.faults ≡ 0 → Agrees disk t (journal ++ (dones ++ entry.Settled ∷ [])) (settled (complete_all disk p p.waiting))
@@ -66,8 +68,8 @@ count_none : (p : Entry → Bool) (e : Entry) → p e ≡ false → count_by p (
 count_none p e is = ap (λ (b : Bool). 0 + cond {A = ℕ} b 1 0) is
 
 -- a request that isn't taken up
-refused_agrees : (disk : DiskDecl) (s : ListState) (journal : List Entry) (p : Plain) (request : Request) (answer : Entry) (text : List ℕ) → Agrees disk s journal p → entry_lines mode.Run (disk ∷ []) answer ≡ text → is_accepted answer ≡ false → is_done answer ≡ false → Agrees disk s (journal ++ answer ∷ []) (asked p request (Some text))
-refused_agrees disk s journal p request answer text agrees shown no_accepted no_done = record {
+refused_agrees : (disk : DiskDecl) (s : ListState) (journal : List Entry) (p : Plain) (request : Request) (answer : Entry) (text : List ℕ) → Agrees disk s journal p → entry_lines mode.Run (disk ∷ []) answer ≡ text → is_accepted answer ≡ false → is_done answer ≡ false → completed_id answer ≡ [] → Agrees disk s (journal ++ answer ∷ []) (asked p request (Some text))
+refused_agrees disk s journal p request answer text agrees shown no_accepted no_done no_id = record {
   blocks_are = agrees.blocks_are;
   ring_is = agrees.ring_is;
   completed_are = agrees.completed_are;
@@ -76,6 +78,7 @@ refused_agrees disk s journal p request answer text agrees shown no_accepted no_
   text_is = text_push disk journal answer p.text text agrees.text_is shown;
   accepted_are = count_push is_accepted journal answer (s.done + length s.pending) 0 agrees.accepted_are (count_none is_accepted answer no_accepted) ∙ omega arith;
   done_are = count_push is_done journal answer s.done 0 agrees.done_are (count_none is_done answer no_done) ∙ omega arith;
+  ids_are = ids_stay journal answer (range_with_len 0 s.done) agrees.ids_are no_id;
 }
 
 -- a request that waits
@@ -89,6 +92,7 @@ waits_agrees disk s t journal p id request agrees is = subst (λ (x : ListState)
   text_is = text_push disk journal (entry.Accepted 0 id request) p.text [] agrees.text_is refl ∙ append-nil p.text;
   accepted_are = count_push is_accepted journal (entry.Accepted 0 id request) (s.done + length s.pending) 1 agrees.accepted_are refl ∙ omega (arith, length-append s.pending (request ∷ []));
   done_are = count_push is_done journal (entry.Accepted 0 id request) s.done 0 agrees.done_are refl ∙ omega arith;
+  ids_are = ids_stay journal (entry.Accepted 0 id request) (range_with_len 0 s.done) agrees.ids_are refl;
 })
 
 -- the plain run gives a request the line that its defect and the ring's room give
@@ -119,19 +123,19 @@ issue_agrees disk s t journal p request (entry.Full who) answers agrees run =
     (let first = subst (λ (w : Who). Run ListStep s (happened 0 (line.Issue 0 request) (entry.Full w ∷ [])) t) answers run in
     subst (λ (x : ListState). Agrees disk x (journal ++ entry.Full (Lane (Disk 0)) ∷ []) (plain_line disk p (line.Issue 0 request))) (sym first.1.2 ∙ first.2)
     (to_line disk s journal p request None true s (journal ++ entry.Full (Lane (Disk 0)) ∷ []) agrees first.1.0 (no_room s.ring (length s.pending) first.1.1)
-    (refused_agrees disk s journal p request (entry.Full (Lane (Disk 0))) (codes "full " ++ name_text disk ++ codes "\n") agrees (full_line disk) refl refl)))
+    (refused_agrees disk s journal p request (entry.Full (Lane (Disk 0))) (codes "full " ++ name_text disk ++ codes "\n") agrees (full_line disk) refl refl refl)))
 issue_agrees disk s t journal p request (entry.Refused who Count) answers agrees run =
     subst (λ (w : Who). Agrees disk t (journal ++ entry.Refused w Count ∷ []) (plain_line disk p (line.Issue 0 request))) (sym answers)
     (let first = subst (λ (w : Who). Run ListStep s (happened 0 (line.Issue 0 request) (entry.Refused w Count ∷ [])) t) answers run in
     subst (λ (x : ListState). Agrees disk x (journal ++ entry.Refused (Lane (Disk 0)) Count ∷ []) (plain_line disk p (line.Issue 0 request))) (sym first.1.1 ∙ first.2)
     (to_line disk s journal p request (Some BadCount) (nat_le s.ring (length s.pending)) s (journal ++ entry.Refused (Lane (Disk 0)) Count ∷ []) agrees first.1.0 refl
-    (refused_agrees disk s journal p request (entry.Refused (Lane (Disk 0)) Count) (codes "refused " ++ name_text disk ++ codes " count\n") agrees (refused_count disk) refl refl)))
+    (refused_agrees disk s journal p request (entry.Refused (Lane (Disk 0)) Count) (codes "refused " ++ name_text disk ++ codes " count\n") agrees (refused_count disk) refl refl refl)))
 issue_agrees disk s t journal p request (entry.Refused who Range) answers agrees run =
     subst (λ (w : Who). Agrees disk t (journal ++ entry.Refused w Range ∷ []) (plain_line disk p (line.Issue 0 request))) (sym answers)
     (let first = subst (λ (w : Who). Run ListStep s (happened 0 (line.Issue 0 request) (entry.Refused w Range ∷ [])) t) answers run in
     subst (λ (x : ListState). Agrees disk x (journal ++ entry.Refused (Lane (Disk 0)) Range ∷ []) (plain_line disk p (line.Issue 0 request))) (sym first.1.1 ∙ first.2)
     (to_line disk s journal p request (Some BadRange) (nat_le s.ring (length s.pending)) s (journal ++ entry.Refused (Lane (Disk 0)) Range ∷ []) agrees first.1.0 refl
-    (refused_agrees disk s journal p request (entry.Refused (Lane (Disk 0)) Range) (codes "refused " ++ name_text disk ++ codes " range\n") agrees (refused_range disk) refl refl)))
+    (refused_agrees disk s journal p request (entry.Refused (Lane (Disk 0)) Range) (codes "refused " ++ name_text disk ++ codes " range\n") agrees (refused_range disk) refl refl refl)))
 issue_agrees disk s t journal p request (entry.Done number id operation status bytes) answers agrees run = absurd answers
 issue_agrees disk s t journal p request entry.Settled answers agrees run = absurd answers
 

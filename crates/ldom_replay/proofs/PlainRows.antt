@@ -8,15 +8,15 @@ use Rattle.vdisk_msg.specs.declared.request.Request.TheVariants.{Read, Write}
 use Rattle.domain_script.specs.declared.event.DiskDecl.{DiskDecl}
 use Rattle.domain_script.specs.declared.event.Event.{Event}
 use Rattle.domain_script.specs.declared.event.Event.TheVariants.{Disk, Issue, Settle}
+use Rattle.vio_bytes.specs.Place.{put_at}
 use Rattle.disk_law.specs.Requests.{written}
 use Rattle.disk_law.proofs.Repeated.{length-repeated}
-use Rattle.vio_io.specs.Stores.{overwritten}
 use Rattle.ldom_journal.specs.BlockWord.{blocks_text}
 use Rattle.ldom_replay.specs.PlainRun.{plain_text}
 use Rattle.ldom_replay.specs.Quiet.{IsQuiet}
 
 -- `disk d0 64 RING QUEUE`
-abbrev first_disk : ℕ → ℕ → DiskDecl
+abbrev pub first_disk : ℕ → ℕ → DiskDecl
 first_disk ring queue = record { name = record { len = 2; bytes = 100 ∷ 48 ∷ 0 ∷ 0 ∷ 0 ∷ 0 ∷ 0 ∷ 0 ∷ [] }; blocks = 64; ring = ring; queue = queue }
 
 text_0 : decimal 0 ≡ codes "0"
@@ -52,18 +52,17 @@ refusals_quiet : (fill : Fill) → IsQuiet (first_disk 8 16) (bad_writes fill)
 refusals_quiet fill = (refl, (refl, (refl, (refl, tt))))
 
 -- a write of two blocks behind a place, and then what is read from the block before them on
-read_over : (content bytes : List ℕ) → 2560 ≤ length content → length bytes ≡ 1024 → take 1536 (drop 1024 (overwritten content 1536 bytes)) ≡ take 512 (drop 1024 content) ++ bytes
+read_over : (content bytes : List ℕ) → 2560 ≤ length content → length bytes ≡ 1024 → take 1536 (drop 1024 (put_at 1536 bytes content)) ≡ take 512 (drop 1024 content) ++ bytes
 read_over content bytes within long =
     let behind = drop (1536 + length bytes) content in
     let front : length (take 1536 content) ≡ 1536 = length-take-le 1536 content (omega arith) in
     let begin : length (drop 1024 (take 1536 content)) ≡ 512 = length-drop 1024 (take 1536 content) ∙ omega (arith, front) in
-    ap (λ (l : List ℕ). take 1536 (drop 1024 l)) (append_assoc (take 1536 content) bytes behind)
-    ∙ ap (λ (l : List ℕ). take 1536 l) (drop-append-le 1024 (take 1536 content) (bytes ++ behind) (omega (arith, front)) ∙ sym (append_assoc (drop 1024 (take 1536 content)) bytes behind))
+    ap (λ (l : List ℕ). take 1536 l) (drop-append-le 1024 (take 1536 content) (bytes ++ behind) (omega (arith, front)) ∙ sym (append_assoc (drop 1024 (take 1536 content)) bytes behind))
     ∙ take_at (drop 1024 (take 1536 content) ++ bytes) behind 1536 (length-append (drop 1024 (take 1536 content)) bytes ∙ omega (arith, begin, long))
     ∙ ap (λ (l : List ℕ). l ++ bytes) (drop-take 1024 512 content)
 
 -- a read gives what the write before it put there
-abbrev write_and_read : Fill → List Event
+abbrev pub write_and_read : Fill → List Event
 write_and_read fill = Disk (first_disk 8 16) ∷ Issue 0 (Write 3 2 fill) ∷ Issue 0 (Read 2 3) ∷ Settle ∷ []
 
 one_behind : (a b c d : List ℕ) → a ++ b ++ c ++ d ≡ a ++ (b ++ (c ++ d))
@@ -82,9 +81,9 @@ shown_text given =
     (one_behind (blocks_text given) (codes "\n") (codes "settled\n") (codes "end lines=4 accepted=2 done=2 pending=0 resets=0 frames=0 status=0\n"))
     )
 
-shown_first : (content : List ℕ) (fill : Fill) → plain_text (first_disk 8 16) content (write_and_read fill) ≡ shown (take 1536 (drop 1024 (overwritten content 1536 (written fill 2))))
-shown_first content fill = simp (text_0, text_1, text_2, text_4) (simp append_assoc)
+shown_first : (content : List ℕ) (fill : Fill) → plain_text (first_disk 8 16) content (write_and_read fill) ≡ shown (take 1536 (drop 1024 (put_at 1536 (written fill 2) content)))
+shown_first content fill = simp (text_0, text_1, text_2, text_4)
 
-a_read_sees_the_write : (content : List ℕ) (fill : Fill) → 2560 ≤ length content → plain_text (first_disk 8 16) content (write_and_read fill)
+pub a_read_sees_the_write : (content : List ℕ) (fill : Fill) → 2560 ≤ length content → plain_text (first_disk 8 16) content (write_and_read fill)
     ≡ codes "done d0 0 write 0\ndone d0 1 read 0" ++ (blocks_text (take 512 (drop 1024 content) ++ written fill 2) ++ codes "\nsettled\nend lines=4 accepted=2 done=2 pending=0 resets=0 frames=0 status=0\n")
 a_read_sees_the_write content fill within = shown_first content fill ∙ ap shown (read_over content (written fill 2) within (length-repeated fill 0 1024)) ∙ shown_text (take 512 (drop 1024 content) ++ written fill 2)

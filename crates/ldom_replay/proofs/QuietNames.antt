@@ -5,7 +5,7 @@ use Rattle.domain_script.specs.declared.event.Event.{Event}
 use Rattle.domain_script.specs.declared.event.Event.TheVariants as line
 use Rattle.domain_script.specs.NamesState.{NamesState, noted}
 use Rattle.ldom_replay.specs.Quiet.{AreQuiet, IsQuiet}
-use Rattle.ldom_replay.specs.Script.{AllSpell, no_names}
+use Rattle.domain_script.specs.ScriptEvents.{AllSpell, no_names}
 
 same_disks : (texts : List (List ℕ)) (events : List Event) (names after : NamesState) → AreQuiet events → AllSpell texts names events after → after.disks ≡ names.disks
 same_disks [] [] names after quiet spell = ap (λ (n : NamesState). n.disks) spell

@@ -16,11 +16,12 @@ use Rattle.disk_law.specs.ListState.{ListState}
 use Rattle.disk_law.specs.ListStep.{ListStep}
 use Rattle.disk_law.specs.Issued.{CompletesOnceInOrder, completed}
 use Rattle.ldom_replay.specs.Happened.{history}
-use Rattle.ldom_replay.specs.Opening.{AreOpening}
+use Rattle.ldom_replay.specs.Attached.{AreOpening}
 use Rattle.ldom_replay.specs.Parts.{BeginsPart, LineStep}
 use Rattle.ldom_replay.specs.Replayed.{JournalIs, Replayed, start_of}
 use Rattle.ldom_replay.specs.Worlds.{blocks_of, ring_of}
-use Rattle.ldom_replay.specs.Script.{AllSpell, FitsScript, FitsCutOff, no_names}
+use Rattle.domain_script.specs.ScriptEvents.{AllSpell, no_names}
+use Rattle.ldom_replay.specs.Script.{FitsScript, FitsCutOff}
 use Rattle.ldom_replay.proofs.History.{begun_none, history_none-append, history_run, lines_none, none_once, once_of_run, so_far_run}
 use Rattle.ldom_replay.proofs.Worded.{IsAdmitted, cut_worded, lines_admitted, lines_worded}
 
@@ -98,7 +99,7 @@ cut_off_worded disks s t events journal some admitted cut =
     (All-append (HasWords disks) cut.front cut.so_far.part (script_worded disks s cut.middle cut.before cut.front some admitted cut.fits)
     (cut_worded disks cut.middle t cut.last cut.so_far.part some cut.so_far.begun cut.so_far.run (lines_admitted s cut.middle cut.fits.lines cut.fits.run admitted)))
 
-module _ {D : Type 0} (content : D → Option (List ℕ)) (faults : D → ℕ) (script : Option (List ℕ)) (gives : ℕ → Option (List ℕ)) (why : Status) (lines : ℕ) (names : NamesState) (journal : List Entry) (image : Option D) (run : Replayed content faults script gives why lines names journal image) where
+module _ {D : Type 0} (content : D → Option (List ℕ)) (faults : D → ℕ) (script now : Option (List ℕ)) (gives : ℕ → Option (List ℕ)) (why : Status) (lines : ℕ) (names : NamesState) (journal : List Entry) (image : Option D) (run : Replayed content faults script now gives why lines names journal image) where
   -- each entry has its words
   pub worded : All (HasWords names.disks) journal
   worded = by_disks names.disks refl

@@ -1,5 +1,6 @@
 -- A script's lines run one after another.
 use Rattle.std.proofs.Common.{◌≡◌, inl, inr, ℕ, ◌+◌, ◌≤◌, List, [], ◌∷◌, ◌++◌, length, refl, sym, ◌∙◌, ap, subst, append_assoc, length-append, arith, Option, Some, None}
+use Rattle.std.specs.Io.KnownBytes.{Keeps, prepend_known}
 use Rattle.std.specs.List.{flat_map}
 use Rattle.std.proofs.lemmas.List.{append-nil, map-append}
 use Rattle.std.proofs.lemmas.List.Concat.{flat_map-append}
@@ -16,9 +17,10 @@ use Rattle.ldom_replay.specs.Going.{Grew, RunsLines}
 use Rattle.ldom_replay.specs.Parts.{Fits, FitsSoFar, IsForDisk, LineStep}
 use Rattle.ldom_journal.specs.LinesEnd.{counted_lines}
 use Rattle.ldom_replay.specs.Reading.{ReadsEvent, StopsAt}
-use Rattle.domain_script.specs.ScriptLines.{TakesLines}
-use Rattle.ldom_replay.specs.Script.{AllSpell, FitsScript}
-use Rattle.domain_script.proofs.ScriptLemmas.{takes_more}
+use Rattle.domain_script.specs.ScriptLines.{AreShort, TakesLines}
+use Rattle.domain_script.specs.ScriptEvents.{AllSpell}
+use Rattle.ldom_replay.specs.Script.{FitsScript}
+use Rattle.domain_script.proofs.ScriptLemmas.{short-append, takes-append, takes_none}
 use Rattle.ldom_replay.proofs.ReadLemmas.{spell_more}
 
 -- no line yet
@@ -41,22 +43,36 @@ pub record RunsSoFar (start : Option (List ℕ)) (before : NamesState) (old : Li
   pub events : List Event
   pub texts : List (List ℕ)
   pub taken : TakesLines start rest texts
+  pub short : AreShort texts
+  pub few : number + length texts ≤ 20000
   pub spell : AllSpell texts before events names
   pub part : List Entry
   pub grew : new ≡ old ++ part
   pub fits : FitsScript s events part t
   pub counts : count ≡ number + length texts
 
-pub runs_none : (start : Option (List ℕ)) (names : NamesState) (old : List Entry) (s : ListState) (number : ℕ) → RunsSoFar start names old s number start names old s number
-runs_none None names old s number = record { events = []; texts = []; taken = tt; spell = refl; part = []; grew = sym (append-nil old); fits = fits_none s; counts = omega arith }
-runs_none (Some bytes) names old s number = record { events = []; texts = []; taken = refl; spell = refl; part = []; grew = sym (append-nil old); fits = fits_none s; counts = omega arith }
+pub runs_none : (start : Option (List ℕ)) (names : NamesState) (old : List Entry) (s : ListState) (number : ℕ) → number ≤ 20000 → RunsSoFar start names old s number start names old s number
+runs_none start names old s number few = record {
+  events = [];
+  texts = [];
+  taken = takes_none start;
+  short = tt;
+  few = omega (arith, few);
+  spell = refl;
+  part = [];
+  grew = sym (append-nil old);
+  fits = fits_none s;
+  counts = omega arith;
+}
 
 pub runs_more : (start rest left : Option (List ℕ)) (before names after : NamesState) (old mid new : List Entry) (s m t : ListState) (number count next : ℕ) (event : Event)
-    → RunsSoFar start before old s number rest names mid m count → ReadsEvent rest left names event after → next ≡ count + 1 → Fits m event mid new t → RunsSoFar start before old s number left after new t next
-runs_more start rest left before names after old mid new s m t number count next event so_far reads is fits = record {
+    → RunsSoFar start before old s number rest names mid m count → ReadsEvent rest left names event after → next ≡ count + 1 → next ≤ 20000 → Fits m event mid new t → RunsSoFar start before old s number left after new t next
+runs_more start rest left before names after old mid new s m t number count next event so_far reads is few fits = record {
   events = so_far.events ++ event ∷ [];
   texts = so_far.texts ++ reads.text ∷ [];
-  taken = takes_more start rest left so_far.texts reads.text so_far.taken reads.taken;
+  taken = takes-append start rest left so_far.texts (reads.text ∷ []) so_far.taken reads.taken;
+  short = short-append so_far.texts (reads.text ∷ []) so_far.short (reads.short, tt);
+  few = omega (arith, few, is, so_far.counts, length-append so_far.texts (reads.text ∷ []));
   spell = spell_more so_far.texts reads.text before names after so_far.events event so_far.spell reads.spells reads.noted_is;
   part = so_far.part ++ fits.part;
   grew = fits.grew ∙ ap (λ (l : List Entry). l ++ fits.part) so_far.grew ∙ append_assoc old so_far.part fits.part;
@@ -76,29 +92,38 @@ grew_whole status.StoreFault s events part t fits = fits
 grew_whole (status.Limit line kind) s events part t fits = fits
 
 -- no further line is taken up
-pub runs_stop : (start rest : Option (List ℕ)) (before names after : NamesState) (old new : List Entry) (s t : ListState) (number count lines : ℕ) (why : Status)
-    → RunsSoFar start before old s number rest names new t count → StopsAt why rest names count → lines ≡ counted_lines why count → after ≡ names → RunsLines start before old s number why after new t lines
-runs_stop start rest before names after old new s t number count lines why so_far stop is same = subst (λ (n : NamesState). RunsLines start before old s number why n new t lines) (sym same) (record {
+pub runs_stop : (start rest now : Option (List ℕ)) (held : List ℕ) (before names after : NamesState) (old new : List Entry) (s t : ListState) (number count lines : ℕ) (why : Status)
+    → RunsSoFar start before old s number rest names new t count → StopsAt why rest held now names count → lines ≡ counted_lines why count → after ≡ names → RunsLines start now before old s number why after new t lines
+runs_stop start rest now held before names after old new s t number count lines why so_far stop is same = subst (λ (n : NamesState). RunsLines start now before old s number why n new t lines) (sym same) (record {
   events = so_far.events;
   texts = so_far.texts;
   left = rest;
   taken = so_far.taken;
+  short = so_far.short;
+  few = so_far.few;
   spell = so_far.spell;
   part = so_far.part;
   grew = so_far.grew;
   fits = grew_whole why s so_far.events so_far.part t so_far.fits;
-  stop = subst (λ (n : ℕ). StopsAt why rest names n) so_far.counts stop;
+  held = held;
+  stop = subst (λ (n : ℕ). StopsAt why rest held now names n) so_far.counts stop;
   lines_are = is ∙ ap (λ (n : ℕ). counted_lines why n) so_far.counts;
 })
 
+pub keeps_same : (o : Option (List ℕ)) → Keeps o o
+keeps_same None = tt
+keeps_same (Some bytes) = refl
+
 -- memory was wanted in the midst of a line
-pub runs_cut : (start rest left : Option (List ℕ)) (before names after : NamesState) (old mid new : List Entry) (s m t : ListState) (number count next : ℕ) (event : Event)
-    → RunsSoFar start before old s number rest names mid m count → ReadsEvent rest left names event after → next ≡ count + 1 → FitsSoFar m event mid new t → RunsLines start before old s number status.NoMemory after new t next
-runs_cut start rest left before names after old mid new s m t number count next event so_far reads is fits = record {
+pub runs_cut : (start rest now : Option (List ℕ)) (held : List ℕ) (before names after : NamesState) (old mid new : List Entry) (s m t : ListState) (number count next : ℕ) (event : Event)
+    → RunsSoFar start before old s number rest names mid m count → ReadsEvent rest (prepend_known held now) names event after → next ≡ count + 1 → next ≤ 20000 → FitsSoFar m event mid new t → RunsLines start now before old s number status.NoMemory after new t next
+runs_cut start rest now held before names after old mid new s m t number count next event so_far reads is few fits = record {
   events = so_far.events ++ event ∷ [];
   texts = so_far.texts ++ reads.text ∷ [];
-  left = left;
-  taken = takes_more start rest left so_far.texts reads.text so_far.taken reads.taken;
+  left = prepend_known held now;
+  taken = takes-append start rest (prepend_known held now) so_far.texts (reads.text ∷ []) so_far.taken reads.taken;
+  short = short-append so_far.texts (reads.text ∷ []) so_far.short (reads.short, tt);
+  few = omega (arith, few, is, so_far.counts, length-append so_far.texts (reads.text ∷ []));
   spell = spell_more so_far.texts reads.text before names after so_far.events event so_far.spell reads.spells reads.noted_is;
   part = so_far.part ++ fits.part;
   grew = fits.grew ∙ ap (λ (l : List Entry). l ++ fits.part) so_far.grew ∙ append_assoc old so_far.part fits.part;
@@ -111,7 +136,8 @@ runs_cut start rest left before names after old mid new s m t number count next 
     fits = so_far.fits;
     so_far = record { part = fits.part; grew = refl; begun = fits.begun; run = fits.run };
   });
-  stop = tt;
+  held = held;
+  stop = keeps_same (prepend_known held now);
   lines_are = omega (arith, is, so_far.counts, length-append so_far.texts (reads.text ∷ []));
 }
 

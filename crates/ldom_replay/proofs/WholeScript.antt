@@ -16,7 +16,8 @@ use Rattle.ldom_replay.specs.Outcomes.{Reports, RunsScript}
 use Rattle.ldom_replay.specs.PlainRun.{plain_content}
 use Rattle.ldom_replay.specs.Quiet.{IsQuietScript}
 use Rattle.ldom_replay.specs.Replayed.{Replayed, start_of}
-use Rattle.ldom_replay.specs.Script.{AllSpell, FitsScript, no_names}
+use Rattle.domain_script.specs.ScriptEvents.{AllSpell, no_names}
+use Rattle.ldom_replay.specs.Script.{FitsScript}
 use Rattle.ldom_replay.specs.Whole.{RunsWhole, RunsPlainly}
 use Rattle.ldom_replay.specs.Worlds.{blocks_of, ring_of}
 use Rattle.ldom_replay.proofs.OneReading.{all_read, as_many, one_reading}
@@ -27,15 +28,15 @@ ran_done : (ran why : Status) (old new : Option (List ℕ)) (text : List ℕ) �
 ran_done ran why old new text done (inl told) = (sym told.0 ∙ done, told.1)
 ran_done ran why old new text done (inr failed) = absurd (cc (done, failed.0))
 
-module _ {D : Type 0} (content : D → Option (List ℕ)) (faults : D → ℕ) (script : Option (List ℕ)) (gives : ℕ → Option (List ℕ)) (why : Status) (journal : List Entry) (image : Option D) (old new : Option (List ℕ)) (runs : RunsScript content faults script gives why journal image old new) (bytes : List ℕ) (events : List Event) (known : script ≡ Some bytes) (done : why ≡ status.Done) where
+module _ {D : Type 0} (content : D → Option (List ℕ)) (faults : D → ℕ) (script now : Option (List ℕ)) (gives : ℕ → Option (List ℕ)) (why : Status) (journal : List Entry) (image : Option D) (old new : Option (List ℕ)) (runs : RunsScript content faults script now gives why journal image old new) (bytes : List ℕ) (events : List Event) (known : script ≡ Some bytes) (done : why ≡ status.Done) where
   pub runs_whole : (names : NamesState) → AllSpell (script_lines bytes) no_names events names → RunsWhole content faults gives names events journal image old new
   runs_whole names spelled =
       let told = ran_done runs.ran why old new (report mode.Run runs.names.disks runs.lines journal runs.ran) done runs.reports in
-      let replayed : Replayed content faults (Some bytes) gives status.Done runs.lines runs.names journal image =
-      subst (λ (s : Option (List ℕ)). Replayed content faults s gives status.Done runs.lines runs.names journal image) known
-      (subst (λ (w : Status). Replayed content faults script gives w runs.lines runs.names journal image) told.0 runs.replayed) in
+      let replayed : Replayed content faults (Some bytes) now gives status.Done runs.lines runs.names journal image =
+      subst (λ (s : Option (List ℕ)). Replayed content faults s now gives status.Done runs.lines runs.names journal image) known
+      (subst (λ (w : Status). Replayed content faults script now gives w runs.lines runs.names journal image) told.0 runs.replayed) in
       let read = replayed.stopped.read in
-      let all : script_lines bytes ≡ read.texts = all_read bytes replayed.stopped.left read.texts replayed.stopped.stop read.taken in
+      let all : script_lines bytes ≡ read.texts = all_read bytes replayed.stopped.left read.texts replayed.stopped.stop.0 read.taken.taken in
       let one : (events ≡ replayed.events) × (names ≡ runs.names) =
       one_reading read.texts no_names names runs.names events replayed.events (subst (λ (l : List (List ℕ)). AllSpell l no_names events names) all spelled) read.spell in
       let lines : runs.lines ≡ length events = replayed.stopped.lines_are ∙ read.counts ∙ sym (as_many read.texts no_names runs.names replayed.events read.spell) ∙ ap (λ (l : List Event). length l) (sym one.0) in
@@ -57,7 +58,7 @@ module _ {D : Type 0} (content : D → Option (List ℕ)) (faults : D → ℕ) (
       attached (Some d) t is some none = (is.0, is.1 ∙ none)
 
   -- a quiet script, over an image that tells its bytes
-  pub runs_plainly : (disk : DiskDecl) (given : List ℕ) → IsQuietScript bytes disk events → gives (512 * disk.blocks) ≡ Some given → RunsPlainly content disk given events image old new
+  pub runs_plainly : (disk : DiskDecl) (given : List ℕ) → IsQuietScript bytes disk events → gives (512 * disk.blocks) ≡ Some given → RunsPlainly content disk given events journal image old new
   runs_plainly disk given quiet gave =
       let whole = runs_whole quiet.names quiet.spelled in
       let disks : quiet.names.disks ≡ disk ∷ [] = quiet_disks disk (script_lines bytes) events quiet.names quiet.quiet quiet.spelled in
@@ -69,6 +70,7 @@ module _ {D : Type 0} (content : D → Option (List ℕ)) (faults : D → ℕ) (
       record {
         written = subst (λ (l : List ℕ). Appends old new l) (ap (λ (d : List DiskDecl). report mode.Run d (length events) journal status.Done) disks ∙ law.0) whole.written;
         left = told_by image whole.final whole.image_is law.1;
+        ids = law.2;
       }
     where
       told_by : (i : Option D) (t : ListState) → IsSomeAnd i (λ d. (content d ≡ t.told) × (faults d ≡ 0)) → t.told ≡ Some (plain_content disk given events) → IsSomeAnd i (λ d. content d ≡ Some (plain_content disk given events))

@@ -1,15 +1,10 @@
 -- Scripts that are run to their end where memory suffices and nothing outside fails.
-use Rattle.std.specs.Prelude.{◌≡◌, ℕ, ◌<◌, ◌≤◌, List, [], ◌∷◌, length}
+use Rattle.std.specs.Prelude.{◌≡◌, ℕ, ◌<◌, ◌≤◌, List, length}
 use Rattle.vio_io.specs.Causes.{last_count}
 use Rattle.domain_script.specs.declared.event.Event.{Event}
 use Rattle.domain_script.specs.NamesState.{NamesState}
-use Rattle.domain_script.specs.ScriptLines.{script_lines}
-use Rattle.ldom_replay.specs.Script.{AllSpell, no_names}
-
--- no line is longer than a line may be
-abbrev pub AreShort : List (List ℕ) → Type 0
-AreShort [] = Unit {0}
-AreShort (line ∷ lines) = (length line ≤ 3100) × AreShort lines
+use Rattle.domain_script.specs.ScriptLines.{AreShort, script_lines}
+use Rattle.domain_script.specs.ScriptEvents.{AllSpell, no_names}
 
 -- each line of these bytes spells its event, and none is past a limit
 pub record IsCleanScript (bytes : List ℕ) : Type 0 where
@@ -23,3 +18,7 @@ pub record IsCleanScript (bytes : List ℕ) : Type 0 where
 pub record StandsStill (before now : ℕ) : Type 0 where
   pub could_rise : before < last_count
   pub same : now ≡ before
+
+-- the count of a type whose values never fail
+abbrev pub NeverFails : {A : Type 0} → (A → ℕ) → Type 0
+NeverFails {A} faults = (x : A) → faults x ≡ 0

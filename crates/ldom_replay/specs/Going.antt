@@ -1,5 +1,5 @@
 -- The lines of a script behind its declarations.
-use Rattle.std.specs.Prelude.{◌≡◌, ℕ, ◌+◌, ◌⊎◌, List, ◌++◌, length, Option, ⊤}
+use Rattle.std.specs.Prelude.{◌≡◌, ◌≢◌, ℕ, ◌+◌, ◌≤◌, ◌⊎◌, List, ◌++◌, length, Option, ⊤}
 use Rattle.domain_script.specs.declared.event.Event.{Event}
 use Rattle.domain_script.specs.NamesState.{NamesState}
 use Rattle.ldom_journal.specs.declared.entry.Entry.{Entry}
@@ -7,10 +7,12 @@ use Rattle.ldom_journal.specs.declared.status.Status.{Status}
 use Rattle.ldom_journal.specs.declared.status.Status.TheVariants as status
 use Rattle.disk_law.specs.ListState.{ListState}
 use Rattle.ldom_journal.specs.LinesEnd.{counted_lines}
+use Rattle.ldom_replay.specs.Attached.{AreOpening}
 use Rattle.ldom_replay.specs.Reading.{StopsAt}
 use Rattle.ldom_replay.specs.Replayed.{Stopped}
-use Rattle.domain_script.specs.ScriptLines.{TakesLines}
-use Rattle.ldom_replay.specs.Script.{AllSpell, FitsScript, FitsCutOff}
+use Rattle.domain_script.specs.ScriptLines.{AreShort, TakesLines}
+use Rattle.domain_script.specs.ScriptEvents.{AllSpell}
+use Rattle.ldom_replay.specs.Script.{FitsScript, FitsCutOff}
 
 -- what the journal got by how it ended: after want of memory the last line's part may be cut off
 abbrev pub Grew : Status → ListState → List Event → List Entry → ListState → Type 0
@@ -18,17 +20,20 @@ Grew status.NoMemory s events part t = FitsScript s events part t ⊎ FitsCutOff
 Grew other s events part t = FitsScript s events part t
 
 -- From the bytes that are still to come these lines were read and run, and then no further one was taken up.
-pub record RunsLines (start : Option (List ℕ)) (before : NamesState) (old : List Entry) (s : ListState) (number : ℕ)
+pub record RunsLines (start now : Option (List ℕ)) (before : NamesState) (old : List Entry) (s : ListState) (number : ℕ)
     (why : Status) (after : NamesState) (new : List Entry) (t : ListState) (lines : ℕ) : Type 0 where
   pub events : List Event
   pub texts : List (List ℕ)
   pub left : Option (List ℕ)
   pub taken : TakesLines start left texts
+  pub short : AreShort texts
+  pub few : number + length texts ≤ 20000
   pub spell : AllSpell texts before events after
   pub part : List Entry
   pub grew : new ≡ old ++ part
   pub fits : Grew why s events part t
-  pub stop : StopsAt why left after (number + length texts)
+  pub held : List ℕ
+  pub stop : StopsAt why left held now after (number + length texts)
   pub lines_are : lines ≡ counted_lines why (number + length texts)
 
 -- a status with which reading a script ends
@@ -44,8 +49,10 @@ IsReaders status.HostFault = ⊥
 IsReaders status.StoreFault = ⊥
 
 -- From its first line on the script was read and run, and then no further line was taken up.
-pub record RunsAll (start : Option (List ℕ)) (before : NamesState) (s : ListState) (why : Status) (after : NamesState) (journal : List Entry) (t : ListState) (lines : ℕ) : Type 0 where
+pub record RunsAll (start now : Option (List ℕ)) (before : NamesState) (s : ListState) (why : Status) (after : NamesState) (journal : List Entry) (t : ListState) (lines : ℕ) : Type 0 where
   pub events : List Event
-  pub stopped : Stopped start why events after lines
+  pub stopped : Stopped start now why events after lines
   pub fits : Grew why s events journal t
   pub disks : after.disks ≡ before.disks
+  -- but at the input's end, a line came at which the image is attached
+  pub attached : why ≢ status.Done → AreOpening events → ⊥

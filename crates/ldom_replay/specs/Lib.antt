@@ -1,5 +1,7 @@
 pub mod Admitting
+pub mod Attached
 pub mod Clean
+pub mod Completed
 pub mod Failures
 pub mod Going
 pub mod Happened

@@ -15,14 +15,14 @@ use Rattle.ldom_replay.specs.Replayed.{Replayed}
 abbrev pub Reports : Status → Status → Option (List ℕ) → Option (List ℕ) → List ℕ → Type 0
 Reports ran status old new text = ((status ≡ ran) × Appends old new text) ⊎ ((status ≡ SinkFault) × WroteFront old new text)
 
--- the script was run, and the report of its journal written
-pub record RunsScript {D : Type 0} (content : D → Option (List ℕ)) (faults : D → ℕ) (script : Option (List ℕ)) (gives : ℕ → Option (List ℕ))
+-- the script was run, and the report of its journal written; the source has `now` left
+pub record RunsScript {D : Type 0} (content : D → Option (List ℕ)) (faults : D → ℕ) (script now : Option (List ℕ)) (gives : ℕ → Option (List ℕ))
     (status : Status) (journal : List Entry) (image : Option D) (old new : Option (List ℕ)) : Type 0 where
   -- how the run ended before its report
   pub ran : Status
   -- how many lines the report counts
   pub lines : ℕ
   pub names : NamesState
-  pub replayed : Replayed content faults script gives ran lines names journal image
-  pub admits : AdmitsRequests names.disks replayed.events journal
+  pub replayed : Replayed content faults script now gives ran lines names journal image
+  pub admits : AdmitsRequests ran names.disks replayed.events journal
   pub reports : Reports ran status old new (report mode.Run names.disks lines journal ran)

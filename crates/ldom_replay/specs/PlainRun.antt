@@ -1,5 +1,6 @@
 -- What a script without disturbance means: it keeps a content and a list of requests that wait, and nothing else.
 use Rattle.std.specs.Prelude.{ℕ, ◌+◌, ◌*◌, Bool, true, false, nat_le, List, [], ◌∷◌, ◌++◌, length, take, drop, Option, Some, None, codes, decimal}
+use Rattle.std.specs.List.{range_with_len}
 use Rattle.vdisk_msg.specs.declared.request.Request.{Request}
 use Rattle.vdisk_msg.specs.declared.request.Request.TheVariants.{Read, Write, Flush}
 use Rattle.domain_script.specs.declared.event.DiskDecl.{DiskDecl}
@@ -88,3 +89,7 @@ plain_text disk content events = (plain_run disk (untouched content) events).tex
 -- what it leaves on the disk
 abbrev pub plain_content : DiskDecl → List ℕ → List Event → List ℕ
 plain_content disk content events = (plain_run disk (untouched content) events).content
+
+-- the ids of the requests that it completes: from 0 on
+abbrev pub plain_ids : DiskDecl → List ℕ → List Event → List ℕ
+plain_ids disk content events = range_with_len 0 (plain_run disk (untouched content) events).completed

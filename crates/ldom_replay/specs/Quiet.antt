@@ -5,7 +5,7 @@ use Rattle.domain_script.specs.declared.event.Event.{Event}
 use Rattle.domain_script.specs.declared.event.Event.TheVariants.{Blank, Disk, Issue, Settle}
 use Rattle.domain_script.specs.NamesState.{NamesState}
 use Rattle.domain_script.specs.ScriptLines.{script_lines}
-use Rattle.ldom_replay.specs.Script.{AllSpell, no_names}
+use Rattle.domain_script.specs.ScriptEvents.{AllSpell, no_names}
 
 -- each line is blank, asks the one disk or settles
 abbrev pub AreQuiet : List Event → Type 0

@@ -9,16 +9,19 @@ use Rattle.vio_io.specs.declared.host.AttachFault.{AttachFault}
 use Rattle.vio_io.specs.declared.host.AttachFault.TheVariants.{Failed, Memory}
 use Rattle.disk_law.specs.ListState.{ListState, fresh}
 use Rattle.ldom_journal.specs.LinesEnd.{counted_lines}
+use Rattle.ldom_replay.specs.Attached.{ImageStands}
 use Rattle.ldom_replay.specs.Reading.{StopsAt}
 use Rattle.ldom_replay.specs.Script.{ReadSoFar, FitsScript, FitsCutOff}
 use Rattle.ldom_replay.specs.Worlds.{blocks_of, ring_of}
 
--- These events were read, and then no further line was taken up; the report counts so many lines.
-pub record Stopped (start : Option (List ℕ)) (why : Status) (events : List Event) (names : NamesState) (lines : ℕ) : Type 0 where
+-- These events were read, and then no further line was taken up; the report counts so many lines. The source has `now`
+-- left, and what was taken from it and is in no line is held.
+pub record Stopped (start now : Option (List ℕ)) (why : Status) (events : List Event) (names : NamesState) (lines : ℕ) : Type 0 where
   pub left : Option (List ℕ)
   pub count : ℕ
   pub read : ReadSoFar start left events names count
-  pub stop : StopsAt why left names count
+  pub held : List ℕ
+  pub stop : StopsAt why left held now names count
   pub lines_are : lines ≡ counted_lines why count
 
 -- the journal of a run by how it ended: after want of memory the last line's part may be cut off
@@ -48,12 +51,13 @@ abbrev pub start_of : NamesState → (ℕ → Option (List ℕ)) → ListState
 start_of names gives = fresh (blocks_of names.disks) (ring_of names.disks) (gives (512 * blocks_of names.disks)) 0
 
 -- A run: its script was read up to where it stopped, its journal is one part for each line, and the image is what the
--- journal makes of the one that was attached.
-pub record Replayed {D : Type 0} (content : D → Option (List ℕ)) (faults : D → ℕ) (script : Option (List ℕ)) (gives : ℕ → Option (List ℕ))
+-- journal makes of the one that was attached. The source has `now` left.
+pub record Replayed {D : Type 0} (content : D → Option (List ℕ)) (faults : D → ℕ) (script now : Option (List ℕ)) (gives : ℕ → Option (List ℕ))
     (why : Status) (lines : ℕ) (names : NamesState) (journal : List Entry) (image : Option D) : Type 0 where
   pub events : List Event
-  pub stopped : Stopped script why events names lines
+  pub stopped : Stopped script now why events names lines
   pub final : ListState
   pub journal_is : JournalIs why (start_of names gives) events journal final
   pub image_is : IfSome image (λ disk. (content disk ≡ final.told) × (faults disk ≡ final.faults))
   pub faults_are : FaultsAre why image final.faults
+  pub image_stands : ImageStands why events stopped.left journal image

@@ -1,30 +1,19 @@
 -- How far a script was read, and what became of its lines.
-use Rattle.std.specs.Prelude.{◌≡◌, ℕ, false, List, [], ◌∷◌, ◌++◌, length, map, Option}
+use Rattle.std.specs.Prelude.{◌≡◌, ℕ, List, [], ◌∷◌, ◌++◌, length, map, Option}
 use Rattle.std.specs.List.{flat_map}
 use Rattle.runs.specs.Run.{Run}
 use Rattle.domain_script.specs.declared.event.Event.{Event}
-use Rattle.domain_script.specs.NamesState.{NamesState, noted}
-use Rattle.domain_script.specs.ScriptLines.{TakesLines}
-use Rattle.domain_script.specs.Spells.{Spells}
+use Rattle.domain_script.specs.NamesState.{NamesState}
+use Rattle.domain_script.specs.ScriptEvents.{AllSpell, no_names}
+use Rattle.domain_script.specs.ScriptLines.{LinesTaken}
 use Rattle.ldom_journal.specs.declared.entry.Entry.{Entry}
 use Rattle.disk_law.specs.ListState.{ListState}
 use Rattle.ldom_replay.specs.Parts.{FitsSoFar, LineStep}
 
--- nothing is declared
-abbrev pub no_names : NamesState
-no_names = record { disks = []; ended = false }
-
--- each line spells its event, given the names that those before it declared
-abbrev pub AllSpell : List (List ℕ) → NamesState → List Event → NamesState → Type 0
-AllSpell [] names [] after = after ≡ names
-AllSpell [] names (event ∷ events) after = ⊥
-AllSpell (text ∷ texts) names [] after = ⊥
-AllSpell (text ∷ texts) names (event ∷ events) after = Spells text names event × AllSpell texts (noted names event) events after
-
 -- these lines were read from the front of what a source gives, and spell these events
 pub record ReadSoFar (start left : Option (List ℕ)) (events : List Event) (names : NamesState) (count : ℕ) : Type 0 where
   pub texts : List (List ℕ)
-  pub taken : TakesLines start left texts
+  pub taken : LinesTaken start left texts
   pub spell : AllSpell texts no_names events names
   pub counts : count ≡ length texts
 

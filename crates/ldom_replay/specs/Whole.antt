@@ -9,7 +9,8 @@ use Rattle.ldom_journal.specs.declared.entry.Entry.{Entry}
 use Rattle.ldom_journal.specs.declared.status.Mode.TheVariants as mode
 use Rattle.ldom_journal.specs.declared.status.Status.TheVariants.{Done}
 use Rattle.disk_law.specs.ListState.{ListState}
-use Rattle.ldom_replay.specs.PlainRun.{plain_text, plain_content}
+use Rattle.ldom_replay.specs.Completed.{completed_ids}
+use Rattle.ldom_replay.specs.PlainRun.{plain_text, plain_content, plain_ids}
 use Rattle.ldom_replay.specs.Replayed.{start_of}
 use Rattle.ldom_replay.specs.Script.{FitsScript}
 
@@ -22,7 +23,9 @@ pub record RunsWhole {D : Type 0} (content : D → Option (List ℕ)) (faults : 
   pub image_is : IsSomeAnd image (λ disk. (content disk ≡ final.told) × (faults disk ≡ 0))
   pub written : Appends old new (report mode.Run names.disks (length events) journal Done)
 
--- the written text is that of the plain run over these bytes, and so is what the image is left with
-pub record RunsPlainly {D : Type 0} (content : D → Option (List ℕ)) (disk : DiskDecl) (bytes : List ℕ) (events : List Event) (image : Option D) (old new : Option (List ℕ)) : Type 0 where
+-- the written text is that of the plain run over these bytes, and so are what the image is left with and the ids of the
+-- completions
+pub record RunsPlainly {D : Type 0} (content : D → Option (List ℕ)) (disk : DiskDecl) (bytes : List ℕ) (events : List Event) (journal : List Entry) (image : Option D) (old new : Option (List ℕ)) : Type 0 where
   pub written : Appends old new (plain_text disk bytes events)
   pub left : IsSomeAnd image (λ attached. content attached ≡ Some (plain_content disk bytes events))
+  pub ids : completed_ids journal ≡ plain_ids disk bytes events

@@ -8,13 +8,14 @@ ghost use Rattle.ldom_journal.specs.declared.status.Status.TheVariants as status
 ghost use Rattle.disk_law.specs.ListState.{ListState, fresh};
 ghost use Rattle.ldom_replay.specs.Failures.{failed_count, SucceedOrFail};
 ghost use Rattle.ldom_replay.specs.Outside.{accepted_requests, KeepsOthers};
-ghost use Rattle.ldom_replay.specs.PlainRun.{plain_text, plain_content};
+ghost use Rattle.ldom_replay.specs.Completed.{completed_ids};
+ghost use Rattle.ldom_replay.specs.PlainRun.{plain_text, plain_content, plain_ids};
 ghost use Rattle.ldom_replay.specs.Quiet.{IsQuiet};
 ghost use Rattle.ldom_replay.specs.Script.{FitsCutOff, FitsScript};
 ghost use Rattle.ldom_replay.specs.Worlds.{blocks_of, ring_of};
 
-/// A quiet script that its journal fits, over an image that tells its bytes and never failed, has the text and leaves
-/// the content that the plain run gives.
+/// A quiet script that its journal fits, over an image that tells its bytes and never failed, has the text, leaves the
+/// content and completes the ids that the plain run gives.
 pub fn a_quiet_script_runs_plainly()
     ensures text { (disk : DiskDecl) (content : List ℕ) (events : List Event) (journal : List Entry) (t : ListState)
         → IsQuiet disk events → FitsScript (fresh (blocks_of (disk ∷ [])) (ring_of (disk ∷ [])) (Some content) 0) events journal t → t.faults ≡ 0
@@ -22,6 +23,9 @@ pub fn a_quiet_script_runs_plainly()
     ensures content { (disk : DiskDecl) (content : List ℕ) (events : List Event) (journal : List Entry) (t : ListState)
         → IsQuiet disk events → FitsScript (fresh (blocks_of (disk ∷ [])) (ring_of (disk ∷ [])) (Some content) 0) events journal t → t.faults ≡ 0
         → t.told ≡ Some (plain_content disk content events) }
+    ensures ids { (disk : DiskDecl) (content : List ℕ) (events : List Event) (journal : List Entry) (t : ListState)
+        → IsQuiet disk events → FitsScript (fresh (blocks_of (disk ∷ [])) (ring_of (disk ∷ [])) (Some content) 0) events journal t → t.faults ≡ 0
+        → completed_ids journal ≡ plain_ids disk content events }
 {}
 
 /// An image that tells its bytes goes on to tell as many, and outside of the blocks that the accepted requests write

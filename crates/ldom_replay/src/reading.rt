@@ -1,5 +1,5 @@
 // The events of a script, one after another.
-ghost use Rattle.std.specs.Prelude.{◌≡◌, ◌+◌, ◌-◌, ◌^◌, ◌<◌, ◌≤◌, IfOk, IfErr};
+ghost use Rattle.std.specs.Prelude.{◌≡◌, ◌≢◌, ◌+◌, ◌-◌, ◌^◌, ◌<◌, ◌≤◌, IfOk, IfErr};
 ghost use Rattle.vio_io.specs.Causes.{Rose};
 ghost use Rattle.domain_script.specs.declared.lines.LinesStop.TheVariants.{Going};
 ghost use Rattle.domain_script.specs.LinesState.{to_come};
@@ -26,9 +26,10 @@ pub fn read_event<S: Source>(
     ensures next { IfOk result (λ _. (lines.new.number ≡ lines.old.number + 1) × (lines.new.number ≤ 20000) × (lines.new.stop ≡ Going)) }
     ensures most { lines.new.number ≤ 20000 }
 
-    ensures stop { IfErr result (λ status. StopsAt status (to_come lines.old (S.left source.old)) names.old lines.old.number) }
+    ensures stop { IfErr result (λ status. StopsAt status (to_come lines.old (S.left source.old)) lines.new.held (S.left source.new) names.old lines.old.number) }
     ensures readers { IfErr result IsReaders }
     ensures lines { IfErr result (λ status. (lines.new.number ≡ counted_lines status lines.old.number) × (names.new ≡ names.old)) }
+    ensures unfailed { result ≢ Err Status.SourceFault → S.faults source.new ≡ S.faults source.old }
     ensures count { S.faults source.old ≤ S.faults source.new }
     ensures cause { result ≡ Err Status.SourceFault → Rose (S.faults source.old) (S.faults source.new) }
 {

@@ -1,15 +1,17 @@
 // A script's run: its declarations, the image, and its other lines.
 ghost use Rattle.std.specs.Prelude.{◌≡◌, ◌≢◌, ℕ, ◌*◌, ◌≤◌, ◌↔◌, List, [], ◌∷◌, length, codes, Option, None, IfErr, IfOk, IfSome, IsSome, IsTrue, OnOk};
 ghost use Rattle.vio_io.specs.Causes.{Rose};
+ghost use Rattle.vio_io.specs.Given.{Gave};
 ghost use Rattle.domain_script.specs.declared.lines.LinesStop.TheVariants.{Going};
 ghost use Rattle.domain_script.specs.LinesState.{to_come};
 ghost use Rattle.domain_script.specs.Spells.{IsDeclared};
 ghost use Rattle.disk_law.specs.ListState.{next_id};
 ghost use Rattle.ldom_journal.specs.Report.{accepted_count};
 ghost use Rattle.ldom_replay.specs.Going.{IsReaders, RunsAll, RunsLines};
-ghost use Rattle.ldom_replay.specs.Opening.{AreOpening, Opened, Opens, OpensAndStops};
+ghost use Rattle.ldom_replay.specs.Attached.{AreOpening};
+ghost use Rattle.ldom_replay.specs.Opening.{Opened, Opens, OpensAndStops};
 ghost use Rattle.ldom_replay.specs.Replayed.{Replayed, attach_status, ended_status, start_of};
-ghost use Rattle.ldom_replay.specs.Script.{no_names};
+ghost use Rattle.domain_script.specs.ScriptEvents.{no_names};
 
 use crate::reading::read_event;
 use crate::world::{World, blocks_declared};
@@ -36,8 +38,9 @@ fn read_opening<S: Source>(
     ensures most { lines.new.number ≤ 20000 }
 
     ensures readers { IfErr result IsReaders }
-    ensures stops { IfErr result (λ status. OpensAndStops (to_come lines.old (S.left source.old)) status names.new lines.new.number) }
+    ensures stops { IfErr result (λ status. OpensAndStops (to_come lines.old (S.left source.old)) (S.left source.new) status names.new lines.new.number) }
     ensures few { length names.new.disks ≤ 1 }
+    ensures unfailed { result ≢ Err Status.SourceFault → S.faults source.new ≡ S.faults source.old }
     ensures count { S.faults source.old ≤ S.faults source.new }
     ensures cause { result ≡ Err Status.SourceFault → Rose (S.faults source.old) (S.faults source.new) }
 {
@@ -73,9 +76,10 @@ fn run_lines<S: Source, D: Store>(
     requires one { length names.old.disks ≤ 1 }
     requires agrees { accepted_count journal.old.entries ≡ next_id world.old }
 
-    ensures runs { RunsLines (to_come lines.old (S.left source.old)) names.old journal.old.entries world.old lines.old.number
+    ensures runs { RunsLines (to_come lines.old (S.left source.old)) (S.left source.new) names.old journal.old.entries world.old lines.old.number
         result names.new journal.new.entries world.new lines.new.number }
     ensures readers { IsReaders result }
+    ensures unfailed { result ≢ Status.SourceFault → S.faults source.new ≡ S.faults source.old }
     ensures count { S.faults source.old ≤ S.faults source.new }
     ensures cause { result ≡ Status.SourceFault → Rose (S.faults source.old) (S.faults source.new) }
 {
@@ -103,11 +107,14 @@ pub struct Run<D: Store> {
     pub image: Option<D>,
 }
 
-/// Runs the script over the image named `-`.
+/// Runs the script over the image named `-`. The run has an image exactly where the host gave one.
 pub fn run_script<H: Host, S: Source>(alloc: Global, host: &mut H, source: &mut S) -> Run<H::Disk>
-    ensures replayed { Replayed H.Disk.content H.Disk.faults (S.left source.old) (H.gives host.old (codes "-")) result.status result.lines result.names result.journal.entries result.image }
+    ensures replayed { Replayed H.Disk.content H.Disk.faults (S.left source.old) (S.left source.new) (H.gives host.old (codes "-")) result.status result.lines result.names result.journal.entries result.image }
+    ensures source_unfailed { result.status ≢ Status.SourceFault → S.faults source.new ≡ S.faults source.old }
     ensures source_count { S.faults source.old ≤ S.faults source.new }
+    ensures host_unfailed { result.status ≢ Status.HostFault → H.faults host.new ≡ H.faults host.old }
     ensures host_count { H.faults host.old ≤ H.faults host.new }
+    ensures image { Gave (H.given host.old) (H.given host.new) result.image }
     ensures source_fault { result.status ≡ Status.SourceFault → Rose (S.faults source.old) (S.faults source.new) }
     ensures host_fault { result.status ≡ Status.HostFault → Rose (H.faults host.old) (H.faults host.new) }
 {
@@ -155,10 +162,13 @@ fn attach<H: Host, S: Source>(
     requires one { length names.disks ≤ 1 }
     requires declared { IfSome first (IsDeclared names) }
     requires journal { journal.entries ≡ [] }
-    ensures replayed { (start : Option (List ℕ)) → Opened start (to_come lines (S.left source.old)) first names lines.number
-        → Replayed H.Disk.content H.Disk.faults start (H.gives host.old (codes "-")) result.status result.lines result.names result.journal.entries result.image }
+    ensures replayed { (start : Option (List ℕ)) → Opened start lines.held (S.left source.old) first names lines.number
+        → Replayed H.Disk.content H.Disk.faults start (S.left source.new) (H.gives host.old (codes "-")) result.status result.lines result.names result.journal.entries result.image }
+    ensures source_unfailed { result.status ≢ Status.SourceFault → S.faults source.new ≡ S.faults source.old }
     ensures source_count { S.faults source.old ≤ S.faults source.new }
+    ensures host_unfailed { result.status ≢ Status.HostFault → H.faults host.new ≡ H.faults host.old }
     ensures host_count { H.faults host.old ≤ H.faults host.new }
+    ensures image { Gave (H.given host.old) (H.given host.new) result.image }
     ensures source_fault { result.status ≡ Status.SourceFault → Rose (S.faults source.old) (S.faults source.new) }
     ensures host_fault { result.status ≡ Status.HostFault → Rose (H.faults host.old) (H.faults host.new) }
 {
@@ -201,11 +211,13 @@ fn run_world<S: Source, D: Store>(
     requires declared { IfSome first (IsDeclared names) }
     requires journal { journal.entries ≡ [] }
     requires fresh { next_id world ≡ 0 }
-    ensures replayed { (start : Option (List ℕ)) (gives : ℕ → Option (List ℕ)) → Opened start (to_come lines (S.left source.old)) first names lines.number
-        → world ≡ start_of names gives → Replayed D.content D.faults start gives result.status result.lines result.names result.journal.entries result.image }
+    ensures replayed { (start : Option (List ℕ)) (gives : ℕ → Option (List ℕ)) → Opened start lines.held (S.left source.old) first names lines.number
+        → world ≡ start_of names gives → Replayed D.content D.faults start (S.left source.new) gives result.status result.lines result.names result.journal.entries result.image }
+    ensures source_unfailed { result.status ≢ Status.SourceFault → S.faults source.new ≡ S.faults source.old }
     ensures source_count { S.faults source.old ≤ S.faults source.new }
     ensures source_fault { result.status ≡ Status.SourceFault → Rose (S.faults source.old) (S.faults source.new) }
     ensures host_fault { result.status ≢ Status.HostFault }
+    ensures image { IsSome result.image }
 {
     let why = run_first(
         first,
@@ -250,9 +262,10 @@ fn run_first<S: Source, D: Store>(
     requires declared { IfSome first (IsDeclared names.old) }
     requires journal { journal.old.entries ≡ [] }
     requires fresh { next_id world.old ≡ 0 }
-    ensures runs { (start : Option (List ℕ)) → Opened start (to_come lines.old (S.left source.old)) first names.old lines.old.number
-        → RunsAll start names.old world.old result names.new journal.new.entries world.new lines.new.number }
+    ensures runs { (start : Option (List ℕ)) → Opened start lines.old.held (S.left source.old) first names.old lines.old.number
+        → RunsAll start (S.left source.new) names.old world.old result names.new journal.new.entries world.new lines.new.number }
     ensures readers { IsReaders result }
+    ensures unfailed { result ≢ Status.SourceFault → S.faults source.new ≡ S.faults source.old }
     ensures count { S.faults source.old ≤ S.faults source.new }
     ensures cause { result ≡ Status.SourceFault → Rose (S.faults source.old) (S.faults source.new) }
 {

@@ -2,6 +2,7 @@ ghost use Rattle.std.specs.Prelude.{◌≡◌, ◌≢◌, ◌≤◌, ◌↔◌, 
 ghost use Rattle.std.specs.List.{All};
 ghost use Rattle.std.specs.Io.KnownBytes.{Appends};
 ghost use Rattle.vio_io.specs.Causes.{Rose};
+ghost use Rattle.vio_io.specs.Given.{Gave};
 ghost use Rattle.domain_script.specs.declared.event.DiskDecl.{DiskDecl};
 ghost use Rattle.domain_script.specs.declared.event.Event.{Event};
 ghost use Rattle.domain_script.specs.NamesState.{NamesState};
@@ -12,14 +13,14 @@ ghost use Rattle.ldom_journal.specs.HasWords.{HasWords};
 ghost use Rattle.ldom_journal.specs.Report.{report, usage_line};
 ghost use Rattle.ldom_dump.specs.DumpReport.{Dumps};
 ghost use Rattle.ldom_dump.specs.Whole.{IsWhole};
-ghost use Rattle.ldom_replay.specs.Clean.{IsCleanScript, StandsStill};
+ghost use Rattle.ldom_replay.specs.Clean.{IsCleanScript, NeverFails, StandsStill};
 ghost use Rattle.ldom_replay.specs.Failures.{SucceedOrFail, failed_count};
 ghost use Rattle.ldom_replay.specs.Outside.{KeepsOthers, accepted_requests};
 ghost use Rattle.ldom_replay.specs.Happened.{history};
 ghost use Rattle.ldom_replay.specs.Outcomes.{Reports, RunsScript};
 ghost use Rattle.ldom_replay.specs.Quiet.{IsQuietScript};
 ghost use Rattle.ldom_replay.specs.Replayed.{Replayed};
-ghost use Rattle.ldom_replay.specs.Script.{AllSpell, no_names};
+ghost use Rattle.domain_script.specs.ScriptEvents.{AllSpell, no_names};
 ghost use Rattle.ldom_replay.specs.Whole.{RunsPlainly, RunsWhole};
 
 use crate::run::{Run, run_script};
@@ -49,7 +50,7 @@ pub fn replay<H: Host, S: Source, K: Sink>(
 ) -> Outcome<H::Disk>
     // The script is run up to where it stops, the journal is one part for each line, and the report is the journal's.
     ensures runs { map string_bytes words.now ≡ codes "run" ∷ codes "-" ∷ []
-        → RunsScript H.Disk.content H.Disk.faults (S.left script.old) (H.gives host.old (codes "-")) result.status result.journal.entries result.image (K.written out.old) (K.written out.new) }
+        → RunsScript H.Disk.content H.Disk.faults (S.left script.old) (S.left script.new) (H.gives host.old (codes "-")) result.status result.journal.entries result.image (K.written out.old) (K.written out.new) }
 
     // At status 0 the script was run to its end: the journal fits all its events, and the whole report was written.
     ensures whole { map string_bytes words.now ≡ codes "run" ∷ codes "-" ∷ [] → (bytes : List ℕ) (events : List Event) (names : NamesState)
@@ -59,22 +60,30 @@ pub fn replay<H: Host, S: Source, K: Sink>(
     // So a quiet script over an image that tells its bytes is what the plain run makes of it.
     ensures quiet { map string_bytes words.now ≡ codes "run" ∷ codes "-" ∷ [] → (bytes content : List ℕ) (disk : DiskDecl) (events : List Event)
         → S.left script.old ≡ Some bytes → IsQuietScript bytes disk events → H.gives host.old (codes "-") (512 * disk.blocks) ≡ Some content → result.status ≡ Status.Done
-        → RunsPlainly H.Disk.content disk content events result.image (K.written out.old) (K.written out.new) }
+        → RunsPlainly H.Disk.content disk content events result.journal.entries result.image (K.written out.old) (K.written out.new) }
 
     // A script without faults and within the limits is run to its end, where no count rose and memory suffices.
     ensures complete { map string_bytes words.now ≡ codes "run" ∷ codes "-" ∷ [] → (bytes : List ℕ) → S.left script.old ≡ Some bytes → IsCleanScript bytes
         → StandsStill (S.faults script.old) (S.faults script.new) → StandsStill (H.faults host.old) (H.faults host.new) → StandsStill (K.faults out.old) (K.faults out.new)
         → IfSome result.image (λ image. H.Disk.faults image ≡ 0) → (result.status ≡ Status.Done) ⊎ (result.status ≡ Status.NoMemory) }
 
+    // So over a source, a host and a disk whose types never fail, where the sink doesn't either.
+    ensures infallible { map string_bytes words.now ≡ codes "run" ∷ codes "-" ∷ [] → (bytes : List ℕ) → S.left script.old ≡ Some bytes → IsCleanScript bytes
+        → NeverFails S.faults → NeverFails H.faults → NeverFails H.Disk.faults → result.status ≢ Status.SinkFault → (result.status ≡ Status.Done) ⊎ (result.status ≡ Status.NoMemory) }
+
     // Packets are dumped up to where the lines end; a script of packets alone to its end, where no count rose and memory
     // suffices.
-    ensures dumps { map string_bytes words.now ≡ codes "dump" ∷ [] → Dumps (S.left script.old) result.status (K.written out.old) (K.written out.new) }
+    ensures dumps { map string_bytes words.now ≡ codes "dump" ∷ [] → Dumps (S.left script.old) (S.left script.new) result.status (K.written out.old) (K.written out.new) }
     ensures dumps_whole { map string_bytes words.now ≡ codes "dump" ∷ [] → (bytes : List ℕ) → S.left script.old ≡ Some bytes → IsWhole bytes
         → StandsStill (S.faults script.old) (S.faults script.new) → StandsStill (K.faults out.old) (K.faults out.new) → (result.status ≡ Status.Done) ⊎ (result.status ≡ Status.NoMemory) }
 
     // Other words are no command. What isn't a run has no journal and no image.
     ensures usage { map string_bytes words.now ≢ codes "run" ∷ codes "-" ∷ [] → map string_bytes words.now ≢ codes "dump" ∷ [] → Reports Status.Usage result.status (K.written out.old) (K.written out.new) usage_line }
     ensures nothing { map string_bytes words.now ≢ codes "run" ∷ codes "-" ∷ [] → (result.journal.entries ≡ []) × IsNone result.image }
+
+    // For all words and every status: the image is the one disk that the host gave in this call, and there is none exactly
+    // where it gave none, as attaching failed or wanted memory, or was never asked for.
+    ensures image { Gave (H.given host.old) (H.given host.new) result.image }
 
     // For every disk: completions are in the order of issue, each request's at most once.
     ensures once { (disk : ℕ) → CompletesOnceInOrder (history disk result.journal.entries) }
@@ -86,7 +95,12 @@ pub fn replay<H: Host, S: Source, K: Sink>(
     // The image keeps its zeros but for what accepted writes name.
     ensures outside { IfSome result.image (λ image. (n : ℕ) × KeepsOthers (accepted_requests result.journal.entries) (replicate n 0) (H.Disk.content image)) }
 
-    // A fault of the outside is answered only where its count rose.
+    // A fault of the outside is answered only where its count rose, and where another status is answered, it stays: a
+    // fault of the sink, which comes last, may hide one of the others. At status 0 the image never failed either.
+    ensures source_unfailed { result.status ≢ Status.SourceFault → result.status ≢ Status.SinkFault → S.faults script.new ≡ S.faults script.old }
+    ensures sink_unfailed { result.status ≢ Status.SinkFault → K.faults out.new ≡ K.faults out.old }
+    ensures host_unfailed { result.status ≢ Status.HostFault → result.status ≢ Status.SinkFault → H.faults host.new ≡ H.faults host.old }
+    ensures image_unfailed { result.status ≡ Status.Done → IfSome result.image (λ image. H.Disk.faults image ≡ 0) }
     ensures source_fault { result.status ≡ Status.SourceFault → Rose (S.faults script.old) (S.faults script.new) }
     ensures sink_fault { result.status ≡ Status.SinkFault → Rose (K.faults out.old) (K.faults out.new) }
     ensures host_fault { result.status ≡ Status.HostFault → Rose (H.faults host.old) (H.faults host.new) }
@@ -129,7 +143,7 @@ fn report_dump<D: Store, S: Source, K: Sink>(
     script: &mut S,
     out: &mut K,
 ) -> Outcome<D>
-    ensures dumps { Dumps (S.left script.old) result.status (K.written out.old) (K.written out.new) }
+    ensures dumps { Dumps (S.left script.old) (S.left script.new) result.status (K.written out.old) (K.written out.new) }
     ensures whole { (bytes : List ℕ) → S.left script.old ≡ Some bytes → IsWhole bytes → ¬ Rose (S.faults script.old) (S.faults script.new) → ¬ Rose (K.faults out.old) (K.faults out.new)
         → (result.status ≡ Status.Done) ⊎ (result.status ≡ Status.NoMemory) }
     ensures journal { result.journal ≡ record { entries = []; room = 0 } }
@@ -137,6 +151,8 @@ fn report_dump<D: Store, S: Source, K: Sink>(
     ensures source_fault { result.status ≡ Status.SourceFault → Rose (S.faults script.old) (S.faults script.new) }
     ensures sink_fault { result.status ≡ Status.SinkFault → Rose (K.faults out.old) (K.faults out.new) }
     ensures no_host { result.status ≢ Status.HostFault }
+    ensures source_unfailed { result.status ≢ Status.SourceFault → result.status ≢ Status.SinkFault → S.faults script.new ≡ S.faults script.old }
+    ensures sink_unfailed { result.status ≢ Status.SinkFault → K.faults out.new ≡ K.faults out.old }
     ensures source_count { S.faults script.old ≤ S.faults script.new }
     ensures sink_count { K.faults out.old ≤ K.faults out.new }
 {
@@ -157,6 +173,7 @@ fn report_run<D: Store, K: Sink>(run: Run<D>, out: &mut K) -> Outcome<D>
     ensures image { result.image ≡ run.image }
     ensures sink_fault { result.status ≡ Status.SinkFault → (run.status ≢ Status.SinkFault) → Rose (K.faults out.old) (K.faults out.new) }
     ensures other { result.status ≢ Status.SinkFault → result.status ≡ run.status }
+    ensures sink_unfailed { result.status ≢ Status.SinkFault → K.faults out.new ≡ K.faults out.old }
     ensures sink_count { K.faults out.old ≤ K.faults out.new }
 {
     let Run {
@@ -189,6 +206,7 @@ fn write_report<K: Sink>(
     requires ran { status.now ≢ Status.Usage }
     ensures ok { OnOk result (Appends (K.written out.old) (K.written out.new) (report Mode.Run names.now.disks lines journal.now.entries status.now)) }
     ensures err { OnErr result (WroteFront (K.written out.old) (K.written out.new) (report Mode.Run names.now.disks lines journal.now.entries status.now)) }
+    ensures unfailed { OnOk result (K.faults out.new ≡ K.faults out.old) }
     ensures count { K.faults out.old ≤ K.faults out.new }
     ensures cause { OnErr result (Rose (K.faults out.old) (K.faults out.new)) }
 {
@@ -203,6 +221,7 @@ fn report_usage<D: Store, K: Sink>(journal: Journal, out: &mut K) -> Outcome<D>
     ensures journal { result.journal ≡ journal }
     ensures image { IsNone result.image }
     ensures sink_fault { result.status ≡ Status.SinkFault → Rose (K.faults out.old) (K.faults out.new) }
+    ensures sink_unfailed { result.status ≢ Status.SinkFault → K.faults out.new ≡ K.faults out.old }
     ensures sink_count { K.faults out.old ≤ K.faults out.new }
 {
     let status = match write_end(&journal, 0, &Status::Usage, out) {

@@ -3,7 +3,38 @@ use ldom_replay::{Outcome, replay};
 use std::alloc::{AllocError, Global};
 use std::process::Abort;
 use std::test::Fail;
-use vio_io::{ListSink, ListSource, NoMemory};
+use vio_io::{AttachFault, Host, ListSink, ListSource, NoMemory, Store};
+
+/// A host that gives zeros under every name, on a disk whose calls with these numbers fail.
+#[derive(Drop)]
+struct FailingDisks {
+    failing: Vec<u64>,
+    given: u64,
+}
+
+impl Host for FailingDisks {
+    ghost use Rattle.std.specs.Prelude.{replicate, Some, refl};
+
+    type Disk = MemStore;
+
+    ghost gives = { λ host name least. Some (replicate least 0) };
+
+    ghost faults = { λ host. 0 };
+
+    ghost given = { λ host. host.given };
+
+    ghost dash = { λ host least. refl };
+
+    fn attach(&mut self, alloc: Global, _: &str, least: u64) -> Result<MemStore, AttachFault> {
+        let zeros = match vec![in alloc; 0; least as usize] {
+            Ok(zeros) => zeros,
+            Err(AllocError) => return Err(AttachFault::Memory),
+        };
+        let disk = MemStore::new(alloc, &zeros, &self.failing)?;
+        self.given = self.given.wrapping_add(1);
+        Ok(disk)
+    }
+}
 
 // The end line with no counts but its lines.
 const EMPTY: &str = "end lines=0 accepted=0 done=0 pending=0 resets=0 frames=0 status=0\n";
@@ -198,6 +229,27 @@ fn a_failing_host_has_its_status(rt: HostRuntime) -> Result<(), Fail> {
     );
     assert_eq!(rt; outcome.status.number(), 5);
     assert!(rt; outcome.image.is_none());
+    Ok(())
+}
+
+#[test]
+fn a_flush_that_fails_completes_with_5(rt: HostRuntime) -> Result<(), Fail> {
+    let alloc = rt.alloc();
+    let words = words_of(alloc, &["run", "-"])?;
+    let mut host = FailingDisks {
+        failing: vec![in alloc; 0; 1]?,
+        given: 0,
+    };
+    let mut source = ListSource::new(alloc, b"disk d0 64 8 16\nflush d0\nsettle\n", 4_096, &[])?;
+    let mut sink = ListSink::new(alloc, 4_096, &[])?;
+    let outcome = replay(alloc, &words, &mut host, &mut source, &mut sink);
+    assert_eq!(rt;
+        sink.bytes(),
+        b"done d0 0 flush 5\nsettled\nend lines=3 accepted=1 done=1 pending=0 resets=0 frames=0 status=6\n".as_slice()
+    );
+    assert_eq!(rt; outcome.status.number(), 6);
+    let image = outcome.image.ok_or("no image")?;
+    assert!(rt; image.faulty());
     Ok(())
 }
 

@@ -1,5 +1,5 @@
-use Rattle.std.proofs.Common.{◌/◌, length, refl, arith}
-use Rattle.domain_script.proofs.HexWords.{fill_within, spells_front}
+use Rattle.std.proofs.Common.{take, ◌/◌, length, refl, arith}
+use Rattle.domain_script.proofs.HexWords.{fill_within, spells_front, taken_length}
 use Rattle.domain_script.proofs.spellings.fill.Goals as goal
 use Rattle.domain_script.proofs.spellings.fill.Goals.{then-len-eq0-via-then-len-eq0, then-len-eq0-via-else-len-eq0+then-len-gt-MOST_FILL}
 
@@ -11,7 +11,11 @@ returns-then-len-eq0-clause-none c = λ fill spells.
       | then-len-eq0-via-else-len-eq0+then-len-gt-MOST_FILL w ↦ absurd (omega (arith, within.1))
     ]
 
+pub returns-then-not-decode_front-clause-none : goal.returns-then-not-decode_front-clause-none
+returns-then-not-decode_front-clause-none c = λ fill spells.
+    c.if-not-decode_front.ensures.none refl (take fill.len fill.bytes) (taken_length c.args.word.now fill spells) spells.reads spells.lower
+
 pub returns-clause-some : goal.returns-clause-some
 returns-clause-some c =
     spells_front c.args.word.now c.decode_front.new.out (length c.args.word.now / 2) refl (omega (arith, c.if-len-eq0.false)) c.if-len-gt-MOST_FILL.false
-    c.decode_front.auto.out (c.if-not-decode_front.ensures.behind refl) (c.if-not-decode_front.ensures.some refl) (c.if-not-is_text_of.ensures.0 refl)
+    c.decode_front.auto.out (c.if-not-decode_front.ensures.behind refl) (c.if-not-decode_front.ensures.reads refl) (c.if-not-decode_front.ensures.lower refl)

@@ -1,4 +1,4 @@
-use Rattle.std.proofs.Common.{◌≡◌, ℕ, List, ◌++◌, append_assoc, ◌+◌, take, drop, get_or, codes, sym, subst, ap, ◌∙◌, arith}
+use Rattle.std.proofs.Common.{◌≡◌, ℕ, List, ◌++◌, append_assoc, ◌+◌, take, drop, get_or, codes, sym, subst, ap, ◌∙◌}
 use Rattle.hex.specs.Hex.{encode_lower}
 use Rattle.ldom_journal.specs.BlockWord.{blocks_text}
 use Rattle.ldom_journal.specs.Gathered.{Gathers, WroteFront}
@@ -33,7 +33,7 @@ loop-n-preserved g c =
           ∙ ap (λ (l : List ℕ). i.so_far ++ word ++ blocks_text (unpacked (drop (at + 1) lengths) l)) (sym back);
       gathers = gathers_behind _ _ _ c.loop-n.text c.put_word.new.text c.args.text.now i.so_far word i.gathers
           (subst (λ (l : List ℕ). Gathers (g.K.Sink.written c.loop-n.out) (g.K.Sink.written c.put_word.new.out) c.put_word.new.text (c.loop-n.text ++ (codes " *" ++ encode_lower l))) front c.in_ok-put_word.ensures.told);
-      count = omega (arith, i.count, c.put_word.ensures.count);
+      unfailed = c.in_ok-put_word.ensures.ok ∙ i.unfailed;
     }
 
 pub returns-clause-told : goal.returns-clause-told

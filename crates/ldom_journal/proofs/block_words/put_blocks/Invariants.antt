@@ -1,4 +1,4 @@
-use Rattle.std.proofs.Common.{◌≡◌, ◌++◌, ◌≤◌, ℕ, List, drop}
+use Rattle.std.proofs.Common.{◌≡◌, ◌++◌, ℕ, List, drop}
 use Rattle.ldom_journal.specs.BlockWord.{blocks_text}
 use Rattle.ldom_journal.specs.Gathered.{Gathers}
 use Rattle.ldom_journal.specs.Packed.{AreKept, unpacked}
@@ -10,5 +10,5 @@ invariant-loop-n g l = record {
   so_far : List ℕ;
   whole : blocks_text l.bytes.items ≡ so_far ++ blocks_text (unpacked (drop l.n-index l.lengths) l.kept);
   gathers : Gathers (g.K.Sink.written l.initial.out) (g.K.Sink.written l.out) l.text (l.initial.text ++ so_far);
-  count : g.K.Sink.faults l.initial.out ≤ g.K.Sink.faults l.out;
+  unfailed : g.K.Sink.faults l.out ≡ g.K.Sink.faults l.initial.out;
 }

@@ -1,19 +1,15 @@
-use Rattle.std.proofs.Common.{ℕ, ◌++◌, List, take, codes, sym, subst, arith}
+use Rattle.std.proofs.Common.{◌∙◌, ℕ, ◌++◌, List, take, codes, sym, subst}
 use Rattle.hex.specs.Hex.{encode_lower}
 use Rattle.ldom_journal.specs.BlockWord.{word_text, blocks_text}
 use Rattle.ldom_journal.specs.Gathered.{Gathers}
 use Rattle.ldom_journal.proofs.BlockWords.{blocks_text_more, blocks_text_end}
-use Rattle.ldom_journal.proofs.GatheredText.{on_err, gathers_behind, wrote_front_behind, rose_later}
+use Rattle.ldom_journal.proofs.GatheredText.{on_err, gathers_behind, wrote_front_behind}
 use Rattle.ldom_journal.proofs.block_words.put_plain.Goals as goal
 
 pub returns-in_err-put_word-clause-front : goal.returns-in_err-put_word-clause-front
 returns-in_err-put_word-clause-front g c =
     let i = c.loop-block.invariant in
     on_err c.from_residual.result _ (wrote_front_behind _ _ _ c.loop-block.text c.args.text.now i.so_far (blocks_text c.loop-block.rest.now) (blocks_text c.args.bytes.now) i.whole i.gathers c.in_err-put_word.ensures.front)
-
-pub returns-in_err-put_word-clause-cause : goal.returns-in_err-put_word-clause-cause
-returns-in_err-put_word-clause-cause g c =
-    on_err c.from_residual.result _ (rose_later _ _ _ c.loop-block.invariant.count c.put_word.ensures.count c.in_err-put_word.ensures.cause)
 
 pub loop-block-preserved : goal.loop-block-preserved
 loop-block-preserved g c =
@@ -27,7 +23,7 @@ loop-block-preserved g c =
       so_far = i.so_far ++ word;
       whole = blocks_text_more i.so_far (blocks_text c.args.bytes.now) c.loop-block.rest.now c.in-Some.block.now c.in-Some.behind.now i.whole cut.0 cut.1 cut.2;
       gathers = gathers_behind _ _ _ c.loop-block.text c.put_word.new.text c.args.text.now i.so_far word i.gathers told;
-      count = omega (arith, i.count, c.put_word.ensures.count);
+      unfailed = c.in_ok-put_word.ensures.ok ∙ i.unfailed;
     }
 
 pub returns-clause-told : goal.returns-clause-told

@@ -1,4 +1,4 @@
-use Rattle.std.proofs.Common.{◌≡◌, ◌++◌, ◌≤◌, ℕ, List, length}
+use Rattle.std.proofs.Common.{◌≡◌, ◌++◌, ℕ, List, length}
 use Rattle.ldom_journal.specs.BlockWord.{blocks_text}
 use Rattle.ldom_journal.specs.Gathered.{Gathers}
 use Rattle.ldom_journal.proofs.block_words.put_plain.Given as goal
@@ -8,7 +8,7 @@ invariant-loop-block g l = record {
   so_far : List ℕ;
   whole : blocks_text l.bytes ≡ so_far ++ blocks_text l.rest;
   gathers : Gathers (g.K.Sink.written l.initial.out) (g.K.Sink.written l.out) l.text (l.initial.text ++ so_far);
-  count : g.K.Sink.faults l.initial.out ≤ g.K.Sink.faults l.out;
+  unfailed : g.K.Sink.faults l.out ≡ g.K.Sink.faults l.initial.out;
 }
 
 abbrev pub decreases-loop-block : goal.decreases-loop-block

@@ -1,4 +1,4 @@
-use Rattle.std.proofs.Common.{◌≡◌, ℕ, ◌+◌, List, ◌++◌, take, drop, ap, sym, subst, ◌∙◌, arith}
+use Rattle.std.proofs.Common.{◌≡◌, ℕ, ◌+◌, List, ◌++◌, take, drop, ap, sym, subst, ◌∙◌}
 use Rattle.std.proofs.lemmas.List.{take_all}
 use Rattle.std.proofs.lemmas.Result.{on_err_weaker}
 use Rattle.ldom_journal.specs.EntryText.{entry_lines, report_entries}
@@ -36,7 +36,7 @@ loop-entry-preserved g c =
           subst (λ (l : List ℕ). Gathers (g.K.Sink.written c.args.out.now) (g.K.Sink.written c.put_entry.new.out) c.put_entry.new.text l)
           (flat_map-take_more (entry_lines mode disks) entries i c.entry-item.result c.loop-entry-test.true c.entry-item.is)
           (gathers_then _ _ _ c.loop-entry.text c.put_entry.new.text so_far line c.loop-entry.invariant.gathers c.in_ok-put_entry.ensures.told);
-      count = omega (arith, c.loop-entry.invariant.count, c.put_entry.ensures.count);
+      unfailed = c.in_ok-put_entry.ensures.ok ∙ c.loop-entry.invariant.unfailed;
     }
 
 pub returns-clause-front : goal.returns-clause-front

@@ -6,3 +6,6 @@ returns-clause-text c = λ disk content events journal t quiet fits none. (plain
 
 pub returns-clause-content : goal.returns-clause-content
 returns-clause-content c = λ disk content events journal t quiet fits none. (plain_law disk content events journal t quiet fits none).1
+
+pub returns-clause-ids : goal.returns-clause-ids
+returns-clause-ids c = λ disk content events journal t quiet fits none. (plain_law disk content events journal t quiet fits none).2

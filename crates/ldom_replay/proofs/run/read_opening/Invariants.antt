@@ -10,7 +10,7 @@ invariant-loop-event g l = record {
   few : l.lines.number ≤ 20000;
   one : length l.names.disks ≤ 1;
   so_far : OpensSoFar (to_come l.fn.lines (g.S.Source.left l.fn.source)) (to_come l.lines (g.S.Source.left l.source)) l.names l.lines.number;
-  count : g.S.Source.faults l.fn.source ≤ g.S.Source.faults l.source;
+  unfailed : g.S.Source.faults l.source ≡ g.S.Source.faults l.fn.source;
 }
 
 abbrev pub decreases-loop-event : goal.decreases-loop-event

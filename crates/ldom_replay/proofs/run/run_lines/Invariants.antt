@@ -14,7 +14,7 @@ invariant-loop-event g l = record {
   agrees : accepted_count l.journal.entries ≡ next_id l.world;
   so_far : RunsSoFar (to_come l.fn.lines (g.S.Source.left l.fn.source)) l.fn.names l.fn.journal.entries l.fn.world l.fn.lines.number
       (to_come l.lines (g.S.Source.left l.source)) l.names l.journal.entries l.world l.lines.number;
-  count : g.S.Source.faults l.fn.source ≤ g.S.Source.faults l.source;
+  unfailed : g.S.Source.faults l.source ≡ g.S.Source.faults l.fn.source;
 }
 
 abbrev pub decreases-loop-event : goal.decreases-loop-event

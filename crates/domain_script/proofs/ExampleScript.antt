@@ -1,0 +1,25 @@
+-- How a client gets the events of a script that it knows byte for byte.
+use Rattle.std.proofs.Common.{ℕ, List, [], ◌∷◌, replicate, true}
+use Rattle.std.specs.Prelude.{codes}
+use Rattle.std.specs.Fmt.{digits}
+use Rattle.hex.specs.Hex.{decode_pairs, encode_with}
+use Rattle.vdisk_msg.specs.declared.request.Fill.{Fill}
+use Rattle.vdisk_msg.specs.declared.request.Request.TheVariants.{Read, Write}
+use Rattle.domain_script.specs.declared.event.DiskDecl.{DiskDecl}
+use Rattle.domain_script.specs.declared.event.Event.TheVariants.{Disk, Issue, Settle}
+use Rattle.domain_script.specs.ScriptEvents.{AllSpell, no_names}
+use Rattle.domain_script.specs.ScriptLines.{script_lines}
+use Rattle.domain_script.proofs.ComputedEvents.{events_spelled}
+
+abbrev bytes : List ℕ
+bytes = codes "disk d0 64 8 16\nwrite d0 3 2 ab\nread d0 2 3\nsettle\n"
+
+abbrev disk : DiskDecl
+disk = record { name = record { len = 2; bytes = 100 ∷ 48 ∷ 0 ∷ 0 ∷ 0 ∷ 0 ∷ 0 ∷ 0 ∷ [] }; blocks = 64; ring = 8; queue = 16 }
+
+abbrev word : Fill
+word = record { len = 1; bytes = 171 ∷ replicate 1023 0 }
+
+one_write_one_read : AllSpell (script_lines bytes) no_names (Disk disk ∷ Issue 0 (Write 3 2 word) ∷ Issue 0 (Read 2 3) ∷ Settle ∷ []) (record { disks = disk ∷ []; ended = true })
+unfolding decode_pairs encode_with digits
+one_write_one_read = events_spelled (script_lines bytes) no_names
