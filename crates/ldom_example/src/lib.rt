@@ -1,0 +1,69 @@
+//! The reader's example: how a client uses what `ldom_replay` proves. The script is known, byte for byte, and runs over
+//! objects in memory that can't fail: so its report, its image and its completions are known before it runs.
+#![tactic(auto)]
+
+ghost use Rattle.std.specs.Prelude.{◌≡◌, [], ◌∷◌, IfOk, IsSomeAnd, map, codes, string_bytes};
+ghost use Rattle.ldom_replay.specs.Completed.{completed_ids};
+ghost use Rattle.ldom_example.specs.Known.{image, report, script};
+
+use infallible_io::{GrowingSink, InfallibleDisk, InfallibleHost, InfallibleSource};
+use ldom_replay::{Outcome, Status, replay};
+use std::alloc::Global;
+use vio_bytes::NoMemory;
+
+/// What came of the script.
+#[derive(Drop)]
+pub struct Example {
+    pub outcome: Outcome<InfallibleDisk>,
+    pub report: GrowingSink,
+}
+
+/// Replays one write and one read of the blocks around it over a disk of zeros. The status is 0, or memory was wanted,
+/// which is status 9.
+pub fn one_write_and_one_read(alloc: Global) -> Result<Example, NoMemory>
+    ensures report { IfOk result (λ e. e.report.written ≡ report) }
+    ensures image { IfOk result (λ e. IsSomeAnd e.outcome.image (λ disk. disk.bytes ≡ image)) }
+    ensures ids { IfOk result (λ e. completed_ids e.outcome.journal.entries ≡ 0 ∷ 1 ∷ []) }
+    ensures status { IfOk result (λ e. e.outcome.status ≡ Status.Done) }
+{
+    let words = run_words(alloc)?;
+    let mut script = known_script(alloc)?;
+    let mut report = GrowingSink::new(alloc);
+    let outcome = replay(
+        alloc,
+        &words,
+        &mut InfallibleHost::new(),
+        &mut script,
+        &mut report,
+    );
+    match outcome.status {
+        Status::Done => Ok(Example { outcome, report }),
+        // The sink fails for want of memory alone.
+        Status::NoMemory | Status::SinkFault => Err(NoMemory),
+        // The script is clean, and no other object can fail.
+        _ => unreachable!(),
+    }
+}
+
+// The lines of the script, as a source.
+fn known_script(alloc: Global) -> Result<InfallibleSource, NoMemory>
+    ensures { IfOk result (λ s. s ≡ script) }
+{
+    InfallibleSource::new(
+        alloc,
+        b"disk d0 64 8 16\nwrite d0 3 2 ab\nread d0 2 3\nsettle\n",
+    )
+}
+
+// The command: run the script over the image of zeros.
+fn run_words(alloc: Global) -> Result<Vec<String>, NoMemory>
+    ensures { IfOk result (λ words. map string_bytes words.items ≡ codes "run" ∷ codes "-" ∷ []) }
+{
+    let mut words = Vec::new(alloc);
+    words.push(String::from_str(alloc, "run")?)?;
+    words.push(String::from_str(alloc, "-")?)?;
+    Ok(words)
+}
+
+#[cfg(test)]
+mod tests;
