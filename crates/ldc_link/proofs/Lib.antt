@@ -1,0 +1,6 @@
+pub mod Following
+pub mod FollowingPuts
+pub mod Hearing
+pub mod Parts
+pub mod Saying
+pub mod Spelled

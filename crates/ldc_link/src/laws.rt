@@ -1,0 +1,42 @@
+// What follows from the definitions.
+
+ghost use Rattle.std.specs.Prelude.{◌≡◌, ◌↔◌, ◌≤◌, ◌+◌, ℕ, true, List, [], ◌∷◌, length};
+ghost use Rattle.ldc_packet.specs.declared.packet.Packet.{Packet};
+ghost use Rattle.ldc_queue.specs.Fragments.{FragmentsOf};
+ghost use Rattle.ldc_queue.specs.Messages.{AreCutFrom};
+ghost use Rattle.ldc_queue.specs.Numbered.{numbered, CountUp};
+ghost use Rattle.ldc_queue.specs.Talk.{numbered_heard, numbered_said, Turn};
+ghost use Rattle.ldc_queue.specs.Talk as turn;
+ghost use Rattle.ldc_link.specs.Calls.{Puts};
+ghost use Rattle.ldc_link.specs.Conversing.{carried, AreData, AreFull, AreNumbered, Hears, Says};
+ghost use Rattle.ldc_link.specs.Following.{Follows};
+ghost use Rattle.ldc_link.specs.LinkState.{is_up, joined_link, offered, LinkState};
+ghost use Rattle.ldc_link.specs.Taking.{Heard, TakesBytes};
+
+/// A link that is up, and has heard nothing of a message, takes data packets and hears messages exactly where the packets have the
+/// next numbers, one behind the other, and are the fragments of the messages, and of the front of one more.
+pub fn messages_are_heard_by_their_fragments()
+    ensures { (k : LinkState) (packets : List Packet) (messages : List (List ℕ)) (half : List ℕ) → is_up k ≡ true → k.half_heard ≡ [] → AreData packets
+        → ((t : LinkState) × Hears k packets messages t × (t.half_heard ≡ half))
+        ↔ (AreNumbered k.take_next packets × AreCutFrom (carried packets) messages half) }
+{}
+
+/// A link that is up puts an offered message as its fragments, with the next numbers, all but the last of 56 bytes, and can put it
+/// whole.
+pub fn messages_are_said_as_their_fragments()
+    ensures fragments { (k : LinkState) (message : List ℕ) (packets : List Packet) (t : LinkState) → is_up k ≡ true
+        → 1 ≤ length message → length message ≤ 256 → Says (offered message k) packets t → t.to_send ≡ []
+        → AreData packets × AreNumbered k.put_next packets × FragmentsOf message (carried packets) × AreFull (carried packets) }
+    ensures whole { (k : LinkState) (message : List ℕ) → is_up k ≡ true → 1 ≤ length message
+        → (packets : List Packet) × (t : LinkState) × Says (offered message k) packets t × (t.to_send ≡ []) }
+{}
+
+/// A link follows what its end said and heard since it joined: so what it puts and what it takes counts up from 1, as the law asks by
+/// which what an end has heard is a front of what the other end said.
+pub fn links_follow_what_their_ends_say()
+    ensures joins { (k : LinkState) → Follows (joined_link k) [] }
+    ensures puts { (k : LinkState) (turns : List Turn) (bytes : List ℕ) (m : LinkState) → Follows k turns → Puts k bytes m
+        → CountUp (length (numbered_said turns) + 1) (numbered (bytes ∷ [])) × Follows m (turn.Said bytes ∷ turns) }
+    ensures takes { (k : LinkState) (turns : List Turn) (bytes : List ℕ) (m : LinkState) → Follows k turns → TakesBytes k bytes (Heard m)
+        → CountUp (length (numbered_heard turns) + 1) (numbered (bytes ∷ [])) × Follows m (turn.Heard bytes ∷ turns) }
+{}

@@ -1,0 +1,10 @@
+pub mod ChannelView
+pub mod Fragments
+pub mod Messages
+pub mod Numbered
+pub mod OneStream
+pub mod QueueEvent
+pub mod QueueLog
+pub mod Talk
+pub mod Waiting
+pub mod Wire
