@@ -1,0 +1,55 @@
+// What follows from the definitions.
+
+ghost use Rattle.std.specs.Prelude.{◌≡◌, ◌≤◌, ◌⊎◌, None, Some, true, false, List, length};
+ghost use Rattle.ldc_link.specs.declared.phase.Role.TheVariants.{Initiator, Responder};
+ghost use Rattle.runs.specs.Run.{Run};
+ghost use Rattle.vio_handshake.specs.Offers.{Match};
+ghost use Rattle.vio_handshake.specs.Pairing.{Act, Agreed, AreHeard, AtRest, Pair, PairStep, met};
+ghost use Rattle.vio_handshake.specs.Rules.{Goes, GoesOpen, opens_by_put, shake_sent, shake_take, taken};
+ghost use Rattle.vio_handshake.specs.State.{IsFault, OwesWell, forgotten_shake, fresh_shake, joined_shake, next_sid, session_of, shake_up};
+ghost use Rattle.vio_handshake.specs.declared.session.HsOut.{HsOut};
+ghost use Rattle.vio_handshake.specs.declared.session.Offer.{Offer};
+ghost use Rattle.vio_tag.specs.Form.{AreCookies, IsWellFormed};
+ghost use Rattle.vio_tag.specs.declared.message.Message.{Message};
+ghost use Rattle.ldc_link.specs.declared.phase.Role.{Role};
+ghost use Rattle.vio_handshake.specs.declared.handshake.Handshake.{Handshake};
+
+/// Two handshakes whose offers match, and whose links just came up, are given each other's messages, in any
+/// interleaving of their steps: no message is a fault, and once neither end owes a message and none is on the way, both
+/// are open in one session, the initiator's next, and agree on it. Until then one of them can act, and each of the at
+/// most 12 messages is put and taken once.
+pub fn handshakes_agree()
+    ensures heard { (initiator responder : Handshake) (acts : List Act) (pair : Pair)
+        → initiator.role ≡ Initiator → responder.role ≡ Responder → Match initiator.offer responder.offer
+        → Run PairStep (met initiator responder) acts pair → AreHeard acts }
+    ensures agreed { (initiator responder : Handshake) (acts : List Act) (pair : Pair)
+        → initiator.role ≡ Initiator → responder.role ≡ Responder → Match initiator.offer responder.offer
+        → Run PairStep (met initiator responder) acts pair → AtRest pair
+        → Agreed (next_sid initiator) initiator.offer responder.offer pair }
+    ensures goes_on { (initiator responder : Handshake) (acts : List Act) (pair : Pair)
+        → initiator.role ≡ Initiator → responder.role ≡ Responder → Match initiator.offer responder.offer
+        → Run PairStep (met initiator responder) acts pair → AtRest pair ⊎ ((act : Act) × (next : Pair) × PairStep pair act next) }
+    ensures soon_over { (initiator responder : Handshake) (acts : List Act) (pair : Pair)
+        → initiator.role ≡ Initiator → responder.role ≡ Responder → Match initiator.offer responder.offer
+        → Run PairStep (met initiator responder) acts pair → length acts ≤ 24 }
+{}
+
+/// What a handshake owes can be encoded, where its offer has at most 14 cookies and none behind them, and the messages
+/// that it took were decoded.
+pub fn what_is_owed_is_well_formed()
+    ensures begins { (role : Role) (offer : Offer) → AreCookies offer.count offer.cookies → OwesWell (fresh_shake role offer) }
+    ensures link_up { (s : Handshake) → OwesWell s → OwesWell (shake_up s) }
+    ensures takes { (answer : HsOut) (s t : Handshake) (message : Message) → OwesWell s → IsWellFormed message
+        → taken answer t ≡ shake_take s message → (IsFault answer → t ≡ s) → OwesWell t }
+    ensures sent { (s : Handshake) → OwesWell s → OwesWell (shake_sent s) }
+    ensures drop_session { (s : Handshake) → OwesWell s → OwesWell (joined_shake s) }
+    ensures forget { (s : Handshake) → OwesWell s → OwesWell (forgotten_shake s) }
+{}
+
+/// A session opens exactly where `take` answers `Opens` or `sent` answers true, and stays open behind each other answer.
+pub fn opens_where_it_is_told()
+    ensures sent_opens { (s : Handshake) → opens_by_put s.role s.phase ≡ true → (session_of s ≡ None) × (session_of (shake_sent s) ≡ Some s.draft) }
+    ensures sent_stays { (s : Handshake) → opens_by_put s.role s.phase ≡ false → session_of (shake_sent s) ≡ session_of s }
+    ensures take_opens { (s t : Handshake) (message : Message) → shake_take s message ≡ GoesOpen t → (session_of s ≡ None) × (session_of t ≡ Some t.draft) }
+    ensures take_stays { (s t : Handshake) (message : Message) → shake_take s message ≡ Goes t → session_of t ≡ session_of s }
+{}
