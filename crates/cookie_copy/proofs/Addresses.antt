@@ -1,0 +1,197 @@
+-- What holds of all addresses of a copy.
+use Rattle.std.proofs.Common.{◌≡◌, ◌≢◌, subst, ℕ, zero, suc, ◌+◌, ◌-◌, ◌/◌, ◌%◌, ◌^◌, ◌<◌, ◌≤◌, min, List, [], ◌∷◌, ◌++◌, length, drop, get_or, Bool, true, false, ◌&&◌, ◌||◌, refl, sym, ap, ◌∙◌, arith, nat_eq, nat_le, Option, is_some}
+use Rattle.std.proofs.lemmas.List.{drop_more, drop_all}
+use Rattle.std.proofs.lemmas.List.Folds.{list_all-append}
+use Rattle.std.proofs.lemmas.Bool.Decides.{nat_tests}
+use Rattle.std.specs.List.{list_all, range_with_len}
+use Rattle.map_table.specs.Table.{granted}
+use Rattle.map_table.specs.declared.cookie.Cookie.{Cookie}
+use Rattle.map_table.specs.declared.table.Entry.{Entry}
+use Rattle.cookie_copy.specs.declared.fault.Access.{Access}
+use Rattle.cookie_copy.specs.Faults.{entry_allows, has_page, is_allowed, is_mapped}
+use Rattle.cookie_copy.specs.declared.window.Window.{Window}
+use Rattle.cookie_copy.specs.Moved.{moved_spots}
+use Rattle.cookie_copy.proofs.Walking.{moved_cons, moved_nothing, range-add}
+
+and_assoc : (a b c : Bool) → ((a && b) && c) ≡ (a && (b && c))
+and_assoc true b c = refl
+and_assoc false b c = refl
+
+pub and_true : (a : Bool) → (a && true) ≡ a
+and_true true = refl
+and_true false = refl
+
+and_same : (a : Bool) → (a && a) ≡ a
+and_same true = refl
+and_same false = refl
+
+-- what is asked of the addresses of a cookie and of those behind it
+pub asked_cons : (test : ℕ → Bool) (cookie : Cookie) (cookies : List Cookie) (skip n : ℕ)
+    → list_all test (moved_spots (cookie ∷ cookies) skip n)
+    ≡ (list_all test (range_with_len (cookie.address + skip) (min (cookie.size - skip) n)) && list_all test (moved_spots cookies (skip - cookie.size) (n - (cookie.size - skip))))
+asked_cons test cookie cookies skip n =
+    ap (list_all test) (moved_cons cookie cookies skip n)
+    ∙ list_all-append test (range_with_len (cookie.address + skip) (min (cookie.size - skip) n)) (moved_spots cookies (skip - cookie.size) (n - (cookie.size - skip)))
+
+pub asked_nothing : (test : ℕ → Bool) (skip n : ℕ) → list_all test (moved_spots [] skip n) ≡ true
+asked_nothing test skip n = ap (list_all test) (moved_nothing skip n)
+
+-- the cookie at an index and those behind it
+pub asked_at : (test : ℕ → Bool) (cookies : List Cookie) (i : ℕ) (d : Cookie) (skip n : ℕ) → i < length cookies
+    → list_all test (moved_spots (drop i cookies) skip n)
+    ≡ (list_all test (range_with_len ((get_or cookies i d).address + skip) (min ((get_or cookies i d).size - skip) n))
+    && list_all test (moved_spots (drop (i + 1) cookies) (skip - (get_or cookies i d).size) (n - ((get_or cookies i d).size - skip))))
+asked_at test cookies i d skip n below =
+    ap (λ (cs : List Cookie). list_all test (moved_spots cs skip n)) (drop_more cookies i d below)
+    ∙ asked_cons test (get_or cookies i d) (drop (i + 1) cookies) skip n
+
+pub asked_end : (test : ℕ → Bool) (cookies : List Cookie) (i skip n : ℕ) → length cookies ≤ i
+    → list_all test (moved_spots (drop i cookies) skip n) ≡ true
+asked_end test cookies i skip n past =
+    ap (λ (cs : List Cookie). list_all test (moved_spots cs skip n)) (drop_all i cookies past) ∙ asked_nothing test skip n
+
+-- the addresses of a range have the page size code 0 where it ends in time
+pub paged_range : (a n : ℕ) → list_all has_page (range_with_len a n) ≡ (nat_eq n 0 || nat_le (a + n) (2 ^ 60))
+paged_range a zero = refl
+paged_range a (suc zero) = grind (arith, nat_tests)
+paged_range a (suc (suc n)) = let rest = paged_range (a + 1) (suc n) in grind (arith, nat_tests)
+
+-- what is asked of each address of a page is asked of one
+page_asked : (test : ℕ → Bool) → ((a b : ℕ) → a / 8192 ≡ b / 8192 → test a ≡ test b)
+    → (a n : ℕ) → a % 8192 + suc n ≤ 8192 → list_all test (range_with_len a (suc n)) ≡ test a
+page_asked test by_page a zero within = and_true (test a)
+page_asked test by_page a (suc n) within =
+    let same : (a + 1) / 8192 ≡ a / 8192 = omega arith in
+    ap (λ (b : Bool). test a && b) (page_asked test by_page (a + 1) n (omega arith) ∙ by_page (a + 1) a same) ∙ and_same (test a)
+
+-- the first n addresses of a range, which lie in one page, and those behind them
+pub asked_page : (test : ℕ → Bool) → ((a b : ℕ) → a / 8192 ≡ b / 8192 → test a ≡ test b)
+    → (address done len k : ℕ) → done < len → k ≡ min (8192 - (address + done) % 8192) (len - done)
+    → list_all test (range_with_len (address + done) (len - done)) ≡ (test (address + done) && list_all test (range_with_len (address + (done + k)) (len - (done + k))))
+asked_page test by_page address done len k below is =
+    let a : ℕ = address + done in
+    let some : k ≡ suc (k - 1) = omega arith in
+    let split : len - done ≡ k + (len - (done + k)) = omega arith in
+    let place : a + k ≡ address + (done + k) = omega arith in
+    let front : list_all test (range_with_len a k) ≡ test a =
+    ap (λ (m : ℕ). list_all test (range_with_len a m)) some ∙ page_asked test by_page a (k - 1) (omega arith) in
+    ap (λ (m : ℕ). list_all test (range_with_len a m)) split
+    ∙ ap (list_all test) (range-add a k (len - (done + k)))
+    ∙ list_all-append test (range_with_len a k) (range_with_len (a + k) (len - (done + k)))
+    ∙ ap (λ (b : Bool). b && list_all test (range_with_len (a + k) (len - (done + k)))) front
+    ∙ ap (λ (p : ℕ). test a && list_all test (range_with_len p (len - (done + k)))) place
+
+pub mapped_by_page : (table : List (Option Entry)) (a b : ℕ) → a / 8192 ≡ b / 8192 → is_mapped table a ≡ is_mapped table b
+mapped_by_page table a b same = ap (λ (i : ℕ). is_some (granted table i)) same
+
+pub allowed_by_page : (access : Access) (table : List (Option Entry)) (a b : ℕ) → a / 8192 ≡ b / 8192 → is_allowed access table a ≡ is_allowed access table b
+allowed_by_page access table a b same = ap (λ (i : ℕ). entry_allows access (granted table i)) same
+
+-- one step of asking: what was found so far, and what is left
+pub asked_step : (old new found all here rest left : Bool) → left ≡ (here && rest) → new ≡ (old && found) → found ≡ here
+    → (old && left) ≡ all → (new && rest) ≡ all
+asked_step old new found all here rest left split is found_is before =
+    ap (λ (b : Bool). b && rest) (is ∙ ap (λ (b : Bool). old && b) found_is) ∙ and_assoc old here rest ∙ ap (λ (b : Bool). old && b) (sym split) ∙ before
+
+pub and_left : (a b : Bool) → (a && b) ≡ true → a ≡ true
+and_left true b is = refl
+and_left false b is = is
+
+pub and_right : (a b : Bool) → (a && b) ≡ true → b ≡ true
+and_right true b is = is
+and_right false b is = absurd (cc is)
+
+-- asking one cookie more
+pub asked_on : (test : ℕ → Bool) (cookies : List Cookie) (i : ℕ) (d : Cookie) (window next : Window) (old new found all : Bool) → i < length cookies
+    → next ≡ record { skip = window.skip - (get_or cookies i d).size; len = window.len - ((get_or cookies i d).size - window.skip) }
+    → new ≡ (old && found)
+    → found ≡ list_all test (range_with_len ((get_or cookies i d).address + window.skip) (min ((get_or cookies i d).size - window.skip) window.len))
+    → (old && list_all test (moved_spots (drop i cookies) window.skip window.len)) ≡ all
+    → (new && list_all test (moved_spots (drop (i + 1) cookies) next.skip next.len)) ≡ all
+asked_on test cookies i d window next old new found all below next_is is found_is before =
+    let size : ℕ = (get_or cookies i d).size in
+    let here : Bool = list_all test (range_with_len ((get_or cookies i d).address + window.skip) (min (size - window.skip) window.len)) in
+    let rest : Bool = list_all test (moved_spots (drop (i + 1) cookies) (window.skip - size) (window.len - (size - window.skip))) in
+    subst (λ (w : Window). (new && list_all test (moved_spots (drop (i + 1) cookies) w.skip w.len)) ≡ all) (sym next_is)
+    (asked_step old new found all here rest (list_all test (moved_spots (drop i cookies) window.skip window.len)) (asked_at test cookies i d window.skip window.len below) is found_is before)
+
+-- the part of a cookie has pages where it ends in time
+pub part_paged : (a skip part size len : ℕ) → part ≡ min (size - skip) len → part ≢ 0 → a ≤ 2 ^ 60
+    → nat_le (skip + part) (2 ^ 60 - a) ≡ list_all has_page (range_with_len (a + skip) (min (size - skip) len))
+part_paged a skip part size len is some below =
+    let whole = paged_range (a + skip) part in
+    let same : nat_le (skip + part) (2 ^ 60 - a) ≡ list_all has_page (range_with_len (a + skip) part) = grind (arith, nat_tests) in
+    same ∙ ap (λ (n : ℕ). list_all has_page (range_with_len (a + skip) n)) is
+
+-- a part that has pages ends in time
+pub paged_below : (a n : ℕ) → n ≢ 0 → list_all has_page (range_with_len a n) ≡ true → a + n ≤ 2 ^ 60
+paged_below a n some is = let whole = paged_range a n in grind (arith, nat_tests)
+
+-- behind the last cookie nothing is left to ask
+pub asked_all : (test : ℕ → Bool) (cookies : List Cookie) (i skip n : ℕ) (found all : Bool) → length cookies ≤ i
+    → (found && list_all test (moved_spots (drop i cookies) skip n)) ≡ all → found ≡ all
+asked_all test cookies i skip n found all past before =
+    sym (and_true found) ∙ ap (λ (b : Bool). found && b) (sym (asked_end test cookies i skip n past)) ∙ before
+
+-- asking one page more
+pub asked_page_on : (test : ℕ → Bool) → ((a b : ℕ) → a / 8192 ≡ b / 8192 → test a ≡ test b)
+    → (address done len k rest : ℕ) (old new found all : Bool) → done < len → rest ≡ 8192 - (address + done) % 8192 → k ≡ min rest (len - done)
+    → new ≡ (old && found) → found ≡ test (address + done)
+    → (old && list_all test (range_with_len (address + done) (len - done))) ≡ all
+    → (new && list_all test (range_with_len (address + (done + k)) (len - (done + k)))) ≡ all
+asked_page_on test by_page address done len k rest old new found all below rest_is k_is is found_is before =
+    let k_whole : k ≡ min (8192 - (address + done) % 8192) (len - done) = k_is ∙ ap (λ (m : ℕ). min m (len - done)) rest_is in
+    asked_step old new found all (test (address + done)) (list_all test (range_with_len (address + (done + k)) (len - (done + k)))) (list_all test (range_with_len (address + done) (len - done)))
+    (asked_page test by_page address done len k below k_whole) is found_is before
+
+-- the addresses of a range that are left behind its first k
+pub range_split : (address done len k next : ℕ) → next ≡ done + k → next ≤ len
+    → range_with_len (address + done) (len - done) ≡ range_with_len (address + done) k ++ range_with_len (address + next) (len - next)
+range_split address done len k next next_is within =
+    let split : len - done ≡ k + (len - next) = omega arith in
+    let place : address + done + k ≡ address + next = omega arith in
+    ap (λ (m : ℕ). range_with_len (address + done) m) split
+    ∙ range-add (address + done) k (len - next)
+    ∙ ap (λ (p : ℕ). range_with_len (address + done) k ++ range_with_len p (len - next)) place
+
+-- what all addresses of a range pass, those of its front pass and those behind it
+pub passed_front : (test : ℕ → Bool) (address done len k next : ℕ) → next ≡ done + k → next ≤ len
+    → list_all test (range_with_len (address + done) (len - done)) ≡ true → list_all test (range_with_len (address + done) k) ≡ true
+passed_front test address done len k next next_is within passed =
+    and_left _ (list_all test (range_with_len (address + next) (len - next)))
+    (sym (list_all-append test (range_with_len (address + done) k) (range_with_len (address + next) (len - next))) ∙ sym (ap (list_all test) (range_split address done len k next next_is within)) ∙ passed)
+
+pub passed_rest : (test : ℕ → Bool) (address done len k next : ℕ) → next ≡ done + k → next ≤ len
+    → list_all test (range_with_len (address + done) (len - done)) ≡ true → list_all test (range_with_len (address + next) (len - next)) ≡ true
+passed_rest test address done len k next next_is within passed =
+    and_right (list_all test (range_with_len (address + done) k)) _
+    (sym (list_all-append test (range_with_len (address + done) k) (range_with_len (address + next) (len - next))) ∙ sym (ap (list_all test) (range_split address done len k next next_is within)) ∙ passed)
+
+-- the first address of a range that isn't empty
+pub passed_first : (test : ℕ → Bool) (a n : ℕ) → 0 < n → list_all test (range_with_len a n) ≡ true → test a ≡ true
+passed_first test a zero some passed = absurd (omega arith)
+passed_first test a (suc n) some passed = and_left (test a) _ passed
+
+-- what is moved of the cookie at an index, and of those behind it
+pub moved_at : (cookies : List Cookie) (i : ℕ) (d : Cookie) (window next : Window) (k : ℕ) → i < length cookies
+    → next ≡ record { skip = window.skip - (get_or cookies i d).size; len = window.len - ((get_or cookies i d).size - window.skip) }
+    → k ≡ min ((get_or cookies i d).size - window.skip) window.len
+    → moved_spots (drop i cookies) window.skip window.len
+    ≡ range_with_len ((get_or cookies i d).address + window.skip) k ++ moved_spots (drop (i + 1) cookies) next.skip next.len
+moved_at cookies i d window next k below next_is k_is =
+    let cookie : Cookie = get_or cookies i d in
+    ap (λ (cs : List Cookie). moved_spots cs window.skip window.len) (drop_more cookies i d below)
+    ∙ moved_cons cookie (drop (i + 1) cookies) window.skip window.len
+    ∙ ap (λ (m : ℕ). range_with_len (cookie.address + window.skip) m ++ moved_spots (drop (i + 1) cookies) (window.skip - cookie.size) (window.len - (cookie.size - window.skip))) (sym k_is)
+    ∙ ap (λ (w : Window). range_with_len (cookie.address + window.skip) k ++ moved_spots (drop (i + 1) cookies) w.skip w.len) (sym next_is)
+
+-- what all addresses pass, those of the cookie pass and those behind it
+pub passed_cookie : (test : ℕ → Bool) (all here rest : List ℕ) → all ≡ here ++ rest → list_all test all ≡ true
+    → (list_all test here ≡ true) × (list_all test rest ≡ true)
+passed_cookie test all here rest is passed =
+    let both : (list_all test here && list_all test rest) ≡ true = sym (list_all-append test here rest) ∙ sym (ap (list_all test) is) ∙ passed in
+    (and_left _ _ both, and_right (list_all test here) _ both)
+
+-- behind the last cookie nothing is left
+pub moved_end : (cookies : List Cookie) (i skip n : ℕ) → length cookies ≤ i → moved_spots (drop i cookies) skip n ≡ []
+moved_end cookies i skip n past = ap (λ (cs : List Cookie). moved_spots cs skip n) (drop_all i cookies past) ∙ moved_nothing skip n

@@ -1,0 +1,13 @@
+use Rattle.std.proofs.Common.{arith}
+use Rattle.cookie_copy.specs.Faults.{is_allowed, is_mapped}
+use Rattle.cookie_copy.proofs.Addresses.{allowed_by_page, asked_page_on, mapped_by_page}
+use Rattle.cookie_copy.proofs.asking.ask_range.Goals as goal
+
+pub loop-done-preserved : goal.loop-done-preserved
+loop-done-preserved c = record {
+  within = omega arith;
+  mapped = asked_page_on (is_mapped c.args.table.now) (mapped_by_page c.args.table.now) c.args.address c.loop-done.done c.args.len c.min-done.result c.page_rest.result
+      c.loop-done.asked.mapped c.and-asked.result.mapped c.ask_page.result.mapped _ c.loop-done-test.true c.page_rest.ensures c.min-done.ensures c.and-asked.ensures.mapped c.ask_page.ensures.mapped c.loop-done.invariant.mapped;
+  allowed = asked_page_on (is_allowed c.args.access c.args.table.now) (allowed_by_page c.args.access c.args.table.now) c.args.address c.loop-done.done c.args.len c.min-done.result c.page_rest.result
+      c.loop-done.asked.allowed c.and-asked.result.allowed c.ask_page.result.allowed _ c.loop-done-test.true c.page_rest.ensures c.min-done.ensures c.and-asked.ensures.allowed c.ask_page.ensures.allowed c.loop-done.invariant.allowed;
+}

@@ -1,0 +1,4 @@
+pub mod Moved
+pub mod Faults
+pub mod Identity
+pub mod Following

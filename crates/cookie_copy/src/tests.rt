@@ -1,0 +1,168 @@
+ghost use Rattle.std.specs.Prelude.{◌≡◌, IfOk, length};
+ghost use Rattle.cookie_copy.specs.Faults.{PagesWithin};
+
+use super::*;
+use dom_memory::Memory;
+use ldc_queue::{Channel, End};
+use map_table::{Cookie, MapTable, Rights};
+use std::alloc::Global;
+use std::test::Fail;
+use vio_bytes::NoMemory;
+
+const READ: Rights = Rights {
+    read: true,
+    write: false,
+};
+
+const BOTH: Rights = Rights {
+    read: true,
+    write: true,
+};
+
+/// A table that grants the pages in order, as far as a memory of four pages has them.
+fn table_of(alloc: Global, pages: &[(u32, Rights)]) -> Result<MapTable, NoMemory>
+    ensures { IfOk result (λ table. PagesWithin table 32768) }
+{
+    let mut table = MapTable::new(alloc, 8)?;
+    for (page, rights) in pages {
+        if *page < 4 {
+            let _granted = table.grant(*page, *rights);
+        }
+    }
+    Ok(table)
+}
+
+/// The first byte of each group of eight says where it stands, in groups.
+fn numbered(alloc: Global) -> Result<Memory, NoMemory>
+    ensures { IfOk result (λ memory. length memory ≡ 32768) }
+{
+    let mut memory = Memory::new(alloc, 4)?;
+    for page in 0..4u8 {
+        memory.write(8192 * page as u64 + 8184, &[page + 1; 8]);
+        memory.write(8192 * page as u64, &[page + 0x11; 8]);
+    }
+    Ok(memory)
+}
+
+#[test]
+fn the_first_fault_is_answered(rt: HostRuntime) -> Result<(), Fail> {
+    let mut channel = Channel::new(rt.alloc(), 8)?;
+    let table = table_of(rt.alloc(), &[(0, READ)])?;
+    let mut memory = numbered(rt.alloc())?;
+    let cookies = [Cookie {
+        address: 0x1ff8,
+        size: 16,
+    }];
+    let mut word = [0xee; 8];
+    channel.configure(End::A);
+    let answer = copy_in(&channel, End::B, &table, &memory, &cookies, 0, &mut word);
+    assert_eq!(rt; answer, Err(CopyFault::Channel));
+    channel.configure(End::B);
+    let mut both = [0xee; 16];
+    let answer = copy_in(&channel, End::B, &table, &memory, &cookies, 0, &mut both);
+    assert_eq!(rt; answer, Err(CopyFault::NoMap));
+    assert_eq!(rt; both, [0xee; 16]);
+    for (offset, fault) in [
+        (4, CopyFault::BadAlign),
+        (16, CopyFault::Short),
+        (u64::MAX - 7, CopyFault::Short),
+    ] {
+        let answer = copy_in(
+            &channel,
+            End::B,
+            &table,
+            &memory,
+            &cookies,
+            offset,
+            &mut word,
+        );
+        assert_eq!(rt; answer, Err(fault), "offset {offset}");
+    }
+    assert_eq!(rt; word, [0xee; 8]);
+    let answer = copy_in(&channel, End::B, &table, &memory, &cookies, 0, &mut word);
+    assert_eq!(rt; answer, Ok(()));
+    assert_eq!(rt; word, [1; 8]);
+    let answer = copy_out(&channel, End::B, &table, &mut memory, &cookies, 0, &word);
+    assert_eq!(rt; answer, Err(CopyFault::NoAccess));
+    let far = [Cookie {
+        address: 1 << 60,
+        size: 8,
+    }];
+    let answer = copy_in(&channel, End::B, &table, &memory, &far, 0, &mut word);
+    assert_eq!(rt; answer, Err(CopyFault::BadPage));
+    Ok(())
+}
+
+#[test]
+fn cookies_of_all_sizes_are_one_list(rt: HostRuntime) -> Result<(), Fail> {
+    let mut channel = Channel::new(rt.alloc(), 8)?;
+    channel.configure(End::A);
+    channel.configure(End::B);
+    // index 0 is page 2, index 1 page 0, index 2 page 3
+    let table = table_of(rt.alloc(), &[(2, BOTH), (0, BOTH), (3, BOTH)])?;
+    let mut memory = numbered(rt.alloc())?;
+    let cookies = [
+        Cookie {
+            address: 8184,
+            size: 8,
+        },
+        Cookie {
+            address: 16384,
+            size: 8192,
+        },
+        Cookie {
+            address: 0,
+            size: 16384,
+        },
+    ];
+    // the place in the cookies, and what stands there
+    for (offset, byte) in [
+        (0, 3),
+        (8, 0x14),
+        (8192, 4),
+        (8200, 0x13),
+        (16384, 3),
+        (16392, 0x11),
+        (24576, 1),
+    ] {
+        let mut word = [0xee; 8];
+        let answer = copy_in(
+            &channel,
+            End::B,
+            &table,
+            &memory,
+            &cookies,
+            offset,
+            &mut word,
+        );
+        assert_eq!(rt; answer, Ok(()));
+        assert_eq!(rt; word, [byte; 8], "offset {offset}");
+    }
+    // from the last word of the second cookie over all of the third's first page into its second
+    let bytes = [7; 8208];
+    let answer = copy_out(
+        &channel,
+        End::B,
+        &table,
+        &mut memory,
+        &cookies,
+        8192,
+        &bytes,
+    );
+    assert_eq!(rt; answer, Ok(()));
+    for (place, byte) in [
+        (32760, 7),
+        (16384, 7),
+        (24568, 7),
+        (0, 7),
+        (8, 0),
+        (8184, 1),
+        (24576, 0x14),
+        (32752, 0),
+    ] {
+        let mut word = [0xee; 8];
+        memory.read(place, &mut word);
+        assert_eq!(rt; word, [byte; 8], "place {place}");
+    }
+    Ok(())
+}
