@@ -1,0 +1,10 @@
+pub mod Messages
+pub mod WorkLog
+pub mod RingLog
+pub mod NearLog
+pub mod DiskLog
+pub mod RequestLaws
+pub mod WorkLaws
+pub mod QuietLaws
+pub mod May
+pub mod Agreement
