@@ -105,7 +105,7 @@ hears_quietly k turns bytes ph follows little is = record {
 }
 
 -- what a numbered packet adds to the parts that were heard
-parts_more : (b : Bool) (bytes : List ℕ) (fragment : Fragment) (xs : List (List ℕ)) → is_numbered bytes ≡ true → is_part bytes ≡ b → (b ≡ true → fragment_at bytes ≡ fragment)
+pub parts_more : (b : Bool) (bytes : List ℕ) (fragment : Fragment) (xs : List (List ℕ)) → is_numbered bytes ≡ true → is_part bytes ≡ b → (b ≡ true → fragment_at bytes ≡ fragment)
     → fragments_in (xs ++ numbered (bytes ∷ [])) ≡ fragments_in xs ++ joins b fragment []
 parts_more true bytes fragment xs is part same =
     ap fragments_in (loud bytes xs is) ∙ fragments_in-append xs (bytes ∷ [])

@@ -1,3 +1,4 @@
+pub mod Coming
 pub mod Following
 pub mod FollowingPuts
 pub mod Hearing

@@ -2,15 +2,15 @@
 
 ghost use Rattle.std.specs.Prelude.{◌≡◌, ◌↔◌, ◌≤◌, ◌+◌, ℕ, true, List, [], ◌∷◌, length};
 ghost use Rattle.ldc_packet.specs.declared.packet.Packet.{Packet};
-ghost use Rattle.ldc_queue.specs.Fragments.{FragmentsOf};
-ghost use Rattle.ldc_queue.specs.Messages.{AreCutFrom};
+ghost use Rattle.ldc_queue.specs.Fragments.{fragments_in, FragmentsOf};
+ghost use Rattle.ldc_queue.specs.Messages.{AllMayCome, AreCutFrom};
 ghost use Rattle.ldc_queue.specs.Numbered.{numbered, CountUp};
 ghost use Rattle.ldc_queue.specs.Talk.{numbered_heard, numbered_said, Turn};
 ghost use Rattle.ldc_queue.specs.Talk as turn;
 ghost use Rattle.ldc_link.specs.Calls.{Puts};
 ghost use Rattle.ldc_link.specs.Conversing.{carried, AreData, AreFull, AreNumbered, Hears, Says};
 ghost use Rattle.ldc_link.specs.Following.{Follows};
-ghost use Rattle.ldc_link.specs.LinkState.{is_up, joined_link, offered, LinkState};
+ghost use Rattle.ldc_link.specs.LinkState.{cleared, is_up, joined_link, offered, LinkState};
 ghost use Rattle.ldc_link.specs.Taking.{Heard, TakesBytes};
 
 /// A link that is up, and has heard nothing of a message, takes data packets and hears messages exactly where the packets have the
@@ -32,11 +32,17 @@ pub fn messages_are_said_as_their_fragments()
 {}
 
 /// A link follows what its end said and heard since it joined: so what it puts and what it takes counts up from 1, as the law asks by
-/// which what an end has heard is a front of what the other end said.
+/// which what an end has heard is a front of what the other end said. An offer and a message that was seen change nothing of it, and
+/// each part that it takes is one that may come behind those that it took.
 pub fn links_follow_what_their_ends_say()
     ensures joins { (k : LinkState) → Follows (joined_link k) [] }
     ensures puts { (k : LinkState) (turns : List Turn) (bytes : List ℕ) (m : LinkState) → Follows k turns → Puts k bytes m
         → CountUp (length (numbered_said turns) + 1) (numbered (bytes ∷ [])) × Follows m (turn.Said bytes ∷ turns) }
     ensures takes { (k : LinkState) (turns : List Turn) (bytes : List ℕ) (m : LinkState) → Follows k turns → TakesBytes k bytes (Heard m)
         → CountUp (length (numbered_heard turns) + 1) (numbered (bytes ∷ [])) × Follows m (turn.Heard bytes ∷ turns) }
+    ensures comes { (k : LinkState) (turns : List Turn) (bytes : List ℕ) (m : LinkState) → Follows k turns
+        → AllMayCome [] (fragments_in (numbered_heard turns)) → TakesBytes k bytes (Heard m)
+        → AllMayCome [] (fragments_in (numbered_heard (turn.Heard bytes ∷ turns))) }
+    ensures offers { (k : LinkState) (turns : List Turn) (message : List ℕ) → Follows k turns → Follows (offered message k) turns }
+    ensures clears { (k : LinkState) (turns : List Turn) → Follows k turns → Follows (cleared k) turns }
 {}
