@@ -278,77 +278,97 @@ fn ring() -> MsgBody {
     }
 }
 
-/// A wrong message for each state, behind 0, 1, 2 and more messages of a disk's handshake, and its fault.
-fn wrong_messages() -> [(Subtype, u32, MsgBody, Cause); 11] {
+fn info(sid: u32, body: MsgBody) -> Message {
+    Message {
+        subtype: Subtype::Info,
+        sid,
+        body,
+    }
+}
+
+fn ack(sid: u32, body: MsgBody) -> Message {
+    Message {
+        subtype: Subtype::Ack,
+        sid,
+        body,
+    }
+}
+
+fn nack(body: MsgBody) -> Message {
+    Message {
+        subtype: Subtype::Nack,
+        sid: 1,
+        body,
+    }
+}
+
+const CLIENT: Role = Role::Initiator;
+
+const SERVER: Role = Role::Responder;
+
+/// A wrong message for each state of a disk's handshake, and its fault: behind so many messages, at the end that waits there, and
+/// behind all of them at either end in session.
+fn wrong_messages() -> [(usize, Role, Message, Cause); 12] {
     let other = Cause::Sid {
         expected: 1,
         found: 2,
     };
+    let unregistered = MsgBody::DringUnreg { ident: 1 };
     [
-        (Subtype::Info, 2, MsgBody::Rdx, Cause::Order),
-        (Subtype::Ack, 1, version(2), Cause::Refused),
-        (Subtype::Ack, 2, version(1), other),
-        (Subtype::Ack, 1, said_of_disk(), Cause::Refused),
-        (Subtype::Info, 1, said_of_disk(), Cause::Order),
-        (Subtype::Nack, 1, ring(), Cause::Refused),
-        (Subtype::Ack, 1, MsgBody::Rdx, Cause::Order),
-        (Subtype::Info, 1, MsgBody::Rdx, Cause::Order),
-        (Subtype::Nack, 1, MsgBody::Rdx, Cause::Order),
-        (Subtype::Nack, 1, MsgBody::Rdx, Cause::Refused),
-        (Subtype::Info, 2, MsgBody::DringUnreg { ident: 1 }, other),
+        (0, SERVER, info(2, MsgBody::Rdx), Cause::Order),
+        (1, CLIENT, ack(1, version(2)), Cause::Refused),
+        (2, SERVER, ack(2, version(1)), other),
+        (3, CLIENT, ack(1, said_of_disk()), Cause::Refused),
+        (4, SERVER, info(1, said_of_disk()), Cause::Order),
+        (5, CLIENT, nack(ring()), Cause::Refused),
+        (6, SERVER, ack(1, MsgBody::Rdx), Cause::Order),
+        (7, CLIENT, info(1, MsgBody::Rdx), Cause::Order),
+        (8, CLIENT, nack(MsgBody::Rdx), Cause::Order),
+        (9, SERVER, nack(MsgBody::Rdx), Cause::Refused),
+        (10, CLIENT, info(2, unregistered), other),
+        (10, SERVER, ack(1, MsgBody::Rdx), Cause::Order),
     ]
 }
 
-/// The end that waits behind so many messages.
-fn waiting(turns: usize, initiator: &Offer, responder: &Offer) -> Handshake {
+/// An end behind so many messages.
+fn end_behind(turns: usize, role: Role, initiator: &Offer, responder: &Offer) -> Handshake {
     let (initiator, responder) = after(turns, initiator, responder);
-    if initiator.owed.is_some() {
-        responder
-    } else {
-        initiator
+    match role {
+        Role::Initiator => initiator,
+        Role::Responder => responder,
     }
 }
 
 #[test]
 fn a_wrong_message_in_each_state_has_its_fault(rt: HostRuntime) -> Result<(), Fail> {
-    for (turns, (subtype, sid, body, cause)) in wrong_messages().iter().enumerate() {
-        let message = Message {
-            subtype: *subtype,
-            sid: *sid,
-            body: *body,
-        };
-        let mut end = waiting(turns, &client(1), &server(1));
+    for (turns, role, message, cause) in wrong_messages() {
+        let mut end = end_behind(turns, role, &client(1), &server(1));
         assert_eq!(rt;
             give(&mut end, &message),
-            Some(HsOut::Fault(*cause)),
-            "behind {turns}"
+            Some(HsOut::Fault(cause)),
+            "behind {turns}, {role:?}"
         );
     }
     Ok(())
 }
 
-/// A wrong message for the two states that a port alone has, behind 6 and 7 messages, and its fault: the guest waits for
-/// the switch's ring, the switch for the answer to it.
-fn wrong_messages_of_a_port() -> [(usize, Subtype, MsgBody, Cause); 2] {
+/// A wrong message for the two states that a port alone has, and its fault: the guest waits for the switch's ring, the switch for the
+/// answer to it.
+fn wrong_messages_of_a_port() -> [(usize, Role, Message, Cause); 2] {
     [
-        (6, Subtype::Ack, ring(), Cause::Order),
-        (7, Subtype::Nack, ring(), Cause::Refused),
+        (6, CLIENT, ack(1, ring()), Cause::Order),
+        (7, SERVER, nack(ring()), Cause::Refused),
     ]
 }
 
 #[test]
 fn a_wrong_message_about_the_second_ring_has_its_fault(rt: HostRuntime) -> Result<(), Fail> {
-    for (turns, subtype, body, cause) in wrong_messages_of_a_port() {
-        let message = Message {
-            subtype,
-            sid: 1,
-            body,
-        };
-        let mut end = waiting(turns, &guest(), &switch());
+    for (turns, role, message, cause) in wrong_messages_of_a_port() {
+        let mut end = end_behind(turns, role, &guest(), &switch());
         assert_eq!(rt;
             give(&mut end, &message),
             Some(HsOut::Fault(cause)),
-            "behind {turns}"
+            "behind {turns}, {role:?}"
         );
     }
     Ok(())
