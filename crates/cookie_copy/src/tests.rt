@@ -93,73 +93,100 @@ fn the_first_fault_is_answered(rt: HostRuntime) -> Result<(), Fail> {
     Ok(())
 }
 
-#[test]
-fn cookies_of_all_sizes_are_one_list(rt: HostRuntime) -> Result<(), Fail> {
-    let mut channel = Channel::new(rt.alloc(), 8)?;
+/// Cookies of 8 bytes, of a page and of two, behind one another: the last word of the page at index 0, the page at index 2, the pages
+/// at the indices 0 and 1.
+const COOKIES: [Cookie; 3] = [
+    Cookie {
+        address: 8184,
+        size: 8,
+    },
+    Cookie {
+        address: 16384,
+        size: 8192,
+    },
+    Cookie {
+        address: 0,
+        size: 16384,
+    },
+];
+
+/// Places in these cookies, and what stands there.
+const WORDS: [(u64, u8); 7] = [
+    (0, 3),
+    (8, 0x14),
+    (8192, 4),
+    (8200, 0x13),
+    (16384, 3),
+    (16392, 0x11),
+    (24576, 1),
+];
+
+/// Places in the memory, and what stands there once sevens were copied out from the last word of the second cookie over all of the
+/// third's first page into its second.
+const WORDS_BEHIND: [(u64, u8); 8] = [
+    (32760, 7),
+    (16384, 7),
+    (24568, 7),
+    (0, 7),
+    (8, 0),
+    (8184, 1),
+    (24576, 0x14),
+    (32752, 0),
+];
+
+/// A channel whose two ends are up.
+fn channel_up(alloc: Global) -> Result<Channel, NoMemory> {
+    let mut channel = Channel::new(alloc, 8)?;
     channel.configure(End::A);
     channel.configure(End::B);
-    // index 0 is page 2, index 1 page 0, index 2 page 3
-    let table = table_of(rt.alloc(), &[(2, BOTH), (0, BOTH), (3, BOTH)])?;
-    let mut memory = numbered(rt.alloc())?;
-    let cookies = [
-        Cookie {
-            address: 8184,
-            size: 8,
-        },
-        Cookie {
-            address: 16384,
-            size: 8192,
-        },
-        Cookie {
-            address: 0,
-            size: 16384,
-        },
-    ];
-    // the place in the cookies, and what stands there
-    for (offset, byte) in [
-        (0, 3),
-        (8, 0x14),
-        (8192, 4),
-        (8200, 0x13),
-        (16384, 3),
-        (16392, 0x11),
-        (24576, 1),
-    ] {
+    Ok(channel)
+}
+
+/// Index 0 is page 2, index 1 page 0, index 2 page 3.
+fn mixed_table(alloc: Global) -> Result<MapTable, NoMemory>
+    ensures { IfOk result (λ table. PagesWithin table 32768) }
+{
+    table_of(alloc, &[(2, BOTH), (0, BOTH), (3, BOTH)])
+}
+
+#[test]
+fn cookies_of_all_sizes_are_read_as_one_list(rt: HostRuntime) -> Result<(), Fail> {
+    let channel = channel_up(rt.alloc())?;
+    let table = mixed_table(rt.alloc())?;
+    let memory = numbered(rt.alloc())?;
+    for (offset, byte) in WORDS {
         let mut word = [0xee; 8];
         let answer = copy_in(
             &channel,
             End::B,
             &table,
             &memory,
-            &cookies,
+            &COOKIES,
             offset,
             &mut word,
         );
         assert_eq!(rt; answer, Ok(()));
         assert_eq!(rt; word, [byte; 8], "offset {offset}");
     }
-    // from the last word of the second cookie over all of the third's first page into its second
-    let bytes = [7; 8208];
+    Ok(())
+}
+
+#[test]
+fn cookies_of_all_sizes_are_written_as_one_list(rt: HostRuntime) -> Result<(), Fail> {
+    let channel = channel_up(rt.alloc())?;
+    let table = mixed_table(rt.alloc())?;
+    let mut memory = numbered(rt.alloc())?;
     let answer = copy_out(
         &channel,
         End::B,
         &table,
         &mut memory,
-        &cookies,
+        &COOKIES,
         8192,
-        &bytes,
+        &[7; 8208],
     );
     assert_eq!(rt; answer, Ok(()));
-    for (place, byte) in [
-        (32760, 7),
-        (16384, 7),
-        (24568, 7),
-        (0, 7),
-        (8, 0),
-        (8184, 1),
-        (24576, 0x14),
-        (32752, 0),
-    ] {
+    for (place, byte) in WORDS_BEHIND {
         let mut word = [0xee; 8];
         memory.read(place, &mut word);
         assert_eq!(rt; word, [byte; 8], "place {place}");
