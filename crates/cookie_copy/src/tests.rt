@@ -44,57 +44,79 @@ fn numbered(alloc: Global) -> Result<Memory, NoMemory>
     Ok(memory)
 }
 
+/// A channel whose two ends are up.
+fn channel_up(alloc: Global) -> Result<Channel, NoMemory> {
+    let mut channel = Channel::new(alloc, 8)?;
+    channel.configure(End::A);
+    channel.configure(End::B);
+    Ok(channel)
+}
+
+/// Two words, the last of a page and the first of the next.
+const ACROSS: [Cookie; 1] = [Cookie {
+    address: 0x1ff8,
+    size: 16,
+}];
+
+/// A word behind all addresses that have a page.
+const FAR: [Cookie; 1] = [Cookie {
+    address: 1 << 60,
+    size: 8,
+}];
+
 #[test]
 fn the_first_fault_is_answered(rt: HostRuntime) -> Result<(), Fail> {
     let mut channel = Channel::new(rt.alloc(), 8)?;
     let table = table_of(rt.alloc(), &[(0, READ)])?;
-    let mut memory = numbered(rt.alloc())?;
-    let cookies = [Cookie {
-        address: 0x1ff8,
-        size: 16,
-    }];
+    let memory = numbered(rt.alloc())?;
     let mut word = [0xee; 8];
     channel.configure(End::A);
-    let answer = copy_in(&channel, End::B, &table, &memory, &cookies, 0, &mut word);
+    let answer = copy_in(&channel, End::B, &table, &memory, &ACROSS, 0, &mut word);
     assert_eq!(rt; answer, Err(CopyFault::Channel));
     channel.configure(End::B);
-    let mut both = [0xee; 16];
-    let answer = copy_in(&channel, End::B, &table, &memory, &cookies, 0, &mut both);
-    assert_eq!(rt; answer, Err(CopyFault::NoMap));
-    assert_eq!(rt; both, [0xee; 16]);
     for (offset, fault) in [
         (4, CopyFault::BadAlign),
         (16, CopyFault::Short),
         (u64::MAX - 7, CopyFault::Short),
+        (8, CopyFault::NoMap),
     ] {
         let answer = copy_in(
             &channel,
             End::B,
             &table,
             &memory,
-            &cookies,
+            &ACROSS,
             offset,
             &mut word,
         );
         assert_eq!(rt; answer, Err(fault), "offset {offset}");
     }
-    assert_eq!(rt; word, [0xee; 8]);
-    let answer = copy_in(&channel, End::B, &table, &memory, &cookies, 0, &mut word);
-    assert_eq!(rt; answer, Ok(()));
-    assert_eq!(rt; word, [1; 8]);
-    let answer = copy_out(&channel, End::B, &table, &mut memory, &cookies, 0, &word);
-    assert_eq!(rt; answer, Err(CopyFault::NoAccess));
-    let far = [Cookie {
-        address: 1 << 60,
-        size: 8,
-    }];
-    let answer = copy_in(&channel, End::B, &table, &memory, &far, 0, &mut word);
+    let answer = copy_in(&channel, End::B, &table, &memory, &FAR, 0, &mut word);
     assert_eq!(rt; answer, Err(CopyFault::BadPage));
+    assert_eq!(rt; word, [0xee; 8]);
     Ok(())
 }
 
-/// Cookies of 8 bytes, of a page and of two, behind one another: the last word of the page at index 0, the page at index 2, the pages
-/// at the indices 0 and 1.
+#[test]
+fn a_refused_copy_moves_no_byte(rt: HostRuntime) -> Result<(), Fail> {
+    let channel = channel_up(rt.alloc())?;
+    let table = table_of(rt.alloc(), &[(0, READ)])?;
+    let mut memory = numbered(rt.alloc())?;
+    let mut both = [0xee; 16];
+    let answer = copy_in(&channel, End::B, &table, &memory, &ACROSS, 0, &mut both);
+    assert_eq!(rt; answer, Err(CopyFault::NoMap));
+    assert_eq!(rt; both, [0xee; 16]);
+    let mut word = [0xee; 8];
+    let answer = copy_out(&channel, End::B, &table, &mut memory, &ACROSS, 0, &word);
+    assert_eq!(rt; answer, Err(CopyFault::NoAccess));
+    let answer = copy_in(&channel, End::B, &table, &memory, &ACROSS, 0, &mut word);
+    assert_eq!(rt; answer, Ok(()));
+    assert_eq!(rt; word, [1; 8]);
+    Ok(())
+}
+
+/// Cookies of 8 bytes, of a page and of two, behind one another: the last word of the page at index 0, the page at
+/// index 2, the pages at the indices 0 and 1.
 const COOKIES: [Cookie; 3] = [
     Cookie {
         address: 8184,
@@ -121,8 +143,8 @@ const WORDS: [(u64, u8); 7] = [
     (24576, 1),
 ];
 
-/// Places in the memory, and what stands there once sevens were copied out from the last word of the second cookie over all of the
-/// third's first page into its second.
+/// Places in the memory, and what stands there once sevens were copied out from the last word of the second cookie
+/// over all of the third's first page into its second.
 const WORDS_BEHIND: [(u64, u8); 8] = [
     (32760, 7),
     (16384, 7),
@@ -133,14 +155,6 @@ const WORDS_BEHIND: [(u64, u8); 8] = [
     (24576, 0x14),
     (32752, 0),
 ];
-
-/// A channel whose two ends are up.
-fn channel_up(alloc: Global) -> Result<Channel, NoMemory> {
-    let mut channel = Channel::new(alloc, 8)?;
-    channel.configure(End::A);
-    channel.configure(End::B);
-    Ok(channel)
-}
 
 /// Index 0 is page 2, index 1 page 0, index 2 page 3.
 fn mixed_table(alloc: Global) -> Result<MapTable, NoMemory>

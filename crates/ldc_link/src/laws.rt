@@ -31,9 +31,9 @@ pub fn messages_are_said_as_their_fragments()
         → (packets : List Packet) × (t : LinkState) × Says (offered message k) packets t × (t.to_send ≡ []) }
 {}
 
-/// A link follows what its end said and heard since it joined: so what it puts and what it takes counts up from 1, as the law asks by
-/// which what an end has heard is a front of what the other end said. An offer and a message that was seen change nothing of it, and
-/// each part that it takes is one that may come behind those that it took.
+/// A link follows what its end said and heard since it joined: so what it puts and what it takes counts up from 1, as
+/// the law asks by which what an end has heard is a front of what the other end said. An offer and a message that was
+/// seen change nothing of it, and each part that it takes is one that may come behind those that it took.
 pub fn links_follow_what_their_ends_say()
     ensures joins { (k : LinkState) → Follows (joined_link k) [] }
     ensures puts { (k : LinkState) (turns : List Turn) (bytes : List ℕ) (m : LinkState) → Follows k turns → Puts k bytes m
@@ -43,6 +43,7 @@ pub fn links_follow_what_their_ends_say()
     ensures comes { (k : LinkState) (turns : List Turn) (bytes : List ℕ) (m : LinkState) → Follows k turns
         → AllMayCome [] (fragments_in (numbered_heard turns)) → TakesBytes k bytes (Heard m)
         → AllMayCome [] (fragments_in (numbered_heard (turn.Heard bytes ∷ turns))) }
-    ensures offers { (k : LinkState) (turns : List Turn) (message : List ℕ) → Follows k turns → Follows (offered message k) turns }
+    ensures offers { (k : LinkState) (turns : List Turn) (message : List ℕ) → Follows k turns
+        → Follows (offered message k) turns }
     ensures clears { (k : LinkState) (turns : List Turn) → Follows k turns → Follows (cleared k) turns }
 {}

@@ -306,8 +306,8 @@ const CLIENT: Role = Role::Initiator;
 
 const SERVER: Role = Role::Responder;
 
-/// A wrong message for each state of a disk's handshake, and its fault: behind so many messages, at the end that waits there, and
-/// behind all of them at either end in session.
+/// A wrong message for each state of a disk's handshake, and its fault: behind so many messages, at the end that waits
+/// there, and behind all of them at either end in session.
 fn wrong_messages() -> [(usize, Role, Message, Cause); 12] {
     let other = Cause::Sid {
         expected: 1,
@@ -352,8 +352,8 @@ fn a_wrong_message_in_each_state_has_its_fault(rt: HostRuntime) -> Result<(), Fa
     Ok(())
 }
 
-/// A wrong message for the two states that a port alone has, and its fault: the guest waits for the switch's ring, the switch for the
-/// answer to it.
+/// A wrong message for the two states that a port alone has, and its fault: the guest waits for the switch's ring, the
+/// switch for the answer to it.
 fn wrong_messages_of_a_port() -> [(usize, Role, Message, Cause); 2] {
     [
         (6, CLIENT, ack(1, ring()), Cause::Order),
