@@ -1,3 +1,4 @@
+pub mod Files
 pub mod HostDiskState
 pub mod Hosts
 pub mod ListHostState

@@ -1,6 +1,99 @@
 use crate::*;
+use std::fs;
 use std::test::Fail;
 use vio_io::{AttachFault, Failed, Host, Store};
+
+/// A file whose calls are interrupted so often, and then answer so: how many bytes they move, or their fault.
+#[derive(Drop)]
+struct AnsweringFile {
+    interruptions: u32,
+    answer: Result<usize, FileFault>,
+}
+
+impl AnsweringFile {
+    fn call(&mut self) -> Result<usize, FileFault> {
+        if self.interruptions == 0 {
+            return self.answer;
+        }
+        self.interruptions -= 1;
+        Err(FileFault::Interrupted)
+    }
+}
+
+impl ImageFile for AnsweringFile {
+    ghost use Rattle.std.specs.Prelude.{None};
+
+    ghost content = { λ _. None };
+
+    ghost size = { λ _. 8192 };
+
+    ghost told_size = { λ _. tt };
+
+    fn len(&self) -> u64 {
+        8192
+    }
+
+    fn read_some(&mut self, _: u64, buf: &mut [u8]) -> Result<usize, FileFault> {
+        Ok(self.call()?.min(buf.len()))
+    }
+
+    fn write_some(&mut self, _: u64, bytes: &[u8]) -> Result<usize, FileFault> {
+        Ok(self.call()?.min(bytes.len()))
+    }
+
+    fn sync(&mut self) -> Result<(), FileFault> {
+        self.call()?;
+        Ok(())
+    }
+}
+
+// Whether reading a block of a file that answers so succeeds. It counts a fault where it doesn't.
+fn reads(interruptions: u32, answer: Result<usize, FileFault>) -> Option<bool> {
+    let mut store = FileStore::new(AnsweringFile {
+        interruptions,
+        answer,
+    });
+    let read = store.read_at(512, &mut [0; 512]).is_ok();
+    (read != store.faulty()).then_some(read)
+}
+
+// The same of writing a block.
+fn writes(interruptions: u32, answer: Result<usize, FileFault>) -> Option<bool> {
+    let mut store = FileStore::new(AnsweringFile {
+        interruptions,
+        answer,
+    });
+    let wrote = store.write_at(512, &[0; 512]).is_ok();
+    (wrote != store.faulty()).then_some(wrote)
+}
+
+// The same of flushing.
+fn flushes(interruptions: u32, answer: Result<usize, FileFault>) -> Option<bool> {
+    let mut store = FileStore::new(AnsweringFile {
+        interruptions,
+        answer,
+    });
+    let flushed = store.flush().is_ok();
+    (flushed != store.faulty()).then_some(flushed)
+}
+
+#[test]
+fn a_short_call_of_a_file_is_a_fault_and_an_interrupted_one_is_tried_again(rt: HostRuntime) {
+    for (interruptions, answer, succeeds) in [
+        (0u32, Ok(512usize), true),
+        (0, Ok(511), false),
+        (0, Ok(0), false),
+        (0, Err(FileFault::Other), false),
+        (9_999, Ok(512), true),
+        (9_999, Ok(511), false),
+        (10_000, Ok(512), false),
+    ] {
+        assert_eq!(rt; reads(interruptions, answer), Some(succeeds));
+        assert_eq!(rt; writes(interruptions, answer), Some(succeeds));
+        let flushed = succeeds || (interruptions < 10_000 && answer.is_ok());
+        assert_eq!(rt; flushes(interruptions, answer), Some(flushed));
+    }
+}
 
 #[test]
 fn a_store_reads_what_was_written_and_fails_as_told(rt: HostRuntime) -> Result<(), Fail> {
@@ -43,9 +136,55 @@ fn a_host_attaches_its_image_and_zeros(rt: HostRuntime) -> Result<(), Fail> {
 
 #[test]
 fn the_host_of_the_program_gives_zeros(rt: HostRuntime) -> Result<(), Fail> {
-    match StdHost::new().attach(rt.alloc(), "-", 512) {
+    match StdHost::new(&rt).attach(rt.alloc(), "-", 512) {
         Ok(disk) => assert!(rt; disk.len() == 512 && !disk.faulty()),
         Err(fault) => panic!(rt; "{fault:?}"),
+    }
+    Ok(())
+}
+
+// A name for a file of this process in the temporary folder.
+fn name_of_a_file(rt: &HostRuntime) -> Result<String, Fail> {
+    let folder = std::env::temp_dir(rt)?;
+    let id = std::process::id(rt.process());
+    Ok(format!(in rt.alloc(); "{}/flat_store.{id}.img", folder.as_str())?)
+}
+
+#[test]
+fn a_file_keeps_what_was_written_and_its_length(rt: HostRuntime) -> Result<(), Fail> {
+    let alloc = rt.alloc();
+    let name = name_of_a_file(&rt)?;
+    let mut host = StdHost::new(&rt);
+    assert!(rt; host.attach(alloc, name.as_str(), 512).is_err());
+    fs::write(&rt, name.as_str(), [5u8; 1500].as_slice())?;
+    match host.attach(alloc, name.as_str(), 512) {
+        Ok(mut disk) => {
+            let mut block = [0u8; 512];
+            assert_eq!(rt; disk.len(), 1500);
+            assert_eq!(rt; disk.write_at(512, &[9; 512]), Ok(()));
+            assert_eq!(rt; disk.read_at(512, &mut block), Ok(()));
+            assert!(rt; block == [9; 512] && disk.flush().is_ok() && !disk.faulty());
+        }
+        Err(fault) => panic!(rt; "{fault:?}"),
+    }
+    let bytes = fs::read(&rt, name.as_str())?;
+    for (at, byte) in bytes.iter().enumerate() {
+        let written = at >= 512 && at < 1024;
+        assert_eq!(rt; *byte, if written { 9 } else { 5 });
+    }
+    assert_eq!(rt; bytes.len(), 1500);
+    fs::remove_file(&rt, name.as_str())?;
+    Ok(())
+}
+
+#[test]
+fn a_host_gives_no_folder_and_no_file_without_a_name(rt: HostRuntime) -> Result<(), Fail> {
+    let mut host = StdHost::new(&rt);
+    for name in ["", "/", "/no such folder/x", "/dev"] {
+        match host.attach(rt.alloc(), name, 0) {
+            Ok(_) => panic!(rt; "{name} is given"),
+            Err(fault) => assert_eq!(rt; fault, AttachFault::Failed),
+        }
     }
     Ok(())
 }

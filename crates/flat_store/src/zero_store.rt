@@ -1,43 +1,44 @@
-ghost use Rattle.std.specs.Prelude.{◌≡◌, ◌+◌, ◌-◌, ◌≤◌, ◌↔◌, ℕ, Some, length, [], take, drop, ◌++◌, replicate, max, vec_capacity, refl, IsErr, IsTrue, IfOk, OnErr, OnOk};
+ghost use Rattle.std.specs.Prelude.{◌≡◌, ◌+◌, ◌-◌, ◌%◌, ◌^◌, ◌<◌, ◌≤◌, ◌↔◌, Some, length, [], replicate, refl, IsErr, IsTrue, IfOk, OnErr, OnOk};
 ghost use Rattle.vio_bytes.specs.Place.{put_at};
 ghost use Rattle.vio_io.specs.Causes.{Rose, next_count};
 ghost use Rattle.vio_io.specs.FaultPlan.{after_call, fails_next, unused};
 ghost use Rattle.vio_io.specs.Stores.{IsUnitRange, KeepsOutside, ReadsRange, WritesRange};
-ghost use Rattle.flat_store.specs.Zeros.{with_zeros};
+ghost use Rattle.vio_bytes.specs.Range.{range_at};
 
-use crate::mem_store::write_range;
+use crate::zero_pages::{PAGE, ZeroPages};
 use std::alloc::Global;
 use std::marker::Model;
 use vio_io::{Failed, FaultPlan, NoMemory, Store};
 
-/// A store in memory that begins as zeros, and whose calls never fail. Memory is taken for all of it, but nothing is
-/// written behind the last byte that a call wrote: those are zeros without lying there.
+/// A store in memory that begins as zeros, and whose calls never fail. Memory is taken for all of it, but only pages that
+/// a call wrote lie there: the others are zeros without being touched.
 #[derive(Drop)]
 pub struct ZeroStore {
-    front: Vec<u8>,
+    /// Those of the size and, where it ends within a page, more zeros behind it.
+    pages: ZeroPages,
     size: usize,
     plan: FaultPlan,
 }
 
 impl Model for ZeroStore {
-    ghost use Rattle.std.specs.Prelude.{◌≤◌, length, vec_capacity};
+    ghost use Rattle.std.specs.Prelude.{◌≤◌, length, take};
     ghost use Rattle.flat_store.specs.MemStoreState.{MemStoreState};
-    ghost use Rattle.flat_store.specs.Zeros.{with_zeros};
 
     ghost Value = { MemStoreState };
 
-    ghost view = { λ s. record { bytes = with_zeros s.front.items s.size; plan = s.plan } };
+    ghost view = { λ s. record { bytes = take s.size s.pages; plan = s.plan } };
 
-    ghost invariant = { λ s. (length s.front.items ≤ s.size) × (s.size ≤ vec_capacity s.front) };
+    ghost invariant = { λ s. s.size ≤ length s.pages };
 }
 
 impl ZeroStore {
     /// A store of so many zeros.
+    #[tactic(auto, using(crate::proofs::Zeros::size_zeros))]
     pub fn new(alloc: Global, size: usize) -> Result<Self, NoMemory>
         ensures { IfOk result (λ s. s ≡ record { bytes = replicate size 0; plan = unused [] }) }
     {
         Ok(ZeroStore {
-            front: Vec::with_capacity(alloc, size)?,
+            pages: ZeroPages::new(alloc, size.div_ceil(PAGE))?,
             size,
             plan: FaultPlan::new(alloc, &[])?,
         })
@@ -75,7 +76,7 @@ impl Store for ZeroStore {
         ensures plan { self.new.plan ≡ after_call self.old.plan }
     {
         self.plan.call()?;
-        read_front(&self.front, at as usize, buf);
+        read_pages(&self.pages, at as usize, buf);
         Ok(())
     }
 
@@ -95,7 +96,7 @@ impl Store for ZeroStore {
         ensures refused { OnErr result (self.new.bytes ≡ self.old.bytes) }
     {
         self.plan.call()?;
-        write_front(&mut self.front, at as usize, bytes);
+        write_pages(&mut self.pages, at as usize, bytes);
         Ok(())
     }
 
@@ -119,38 +120,38 @@ impl Store for ZeroStore {
     }
 }
 
-/// Reads from a place of a front with zeros behind it.
-fn read_front(front: &[u8], at: usize, buf: &mut [u8])
-    ensures { buf.new ≡ take (length buf.old) (drop at front.now) ++ replicate (length buf.old - length (drop at front.now)) 0 }
+/// Reads from a place, page by page.
+fn read_pages(pages: &ZeroPages, at: usize, buf: &mut [u8])
+    requires within { at + length buf.old ≤ length pages.now }
+    requires end { at + length buf.old < 2 ^ 64 }
+    ensures { buf.new ≡ range_at at (length buf.old) pages.now }
 {
-    let kept = &front[at.min(front.len())..];
-    let n = kept.len().min(buf.len());
-    buf[..n].copy_from_slice(&kept[..n]);
-    buf[n..].fill(0);
-}
-
-/// Writes at a place of a front with zeros behind it, for which there has to be room.
-fn write_front(front: &mut Vec<u8>, at: usize, bytes: &[u8])
-    requires { at + length bytes.now ≤ vec_capacity front.old }
-    ensures content { (size : ℕ) → at + length bytes.now ≤ size → length front.old.items ≤ size → with_zeros front.new.items size ≡ put_at at bytes.now (with_zeros front.old.items size) }
-    ensures len { length front.new.items ≡ max (length front.old.items) (at + length bytes.now) }
-    ensures capacity { vec_capacity front.old ≤ vec_capacity front.new }
-{
-    reach(front, at + bytes.len());
-    write_range(front, at, bytes);
-}
-
-/// Writes zeros behind a front, for which there has to be room, where it doesn't reach so far.
-fn reach(front: &mut Vec<u8>, end: usize)
-    requires { end ≤ vec_capacity front.old }
-    ensures same { (size : ℕ) → end ≤ size → length front.old.items ≤ size → with_zeros front.new.items size ≡ with_zeros front.old.items size }
-    ensures len { length front.new.items ≡ max (length front.old.items) end }
-    ensures capacity { vec_capacity front.old ≤ vec_capacity front.new }
-{
-    if front.len() < end {
-        match front.resize(end, 0) {
-            Ok(()) => {}
-            Err(_) => unreachable!(),
-        }
+    let mut done = 0;
+    while done < buf.len() {
+        let end = done + page_rest(at + done).min(buf.len() - done);
+        pages.read(at + done, &mut buf[done..end]);
+        done = end;
     }
+}
+
+/// Writes at a place, page by page.
+fn write_pages(pages: &mut ZeroPages, at: usize, bytes: &[u8])
+    requires within { at + length bytes.now ≤ length pages.old }
+    requires end { at + length bytes.now < 2 ^ 64 }
+    ensures written { pages.new ≡ put_at at bytes.now pages.old }
+    ensures same_length { length pages.new ≡ length pages.old }
+{
+    let mut done = 0;
+    while done < bytes.len() {
+        let end = done + page_rest(at + done).min(bytes.len() - done);
+        pages.write(at + done, &bytes[done..end]);
+        done = end;
+    }
+}
+
+/// The bytes from a place to the end of its page.
+fn page_rest(at: usize) -> usize
+    ensures { result ≡ 4096 - at % 4096 }
+{
+    PAGE - at % PAGE
 }

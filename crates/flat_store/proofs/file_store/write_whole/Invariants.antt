@@ -1,0 +1,5 @@
+use Rattle.std.proofs.Common.{◌≡◌}
+use Rattle.flat_store.proofs.file_store.write_whole.Given as goal
+
+abbrev pub invariant-loop : goal.invariant-loop
+invariant-loop g l = (g.F.ImageFile.content l.file ≡ g.F.ImageFile.content l.initial.file) × (g.F.ImageFile.size l.file ≡ g.F.ImageFile.size l.initial.file)

@@ -1,0 +1,135 @@
+ghost use Rattle.std.specs.Prelude.{◌≡◌, ◌≤◌, length, OnErr, OnOk};
+ghost use Rattle.vio_io.specs.Causes.{Rose, next_count};
+ghost use Rattle.vio_io.specs.Stores.{IsUnitRange, KeepsOutside, ReadsRange, WritesRange};
+
+use crate::{FileFault, ImageFile};
+use vio_io::{Failed, Store};
+
+/// How often in a row a call of the file is tried before its interruptions are a fault.
+const MOST_TRIES: u32 = 10_000;
+
+/// A file as a store: a range is moved by one call of the file, and a call that moves less is a fault. A call that the
+/// system interrupted is tried again, up to 10,000 times in a row.
+#[derive(Drop)]
+pub struct FileStore<F: ImageFile> {
+    file: F,
+    calls: u64,
+    faults: u64,
+}
+
+impl<F: ImageFile> FileStore<F> {
+    /// No call was made yet.
+    pub fn new(file: F) -> Self
+        ensures file { result.file ≡ file }
+        ensures calls { result.calls ≡ 0 }
+        ensures faults { result.faults ≡ 0 }
+    {
+        FileStore {
+            file,
+            calls: 0,
+            faults: 0,
+        }
+    }
+}
+
+impl<F: ImageFile> Store for FileStore<F> {
+    ghost content = { λ s. F.content s.file };
+
+    ghost size = { λ s. F.size s.file };
+
+    ghost calls = { λ s. s.calls };
+
+    ghost faults = { λ s. s.faults };
+
+    ghost told_size = { λ s. F.told_size s.file };
+
+    fn len(&self) -> u64 {
+        self.file.len()
+    }
+
+    fn read_at(&mut self, at: u64, buf: &mut [u8]) -> Result<(), Failed> {
+        self.calls = self.calls.saturating_add(1);
+        count_fault(read_whole(&mut self.file, at, buf), &mut self.faults)
+    }
+
+    fn write_at(&mut self, at: u64, bytes: &[u8]) -> Result<(), Failed> {
+        self.calls = self.calls.saturating_add(1);
+        count_fault(write_whole(&mut self.file, at, bytes), &mut self.faults)
+    }
+
+    fn flush(&mut self) -> Result<(), Failed> {
+        self.calls = self.calls.saturating_add(1);
+        count_fault(sync(&mut self.file), &mut self.faults)
+    }
+
+    fn faulty(&self) -> bool {
+        self.faults > 0
+    }
+}
+
+// Counts the fault of a call that failed.
+fn count_fault(done: Result<(), Failed>, faults: &mut u64) -> Result<(), Failed>
+    ensures same { result ≡ done }
+    ensures ok { OnOk result (faults.new ≡ faults.old) }
+    ensures err { OnErr result (faults.new ≡ next_count faults.old) }
+    ensures count { faults.old ≤ faults.new }
+    ensures cause { OnErr result (Rose faults.old faults.new) }
+{
+    if done.is_err() {
+        *faults = faults.saturating_add(1);
+    }
+    done
+}
+
+// Whether a call moved all of so many bytes.
+fn whole(moved: usize, wanted: usize) -> Result<(), Failed>
+    ensures { OnOk result (moved ≡ wanted) }
+{
+    if moved == wanted { Ok(()) } else { Err(Failed) }
+}
+
+fn read_whole<F: ImageFile>(file: &mut F, at: u64, buf: &mut [u8]) -> Result<(), Failed>
+    requires { IsUnitRange (F.size file.old) at (length buf.old) }
+    ensures told { OnOk result (ReadsRange (F.content file.old) at buf.new) }
+    ensures content { F.content file.new ≡ F.content file.old }
+    ensures size { F.size file.new ≡ F.size file.old }
+{
+    for _ in 0..MOST_TRIES {
+        match file.read_some(at, buf) {
+            Ok(moved) => return whole(moved, buf.len()),
+            Err(FileFault::Interrupted) => {}
+            Err(FileFault::Other) => return Err(Failed),
+        }
+    }
+    Err(Failed)
+}
+
+fn write_whole<F: ImageFile>(file: &mut F, at: u64, bytes: &[u8]) -> Result<(), Failed>
+    requires { IsUnitRange (F.size file.old) at (length bytes.now) }
+    ensures told { OnOk result (WritesRange (F.content file.old) (F.content file.new) at bytes.now) }
+    ensures outside { KeepsOutside (F.content file.old) (F.content file.new) at (length bytes.now) }
+    ensures size { F.size file.new ≡ F.size file.old }
+{
+    for _ in 0..MOST_TRIES {
+        match file.write_some(at, bytes) {
+            Ok(moved) => return whole(moved, bytes.len()),
+            Err(FileFault::Interrupted) => {}
+            Err(FileFault::Other) => return Err(Failed),
+        }
+    }
+    Err(Failed)
+}
+
+fn sync<F: ImageFile>(file: &mut F) -> Result<(), Failed>
+    ensures content { F.content file.new ≡ F.content file.old }
+    ensures size { F.size file.new ≡ F.size file.old }
+{
+    for _ in 0..MOST_TRIES {
+        match file.sync() {
+            Ok(()) => return Ok(()),
+            Err(FileFault::Interrupted) => {}
+            Err(FileFault::Other) => return Err(Failed),
+        }
+    }
+    Err(Failed)
+}
