@@ -1,5 +1,5 @@
 -- What a row asks of its words: the first word alone says which row it is.
-use Rattle.std.proofs.Common.{◌≡◌, ℕ, ◌<◌, ◌≤◌, List, [], ◌∷◌, length, get_or, codes, false, refl, sym, ◌∙◌, ap, subst, arith}
+use Rattle.std.proofs.Common.{◌≡◌, ℕ, ◌<◌, ◌≤◌, List, [], ◌∷◌, length, get_or, codes, false, Option, IfNone, refl, sym, ◌∙◌, ap, subst, arith}
 use Rattle.std.proofs.lemmas.Fmt.{decimal_injective}
 use Rattle.vdisk_msg.specs.declared.request.Fill.{Fill}
 use Rattle.vdisk_msg.specs.declared.request.Request.TheVariants.{Read, Write, Flush}
@@ -252,6 +252,12 @@ no_long_row row fields names (Issue disk Flush) long some spells =
 no_long_row row fields names Settle long some spells =
     let none = ap (λ (l : List (List ℕ)). length l) (behind row (codes "settle") fields [] spells.is) in
     omega (arith, none, some)
+
+-- what holds of a row under its first word's text holds of it under the word
+pub no_row_of_word : (row word : List ℕ) (fields : List (List ℕ)) (names : NamesState) (found : Option Unit) → row ≡ word
+    → IfNone found ((event : Event) → SpellsWords (word ∷ fields) names event → ⊥) → IfNone found ((event : Event) → SpellsWords (row ∷ fields) names event → ⊥)
+no_row_of_word row word fields names found is none =
+    subst (λ (w : List ℕ). IfNone found ((event : Event) → SpellsWords (w ∷ fields) names event → ⊥)) (sym is) none
 
 -- each row begins with a letter
 pub first_letter : (ws : List (List ℕ)) (names : NamesState) (event : Event) → SpellsWords ws names event → 97 ≤ get_or (get_or ws 0 []) 0 0

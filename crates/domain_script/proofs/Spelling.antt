@@ -1,5 +1,5 @@
 -- From the words of a line to the line, and what a line that spells an event says of the names.
-use Rattle.std.proofs.Common.{◌≡◌, ℕ, true, false, List, Option, Some, None, Result, IfNone, IfSome, IfOk, sym, subst}
+use Rattle.std.proofs.Common.{◌≡◌, ℕ, true, false, List, Option, Some, None, Result, IfNone, OnOk, OnSome, sym, subst}
 use Rattle.vdisk_msg.specs.declared.request.Request.TheVariants.{Read, Write, Flush}
 use Rattle.domain_script.specs.declared.event.Event.{Event}
 use Rattle.domain_script.specs.declared.event.Event.TheVariants.{Blank, Disk, Issue, Settle}
@@ -21,7 +21,7 @@ no_event line ws names is not_blank none (Issue disk request) spells =
     none (Issue disk request) (subst (λ (l : List (List ℕ)). SpellsWords l names (Issue disk request)) is spells)
 no_event line ws names is not_blank none Settle spells = none Settle (subst (λ (l : List (List ℕ)). SpellsWords l names Settle) is spells)
 
-pub none_spelled : (line : List ℕ) (ws : List (List ℕ)) (names : NamesState) (found : Option Event) → words line ≡ ws → (IsBlank line → false ≡ true)
+pub none_spelled : (line : List ℕ) (ws : List (List ℕ)) (names : NamesState) (found : Option Unit) → words line ≡ ws → (IsBlank line → false ≡ true)
     → IfNone found ((event : Event) → SpellsWords ws names event → ⊥) → IfNone found ((event : Event) → Spells line names event → ⊥)
 none_spelled line ws names None is not_blank none = no_event line ws names is not_blank none
 none_spelled line ws names (Some event) is not_blank none = tt
@@ -37,8 +37,8 @@ is_declared line names (Issue disk (Write block count fill)) spells =
 is_declared line names (Issue disk Flush) spells = (named_within names.disks spells.named.name disk spells.named.declared_as, tt)
 is_declared line names Settle spells = spells.some
 
-pub found_declared : (line : List ℕ) (names : NamesState) (found : Option Event) (r : Result Event LineFault) → r ≡ ok_or found Word
-    → IfSome found (Spells line names) → IfOk r (IsDeclared names)
-found_declared line names None r is spells = subst (λ (x : Result Event LineFault). IfOk x (IsDeclared names)) (sym is) tt
-found_declared line names (Some event) r is spells =
-    subst (λ (x : Result Event LineFault). IfOk x (IsDeclared names)) (sym is) (is_declared line names event spells)
+pub found_declared : (line : List ℕ) (names : NamesState) (event : Event) (found : Option Unit) (r : Result Unit LineFault) → r ≡ ok_or found Word
+    → OnSome found (Spells line names event) → OnOk r (IsDeclared names event)
+found_declared line names event None r is spells = subst (λ (x : Result Unit LineFault). OnOk x (IsDeclared names event)) (sym is) tt
+found_declared line names event (Some done) r is spells =
+    subst (λ (x : Result Unit LineFault). OnOk x (IsDeclared names event)) (sym is) (is_declared line names event spells)

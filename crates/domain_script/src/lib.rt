@@ -20,5 +20,5 @@ pub use digits::decode_lower;
 pub use event::{DiskDecl, Event, Lane, LineFault, Name};
 pub use lines::{Lines, LinesFault};
 pub use names::Names;
-pub use parser::{parse, spells_at_most_one};
+pub use parser::{parse, parse_into, spells_at_most_one};
 pub use vdisk_msg::{Fill, Request};

@@ -1,4 +1,4 @@
-ghost use Rattle.std.specs.Prelude.{◌≡◌, ◌↔◌, ℕ, List, IfErr, IfNone, IfOk, IfSome, IsTrue};
+ghost use Rattle.std.specs.Prelude.{◌≡◌, ◌↔◌, ℕ, List, IfErr, IfNone, IfOk, IsTrue, OnOk, OnSome};
 ghost use Rattle.std.specs.List.{list_all};
 ghost use Rattle.domain_script.specs.declared.event.Event.{Event as event_data};
 ghost use Rattle.domain_script.specs.NamesState.{CanNote, NamesState};
@@ -19,21 +19,37 @@ pub fn parse(line: &[u8], names: &Names) -> Result<Event, LineFault>
     ensures can { IfOk result (CanNote names.now) }
     ensures named { IfOk result (IsDeclared names.now) }
 {
-    if is_blank(line) {
-        return Ok(Event::Blank);
-    }
-    spelled_row(line, names).ok_or(LineFault::Word)
+    let mut event = Event::Blank;
+    parse_into(line, names, &mut event)?;
+    Ok(event)
 }
 
-/// The event of a line that isn't blank.
-fn spelled_row(line: &[u8], names: &Names) -> Option<Event>
+/// Does what `parse` does, and writes the event over one of the caller's: an event takes over a kilobyte, and so isn't
+/// moved from call to call. After a fault what the caller's then is, is not specified.
+pub fn parse_into(line: &[u8], names: &Names, event: &mut Event) -> Result<(), LineFault>
+    ensures event { OnOk result (Spells line.now names.now event.new) }
+    ensures fault { IfErr result (λ fault. (fault ≡ LineFault.Word) × ((event : event_data) → Spells line.now names.now event → ⊥)) }
+
+    // What the caller may do with the event.
+    ensures can { OnOk result (CanNote names.now event.new) }
+    ensures named { OnOk result (IsDeclared names.now event.new) }
+{
+    if is_blank(line) {
+        *event = Event::Blank;
+        return Ok(());
+    }
+    spelled_row(line, names, event).ok_or(LineFault::Word)
+}
+
+/// Writes the event of a line that isn't blank. None where it spells none.
+fn spelled_row(line: &[u8], names: &Names, event: &mut Event) -> Option<()>
     requires { IsBlank line.now → ⊥ }
-    ensures some { IfSome result (Spells line.now names.now) }
+    ensures some { OnSome result (Spells line.now names.now event.new) }
     ensures none { IfNone result ((event : event_data) → Spells line.now names.now event → ⊥) }
 {
     match split_once(line) {
-        Some((row, fields)) => row_with_fields(row, fields, names),
-        None => settle_row(line, names),
+        Some((row, fields)) => row_with_fields(row, fields, names, event),
+        None => settle_row(line, names, event),
     }
 }
 

@@ -1,30 +1,31 @@
-ghost use Rattle.std.specs.Prelude.{◌≡◌, ℕ, [], ◌∷◌, codes, IfNone, IfSome};
+ghost use Rattle.std.specs.Prelude.{◌≡◌, ℕ, [], ◌∷◌, codes, IfNone, IfSome, OnSome};
 ghost use Rattle.domain_script.specs.declared.event.Event.{Event as event_data};
 ghost use Rattle.domain_script.specs.Spells.{NamesDisk, SpellsWords};
 ghost use Rattle.domain_script.specs.Words.{words};
 
 use crate::numbers::{MOST_BLOCKS, MOST_SIZE, is_within_limits, number, number_up_to};
-use crate::spellings::{fill, name};
+use crate::spellings::{NO_FILL, name, put_fill};
 use crate::words::{four_words, one_word, three_words};
 use crate::{DiskDecl, Event, Names, Request};
 
-/// The event of a row that has words behind its first.
-pub fn row_with_fields(row: &[u8], fields: &[u8], names: &Names) -> Option<Event>
-    ensures some { IfSome result (SpellsWords (row.now ∷ words fields.now) names.now) }
+/// Writes the event of a row that has words behind its first. None where they spell none; what the event then is, is
+/// not specified.
+pub fn row_with_fields(row: &[u8], fields: &[u8], names: &Names, event: &mut Event) -> Option<()>
+    ensures some { OnSome result (SpellsWords (row.now ∷ words fields.now) names.now event.new) }
     ensures none { IfNone result ((event : event_data) → SpellsWords (row.now ∷ words fields.now) names.now event → ⊥) }
 {
     match row {
-        b"disk" => disk_row(fields, names),
-        b"write" => write_row(fields, names),
-        b"read" => read_row(fields, names),
-        b"flush" => flush_row(fields, names),
+        b"disk" => disk_row(fields, names, event),
+        b"write" => write_row(fields, names, event),
+        b"read" => read_row(fields, names, event),
+        b"flush" => flush_row(fields, names, event),
         _ => None,
     }
 }
 
 /// `disk NAME BLOCKS RING QUEUE`, the first line that isn't blank.
-fn disk_row(fields: &[u8], names: &Names) -> Option<Event>
-    ensures some { IfSome result (SpellsWords (codes "disk" ∷ words fields.now) names.now) }
+fn disk_row(fields: &[u8], names: &Names, event: &mut Event) -> Option<()>
+    ensures some { OnSome result (SpellsWords (codes "disk" ∷ words fields.now) names.now event.new) }
     ensures none { IfNone result ((event : event_data) → SpellsWords (codes "disk" ∷ words fields.now) names.now event → ⊥) }
 {
     let (word, size, ring, queue) = four_words(fields)?;
@@ -35,30 +36,40 @@ fn disk_row(fields: &[u8], names: &Names) -> Option<Event>
         queue: number_up_to(queue, MOST_SIZE)?,
     };
     if names.is_untouched() && is_within_limits(&disk) {
-        Some(Event::Disk(disk))
+        *event = Event::Disk(disk);
+        Some(())
     } else {
         None
     }
 }
 
 /// `write NAME BLOCK COUNT HEX`
-fn write_row(fields: &[u8], names: &Names) -> Option<Event>
-    ensures some { IfSome result (SpellsWords (codes "write" ∷ words fields.now) names.now) }
+fn write_row(fields: &[u8], names: &Names, event: &mut Event) -> Option<()>
+    ensures some { OnSome result (SpellsWords (codes "write" ∷ words fields.now) names.now event.new) }
     ensures none { IfNone result ((event : event_data) → SpellsWords (codes "write" ∷ words fields.now) names.now event → ⊥) }
 {
     let (word, block, count, digits) = four_words(fields)?;
     let disk = declared_disk(word, names)?;
-    let request = Request::Write {
-        block: number(block)?,
-        count: number(count)?,
-        fill: fill(digits)?,
+    *event = Event::Issue {
+        disk,
+        request: Request::Write {
+            block: number(block)?,
+            count: number(count)?,
+            fill: NO_FILL,
+        },
     };
-    Some(Event::Issue { disk, request })
+    match event {
+        Event::Issue {
+            request: Request::Write { fill, .. },
+            ..
+        } => put_fill(digits, fill),
+        _ => unreachable!(),
+    }
 }
 
 /// `read NAME BLOCK COUNT`
-fn read_row(fields: &[u8], names: &Names) -> Option<Event>
-    ensures some { IfSome result (SpellsWords (codes "read" ∷ words fields.now) names.now) }
+fn read_row(fields: &[u8], names: &Names, event: &mut Event) -> Option<()>
+    ensures some { OnSome result (SpellsWords (codes "read" ∷ words fields.now) names.now event.new) }
     ensures none { IfNone result ((event : event_data) → SpellsWords (codes "read" ∷ words fields.now) names.now event → ⊥) }
 {
     let (word, block, count) = three_words(fields)?;
@@ -67,29 +78,32 @@ fn read_row(fields: &[u8], names: &Names) -> Option<Event>
         block: number(block)?,
         count: number(count)?,
     };
-    Some(Event::Issue { disk, request })
+    *event = Event::Issue { disk, request };
+    Some(())
 }
 
 /// `flush NAME`
-fn flush_row(fields: &[u8], names: &Names) -> Option<Event>
-    ensures some { IfSome result (SpellsWords (codes "flush" ∷ words fields.now) names.now) }
+fn flush_row(fields: &[u8], names: &Names, event: &mut Event) -> Option<()>
+    ensures some { OnSome result (SpellsWords (codes "flush" ∷ words fields.now) names.now event.new) }
     ensures none { IfNone result ((event : event_data) → SpellsWords (codes "flush" ∷ words fields.now) names.now event → ⊥) }
 {
     let disk = declared_disk(one_word(fields)?, names)?;
-    Some(Event::Issue {
+    *event = Event::Issue {
         disk,
         request: Request::Flush,
-    })
+    };
+    Some(())
 }
 
 /// `settle`, where a disk is declared.
-pub fn settle_row(line: &[u8], names: &Names) -> Option<Event>
+pub fn settle_row(line: &[u8], names: &Names, event: &mut Event) -> Option<()>
     requires { words line.now ≡ line.now ∷ [] }
-    ensures some { IfSome result (SpellsWords (words line.now) names.now) }
+    ensures some { OnSome result (SpellsWords (words line.now) names.now event.new) }
     ensures none { IfNone result ((event : event_data) → SpellsWords (words line.now) names.now event → ⊥) }
 {
     if line == b"settle".as_slice() && names.has_disk() {
-        Some(Event::Settle)
+        *event = Event::Settle;
+        Some(())
     } else {
         None
     }

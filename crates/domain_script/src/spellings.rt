@@ -1,4 +1,4 @@
-ghost use Rattle.std.specs.Prelude.{◌≡◌, ◌↔◌, ℕ, ◌/◌, ◌≤◌, false, List, length, take, drop, IfNone, IfSome, IsTrue};
+ghost use Rattle.std.specs.Prelude.{◌≡◌, ◌↔◌, ℕ, ◌/◌, ◌≤◌, false, List, length, take, drop, replicate, IfNone, IfSome, IsTrue, OnSome};
 ghost use Rattle.hex.specs.Hex.{decode_of, encode_lower};
 ghost use Rattle.std.specs.List.{list_all};
 ghost use Rattle.domain_script.specs.declared.event.Name.{Name as name_data};
@@ -10,6 +10,12 @@ use crate::{Fill, Name};
 
 /// The most bytes that a write repeats.
 const MOST_FILL: usize = 1024;
+
+/// The fill of a write before its word is put into it: no bytes, and all zeros behind them.
+pub const NO_FILL: Fill = Fill {
+    len: 0,
+    bytes: [0; MOST_FILL],
+};
 
 /// The name that a word spells.
 pub fn name(word: &[u8]) -> Option<Name>
@@ -50,23 +56,22 @@ fn is_name_byte(b: u8) -> bool
     b.is_ascii_lowercase() || b.is_ascii_digit()
 }
 
-/// The bytes that a word spells in hexadecimal: it is their own lower-case text.
-pub fn fill(word: &[u8]) -> Option<Fill>
-    ensures some { IfSome result (SpellsFill word.now) }
+/// Puts the bytes that a word spells in hexadecimal into a fill that was all zeros: the word is their own lower-case
+/// text. None where it spells none; what the fill then is, is not specified.
+pub fn put_fill(word: &[u8], fill: &mut Fill) -> Option<()>
+    requires { fill.old.bytes ≡ replicate 1024 0 }
+    ensures some { OnSome result (SpellsFill word.now fill.new) }
     ensures none { IfNone result ((fill : fill_data) → SpellsFill word.now fill → ⊥) }
 {
     let len = word.len() / 2;
     if len == 0 || len > MOST_FILL {
         return None;
     }
-    let mut bytes = [0; MOST_FILL];
-    if !decode_front(word, &mut bytes) {
+    if !decode_front(word, &mut fill.bytes) {
         return None;
     }
-    Some(Fill {
-        len: len as u16,
-        bytes,
-    })
+    fill.len = len as u16;
+    Some(())
 }
 
 /// Reads a word as lower-case hexadecimal digits into the front of a buffer. False where it isn't that.

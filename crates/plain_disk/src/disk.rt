@@ -1,4 +1,4 @@
-ghost use Rattle.std.specs.Prelude.{◌≡◌, ◌+◌, ◌-◌, ◌*◌, ◌^◌, ◌<◌, ◌≤◌, ◌≢◌, ◌↔◌, [], Some, None, length, IfOk, IfErr, OnOk, IsTrue};
+ghost use Rattle.std.specs.Prelude.{◌≡◌, ◌+◌, ◌-◌, ◌*◌, ◌^◌, ◌<◌, ◌≤◌, ◌≢◌, ◌↔◌, [], Some, None, length, IfErr, IfNone, IfOk, IfSome, OnOk, IsTrue};
 ghost use Rattle.circular_buffer.specs.Buffer.{buffer};
 ghost use Rattle.disk_law.specs.Requests.{BadCount, BadRange, defect, operation_of};
 ghost use Rattle.vdisk_msg.specs.Fills.{IsRequest};
@@ -106,6 +106,18 @@ impl<D: Store> PlainDisk<D> {
         }
     }
 
+    /// Why `issue` would refuse a request. None exactly where it would take it up.
+    pub fn refuses(&self, request: &Request) -> Option<IssueFault>
+        ensures refused { IfSome result (λ fault. ListStep self.now.list (refusal fault request.now) self.now.list) }
+        ensures none { IfNone result ((defect self.now.list.blocks request.now ≡ None) × (length self.now.list.pending < self.now.list.ring)) }
+    {
+        match check_blocks(self.blocks, request) {
+            Ok(()) if self.pending.is_full() => Some(IssueFault::Full),
+            Ok(()) => None,
+            Err(fault) => Some(fault),
+        }
+    }
+
     /// Takes a request up and answers its id, or says why not.
     pub fn issue(&mut self, request: &Request) -> Result<u64, IssueFault>
         requires fill { IsRequest request.now }
@@ -150,16 +162,15 @@ impl<D: Store> PlainDisk<D> {
         ensures stopped { result.status ≡ 5 → StopsCalling (front_calls self.old.list.pending) self.old.calls self.new.calls }
         ensures once { result.status ≡ 5 → self.new.list.faults ≡ next_count self.old.list.faults }
     {
-        let request = match self.pending.pop_front() {
+        let request = match self.pending.front() {
             Some(request) => request,
             None => unreachable!(),
         };
-        let id = self.done;
-        self.done += 1;
+        let operation = operation_code(request);
         let served = serve(
             &mut self.image,
             self.blocks,
-            &request,
+            request,
             &mut self.buffer,
             &mut self.pattern,
         );
@@ -168,9 +179,12 @@ impl<D: Store> PlainDisk<D> {
             Err(Failed) => (EIO, 0),
         };
         self.given = given;
+        let id = self.done;
+        self.done += 1;
+        self.pending.truncate_front(self.pending.len() - 1);
         Completion {
             id,
-            operation: operation_code(&request),
+            operation,
             status,
         }
     }
@@ -194,6 +208,7 @@ impl<D: Store> PlainDisk<D> {
         ensures content { D.content result ≡ self.list.told }
         ensures faults { D.faults result ≡ self.list.faults }
         ensures calls { D.calls result ≡ self.calls }
+        ensures size { 512 * self.list.blocks ≤ D.size result }
     {
         let PlainDisk {
             image,

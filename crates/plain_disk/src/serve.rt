@@ -92,6 +92,6 @@ fn serve_write<D: Store>(
     ensures cause { OnErr result (Rose (D.faults image.old) (D.faults image.new)) }
     ensures once { OnErr result (D.faults image.new ≡ next_count (D.faults image.old)) }
 {
-    let laid = lay_pattern(pattern, fill, UNIT + fill.len as usize);
+    let laid = lay_pattern(pattern, fill, UNIT.min(total) + fill.len as usize);
     write_blocks(image, start, total, fill, &pattern[..laid])
 }

@@ -65,7 +65,7 @@ fn read_unit<D: Store>(
 }
 
 /// Writes `length` bytes of a word's repetition, whole blocks, from the place `start` of the image. The pattern holds
-/// the repetition's beginning, for a unit from each place within the word.
+/// the repetition's beginning, for the longest unit from each place within the word.
 pub fn write_blocks<D: Store>(
     image: &mut D,
     start: u64,
@@ -79,7 +79,7 @@ pub fn write_blocks<D: Store>(
     requires small { start + total < 2 ^ 64 }
     requires word { 0 < fill.now.len }
     requires pattern { pattern.now ≡ repeated fill.now 0 (length pattern.now) }
-    requires long { fill.now.len + 8192 ≤ length pattern.now }
+    requires long { fill.now.len + min 8192 total ≤ length pattern.now }
     ensures told { OnOk result (WritesRange (D.content image.old) (D.content image.new) start (repeated fill.now 0 total)) }
     ensures cut_off { OnErr result (StopsWriting fill.now start total (D.content image.old) (D.content image.new)) }
     ensures calls { OnOk result (D.calls image.new ≡ count_after (units total) (D.calls image.old)) }
@@ -115,7 +115,7 @@ fn write_unit<D: Store>(
     requires within { place + size ≤ D.size image.old }
     requires word { 0 < fill.now.len }
     requires pattern { pattern.now ≡ repeated fill.now 0 (length pattern.now) }
-    requires long { fill.now.len + 8192 ≤ length pattern.now }
+    requires long { fill.now.len + size ≤ length pattern.now }
     ensures told { OnOk result (WritesRange (D.content image.old) (D.content image.new) place (repeated fill.now at size)) }
     ensures outside { KeepsOutside (D.content image.old) (D.content image.new) place size }
     ensures calls { D.calls image.new ≡ next_count (D.calls image.old) }
