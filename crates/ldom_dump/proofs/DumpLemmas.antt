@@ -8,9 +8,9 @@ use Rattle.domain_script.specs.ScriptLines.{LinesTaken, TakesLine}
 use Rattle.domain_script.proofs.ScriptLemmas.{taken_more, taken_none}
 use Rattle.ldom_journal.specs.declared.status.Status.{Status}
 use Rattle.ldom_journal.specs.declared.status.Status.TheVariants as the_status
-use Rattle.ldom_journal.specs.Gathered.{Gathers, WroteFront}
+use Rattle.gathered_text.specs.Gathered.{Gathers, WroteFront}
 use Rattle.ldom_journal.specs.LinesEnd.{counted_lines}
-use Rattle.ldom_journal.proofs.GatheredText.{appends_last, gathers_all, gathers_more, gathers_then, wrote_front_last}
+use Rattle.gathered_text.proofs.GatheredText.{appends_last, gathers_all, gathers_more, gathers_then, wrote_front_last}
 use Rattle.ldom_dump.specs.Decoded.{AreOfLines, Decoded, IsOfLine, decoded_lines, decoded_text, is_fault, is_ok, is_packet}
 use Rattle.ldom_dump.specs.DumpReport.{Dumps, Written, dump_text, end_line}
 use Rattle.ldom_dump.specs.Going.{DumpsLines, Finishes, GathersUnlessSinkFault, PutsPacket, TellsCarried, TellsMessage}
@@ -108,6 +108,7 @@ unless_sink_fault the_status.SourceFault old new gathered text readers g = g
 unless_sink_fault the_status.SinkFault old new gathered text readers g = absurd readers
 unless_sink_fault the_status.HostFault old new gathered text readers g = absurd readers
 unless_sink_fault the_status.StoreFault old new gathered text readers g = absurd readers
+unless_sink_fault (the_status.ImageSize need have) old new gathered text readers g = absurd readers
 unless_sink_fault (the_status.Limit line kind) old new gathered text readers g = g
 unless_sink_fault the_status.NoMemory old new gathered text readers g = g
 
@@ -171,6 +172,7 @@ written (the_status.Script at fault) status old mid new gathered last all is g f
 written the_status.SourceFault status old mid new gathered last all is g f = ends the_status.SourceFault status old mid new gathered (decoded_lines all) last (dump_text all the_status.SourceFault) (is (λ e. cc e)) g f
 written the_status.HostFault status old mid new gathered last all is g f = ends the_status.HostFault status old mid new gathered (decoded_lines all) last (dump_text all the_status.HostFault) (is (λ e. cc e)) g f
 written the_status.StoreFault status old mid new gathered last all is g f = ends the_status.StoreFault status old mid new gathered (decoded_lines all) last (dump_text all the_status.StoreFault) (is (λ e. cc e)) g f
+written (the_status.ImageSize need have) status old mid new gathered last all is g f = ends (the_status.ImageSize need have) status old mid new gathered (decoded_lines all) last (dump_text all (the_status.ImageSize need have)) (is (λ e. cc e)) g f
 written (the_status.Limit at kind) status old mid new gathered last all is g f = ends (the_status.Limit at kind) status old mid new gathered (decoded_lines all) last (dump_text all (the_status.Limit at kind)) (is (λ e. cc e)) g f
 written the_status.NoMemory status old mid new gathered last all is g f = ends the_status.NoMemory status old mid new gathered (decoded_lines all) last (dump_text all the_status.NoMemory) (is (λ e. cc e)) g f
 

@@ -72,6 +72,7 @@ ended (the_status.Limit at Lines) status old new rest now held all bytes taken s
 ended the_status.Usage status old new rest now held all bytes taken stop written whole source sink = absurd stop
 ended the_status.HostFault status old new rest now held all bytes taken stop written whole source sink = absurd stop
 ended the_status.StoreFault status old new rest now held all bytes taken stop written whole source sink = absurd stop
+ended (the_status.ImageSize need have) status old new rest now held all bytes taken stop written whole source sink = absurd stop
 
 pub completes : (start now : Option (List ℕ)) (status : Status) (old new : Option (List ℕ)) (bytes : List ℕ) → Dumps start now status old new → start ≡ Some bytes → IsWhole bytes
     → status ≢ the_status.SourceFault → status ≢ the_status.SinkFault → (status ≡ the_status.Done) ⊎ (status ≡ the_status.NoMemory)

@@ -5,7 +5,7 @@ use Rattle.std.specs.List.{count_by}
 use Rattle.domain_script.specs.ScriptLines.{LinesTaken}
 use Rattle.ldom_journal.specs.declared.status.Status.{Status}
 use Rattle.ldom_journal.specs.declared.status.Status.TheVariants.{SinkFault}
-use Rattle.ldom_journal.specs.Gathered.{WroteFront}
+use Rattle.gathered_text.specs.Gathered.{WroteFront}
 use Rattle.ldom_journal.specs.LinesEnd.{counted_lines}
 use Rattle.ldom_journal.specs.Report.{cause_text}
 use Rattle.ldom_journal.specs.Status.{status_number}

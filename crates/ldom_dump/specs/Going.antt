@@ -12,7 +12,7 @@ use Rattle.ldc_packet.specs.Decoding.{Unpacks}
 use Rattle.vio_tag.specs.Decoding.{Decodes}
 use Rattle.ldom_journal.specs.declared.status.Status.{Status}
 use Rattle.ldom_journal.specs.declared.status.Status.TheVariants.{SinkFault}
-use Rattle.ldom_journal.specs.Gathered.{Gathers, WroteFront}
+use Rattle.gathered_text.specs.Gathered.{Gathers, WroteFront}
 use Rattle.ldom_journal.specs.LinesEnd.{counted_lines}
 use Rattle.ldom_dump.specs.Decoded.{AreOfLines, Carries, CarriesIn, Decoded, decoded_lines, is_fault, is_ok, is_packet}
 use Rattle.ldom_dump.specs.MessageText.{carried_line, message_line}

@@ -35,6 +35,7 @@ StopsAt status.SourceFault rest held now count = HasNoFeed held × Keeps rest (p
 StopsAt status.SinkFault rest held now count = (line : List ℕ) × TakesLine rest (prepend_known held now) line
 StopsAt status.NoMemory rest held now count = Keeps rest (prepend_known held now)
 StopsAt status.StoreFault rest held now count = ⊥
+StopsAt (status.ImageSize need have) rest held now count = ⊥
 StopsAt status.HostFault rest held now count = ⊥
 StopsAt status.Usage rest held now count = ⊥
 
@@ -47,5 +48,6 @@ IsReaders status.SourceFault = ⊤
 IsReaders status.NoMemory = ⊤
 IsReaders status.SinkFault = ⊥
 IsReaders status.StoreFault = ⊥
+IsReaders (status.ImageSize need have) = ⊥
 IsReaders status.HostFault = ⊥
 IsReaders status.Usage = ⊥

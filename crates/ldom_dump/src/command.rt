@@ -6,7 +6,8 @@ ghost use Rattle.ldom_dump.specs.Whole.{IsWhole};
 
 use crate::end_line::finish;
 use crate::lines::dump_all;
-use ldom_journal::{Status, Text};
+use gathered_text::Text;
+use ldom_journal::Status;
 use std::alloc::Global;
 use vio_io::{Sink, Source};
 

@@ -2,13 +2,14 @@
 ghost use Rattle.std.specs.Prelude.{◌≡◌, ◌≢◌, ◌+◌, ◌≤◌, ◌++◌, length, OnErr, OnOk};
 ghost use Rattle.std.specs.Io.KnownBytes.{Appends};
 ghost use Rattle.vio_io.specs.Causes.{Rose};
-ghost use Rattle.ldom_journal.specs.Gathered.{WroteFront};
+ghost use Rattle.gathered_text.specs.Gathered.{WroteFront};
 ghost use Rattle.ldom_dump.specs.DumpReport.{counts_text, end_line};
 ghost use Rattle.ldom_dump.specs.Going.{Finishes};
 
 use crate::fields::push_field;
 use crate::lines::Ended;
-use ldom_journal::{Status, TEXT_ROOM, Text, push_cause};
+use gathered_text::{TEXT_ROOM, Text};
+use ldom_journal::{Status, push_cause};
 use vio_io::{Failed, Sink};
 
 /// More bytes than the line has.

@@ -2,8 +2,8 @@
 ghost use Rattle.std.specs.Prelude.{◌≡◌, ◌+◌, ◌≤◌, ◌++◌, length};
 ghost use Rattle.ldom_dump.specs.Fields.{field_text, flag_number, head_text, subtype_word};
 
+use gathered_text::{TEXT_ROOM, Text};
 use ldc_packet::Subtype;
-use ldom_journal::{TEXT_ROOM, Text};
 
 /// A number behind its name.
 pub fn push_field(text: &mut Text, name: &[u8], value: u64)

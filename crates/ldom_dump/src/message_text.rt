@@ -7,7 +7,7 @@ ghost use Rattle.ldom_dump.specs.Fields.{field_text};
 ghost use Rattle.ldom_dump.specs.MessageText.{cookie_text, message_line, message_name, said_text};
 
 use crate::fields::{push_field, push_head};
-use ldom_journal::{TEXT_ROOM, Text};
+use gathered_text::{TEXT_ROOM, Text};
 use map_table::Cookie;
 use vio_tag::{Message, MsgBody, TagFault, tag_word};
 

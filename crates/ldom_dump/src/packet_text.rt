@@ -7,8 +7,8 @@ ghost use Rattle.ldom_dump.specs.Fields.{field_text, flag_number, head_text};
 ghost use Rattle.ldom_dump.specs.PacketText.{body_text, packet_line};
 
 use crate::fields::{flag_number, push_field, push_head};
+use gathered_text::{TEXT_ROOM, Text};
 use ldc_packet::{Body, Packet, PacketFault, Subtype};
-use ldom_journal::{TEXT_ROOM, Text};
 use vio_tag::packet_word;
 
 /// The bytes of a part that count.

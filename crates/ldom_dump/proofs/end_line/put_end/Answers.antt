@@ -1,7 +1,7 @@
 use Rattle.std.proofs.Common.{ℕ, List, ◌++◌, refl}
 use Rattle.std.proofs.lemmas.Result.{on_err_weaker, on_ok_weaker}
-use Rattle.ldom_journal.specs.Gathered.{Gathers}
-use Rattle.ldom_journal.proofs.GatheredText.{on_err, appends_last, gathers_more, wrote_front_last, wrote_front_of_more}
+use Rattle.gathered_text.specs.Gathered.{Gathers}
+use Rattle.gathered_text.proofs.GatheredText.{on_err, appends_last, gathers_more, wrote_front_last, wrote_front_of_more}
 use Rattle.ldom_dump.specs.DumpReport.{end_line}
 use Rattle.ldom_dump.proofs.end_line.put_end.Goals as goal
 

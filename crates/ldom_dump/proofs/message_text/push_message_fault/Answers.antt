@@ -1,7 +1,7 @@
 use Rattle.std.proofs.Common.{◌≡◌, ℕ, List, ◌++◌, ap, ◌∙◌}
 use Rattle.std.specs.Prelude.{codes}
 use Rattle.vio_tag.specs.CauseText.{tag_word}
-use Rattle.ldom_journal.proofs.GatheredText.{pushed_behind}
+use Rattle.gathered_text.proofs.GatheredText.{pushed_behind}
 use Rattle.ldom_dump.proofs.message_text.push_message_fault.Goals as goal
 
 pub returns-clause-text : goal.returns-clause-text

@@ -1,0 +1,140 @@
+ghost use Rattle.std.specs.Prelude.{◌≡◌, ◌+◌, ◌*◌, ◌≤◌, [], ◌++◌, length, take, decimal, OnOk, OnErr};
+ghost use Rattle.std.specs.Io.KnownBytes.{Appends};
+ghost use Rattle.hex.specs.Hex.{encode_lower};
+ghost use Rattle.vio_io.specs.Causes.{Rose};
+ghost use Rattle.gathered_text.specs.Gathered.{Gathers, WroteFront};
+
+use itoa::Buffer;
+use std::fmt;
+use std::marker::Model;
+use vio_io::{Failed, Sink};
+
+/// The most bytes that are gathered.
+pub const TEXT_ROOM: usize = 65536;
+
+/// Text that is gathered in front of a sink, so that the sink is called for some sixty kilobytes at a time. It takes no
+/// memory. The sink is handed in at each call that may write.
+#[derive(Drop)]
+pub struct Text {
+    buffer: [u8; 65536],
+    len: usize,
+}
+
+impl Model for Text {
+    ghost use Rattle.std.specs.Prelude.{◌≡◌, ℕ, ◌≤◌, List, length, take};
+
+    ghost Value = { List ℕ };
+
+    ghost view = { λ t. take t.len t.buffer };
+
+    ghost invariant = { λ t. (t.len ≤ 65536) × (length t.buffer ≡ 65536) };
+}
+
+impl Text {
+    /// Nothing is gathered.
+    pub fn new() -> Self
+        ensures { result ≡ [] }
+    {
+        Text {
+            buffer: [0; 65536],
+            len: 0,
+        }
+    }
+
+    /// Gathers bytes, for which there has to be room.
+    pub fn push(&mut self, bytes: &[u8])
+        requires { length self.old + length bytes.now ≤ TEXT_ROOM }
+        ensures text { self.new ≡ self.old ++ bytes.now }
+        ensures len { length self.new ≡ length self.old + length bytes.now }
+    {
+        let end = self.len + bytes.len();
+        self.buffer[self.len..end].copy_from_slice(bytes);
+        self.len = end;
+    }
+
+    /// Gathers a number in decimal digits.
+    pub fn push_number(&mut self, n: u64)
+        requires { length self.old + 20 ≤ TEXT_ROOM }
+        ensures text { self.new ≡ self.old ++ decimal n }
+        ensures len { length self.new ≤ length self.old + 20 }
+    {
+        let mut digits = Buffer::new();
+        self.push(digits.format(n).as_bytes());
+    }
+
+    /// Gathers bytes as lower-case hexadecimal digits.
+    pub fn push_hex(&mut self, bytes: &[u8])
+        requires { length self.old + 2 * length bytes.now ≤ TEXT_ROOM }
+        ensures text { self.new ≡ self.old ++ encode_lower bytes.now }
+        ensures len { length self.new ≡ length self.old + 2 * length bytes.now }
+    {
+        let end = self.len + 2 * bytes.len();
+        match hex::encode_to_slice(bytes, &mut self.buffer[self.len..end]) {
+            Ok(()) => {}
+            Err(_) => unreachable!(),
+        }
+        self.len = end;
+    }
+
+    /// Makes room for n more bytes: what was gathered is written where it is in the way.
+    pub fn make_room<K: Sink>(&mut self, n: usize, out: &mut K) -> Result<(), Failed>
+        requires { n ≤ TEXT_ROOM }
+        ensures room { OnOk result (length self.new + n ≤ TEXT_ROOM) }
+        ensures kept { OnErr result (self.new ≡ self.old) }
+        ensures told { OnOk result (Gathers (K.written out.old) (K.written out.new) self.new self.old) }
+        ensures front { OnErr result (WroteFront (K.written out.old) (K.written out.new) self.old) }
+        ensures ok { OnOk result (K.faults out.new ≡ K.faults out.old) }
+        ensures count { K.faults out.old ≤ K.faults out.new }
+        ensures cause { OnErr result (Rose (K.faults out.old) (K.faults out.new)) }
+    {
+        if TEXT_ROOM - self.len < n {
+            self.flush(out)?;
+        }
+        Ok(())
+    }
+
+    /// Writes all that was gathered.
+    pub fn flush<K: Sink>(&mut self, out: &mut K) -> Result<(), Failed>
+        ensures empty { OnOk result (self.new ≡ []) }
+        ensures kept { OnErr result (self.new ≡ self.old) }
+        ensures told { OnOk result (Appends (K.written out.old) (K.written out.new) self.old) }
+        ensures front { OnErr result (WroteFront (K.written out.old) (K.written out.new) self.old) }
+        ensures ok { OnOk result (K.faults out.new ≡ K.faults out.old) }
+        ensures count { K.faults out.old ≤ K.faults out.new }
+        ensures cause { OnErr result (Rose (K.faults out.old) (K.faults out.new)) }
+    {
+        write_all(out, &self.buffer[..self.len])?;
+        self.len = 0;
+        Ok(())
+    }
+}
+
+/// What prints itself can be gathered by `write!`, as far as there is room.
+impl fmt::Write for Text {
+    ghost use Rattle.std.specs.Prelude.{◌≡◌, ◌++◌};
+
+    ghost write_str_gives = { λ before bytes after. after ≡ before ++ bytes };
+
+    fn write_str(&mut self, s: &str) -> fmt::Result {
+        if TEXT_ROOM - self.len < s.len() {
+            return Err(fmt::Error);
+        }
+        self.push(s.as_bytes());
+        Ok(())
+    }
+}
+
+/// Writes all these bytes, in as many calls as the sink asks for.
+fn write_all<K: Sink>(out: &mut K, bytes: &[u8]) -> Result<(), Failed>
+    ensures told { OnOk result (Appends (K.written out.old) (K.written out.new) bytes.now) }
+    ensures front { OnErr result (WroteFront (K.written out.old) (K.written out.new) bytes.now) }
+    ensures ok { OnOk result (K.faults out.new ≡ K.faults out.old) }
+    ensures count { K.faults out.old ≤ K.faults out.new }
+    ensures cause { OnErr result (Rose (K.faults out.old) (K.faults out.new)) }
+{
+    let mut at = 0;
+    while at < bytes.len() {
+        at += out.write(&bytes[at..])?;
+    }
+    Ok(())
+}
