@@ -1,0 +1,3 @@
+mod Accepting
+mod Meeting
+pub mod Deciding

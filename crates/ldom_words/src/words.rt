@@ -1,0 +1,92 @@
+ghost use Rattle.std.specs.Prelude.{◌≡◌, None, map, option_map, string_bytes};
+ghost use Rattle.std.specs.List.{list_all};
+ghost use Rattle.ldom_words.specs.Words.{all_plain, begins_with_help, is_plain_word};
+ghost use Rattle.ldom_words.specs.Asking.{wanted, wanted_of};
+
+use crate::clap_words::{Refusal, parse};
+use std::alloc::Global;
+
+/// What a command line asks for.
+#[derive(Clone, Copy, Debug, PartialEq, Eq)]
+pub enum Asked<'a> {
+    /// `run IMAGE`: a script is run over the image of this name.
+    Run { image: &'a str },
+
+    /// `dump`: packets are dumped.
+    Dump,
+}
+
+/// What the words ask for, without the program's name; nothing where they are none of the program's. Words that begin with
+/// `-` and `help` don't come to `clap`. Where it finds no memory, the definition alone decides.
+pub fn read_words<'a>(alloc: Global, words: &'a [String]) -> Option<Asked<'a>>
+    ensures { option_map wanted_of result ≡ wanted (map string_bytes words.now) }
+{
+    if !are_plain(words) {
+        return None;
+    }
+    match parse(alloc, words) {
+        Ok(asked) => confirmed(asked, defined(words)),
+        Err(Refusal::Memory) => defined(words),
+        Err(Refusal::Words) => None,
+    }
+}
+
+// What `clap` read, where the definition says the same.
+fn confirmed<'a>(asked: Option<Asked<'a>>, defined: Option<Asked<'a>>) -> Option<Asked<'a>>
+    ensures same { option_map wanted_of asked.entry ≡ option_map wanted_of defined.entry → option_map wanted_of result ≡ option_map wanted_of defined.entry }
+    ensures none { option_map wanted_of defined.entry ≡ None → option_map wanted_of result ≡ None }
+{
+    match (asked, defined) {
+        (Some(Asked::Run { image }), Some(Asked::Run { image: named })) if image == named => asked,
+        (Some(Asked::Dump), Some(Asked::Dump)) => asked,
+        _ => None,
+    }
+}
+
+// What the words ask for by their definition.
+fn defined<'a>(words: &'a [String]) -> Option<Asked<'a>>
+    ensures { option_map wanted_of result ≡ wanted (map string_bytes words.now) }
+{
+    match words {
+        [command, image] if command.as_str() == "run" && is_plain(image.as_str()) => {
+            Some(Asked::Run {
+                image: image.as_str(),
+            })
+        }
+        [command] if command.as_str() == "dump" => Some(Asked::Dump),
+        _ => None,
+    }
+}
+
+// Whether no word is empty, none but `-` alone begins with `-`, and the first isn't `help`.
+#[tactic(auto, using(crate::proofs::Deciding::plain_as))]
+fn are_plain(words: &[String]) -> bool
+    ensures { result ≡ all_plain (map string_bytes words.now) }
+{
+    !helps(words) && are_all_plain(words)
+}
+
+fn helps(words: &[String]) -> bool
+    ensures { result ≡ begins_with_help (map string_bytes words.now) }
+{
+    match words {
+        [first, ..] => first.as_str() == "help",
+        [] => false,
+    }
+}
+
+fn are_all_plain(words: &[String]) -> bool
+    ensures { result ≡ list_all (λ word. is_plain_word (string_bytes word)) words.now }
+{
+    words.iter().all(|word| is_plain(word.as_str()))
+}
+
+fn is_plain(word: &str) -> bool
+    ensures { result ≡ is_plain_word word.now }
+{
+    match word.as_bytes() {
+        [] => false,
+        [_] => true,
+        [first, ..] => *first != b'-',
+    }
+}
