@@ -20,7 +20,7 @@ fn main(rt: HostRuntime) -> ExitCode {
     let outcome = replay(
         rt.alloc(),
         &words,
-        &mut StdHost::new(),
+        &mut StdHost::new(&rt),
         &mut script,
         &mut report,
     );

@@ -17,10 +17,11 @@ use Rattle.domain_script.specs.ScriptLines.{script_lines}
 use Rattle.domain_script.proofs.ComputedEvents.{events_spelled}
 use Rattle.infallible_io.specs.States.{InfallibleDiskState}
 use Rattle.ldom_journal.specs.BlockWord.{blocks_text, repeats, word_length}
-use Rattle.ldom_replay.specs.Clean.{IsCleanScript}
-use Rattle.ldom_replay.specs.PlainRun.{plain_content, plain_ids, plain_text}
-use Rattle.ldom_replay.specs.Quiet.{IsQuietScript}
-use Rattle.ldom_replay.proofs.PlainRows.{a_read_sees_the_write}
+use Rattle.replay_law.specs.Clean.{IsCleanScript}
+use Rattle.replay_law.specs.PlainRun.{plain_content, plain_ids, plain_text}
+use Rattle.replay_law.specs.Quiet.{IsQuietScript}
+use Rattle.replay_law.proofs.PlainRows.{a_read_sees_the_write}
+use Rattle.ldom_words.specs.Words.{AsksRun}
 use Rattle.ldom_example.specs.Known.{image, report, script}
 
 -- the script's events and names, as `events_of` computes them
@@ -40,12 +41,16 @@ spelled : AllSpell (script_lines script) no_names events names
 unfolding decode_pairs encode_with digits
 spelled = events_spelled (script_lines script) no_names
 
+-- the words ask for a run over the image of zeros
+pub asks_zeros : (words : List (List ℕ)) → words ≡ codes "run" ∷ codes "-" ∷ [] → AsksRun words (codes "-")
+asks_zeros words are = record { are = are; plain = refl }
+
 -- so the theorem's premises hold
 pub clean : IsCleanScript script
 clean = record { events = events; names = names; spelled = spelled; few = omega arith; short = grind arith }
 
 pub quiet : IsQuietScript script disk events
-quiet = record { names = names; spelled = spelled; quiet = (refl, (refl, (refl, tt))) }
+quiet = record { names = names; spelled = spelled; quiet = (refl, (refl, (refl, (tt, tt)))) }
 
 -- and what the plain run makes of 64 blocks of zeros is computed
 abbrev pub zeros : List ℕ

@@ -1,4 +1,3 @@
 pub mod BlockWords
-pub mod GatheredText
 pub mod PackedBlocks
 pub mod ReportLines

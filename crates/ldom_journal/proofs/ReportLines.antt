@@ -6,7 +6,7 @@ use Rattle.domain_script.specs.declared.event.DiskDecl.{DiskDecl}
 use Rattle.ldom_journal.specs.declared.entry.Entry.{Entry}
 use Rattle.ldom_journal.specs.declared.status.Mode.{Mode}
 use Rattle.ldom_journal.specs.declared.status.Status.{Status}
-use Rattle.ldom_journal.specs.declared.status.Status.TheVariants.{Done, Usage, Script, SourceFault, SinkFault, HostFault, StoreFault, Limit, NoMemory}
+use Rattle.ldom_journal.specs.declared.status.Status.TheVariants.{Done, Usage, Script, SourceFault, SinkFault, HostFault, StoreFault, ImageSize, Limit, NoMemory}
 use Rattle.ldom_journal.specs.EntryText.{report_entries}
 use Rattle.ldom_journal.specs.Report.{last_line, usage_line, report}
 
@@ -35,5 +35,6 @@ report_parts mode disks lines entries SourceFault none = refl
 report_parts mode disks lines entries SinkFault none = refl
 report_parts mode disks lines entries HostFault none = refl
 report_parts mode disks lines entries StoreFault none = refl
+report_parts mode disks lines entries (ImageSize need have) none = refl
 report_parts mode disks lines entries (Limit line kind) none = refl
 report_parts mode disks lines entries NoMemory none = refl

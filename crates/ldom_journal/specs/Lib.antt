@@ -1,7 +1,7 @@
 pub mod BlockWord
 pub mod Bytes
+pub mod DiskEvents
 pub mod EntryText
-pub mod Gathered
 pub mod HasWords
 pub mod JournalState
 pub mod Kept

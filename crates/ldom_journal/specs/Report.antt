@@ -9,7 +9,7 @@ use Rattle.ldom_journal.specs.declared.status.Mode.{Mode}
 use Rattle.ldom_journal.specs.declared.status.LimitKind.{LimitKind}
 use Rattle.ldom_journal.specs.declared.status.LimitKind.TheVariants.{Lines, Bytes}
 use Rattle.ldom_journal.specs.declared.status.Status.{Status}
-use Rattle.ldom_journal.specs.declared.status.Status.TheVariants.{Usage, Script, Limit}
+use Rattle.ldom_journal.specs.declared.status.Status.TheVariants.{Usage, Script, ImageSize, Limit}
 use Rattle.ldom_journal.specs.EntryText.{report_entries}
 use Rattle.ldom_journal.specs.Status.{status_number}
 
@@ -41,9 +41,10 @@ abbrev pub limit_text : LimitKind → List ℕ
 limit_text Lines = codes "lines"
 limit_text Bytes = codes "bytes"
 
--- behind a status: the line at which the run ended, and why
+-- behind a status: the line at which the run ended, and why; or how long the image had to be, and is
 abbrev pub cause_text : Status → List ℕ
 cause_text (Script line fault) = codes " at=" ++ decimal line ++ codes " fault=" ++ fault_text fault
+cause_text (ImageSize need have) = codes " need=" ++ decimal need ++ codes " have=" ++ decimal have
 cause_text (Limit line kind) = codes " at=" ++ decimal line ++ codes " limit=" ++ limit_text kind
 cause_text status = []
 

@@ -1,11 +1,11 @@
 ghost use Rattle.std.specs.Prelude.{◌≡◌, ◌+◌, ◌/◌, ◌≤◌, ◌<◌, ◌++◌, codes, length, true, OnOk, OnErr};
 ghost use Rattle.hex.specs.Hex.{encode_lower};
 ghost use Rattle.ldom_journal.specs.BlockWord.{blocks_text, repeats, word_length};
-ghost use Rattle.ldom_journal.specs.Gathered.{Gathers, WroteFront};
+ghost use Rattle.gathered_text.specs.Gathered.{Gathers, WroteFront};
 ghost use Rattle.vio_io.specs.Causes.{Rose};
 
 use crate::Bytes;
-use crate::text::Text;
+use gathered_text::Text;
 use vio_io::{Failed, Sink};
 
 /// The lengths of words that are shorter than a block.

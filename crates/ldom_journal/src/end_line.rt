@@ -1,12 +1,12 @@
 ghost use Rattle.std.specs.Prelude.{◌≡◌, ◌+◌, ◌≤◌, ◌++◌, length, OnOk, OnErr};
 ghost use Rattle.std.specs.Io.KnownBytes.{Appends};
-ghost use Rattle.ldom_journal.specs.Gathered.{WroteFront};
+ghost use Rattle.gathered_text.specs.Gathered.{WroteFront};
 ghost use Rattle.ldom_journal.specs.Report.{accepted_count, cause_text, counts_text, done_count, end_line, fault_text, last_line, limit_text};
 ghost use Rattle.vio_io.specs.Causes.{Rose};
 
-use crate::text::{TEXT_ROOM, Text};
 use crate::{Entry, Journal, LimitKind, Status};
 use domain_script::LineFault;
+use gathered_text::{TEXT_ROOM, Text};
 use vio_io::{Failed, Sink};
 
 fn count_accepted(entries: &[Entry]) -> usize
@@ -62,7 +62,8 @@ fn limit_bytes(kind: LimitKind) -> &'static [u8]
     }
 }
 
-/// Behind a status: the line at which the run ended, and why. Nothing where the status has neither.
+/// Behind a status: the line at which the run ended, and why; or how long the image had to be, and is. Nothing where
+/// the status tells neither.
 pub fn push_cause(text: &mut Text, status: &Status)
     requires { length text.old + 100 ≤ TEXT_ROOM }
     ensures text { text.new ≡ text.old ++ cause_text status.now }
@@ -74,6 +75,12 @@ pub fn push_cause(text: &mut Text, status: &Status)
             text.push_number(u64::from(*line));
             text.push(b" fault=");
             text.push(fault_bytes(*fault));
+        }
+        Status::ImageSize { need, have } => {
+            text.push(b" need=");
+            text.push_number(*need);
+            text.push(b" have=");
+            text.push_number(*have);
         }
         Status::Limit { line, kind } => {
             text.push(b" at=");

@@ -32,7 +32,7 @@ impl Journal {
     ghost use Rattle.std.specs.Io.KnownBytes.{Appends};
     ghost use Rattle.vio_io.specs.Causes.{Rose};
     ghost use Rattle.ldom_journal.specs.EntryText.{report_entries};
-    ghost use Rattle.ldom_journal.specs.Gathered.{WroteFront};
+    ghost use Rattle.gathered_text.specs.Gathered.{WroteFront};
     ghost use Rattle.ldom_journal.specs.HasWords.{HasWords};
 
     /// No entries, and no room. It takes no memory.

@@ -13,7 +13,6 @@ mod lines;
 mod status;
 #[cfg(test)]
 mod tests;
-mod text;
 
 pub use bytes::Bytes;
 pub use domain_script::{Lane, LineFault, Names, Request};
@@ -22,6 +21,5 @@ pub use entry::{Entry, VD_OP_BREAD, VD_OP_BWRITE, VD_OP_FLUSH, Who, Why};
 pub use journal::Journal;
 pub use kept_request::KeptRequest;
 pub use status::{LimitKind, Mode, Status};
-pub use text::{TEXT_ROOM, Text};
 pub use vio_bytes::NoMemory;
 pub use vio_io::{Failed, Sink};

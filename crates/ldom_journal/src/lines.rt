@@ -1,14 +1,14 @@
 ghost use Rattle.std.specs.Prelude.{◌≡◌, ◌+◌, ◌≤◌, ◌<◌, ◌++◌, length, take, All, OnOk, OnErr};
 ghost use Rattle.std.specs.Io.KnownBytes.{Appends};
 ghost use Rattle.ldom_journal.specs.EntryText.{disk_name, entry_lines, head_text, id_text, line_text, operation_word, range_text, read_text, report_entries, request_text, shows, who_name, why_word};
-ghost use Rattle.ldom_journal.specs.Gathered.{Gathers, WroteFront};
+ghost use Rattle.gathered_text.specs.Gathered.{Gathers, WroteFront};
 ghost use Rattle.ldom_journal.specs.HasWords.{HasWords, IsDeclared};
 ghost use Rattle.vio_io.specs.Causes.{Rose};
 
 use crate::block_words::put_blocks;
-use crate::text::{TEXT_ROOM, Text};
-use crate::{Entry, Mode, VD_OP_BREAD, VD_OP_BWRITE, VD_OP_FLUSH, Who, Why};
+use crate::{Entry, KeptRequest, Mode, VD_OP_BREAD, VD_OP_BWRITE, VD_OP_FLUSH, Who, Why};
 use domain_script::{Lane, Name, Names};
+use gathered_text::{TEXT_ROOM, Text};
 use vdisk_msg::{Fill, Request};
 use vio_io::{Failed, Sink};
 
@@ -105,6 +105,14 @@ fn push_request(text: &mut Text, request: &Request)
     }
 }
 
+/// As `push_request`. The request is taken out here, so that the lines of other entries make no room for it.
+fn push_kept(text: &mut Text, kept: &KeptRequest)
+    requires { length text.old + 2100 ≤ TEXT_ROOM }
+    ensures { text.new ≡ text.old ++ request_text kept.now }
+{
+    push_request(text, &kept.get());
+}
+
 fn why_word(why: Why) -> &'static [u8]
     ensures bytes { result.now ≡ why_word why }
     ensures short { length result.now ≤ 5 }
@@ -138,7 +146,7 @@ fn push_head(text: &mut Text, entry: &Entry, names: &Names)
     match entry {
         Entry::Accepted { disk, id, request } => {
             push_id(text, b"accepted ", *disk, *id, names);
-            push_request(text, &request.get());
+            push_kept(text, request);
         }
         Entry::Full { who } => {
             text.push(b"full ");

@@ -51,6 +51,9 @@ pub enum Status {
     /// The script was run to its end, and a call of the image failed.
     StoreFault,
 
+    /// The image is shorter than the disks that the script declares: their bytes, and its own.
+    ImageSize { need: u64, have: u64 },
+
     /// A line of the script is past a limit.
     Limit { line: u32, kind: LimitKind },
 
@@ -71,6 +74,7 @@ impl Status {
             Status::SinkFault => 4,
             Status::HostFault => 5,
             Status::StoreFault => 6,
+            Status::ImageSize { .. } => 7,
             Status::Limit { .. } => 8,
             Status::NoMemory => 9,
         }

@@ -269,6 +269,22 @@ fn the_last_line_tells_the_status(rt: HostRuntime) -> Result<(), Fail> {
             bytes,
             b"end lines=0 accepted=2 done=1 pending=1 resets=0 frames=0 status=8 at=1 limit=bytes\n",
         ),
+        (
+            2,
+            Status::ImageSize {
+                need: 32_768,
+                have: 512,
+            },
+            b"end lines=2 accepted=2 done=1 pending=1 resets=0 frames=0 status=7 need=32768 have=512\n",
+        ),
+        (
+            20000,
+            Status::ImageSize {
+                need: u64::MAX,
+                have: 0,
+            },
+            b"end lines=20000 accepted=2 done=1 pending=1 resets=0 frames=0 status=7 need=18446744073709551615 have=0\n",
+        ),
         (0, Status::Usage, b"usage: ldom COMMAND [WORD]\n"),
     ];
     for (count, status, line) in rows {

@@ -1,22 +1,2 @@
-mod Assembly
-mod Completeness
-mod FaultsRise
-mod History
 mod Holding
-mod OneReading
-mod OutsideKept
-mod PlainAgrees
-mod PlainLaw
-mod PlainLines
-pub mod PlainRows
-mod QuietNames
-mod ReadLemmas
-mod RunFacts
-mod RunLemmas
-mod ScriptLaws
-mod Settling
-mod WholeRun
-mod WholeScript
-mod Worded
-mod Words
-mod MoreFacts
+mod Refusing

@@ -3,16 +3,15 @@
 //! the order of issue; the journal is one part for each line; the report is the journal's.
 #![tactic(auto)]
 
-mod laws;
 mod reading;
 mod run;
 mod top_call;
 mod world;
 
-pub use laws::{
+pub use ldom_journal::{LimitKind, Status};
+pub use replay_law::{
     a_quiet_script_runs_plainly, bytes_outside_of_writes_stay, completions_succeed_or_fail,
     failed_completions_are_counted,
 };
-pub use ldom_journal::{LimitKind, Status};
 pub use top_call::{Outcome, replay};
 pub use world::World;

@@ -1,5 +1,5 @@
 // A script's run: its declarations, the image, and its other lines.
-ghost use Rattle.std.specs.Prelude.{◌≡◌, ◌≢◌, ℕ, ◌*◌, ◌≤◌, ◌↔◌, List, [], ◌∷◌, length, codes, Option, None, IfErr, IfOk, IfSome, IsSome, IsTrue, OnOk};
+ghost use Rattle.std.specs.Prelude.{◌≡◌, ◌≢◌, ℕ, ◌*◌, ◌≤◌, ◌↔◌, List, [], ◌∷◌, length, Option, None, IfErr, IfOk, IfSome, IsSome, IsTrue, OnOk};
 ghost use Rattle.vio_io.specs.Causes.{Rose};
 ghost use Rattle.vio_io.specs.Given.{Gave};
 ghost use Rattle.domain_script.specs.declared.lines.LinesStop.TheVariants.{Going};
@@ -7,10 +7,12 @@ ghost use Rattle.domain_script.specs.LinesState.{to_come};
 ghost use Rattle.domain_script.specs.Spells.{IsDeclared};
 ghost use Rattle.disk_law.specs.ListState.{next_id};
 ghost use Rattle.ldom_journal.specs.Report.{accepted_count};
-ghost use Rattle.ldom_replay.specs.Going.{IsReaders, RunsAll, RunsLines};
-ghost use Rattle.ldom_replay.specs.Attached.{AreOpening};
-ghost use Rattle.ldom_replay.specs.Opening.{Opened, Opens, OpensAndStops};
-ghost use Rattle.ldom_replay.specs.Replayed.{Replayed, attach_status, ended_status, start_of};
+ghost use Rattle.replay_law.specs.Going.{IsReaders, RunsAll, RunsLines};
+ghost use Rattle.replay_law.specs.Attached.{AreOpening};
+ghost use Rattle.replay_law.specs.Opening.{Opened, Opens, OpensAndStops};
+ghost use Rattle.replay_law.specs.Replayed.{Replayed, attach_status, ended_status, start_of};
+ghost use Rattle.replay_law.specs.Sized.{SizeIs};
+ghost use Rattle.replay_law.specs.Worlds.{blocks_of};
 ghost use Rattle.domain_script.specs.ScriptEvents.{no_names};
 
 use crate::reading::read_event;
@@ -44,8 +46,9 @@ fn read_opening<S: Source>(
     ensures count { S.faults source.old ≤ S.faults source.new }
     ensures cause { result ≡ Err Status.SourceFault → Rose (S.faults source.old) (S.faults source.new) }
 {
+    let mut event = Event::Blank;
     loop {
-        let event = read_event(lines, source, names)?;
+        read_event(lines, source, names, &mut event)?;
         if !is_opening(&event) {
             return Ok(event);
         }
@@ -83,11 +86,12 @@ fn run_lines<S: Source, D: Store>(
     ensures count { S.faults source.old ≤ S.faults source.new }
     ensures cause { result ≡ Status.SourceFault → Rose (S.faults source.old) (S.faults source.new) }
 {
+    let mut event = Event::Blank;
     loop {
-        let event = match read_event(lines, source, names) {
-            Ok(event) => event,
+        match read_event(lines, source, names, &mut event) {
+            Ok(()) => {}
             Err(status) => return status,
-        };
+        }
         match world.apply(&event, journal) {
             Ok(()) => {}
             Err(NoMemory) => return Status::NoMemory,
@@ -107,9 +111,15 @@ pub struct Run<D: Store> {
     pub image: Option<D>,
 }
 
-/// Runs the script over the image named `-`. The run has an image exactly where the host gave one.
-pub fn run_script<H: Host, S: Source>(alloc: Global, host: &mut H, source: &mut S) -> Run<H::Disk>
-    ensures replayed { Replayed H.Disk.content H.Disk.faults (S.left source.old) (S.left source.new) (H.gives host.old (codes "-")) result.status result.lines result.names result.journal.entries result.image }
+/// Runs the script over the image of this name. The run has an image exactly where the host gave one.
+pub fn run_script<H: Host, S: Source>(
+    alloc: Global,
+    name: &str,
+    host: &mut H,
+    source: &mut S,
+) -> Run<H::Disk>
+    ensures replayed { Replayed H.Disk.content H.Disk.faults (S.left source.old) (S.left source.new) (H.gives host.old name.now) result.status result.lines result.names result.journal.entries result.image }
+    ensures sized { SizeIs H.Disk.size result.status (512 * blocks_of result.names.disks) (H.gives host.old name.now (512 * blocks_of result.names.disks)) result.image }
     ensures source_unfailed { result.status ≢ Status.SourceFault → S.faults source.new ≡ S.faults source.old }
     ensures source_count { S.faults source.old ≤ S.faults source.new }
     ensures host_unfailed { result.status ≢ Status.HostFault → H.faults host.new ≡ H.faults host.old }
@@ -133,9 +143,18 @@ pub fn run_script<H: Host, S: Source>(alloc: Global, host: &mut H, source: &mut 
         }
     };
     match read_opening(&mut lines, source, &mut names) {
-        Ok(event) => attach(alloc, host, source, lines, names, journal, Some(event)),
+        Ok(event) => attach(
+            alloc,
+            name,
+            host,
+            source,
+            lines,
+            names,
+            journal,
+            Some(event),
+        ),
         Err(why) => match why {
-            Status::Done => attach(alloc, host, source, lines, names, journal, None),
+            Status::Done => attach(alloc, name, host, source, lines, names, journal, None),
             status => Run {
                 status,
                 lines: lines.number(),
@@ -150,6 +169,7 @@ pub fn run_script<H: Host, S: Source>(alloc: Global, host: &mut H, source: &mut 
 // Attaches the image and runs the script over it, from the first event that isn't a declaration on.
 fn attach<H: Host, S: Source>(
     alloc: Global,
+    name: &str,
     host: &mut H,
     source: &mut S,
     lines: Lines,
@@ -163,7 +183,9 @@ fn attach<H: Host, S: Source>(
     requires declared { IfSome first (IsDeclared names) }
     requires journal { journal.entries ≡ [] }
     ensures replayed { (start : Option (List ℕ)) → Opened start lines.held (S.left source.old) first names lines.number
-        → Replayed H.Disk.content H.Disk.faults start (S.left source.new) (H.gives host.old (codes "-")) result.status result.lines result.names result.journal.entries result.image }
+        → Replayed H.Disk.content H.Disk.faults start (S.left source.new) (H.gives host.old name.now) result.status result.lines result.names result.journal.entries result.image }
+    ensures sized { (start : Option (List ℕ)) → Opened start lines.held (S.left source.old) first names lines.number
+        → SizeIs H.Disk.size result.status (512 * blocks_of result.names.disks) (H.gives host.old name.now (512 * blocks_of result.names.disks)) result.image }
     ensures source_unfailed { result.status ≢ Status.SourceFault → S.faults source.new ≡ S.faults source.old }
     ensures source_count { S.faults source.old ≤ S.faults source.new }
     ensures host_unfailed { result.status ≢ Status.HostFault → H.faults host.new ≡ H.faults host.old }
@@ -172,26 +194,62 @@ fn attach<H: Host, S: Source>(
     ensures source_fault { result.status ≡ Status.SourceFault → Rose (S.faults source.old) (S.faults source.new) }
     ensures host_fault { result.status ≡ Status.HostFault → Rose (H.faults host.old) (H.faults host.new) }
 {
-    let image = match host.attach(alloc, "-", 512 * blocks_declared(&names)) {
-        Ok(image) => image,
-        Err(fault) => {
-            return Run {
-                status: status_of(fault),
-                lines: lines.number(),
-                names,
-                journal,
-                image: None,
-            };
-        }
-    };
-    match World::new(alloc, &names, image) {
-        Ok(world) => run_world(source, lines, names, journal, world, first),
-        Err((NoMemory, image)) => Run {
-            status: Status::NoMemory,
+    match host.attach(alloc, name, 512 * blocks_declared(&names)) {
+        Ok(image) => run_over(alloc, image, source, lines, names, journal, first),
+        Err(fault) => Run {
+            status: status_of(fault),
+            lines: lines.number(),
+            names,
+            journal,
+            image: None,
+        },
+    }
+}
+
+// Runs the script over an image that was attached, where it is long enough.
+fn run_over<D: Store, S: Source>(
+    alloc: Global,
+    image: D,
+    source: &mut S,
+    lines: Lines,
+    names: Names,
+    journal: Journal,
+    first: Option<Event>,
+) -> Run<D>
+    requires going { IsSome first → lines.stop ≡ Going }
+    requires few { lines.number ≤ 20000 }
+    requires one { length names.disks ≤ 1 }
+    requires declared { IfSome first (IsDeclared names) }
+    requires journal { journal.entries ≡ [] }
+    ensures replayed { (start : Option (List ℕ)) (gives : ℕ → Option (List ℕ)) → Opened start lines.held (S.left source.old) first names lines.number
+        → D.content image ≡ gives (512 * blocks_of names.disks) → D.faults image ≡ 0 → Replayed D.content D.faults start (S.left source.new) gives result.status result.lines result.names result.journal.entries result.image }
+    ensures sized { (start : Option (List ℕ)) (gives : ℕ → Option (List ℕ)) → Opened start lines.held (S.left source.old) first names lines.number
+        → D.content image ≡ gives (512 * blocks_of names.disks) → D.faults image ≡ 0 → SizeIs D.size result.status (512 * blocks_of result.names.disks) (gives (512 * blocks_of result.names.disks)) result.image }
+    ensures source_unfailed { result.status ≢ Status.SourceFault → S.faults source.new ≡ S.faults source.old }
+    ensures source_count { S.faults source.old ≤ S.faults source.new }
+    ensures source_fault { result.status ≡ Status.SourceFault → Rose (S.faults source.old) (S.faults source.new) }
+    ensures host_fault { result.status ≢ Status.HostFault }
+    ensures image { IsSome result.image }
+{
+    let need = 512 * blocks_declared(&names);
+    let have = image.len();
+    if have < need {
+        return Run {
+            status: Status::ImageSize { need, have },
             lines: lines.number(),
             names,
             journal,
             image: Some(image),
+        };
+    }
+    match World::new(alloc, &names, image) {
+        Ok(world) => run_world(source, lines, names, journal, world, first),
+        Err((NoMemory, given_back)) => Run {
+            status: Status::NoMemory,
+            lines: lines.number(),
+            names,
+            journal,
+            image: Some(given_back),
         },
     }
 }
@@ -213,6 +271,8 @@ fn run_world<S: Source, D: Store>(
     requires fresh { next_id world ≡ 0 }
     ensures replayed { (start : Option (List ℕ)) (gives : ℕ → Option (List ℕ)) → Opened start lines.held (S.left source.old) first names lines.number
         → world ≡ start_of names gives → Replayed D.content D.faults start (S.left source.new) gives result.status result.lines result.names result.journal.entries result.image }
+    ensures sized { (start : Option (List ℕ)) (gives : ℕ → Option (List ℕ)) → Opened start lines.held (S.left source.old) first names lines.number → world ≡ start_of names gives
+        → IfSome (gives (512 * blocks_of names.disks)) (λ bytes. 512 * blocks_of names.disks ≤ length bytes) → SizeIs D.size result.status (512 * blocks_of result.names.disks) (gives (512 * blocks_of result.names.disks)) result.image }
     ensures source_unfailed { result.status ≢ Status.SourceFault → S.faults source.new ≡ S.faults source.old }
     ensures source_count { S.faults source.old ≤ S.faults source.new }
     ensures source_fault { result.status ≡ Status.SourceFault → Rose (S.faults source.old) (S.faults source.new) }

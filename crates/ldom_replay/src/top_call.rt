@@ -1,4 +1,5 @@
-ghost use Rattle.std.specs.Prelude.{◌≡◌, ◌≢◌, ◌≤◌, ◌↔◌, ◌*◌, ◌⊎◌, ℕ, IsTrue, [], ◌∷◌, map, codes, string_bytes, ◌^◌, ◌<◌, length, replicate, Option, Some, List, IfSome, IsNone, OnErr, OnOk};
+ghost use Rattle.std.specs.Prelude.{◌≡◌, ◌≢◌, ◌≤◌, ◌*◌, ◌⊎◌, ℕ, [], map, codes, string_bytes, ◌^◌};
+ghost use Rattle.std.specs.Prelude.{◌<◌, length, Some, List, IfSome, IsNone, IsSome, OnErr, OnOk};
 ghost use Rattle.std.specs.List.{All};
 ghost use Rattle.std.specs.Io.KnownBytes.{Appends};
 ghost use Rattle.vio_io.specs.Causes.{Rose};
@@ -8,25 +9,27 @@ ghost use Rattle.domain_script.specs.declared.event.Event.{Event};
 ghost use Rattle.domain_script.specs.NamesState.{NamesState};
 ghost use Rattle.domain_script.specs.ScriptLines.{script_lines};
 ghost use Rattle.disk_law.specs.Issued.{CompletesOnceInOrder};
-ghost use Rattle.ldom_journal.specs.Gathered.{WroteFront};
+ghost use Rattle.gathered_text.specs.Gathered.{WroteFront};
 ghost use Rattle.ldom_journal.specs.HasWords.{HasWords};
 ghost use Rattle.ldom_journal.specs.Report.{report, usage_line};
 ghost use Rattle.ldom_dump.specs.DumpReport.{Dumps};
 ghost use Rattle.ldom_dump.specs.Whole.{IsWhole};
-ghost use Rattle.ldom_replay.specs.Clean.{IsCleanScript, NeverFails, StandsStill};
-ghost use Rattle.ldom_replay.specs.Failures.{SucceedOrFail, failed_count};
-ghost use Rattle.ldom_replay.specs.Outside.{KeepsOthers, accepted_requests};
-ghost use Rattle.ldom_replay.specs.Happened.{history};
-ghost use Rattle.ldom_replay.specs.Outcomes.{Reports, RunsScript};
-ghost use Rattle.ldom_replay.specs.Quiet.{IsQuietScript};
-ghost use Rattle.ldom_replay.specs.Replayed.{Replayed};
+ghost use Rattle.replay_law.specs.Clean.{IsCleanScript, NeverFails, StandsStill};
+ghost use Rattle.replay_law.specs.Failures.{SucceedOrFail, failed_count};
+ghost use Rattle.replay_law.specs.Outside.{KeepsGiven, accepted_requests};
+ghost use Rattle.ldom_journal.specs.DiskEvents.{history};
+ghost use Rattle.replay_law.specs.Outcomes.{Reports, RunsScript};
+ghost use Rattle.replay_law.specs.Quiet.{IsQuietScript};
 ghost use Rattle.domain_script.specs.ScriptEvents.{AllSpell, no_names};
-ghost use Rattle.ldom_replay.specs.Whole.{RunsPlainly, RunsWhole};
+ghost use Rattle.replay_law.specs.Whole.{RunsPlainly, RunsWhole};
+ghost use Rattle.replay_law.specs.Worlds.{blocks_of};
+ghost use Rattle.ldom_words.specs.Words.{AsksDump, AsksRun};
 
 use crate::run::{Run, run_script};
 use domain_script::Names;
 use ldom_dump::dump;
 use ldom_journal::{Journal, Mode, Status, write_end};
+use ldom_words::{Asked, read_words};
 use std::alloc::Global;
 use vio_io::{Failed, Host, Sink, Source, Store};
 
@@ -38,9 +41,9 @@ pub struct Outcome<D: Store> {
     pub image: Option<D>,
 }
 
-/// Does what the words of a command line say, without the program's name: `run -` runs the script that the source
-/// gives over an image of zeros, and writes the short report to the sink; `dump` writes the fields of the packets that
-/// it gives in hexadecimal digits. Other words are answered by the usage line.
+/// Does what the words of a command line say, without the program's name: `run IMAGE` runs the script that the source
+/// gives over the image that the host has under this name, and writes the short report to the sink; `dump` writes the
+/// fields of the packets that it gives in hexadecimal digits. Other words are answered by the usage line.
 pub fn replay<H: Host, S: Source, K: Sink>(
     alloc: Global,
     words: &[String],
@@ -49,91 +52,103 @@ pub fn replay<H: Host, S: Source, K: Sink>(
     out: &mut K,
 ) -> Outcome<H::Disk>
     // The script is run up to where it stops, the journal is one part for each line, and the report is the journal's.
-    ensures runs { map string_bytes words.now ≡ codes "run" ∷ codes "-" ∷ []
-        → RunsScript H.Disk.content H.Disk.faults (S.left script.old) (S.left script.new) (H.gives host.old (codes "-")) result.status result.journal.entries result.image (K.written out.old) (K.written out.new) }
+    // At status 7 alone the image is too short; it keeps what the host gave wherever no accepted write names a block.
+    ensures runs { (image : List ℕ) → AsksRun (map string_bytes words.now) image
+        → RunsScript H.Disk.content H.Disk.faults H.Disk.size (S.left script.old) (S.left script.new)
+        (H.gives host.old image) result.status result.journal.entries result.image
+        (K.written out.old) (K.written out.new) }
 
     // At status 0 the script was run to its end: the journal fits all its events, and the whole report was written.
-    ensures whole { map string_bytes words.now ≡ codes "run" ∷ codes "-" ∷ [] → (bytes : List ℕ) (events : List Event) (names : NamesState)
-        → S.left script.old ≡ Some bytes → AllSpell (script_lines bytes) no_names events names → result.status ≡ Status.Done
-        → RunsWhole H.Disk.content H.Disk.faults (H.gives host.old (codes "-")) names events result.journal.entries result.image (K.written out.old) (K.written out.new) }
+    ensures whole { (image : List ℕ) → AsksRun (map string_bytes words.now) image
+        → (bytes : List ℕ) (events : List Event) (names : NamesState) → S.left script.old ≡ Some bytes
+        → AllSpell (script_lines bytes) no_names events names → result.status ≡ Status.Done
+        → RunsWhole H.Disk.content H.Disk.faults (H.gives host.old image) names events result.journal.entries
+        result.image
+        (K.written out.old) (K.written out.new) }
 
     // So a quiet script over an image that tells its bytes is what the plain run makes of it.
-    ensures quiet { map string_bytes words.now ≡ codes "run" ∷ codes "-" ∷ [] → (bytes content : List ℕ) (disk : DiskDecl) (events : List Event)
-        → S.left script.old ≡ Some bytes → IsQuietScript bytes disk events → H.gives host.old (codes "-") (512 * disk.blocks) ≡ Some content → result.status ≡ Status.Done
-        → RunsPlainly H.Disk.content disk content events result.journal.entries result.image (K.written out.old) (K.written out.new) }
-
-    // A script without faults and within the limits is run to its end, where no count rose and memory suffices.
-    ensures complete { map string_bytes words.now ≡ codes "run" ∷ codes "-" ∷ [] → (bytes : List ℕ) → S.left script.old ≡ Some bytes → IsCleanScript bytes
-        → StandsStill (S.faults script.old) (S.faults script.new) → StandsStill (H.faults host.old) (H.faults host.new) → StandsStill (K.faults out.old) (K.faults out.new)
-        → IfSome result.image (λ image. H.Disk.faults image ≡ 0) → (result.status ≡ Status.Done) ⊎ (result.status ≡ Status.NoMemory) }
-
-    // So over a source, a host and a disk whose types never fail, where the sink doesn't either.
-    ensures infallible { map string_bytes words.now ≡ codes "run" ∷ codes "-" ∷ [] → (bytes : List ℕ) → S.left script.old ≡ Some bytes → IsCleanScript bytes
-        → NeverFails S.faults → NeverFails H.faults → NeverFails H.Disk.faults → result.status ≢ Status.SinkFault → (result.status ≡ Status.Done) ⊎ (result.status ≡ Status.NoMemory) }
-
-    // Packets are dumped up to where the lines end; a script of packets alone to its end, where no count rose and memory
-    // suffices.
-    ensures dumps { map string_bytes words.now ≡ codes "dump" ∷ [] → Dumps (S.left script.old) (S.left script.new) result.status (K.written out.old) (K.written out.new) }
-    ensures dumps_whole { map string_bytes words.now ≡ codes "dump" ∷ [] → (bytes : List ℕ) → S.left script.old ≡ Some bytes → IsWhole bytes
-        → StandsStill (S.faults script.old) (S.faults script.new) → StandsStill (K.faults out.old) (K.faults out.new) → (result.status ≡ Status.Done) ⊎ (result.status ≡ Status.NoMemory) }
-
-    // Other words are no command. What isn't a run has no journal and no image.
-    ensures usage { map string_bytes words.now ≢ codes "run" ∷ codes "-" ∷ [] → map string_bytes words.now ≢ codes "dump" ∷ [] → Reports Status.Usage result.status (K.written out.old) (K.written out.new) usage_line }
-    ensures nothing { map string_bytes words.now ≢ codes "run" ∷ codes "-" ∷ [] → (result.journal.entries ≡ []) × IsNone result.image }
-
-    // For all words and every status: the image is the one disk that the host gave in this call, and there is none exactly
-    // where it gave none, as attaching failed or wanted memory, or was never asked for.
-    ensures image { Gave (H.given host.old) (H.given host.new) result.image }
+    ensures quiet { (image : List ℕ) → AsksRun (map string_bytes words.now) image
+        → (bytes content : List ℕ) (disk : DiskDecl) (events : List Event) → S.left script.old ≡ Some bytes
+        → IsQuietScript bytes disk events → H.gives host.old image (512 * disk.blocks) ≡ Some content
+        → result.status ≡ Status.Done
+        → RunsPlainly H.Disk.content disk content events result.journal.entries result.image
+        (K.written out.old) (K.written out.new) }
 
     // For every disk: completions are in the order of issue, each request's at most once.
     ensures once { (disk : ℕ) → CompletesOnceInOrder (history disk result.journal.entries) }
+
+    // An image that a host gave, and whose bytes it tells, keeps them but for what accepted writes name.
+    ensures outside { (image : List ℕ) → AsksRun (map string_bytes words.now) image
+        → ((least : ℕ) → IsSome (H.gives host.old image least))
+        → IfSome result.image (λ disk. KeepsGiven (H.gives host.old image) (accepted_requests result.journal.entries)
+        (H.Disk.content disk)) }
+
+    // A script without faults and within the limits, over `-` or an image that is as long as its disks, is run to its
+    // end, where no count rose and memory suffices.
+    ensures complete { (image : List ℕ) → AsksRun (map string_bytes words.now) image
+        → (bytes : List ℕ) → S.left script.old ≡ Some bytes → (clean : IsCleanScript bytes)
+        → StandsStill (S.faults script.old) (S.faults script.new) → StandsStill (H.faults host.old) (H.faults host.new)
+        → StandsStill (K.faults out.old) (K.faults out.new) → IfSome result.image (λ disk. H.Disk.faults disk ≡ 0)
+        → (image ≢ codes "-" → IfSome result.image (λ disk. 512 * blocks_of clean.names.disks ≤ H.Disk.size disk))
+        → (result.status ≡ Status.Done) ⊎ (result.status ≡ Status.NoMemory) }
+
+    // So over a source, a host and a disk whose types never fail, where the sink doesn't either.
+    ensures infallible { (image : List ℕ) → AsksRun (map string_bytes words.now) image
+        → (bytes : List ℕ) → S.left script.old ≡ Some bytes → (clean : IsCleanScript bytes)
+        → NeverFails S.faults → NeverFails H.faults → NeverFails H.Disk.faults
+        → (image ≢ codes "-" → IfSome result.image (λ disk. 512 * blocks_of clean.names.disks ≤ H.Disk.size disk))
+        → result.status ≢ Status.SinkFault → (result.status ≡ Status.Done) ⊎ (result.status ≡ Status.NoMemory) }
 
     // Each completion has status 0, or 5 where the image failed: no more of these than the image counts.
     ensures statuses { SucceedOrFail result.journal.entries }
     ensures failures { IfSome result.image (λ image. failed_count result.journal.entries ≤ H.Disk.faults image) }
 
-    // The image keeps its zeros but for what accepted writes name.
-    ensures outside { IfSome result.image (λ image. (n : ℕ) × KeepsOthers (accepted_requests result.journal.entries) (replicate n 0) (H.Disk.content image)) }
+    // For all words and every status: the image is the one disk that the host gave in this call, and there is none
+    // exactly where it gave none, as attaching failed or wanted memory, or was never asked for.
+    ensures image { Gave (H.given host.old) (H.given host.new) result.image }
 
-    // A fault of the outside is answered only where its count rose, and where another status is answered, it stays: a
-    // fault of the sink, which comes last, may hide one of the others. At status 0 the image never failed either.
-    ensures source_unfailed { result.status ≢ Status.SourceFault → result.status ≢ Status.SinkFault → S.faults script.new ≡ S.faults script.old }
-    ensures sink_unfailed { result.status ≢ Status.SinkFault → K.faults out.new ≡ K.faults out.old }
-    ensures host_unfailed { result.status ≢ Status.HostFault → result.status ≢ Status.SinkFault → H.faults host.new ≡ H.faults host.old }
-    ensures image_unfailed { result.status ≡ Status.Done → IfSome result.image (λ image. H.Disk.faults image ≡ 0) }
+    // Packets are dumped up to where the lines end.
+    ensures dumps { AsksDump (map string_bytes words.now)
+        → Dumps (S.left script.old) (S.left script.new) result.status (K.written out.old) (K.written out.new) }
+
+    // A script of packets alone is dumped to its end, where no count rose and memory suffices.
+    ensures dumps_whole { AsksDump (map string_bytes words.now)
+        → (bytes : List ℕ) → S.left script.old ≡ Some bytes → IsWhole bytes
+        → StandsStill (S.faults script.old) (S.faults script.new) → StandsStill (K.faults out.old) (K.faults out.new)
+        → (result.status ≡ Status.Done) ⊎ (result.status ≡ Status.NoMemory) }
+
+    // Other words are no command.
+    ensures usage { ((image : List ℕ) → AsksRun (map string_bytes words.now) image → ⊥)
+        → (AsksDump (map string_bytes words.now) → ⊥)
+        → Reports Status.Usage result.status (K.written out.old) (K.written out.new) usage_line }
+
+    // What isn't a run has no journal and no image.
+    ensures nothing { ((image : List ℕ) → AsksRun (map string_bytes words.now) image → ⊥)
+        → (result.journal.entries ≡ []) × IsNone result.image }
+
+    // A fault of the source, the host or the sink is answered only where its count rose.
     ensures source_fault { result.status ≡ Status.SourceFault → Rose (S.faults script.old) (S.faults script.new) }
-    ensures sink_fault { result.status ≡ Status.SinkFault → Rose (K.faults out.old) (K.faults out.new) }
     ensures host_fault { result.status ≡ Status.HostFault → Rose (H.faults host.old) (H.faults host.new) }
+    ensures sink_fault { result.status ≡ Status.SinkFault → Rose (K.faults out.old) (K.faults out.new) }
+
+    // Where another status is answered, it stays; a fault of the sink, which comes last, may hide one of the others. At
+    // status 0 the image never failed either.
+    ensures source_unfailed { result.status ≢ Status.SourceFault → result.status ≢ Status.SinkFault
+        → S.faults script.new ≡ S.faults script.old }
+    ensures host_unfailed { result.status ≢ Status.HostFault → result.status ≢ Status.SinkFault
+        → H.faults host.new ≡ H.faults host.old }
+    ensures sink_unfailed { result.status ≢ Status.SinkFault → K.faults out.new ≡ K.faults out.old }
+    ensures image_unfailed { result.status ≡ Status.Done → IfSome result.image (λ image. H.Disk.faults image ≡ 0) }
+
+    // No count falls.
     ensures source_count { S.faults script.old ≤ S.faults script.new }
-    ensures sink_count { K.faults out.old ≤ K.faults out.new }
     ensures host_count { H.faults host.old ≤ H.faults host.new }
+    ensures sink_count { K.faults out.old ≤ K.faults out.new }
 {
-    if is_run(words) {
-        report_run(run_script(alloc, host, script), out)
-    } else if is_dump(words) {
-        report_dump(alloc, script, out)
-    } else {
-        report_usage(Journal::new(alloc), out)
-    }
-}
-
-// Whether the words are `run` and the image's name `-`.
-fn is_run(words: &[String]) -> bool
-    ensures { IsTrue result ↔ (map string_bytes words.now ≡ codes "run" ∷ codes "-" ∷ []) }
-{
-    match words {
-        [command, image] => command.as_str() == "run" && image.as_str() == "-",
-        _ => false,
-    }
-}
-
-// Whether the only word is `dump`.
-fn is_dump(words: &[String]) -> bool
-    ensures { IsTrue result ↔ (map string_bytes words.now ≡ codes "dump" ∷ []) }
-{
-    match words {
-        [command] => command.as_str() == "dump",
-        _ => false,
+    match read_words(alloc, words) {
+        Some(Asked::Run { image }) => report_run(run_script(alloc, image, host, script), out),
+        Some(Asked::Dump) => report_dump(alloc, script, out),
+        None => report_usage(Journal::new(alloc), out),
     }
 }
 
@@ -143,15 +158,18 @@ fn report_dump<D: Store, S: Source, K: Sink>(
     script: &mut S,
     out: &mut K,
 ) -> Outcome<D>
-    ensures dumps { Dumps (S.left script.old) (S.left script.new) result.status (K.written out.old) (K.written out.new) }
-    ensures whole { (bytes : List ℕ) → S.left script.old ≡ Some bytes → IsWhole bytes → ¬ Rose (S.faults script.old) (S.faults script.new) → ¬ Rose (K.faults out.old) (K.faults out.new)
+    ensures dumps { Dumps (S.left script.old) (S.left script.new) result.status
+        (K.written out.old) (K.written out.new) }
+    ensures whole { (bytes : List ℕ) → S.left script.old ≡ Some bytes → IsWhole bytes
+        → ¬ Rose (S.faults script.old) (S.faults script.new) → ¬ Rose (K.faults out.old) (K.faults out.new)
         → (result.status ≡ Status.Done) ⊎ (result.status ≡ Status.NoMemory) }
     ensures journal { result.journal ≡ record { entries = []; room = 0 } }
     ensures image { IsNone result.image }
     ensures source_fault { result.status ≡ Status.SourceFault → Rose (S.faults script.old) (S.faults script.new) }
     ensures sink_fault { result.status ≡ Status.SinkFault → Rose (K.faults out.old) (K.faults out.new) }
     ensures no_host { result.status ≢ Status.HostFault }
-    ensures source_unfailed { result.status ≢ Status.SourceFault → result.status ≢ Status.SinkFault → S.faults script.new ≡ S.faults script.old }
+    ensures source_unfailed { result.status ≢ Status.SourceFault → result.status ≢ Status.SinkFault
+        → S.faults script.new ≡ S.faults script.old }
     ensures sink_unfailed { result.status ≢ Status.SinkFault → K.faults out.new ≡ K.faults out.old }
     ensures source_count { S.faults script.old ≤ S.faults script.new }
     ensures sink_count { K.faults out.old ≤ K.faults out.new }
@@ -167,11 +185,13 @@ fn report_dump<D: Store, S: Source, K: Sink>(
 fn report_run<D: Store, K: Sink>(run: Run<D>, out: &mut K) -> Outcome<D>
     requires words { All (HasWords run.names.disks) run.journal.entries }
     requires ran { run.status ≢ Status.Usage }
-    ensures reports { Reports run.status result.status (K.written out.old) (K.written out.new) (report Mode.Run run.names.disks run.lines run.journal.entries run.status) }
+    ensures reports { Reports run.status result.status (K.written out.old) (K.written out.new)
+        (report Mode.Run run.names.disks run.lines run.journal.entries run.status) }
     ensures journal { result.journal ≡ run.journal }
     ensures small { length result.journal.entries < 2 ^ 63 }
     ensures image { result.image ≡ run.image }
-    ensures sink_fault { result.status ≡ Status.SinkFault → (run.status ≢ Status.SinkFault) → Rose (K.faults out.old) (K.faults out.new) }
+    ensures sink_fault { result.status ≡ Status.SinkFault → (run.status ≢ Status.SinkFault)
+        → Rose (K.faults out.old) (K.faults out.new) }
     ensures other { result.status ≢ Status.SinkFault → result.status ≡ run.status }
     ensures sink_unfailed { result.status ≢ Status.SinkFault → K.faults out.new ≡ K.faults out.old }
     ensures sink_count { K.faults out.old ≤ K.faults out.new }
@@ -204,8 +224,10 @@ fn write_report<K: Sink>(
 ) -> Result<(), Failed>
     requires words { All (HasWords names.now.disks) journal.now.entries }
     requires ran { status.now ≢ Status.Usage }
-    ensures ok { OnOk result (Appends (K.written out.old) (K.written out.new) (report Mode.Run names.now.disks lines journal.now.entries status.now)) }
-    ensures err { OnErr result (WroteFront (K.written out.old) (K.written out.new) (report Mode.Run names.now.disks lines journal.now.entries status.now)) }
+    ensures ok { OnOk result (Appends (K.written out.old) (K.written out.new)
+        (report Mode.Run names.now.disks lines journal.now.entries status.now)) }
+    ensures err { OnErr result (WroteFront (K.written out.old) (K.written out.new)
+        (report Mode.Run names.now.disks lines journal.now.entries status.now)) }
     ensures unfailed { OnOk result (K.faults out.new ≡ K.faults out.old) }
     ensures count { K.faults out.old ≤ K.faults out.new }
     ensures cause { OnErr result (Rose (K.faults out.old) (K.faults out.new)) }

@@ -2,8 +2,9 @@ ghost use Rattle.std.specs.Prelude.{◌≡◌, ◌*◌, ◌<◌, ◌≤◌, ◌�
 ghost use Rattle.vdisk_msg.specs.Fills.{IsRequest};
 ghost use Rattle.disk_law.specs.ListState.{ListState, fresh, next_id};
 ghost use Rattle.ldom_journal.specs.Report.{accepted_count};
-ghost use Rattle.ldom_replay.specs.Worlds.{blocks_of, refusal_entry};
-ghost use Rattle.ldom_replay.specs.Parts.{Fits, FitsSoFar, IsForDisk};
+ghost use Rattle.ldom_replay.specs.Refusals.{refusal_of};
+ghost use Rattle.replay_law.specs.Worlds.{blocks_of};
+ghost use Rattle.replay_law.specs.Parts.{Fits, FitsSoFar, IsForDisk, refused_entry};
 
 use domain_script::{Event, Names, Request};
 use ldom_journal::{Bytes, Entry, Journal, KeptRequest, Lane, Who, Why};
@@ -29,7 +30,7 @@ impl<D: Store> Model for World<D> {
 }
 
 impl<D: Store> World<D> {
-    ghost use Rattle.ldom_replay.specs.Worlds.{AddsDone, ring_of};
+    ghost use Rattle.replay_law.specs.Worlds.{AddsDone, ring_of};
 
     /// The world of these declarations over an image that holds all their blocks. Where memory is wanted the image is
     /// given back.
@@ -72,15 +73,17 @@ impl<D: Store> World<D> {
         self.disk.faulty()
     }
 
-    /// The image.
+    /// The image, which holds all blocks of the disks.
     pub fn finish(self) -> D
         ensures content { D.content result ≡ self.told }
         ensures faults { D.faults result ≡ self.faults }
+        ensures size { 512 * self.blocks ≤ D.size result }
     {
         let World { alloc: _, disk } = self;
         disk.into_image()
     }
 
+    #[tactic(auto, using(replay_law::proofs::Answering::accepted_fits, crate::proofs::Refusing::refused_by))]
     fn issue(&mut self, disk: u32, request: &Request, journal: &mut Journal) -> Result<(), NoMemory>
         requires disk { disk ≡ 0 }
         requires request { IsRequest request.now }
@@ -89,9 +92,13 @@ impl<D: Store> World<D> {
         ensures so_far { OnErr result (FitsSoFar self.old (Event.Issue disk request.now) journal.old.entries journal.new.entries self.new) }
         ensures agrees { accepted_count journal.new.entries ≡ next_id self.new }
     {
-        let kept = KeptRequest::new(self.alloc, request)?;
         journal.reserve(1)?;
         let _len = journal.len();
+        if let Some(fault) = self.disk.refuses(request) {
+            journal.push(refusal(disk, fault));
+            return Ok(());
+        }
+        let kept = KeptRequest::new(self.alloc, request)?;
         match self.disk.issue(request) {
             Ok(id) => journal.push(Entry::Accepted {
                 disk,
@@ -103,7 +110,7 @@ impl<D: Store> World<D> {
         Ok(())
     }
 
-    #[tactic(auto, using(crate::proofs::Settling::none_done, crate::proofs::Settling::more_done))]
+    #[tactic(auto, using(replay_law::proofs::Settling::none_done, replay_law::proofs::Settling::more_done))]
     fn settle(&mut self, journal: &mut Journal) -> Result<(), NoMemory>
         requires agrees { accepted_count journal.old.entries ≡ next_id self.old }
         ensures fits { OnOk result (Fits self.old Event.Settle journal.old.entries journal.new.entries self.new) }
@@ -153,7 +160,7 @@ pub fn blocks_declared(names: &Names) -> u64
 }
 
 fn refusal(disk: u32, fault: IssueFault) -> Entry
-    ensures { result ≡ refusal_entry disk fault }
+    ensures { result ≡ refused_entry disk (refusal_of fault) }
 {
     let who = Who::Lane(Lane::Disk(disk));
     match fault {

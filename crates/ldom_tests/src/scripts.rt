@@ -3,38 +3,7 @@ use ldom_replay::{Outcome, replay};
 use std::alloc::{AllocError, Global};
 use std::process::Abort;
 use std::test::Fail;
-use vio_io::{AttachFault, Host, ListSink, ListSource, NoMemory, Store};
-
-/// A host that gives zeros under every name, on a disk whose calls with these numbers fail.
-#[derive(Drop)]
-struct FailingDisks {
-    failing: Vec<u64>,
-    given: u64,
-}
-
-impl Host for FailingDisks {
-    ghost use Rattle.std.specs.Prelude.{replicate, Some, refl};
-
-    type Disk = MemStore;
-
-    ghost gives = { λ host name least. Some (replicate least 0) };
-
-    ghost faults = { λ host. 0 };
-
-    ghost given = { λ host. host.given };
-
-    ghost dash = { λ host least. refl };
-
-    fn attach(&mut self, alloc: Global, _: &str, least: u64) -> Result<MemStore, AttachFault> {
-        let zeros = match vec![in alloc; 0; least as usize] {
-            Ok(zeros) => zeros,
-            Err(AllocError) => return Err(AttachFault::Memory),
-        };
-        let disk = MemStore::new(alloc, &zeros, &self.failing)?;
-        self.given = self.given.wrapping_add(1);
-        Ok(disk)
-    }
-}
+use vio_io::{ListSink, ListSource, Store};
 
 // The end line with no counts but its lines.
 const EMPTY: &str = "end lines=0 accepted=0 done=0 pending=0 resets=0 frames=0 status=0\n";
@@ -126,7 +95,9 @@ fn scripts_have_their_reports(rt: HostRuntime) -> Result<(), Fail> {
 fn other_words_are_answered_by_the_usage_line(rt: HostRuntime) -> Result<(), Fail> {
     for words in [
         ["run"].as_slice(),
-        ["run", "img"].as_slice(),
+        ["run", ""].as_slice(),
+        ["run", "-x"].as_slice(),
+        ["run", "img", "img"].as_slice(),
         ["help", "-"].as_slice(),
     ] {
         let outcome = compare(
@@ -232,24 +203,112 @@ fn a_failing_host_has_its_status(rt: HostRuntime) -> Result<(), Fail> {
     Ok(())
 }
 
-#[test]
-fn a_flush_that_fails_completes_with_5(rt: HostRuntime) -> Result<(), Fail> {
-    let alloc = rt.alloc();
-    let words = words_of(alloc, &["run", "-"])?;
-    let mut host = FailingDisks {
-        failing: vec![in alloc; 0; 1]?,
-        given: 0,
-    };
-    let mut source = ListSource::new(alloc, b"disk d0 64 8 16\nflush d0\nsettle\n", 4_096, &[])?;
+// Replays a script over the image `img` of a host of this image, whose disk fails the calls with these numbers, and
+// compares its report and its status.
+fn compare_over(
+    rt: &impl Abort,
+    alloc: Global,
+    host: &mut ListHost,
+    script: &[u8],
+    report: &str,
+    status: u8,
+) -> Result<Outcome<MemStore>, Fail> {
+    let words = words_of(alloc, &["run", "img"])?;
+    let mut source = ListSource::new(alloc, script, 4_096, &[])?;
     let mut sink = ListSink::new(alloc, 4_096, &[])?;
-    let outcome = replay(alloc, &words, &mut host, &mut source, &mut sink);
-    assert_eq!(rt;
-        sink.bytes(),
-        b"done d0 0 flush 5\nsettled\nend lines=3 accepted=1 done=1 pending=0 resets=0 frames=0 status=6\n".as_slice()
-    );
-    assert_eq!(rt; outcome.status.number(), 6);
-    let image = outcome.image.ok_or("no image")?;
-    assert!(rt; image.faulty());
+    let outcome = replay(alloc, &words, host, &mut source, &mut sink);
+    assert_eq!(rt; sink.bytes(), report.as_bytes(), "the report of {status}");
+    assert_eq!(rt; outcome.status.number(), status);
+    Ok(outcome)
+}
+
+#[test]
+fn an_image_that_is_too_short_is_left_as_it_was(rt: HostRuntime) -> Result<(), Fail> {
+    let alloc = rt.alloc();
+    for length in [0usize, 512, 32_767] {
+        let image = vec![in alloc; 7; length]?;
+        let mut host = ListHost::new(alloc, "img", &image, &[0], false)?;
+        let report = format!(in alloc;
+            "end lines=2 accepted=0 done=0 pending=0 resets=0 frames=0 status=7 need=32768 have={length}\n"
+        )?;
+        let outcome = compare_over(
+            &rt,
+            alloc,
+            &mut host,
+            b"disk d0 64 8 16\nsettle\n",
+            report.as_str(),
+            7,
+        )?;
+        let left = outcome.image.ok_or("no image")?;
+        assert!(rt;
+            outcome.journal.is_empty() && !left.faulty() && left.bytes() == image.as_slice()
+        );
+    }
+    Ok(())
+}
+
+#[test]
+fn an_image_of_the_right_length_keeps_what_is_not_written(rt: HostRuntime) -> Result<(), Fail> {
+    let alloc = rt.alloc();
+    let image = vec![in alloc; 7; 33_000]?;
+    let mut host = ListHost::new(alloc, "img", &image, &[], false)?;
+    let outcome = compare_over(
+        &rt,
+        alloc,
+        &mut host,
+        b"disk d0 64 8 16\nread d0 0 1\nwrite d0 63 1 ab\nread d0 62 2\nsettle\n",
+        "done d0 0 read 0 *07\ndone d0 1 write 0\ndone d0 2 read 0 *07 *ab\nsettled\nend lines=5 accepted=3 done=3 pending=0 resets=0 frames=0 status=0\n",
+        0,
+    )?;
+    let left = outcome.image.ok_or("no image")?;
+    assert_eq!(rt; left.len(), 33_000);
+    for (at, byte) in left.bytes().iter().enumerate() {
+        let written = at >= 32_256 && at < 32_768;
+        assert_eq!(rt; *byte, if written { 0xab } else { 7 }, "at {at}");
+    }
+    Ok(())
+}
+
+#[test]
+fn a_host_that_refuses_the_image_has_its_status(rt: HostRuntime) -> Result<(), Fail> {
+    let alloc = rt.alloc();
+    for (name, fails) in [("img", true), ("other", false)] {
+        let mut host = ListHost::new(alloc, name, &[0; 512], &[], fails)?;
+        let outcome = compare_over(
+            &rt,
+            alloc,
+            &mut host,
+            b"disk d0 64 8 16\nsettle\n",
+            "end lines=2 accepted=0 done=0 pending=0 resets=0 frames=0 status=5\n",
+            5,
+        )?;
+        assert!(rt; outcome.image.is_none() && outcome.journal.is_empty());
+    }
+    Ok(())
+}
+
+#[test]
+fn requests_whose_disk_fails_complete_with_5(rt: HostRuntime) -> Result<(), Fail> {
+    let alloc = rt.alloc();
+    for (script, report) in [
+        (
+            "disk d0 64 8 16\nwrite d0 0 1 ab\nsettle\n",
+            "done d0 0 write 5\nsettled\nend lines=3 accepted=1 done=1 pending=0 resets=0 frames=0 status=6\n",
+        ),
+        (
+            "disk d0 64 8 16\nflush d0\nsettle\n",
+            "done d0 0 flush 5\nsettled\nend lines=3 accepted=1 done=1 pending=0 resets=0 frames=0 status=6\n",
+        ),
+        (
+            "disk d0 64 8 16\nread d0 0 64\nread d0 0 1\nsettle\n",
+            "done d0 0 read 5\ndone d0 1 read 0 *00\nsettled\nend lines=4 accepted=2 done=2 pending=0 resets=0 frames=0 status=6\n",
+        ),
+    ] {
+        let mut host = ListHost::new(alloc, "img", &[0; 32_768], &[0], false)?;
+        let outcome = compare_over(&rt, alloc, &mut host, script.as_bytes(), report, 6)?;
+        let image = outcome.image.ok_or("no image")?;
+        assert!(rt; image.faulty() && image.bytes() == [0; 32_768].as_slice());
+    }
     Ok(())
 }
 

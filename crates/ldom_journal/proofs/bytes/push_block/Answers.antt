@@ -1,7 +1,7 @@
 use Rattle.std.proofs.Common.{◌≡◌, ℕ, ◌%◌, List, [], ◌∷◌, ◌++◌, get_or, ap, sym, subst, ◌∙◌, arith}
 use Rattle.ldom_journal.specs.BlockWord.{cycle}
 use Rattle.ldom_journal.specs.Packed.{block_of}
-use Rattle.ldom_journal.proofs.GatheredText.{pushed_behind}
+use Rattle.gathered_text.proofs.GatheredText.{pushed_behind}
 use Rattle.ldom_journal.proofs.PackedBlocks.{cycle_more}
 use Rattle.ldom_journal.proofs.bytes.push_block.Goals as goal
 

@@ -2,7 +2,7 @@ use Rattle.std.proofs.Common.{◌≡◌, ap, ◌∙◌}
 use Rattle.std.specs.Prelude.{◌++◌, codes, decimal, List, ℕ}
 use Rattle.ldom_journal.specs.Report.{cause_text, counts_text}
 use Rattle.ldom_journal.specs.Status.{status_number}
-use Rattle.ldom_journal.proofs.GatheredText.{pushed_behind}
+use Rattle.gathered_text.proofs.GatheredText.{pushed_behind}
 use Rattle.ldom_journal.proofs.end_line.push_end_line.Goals as goal
 
 pub returns : goal.returns

@@ -1,7 +1,7 @@
 use Rattle.std.proofs.Common.{refl, ℕ, List, [], ◌∷◌, ◌++◌, append_assoc, ap, sym, subst, ◌∙◌}
 use Rattle.ldom_journal.specs.EntryText.{head_text, read_text, line_text}
-use Rattle.ldom_journal.specs.Gathered.{Gathers}
-use Rattle.ldom_journal.proofs.GatheredText.{on_err, gathers_more, gathers_behind, gathers_same, wrote_front_then, wrote_front_behind, wrote_front_of_more}
+use Rattle.gathered_text.specs.Gathered.{Gathers}
+use Rattle.gathered_text.proofs.GatheredText.{on_err, gathers_more, gathers_behind, gathers_same, wrote_front_then, wrote_front_behind, wrote_front_of_more}
 use Rattle.ldom_journal.proofs.lines.put_line.Goals as goal
 
 pub returns-in_err-make_room-clause-front : goal.returns-in_err-make_room-clause-front

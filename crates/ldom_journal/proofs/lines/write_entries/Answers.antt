@@ -2,8 +2,8 @@ use Rattle.std.proofs.Common.{◌≡◌, ℕ, ◌+◌, List, ◌++◌, take, dro
 use Rattle.std.proofs.lemmas.List.{take_all}
 use Rattle.std.proofs.lemmas.Result.{on_err_weaker}
 use Rattle.ldom_journal.specs.EntryText.{entry_lines, report_entries}
-use Rattle.ldom_journal.specs.Gathered.{Gathers}
-use Rattle.ldom_journal.proofs.GatheredText.{on_err, gathers_then, wrote_front_then, wrote_front_of_more, wrote_front_last}
+use Rattle.gathered_text.specs.Gathered.{Gathers}
+use Rattle.gathered_text.proofs.GatheredText.{on_err, gathers_then, wrote_front_then, wrote_front_of_more, wrote_front_last}
 use Rattle.ldom_journal.proofs.ReportLines.{flat_map-take_more, flat_map-rest}
 use Rattle.ldom_journal.proofs.lines.write_entries.Goals as goal
 

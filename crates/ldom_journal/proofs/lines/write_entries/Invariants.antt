@@ -1,6 +1,6 @@
 use Rattle.std.proofs.Common.{◌≡◌, take}
 use Rattle.ldom_journal.specs.EntryText.{report_entries}
-use Rattle.ldom_journal.specs.Gathered.{Gathers}
+use Rattle.gathered_text.specs.Gathered.{Gathers}
 use Rattle.ldom_journal.proofs.lines.write_entries.Given as goal
 
 abbrev pub invariant-loop-entry : goal.invariant-loop-entry

@@ -1,7 +1,7 @@
 use Rattle.std.proofs.Common.{◌≡◌, ◌-◌, ◌≤◌, length}
 use Rattle.domain_script.specs.declared.lines.LinesStop.TheVariants.{Going}
 use Rattle.domain_script.specs.LinesState.{to_come}
-use Rattle.ldom_replay.proofs.ReadLemmas.{OpensSoFar}
+use Rattle.replay_law.proofs.ReadLemmas.{OpensSoFar}
 use Rattle.ldom_replay.proofs.run.read_opening.Given as goal
 
 abbrev pub invariant-loop-event : goal.invariant-loop-event

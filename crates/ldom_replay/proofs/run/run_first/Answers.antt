@@ -3,10 +3,10 @@ use Rattle.domain_script.specs.LinesState.{to_come}
 use Rattle.domain_script.specs.declared.event.Event.{Event}
 use Rattle.ldom_journal.specs.declared.entry.Entry.{Entry}
 use Rattle.ldom_journal.specs.declared.status.Status.TheVariants as status
-use Rattle.ldom_replay.specs.Going.{RunsAll}
-use Rattle.ldom_replay.specs.Opening.{Opened}
-use Rattle.ldom_replay.specs.Parts.{Fits, FitsSoFar}
-use Rattle.ldom_replay.proofs.Assembly.{runs_all, runs_first_cut, runs_none_more}
+use Rattle.replay_law.specs.Going.{RunsAll}
+use Rattle.replay_law.specs.Opening.{Opened}
+use Rattle.replay_law.specs.Parts.{Fits, FitsSoFar}
+use Rattle.replay_law.proofs.Assembly.{runs_all, runs_first_cut, runs_none_more}
 use Rattle.ldom_replay.proofs.run.run_first.Goals as goal
 
 pub returns-in-None-clause-runs : goal.returns-in-None-clause-runs

@@ -3,11 +3,11 @@ use Rattle.domain_script.specs.declared.lines.LinesStop.TheVariants.{Going}
 use Rattle.domain_script.specs.LinesState.{to_come}
 use Rattle.disk_law.specs.ListState.{next_id}
 use Rattle.ldom_journal.specs.Report.{accepted_count}
-use Rattle.ldom_replay.proofs.RunLemmas.{RunsSoFar}
+use Rattle.replay_law.proofs.RunLemmas.{RunsSoFar}
 use Rattle.ldom_replay.proofs.run.run_lines.Given as goal
 
-abbrev pub invariant-loop-event : goal.invariant-loop-event
-invariant-loop-event g l = record {
+abbrev pub invariant-loop-status : goal.invariant-loop-status
+invariant-loop-status g l = record {
   going : l.lines.stop ≡ Going;
   few : l.lines.number ≤ 20000;
   one : length l.names.disks ≤ 1;
@@ -17,5 +17,5 @@ invariant-loop-event g l = record {
   unfailed : g.S.Source.faults l.source ≡ g.S.Source.faults l.fn.source;
 }
 
-abbrev pub decreases-loop-event : goal.decreases-loop-event
-decreases-loop-event g l = 20000 - l.lines.number
+abbrev pub decreases-loop-status : goal.decreases-loop-status
+decreases-loop-status g l = 20000 - l.lines.number

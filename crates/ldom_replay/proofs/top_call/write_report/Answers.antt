@@ -2,10 +2,10 @@ use Rattle.std.proofs.Common.{rules, ◌≡◌, List, ℕ, ◌++◌, sym, subst}
 use Rattle.std.proofs.KnownBytes.{Appends-trans}
 use Rattle.std.specs.Io.KnownBytes.{Appends}
 use Rattle.ldom_journal.specs.EntryText.{report_entries}
-use Rattle.ldom_journal.specs.Gathered.{WroteFront}
+use Rattle.gathered_text.specs.Gathered.{WroteFront}
 use Rattle.ldom_journal.specs.Report.{last_line, report}
 use Rattle.ldom_journal.specs.declared.status.Mode.TheVariants as mode
-use Rattle.ldom_journal.proofs.GatheredText.{on_err_then, on_ok_then, wrote_front_appended, wrote_front_of_more}
+use Rattle.gathered_text.proofs.GatheredText.{on_err_then, on_ok_then, wrote_front_appended, wrote_front_of_more}
 use Rattle.ldom_journal.proofs.ReportLines.{report_parts}
 use Rattle.ldom_replay.proofs.top_call.write_report.Goals as goal
 

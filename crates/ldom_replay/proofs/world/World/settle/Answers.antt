@@ -3,7 +3,7 @@ use Rattle.std.proofs.lemmas.List.{nil_from_length}
 use Rattle.ldom_journal.specs.declared.entry.Entry.{Entry}
 use Rattle.ldom_journal.specs.declared.entry.Entry.TheVariants as entry
 use Rattle.disk_law.specs.ListState.{ListState}
-use Rattle.ldom_replay.proofs.Settling.{settles}
+use Rattle.replay_law.proofs.Settling.{settles}
 use Rattle.ldom_replay.proofs.world.World.settle.Goals as goal
 
 pub returns-clause-fits : goal.returns-clause-fits

@@ -2,7 +2,7 @@ use Rattle.std.proofs.Common.{◌≡◌, length}
 use Rattle.domain_script.specs.declared.event.Event.TheVariants as line
 use Rattle.disk_law.specs.ListState.{next_id}
 use Rattle.ldom_journal.specs.Report.{accepted_count}
-use Rattle.ldom_replay.specs.Parts.{FitsSoFar}
+use Rattle.replay_law.specs.Parts.{FitsSoFar}
 use Rattle.ldom_replay.proofs.world.World.settle.Given as goal
 
 abbrev pub invariant-loop-self : goal.invariant-loop-self

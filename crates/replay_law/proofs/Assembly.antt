@@ -1,0 +1,378 @@
+-- A whole run, put together from its declarations and its other lines.
+use Rattle.std.proofs.Common.{◌≡◌, ◌≢◌, inl, inr, ℕ, ◌+◌, ◌*◌, ◌<◌, Bool, true, false, List, [], ◌∷◌, ◌++◌, length, map, refl, sym, ◌∙◌, ap, subst, append_assoc, length-append, arith, Option, Some, None, IfSome, IsTrue, ◌↔◌, zero, suc}
+use Rattle.std.specs.Io.KnownBytes.{IsAtEnd, Keeps, prepend_known}
+use Rattle.std.specs.Prelude.{IsNone}
+use Rattle.std.specs.List.{flat_map}
+use Rattle.std.proofs.lemmas.List.{map-append}
+use Rattle.std.proofs.lemmas.List.Concat.{flat_map-append}
+use Rattle.runs.specs.Run.{run_append}
+use Rattle.vio_io.specs.declared.host.AttachFault.{AttachFault}
+use Rattle.vio_io.specs.declared.host.AttachFault.TheVariants.{Failed, Memory}
+use Rattle.domain_script.specs.declared.event.Event.{Event}
+use Rattle.domain_script.specs.declared.event.Event.TheVariants as line
+use Rattle.domain_script.specs.LinesState.{LinesState, to_come}
+use Rattle.domain_script.specs.NamesState.{NamesState, noted}
+use Rattle.domain_script.specs.Spells.{Spells}
+use Rattle.domain_script.proofs.ScriptLemmas.{taken-append}
+use Rattle.ldom_journal.specs.declared.entry.Entry.{Entry}
+use Rattle.domain_script.specs.declared.event.LineFault.{LineFault}
+use Rattle.ldom_journal.specs.declared.status.LimitKind.{LimitKind}
+use Rattle.ldom_journal.specs.declared.status.Status.{Status}
+use Rattle.ldom_journal.specs.declared.status.Status.TheVariants as status
+use Rattle.disk_law.specs.ListState.{ListState}
+use Rattle.replay_law.specs.Endings.{Ending, MayBeCut, NotBegun, Whole, ending}
+use Rattle.replay_law.specs.Going.{Grew, GrewTo, IsReaders, RunsAll, RunsLines}
+use Rattle.replay_law.specs.Attached.{AreOpening, AttachesAt, ImageStands, is_opening}
+use Rattle.replay_law.specs.Opening.{Opened, Opens, OpensAndStops}
+use Rattle.replay_law.specs.Parts.{Fits, FitsSoFar, LineStep}
+use Rattle.ldom_journal.specs.LinesEnd.{counted_lines}
+use Rattle.replay_law.specs.Reading.{StopsAt}
+use Rattle.replay_law.specs.Replayed.{FaultsAre, JournalIs, Replayed, Stopped, attach_status, ended_status, start_of}
+use Rattle.domain_script.specs.ScriptEvents.{AllSpell, no_names}
+use Rattle.replay_law.specs.Script.{FitsScript, FitsCutOff}
+use Rattle.replay_law.specs.Worlds.{blocks_of}
+use Rattle.replay_law.proofs.LineCases.{none_begun, noted_disks, silent, stays_ended}
+use Rattle.replay_law.proofs.ReadLemmas.{opening_halves, other_line, read_none}
+use Rattle.replay_law.proofs.RunLemmas.{fits_more, fits_none, keeps_same}
+
+spell_append : (xs ys : List (List ℕ)) (a b c : NamesState) (es fs : List Event) → AllSpell xs a es b → AllSpell ys b fs c → AllSpell (xs ++ ys) a (es ++ fs) c
+spell_append [] ys a b c [] fs first second = subst (λ (n : NamesState). AllSpell ys n fs c) first second
+spell_append [] ys a b c (e ∷ es) fs first second = absurd first
+spell_append (x ∷ xs) ys a b c [] fs first second = absurd first
+spell_append (x ∷ xs) ys a b c (e ∷ es) fs first second = (first.0, spell_append xs ys (noted a e) b c es fs first.1 second)
+
+-- after the declarations no disk is declared
+same_disks : (texts : List (List ℕ)) (before after : NamesState) (events : List Event) → before.ended ≡ true → AllSpell texts before events after
+    → after.disks ≡ before.disks
+same_disks [] before after [] ended spell = ap (λ (n : NamesState). n.disks) spell
+same_disks [] before after (e ∷ es) ended spell = absurd spell
+same_disks (x ∷ xs) before after [] ended spell = absurd spell
+same_disks (x ∷ xs) before after (e ∷ es) ended spell =
+    same_disks xs (noted before e) after es (stays_ended before e ended) spell.1 ∙ elim (noted_disks before e) [
+      | inl declares ↦
+          let spells : Spells x before (line.Disk declares.0) = subst (λ (n : Event). Spells x before n) declares.1 spell.0 in
+          absurd (cc (ended, spells.still_open))
+      | inr same ↦ same
+    ]
+
+-- before a line was read, what is to come is what the source has left
+pub from_start : (lines : LinesState) (left : Option (List ℕ)) → lines.held ≡ [] → to_come lines left ≡ left
+from_start lines None none = refl
+from_start lines (Some bytes) none = ap (λ (l : List ℕ). Some (l ++ bytes)) none
+
+-- declarations give no entry
+fits_opening : (s : ListState) (events : List Event) → AreOpening events → FitsScript s events [] s
+fits_opening s [] are = fits_none s
+fits_opening s (event ∷ events) are = one_first (fits_opening s events are.1)
+  where
+    one_first : FitsScript s events [] s → FitsScript s (event ∷ events) [] s
+    one_first fits = record {
+      lines = (event, []) ∷ fits.lines;
+      events_are = ap (λ (l : List Event). event ∷ l) fits.events_are;
+      parts = fits.parts;
+      run = (s, silent s event are.0, fits.run);
+    }
+
+fits_append : (s m t : ListState) (es fs : List Event) (xs ys : List Entry) → FitsScript s es xs m → FitsScript m fs ys t → FitsScript s (es ++ fs) (xs ++ ys) t
+fits_append s m t es fs xs ys first second = record {
+  lines = first.lines ++ second.lines;
+  events_are = map-append (λ (l : Event × List Entry). l.0) first.lines second.lines ∙ ap (λ (l : List Event). l ++ map (λ (x : Event × List Entry). x.0) second.lines) first.events_are ∙ ap (λ (l : List Event). es ++ l) second.events_are;
+  parts = flat_map-append (λ (l : Event × List Entry). l.1) first.lines second.lines ∙ ap (λ (l : List Entry). l ++ flat_map (λ (x : Event × List Entry). x.1) second.lines) first.parts ∙ ap (λ (l : List Entry). xs ++ l) second.parts;
+  run = run_append LineStep s m t first.lines second.lines first.run second.run;
+}
+
+cut_append : (s m t : ListState) (es fs : List Event) (xs ys : List Entry) → FitsScript s es xs m → FitsCutOff m fs ys t → FitsCutOff s (es ++ fs) (xs ++ ys) t
+cut_append s m t es fs xs ys first second = record {
+  before = es ++ second.before;
+  last = second.last;
+  events_are = ap (λ (l : List Event). es ++ l) second.events_are ∙ sym (append_assoc es second.before (second.last ∷ []));
+  front = xs ++ second.front;
+  middle = second.middle;
+  fits = fits_append s m second.middle es second.before xs second.front first second.fits;
+  so_far = record {
+    part = second.so_far.part;
+    grew = ap (λ (l : List Entry). xs ++ l) second.so_far.grew ∙ sym (append_assoc xs second.front second.so_far.part);
+    begun = second.so_far.begun;
+    run = second.so_far.run;
+  };
+}
+
+grew_append : (ending : Ending) (s m t : ListState) (es fs : List Event) (xs ys : List Entry) → FitsScript s es xs m → GrewTo ending m fs ys t
+    → GrewTo ending s (es ++ fs) (xs ++ ys) t
+grew_append MayBeCut s m t es fs xs ys first (inl second) = inl (fits_append s m t es fs xs ys first second)
+grew_append MayBeCut s m t es fs xs ys first (inr second) = inr (cut_append s m t es fs xs ys first second)
+grew_append NotBegun s m t es fs xs ys first second = fits_append s m t es fs xs ys first second
+grew_append Whole s m t es fs xs ys first second = fits_append s m t es fs xs ys first second
+
+-- a line came that is neither blank nor a declaration
+not_opening : (opening : List Event) (event : Event) → is_opening event ≡ false → AreOpening (opening ++ event ∷ []) → ⊥
+not_opening opening event other are = let halves = opening_halves opening (event ∷ []) are in cc (halves.1.0, other)
+
+attached_there : (events : List Event) (rest : Option (List ℕ)) → AttachesAt events rest → AreOpening events → IsAtEnd rest
+attached_there events rest (inl last) are = last.1
+attached_there events rest (inr first) are = absurd (not_opening first.opening first.event first.other (subst AreOpening first.events_are are))
+
+-- a run that stopped after the first such line
+abbrev stopped_behind : (start now : Option (List ℕ)) (held : List ℕ) (event : Event) (names : NamesState) (count : ℕ) (why : Status) → (opens : Opens start (prepend_known held now) event names count)
+    → StopsAt why (prepend_known held now) held now names count → count ≡ counted_lines why count → Stopped start now why (opens.opening ++ event ∷ []) names count
+stopped_behind start now held event names count why opens stop is = record { left = prepend_known held now; count = count; read = opens.read; held = held; stop = stop; lines_are = is }
+
+-- the first event that isn't a declaration, and the lines after it
+pub runs_all : (start rest now : Option (List ℕ)) (event : Event) (names after : NamesState) (s m t : ListState) (journal new : List Entry) (number lines : ℕ) (why : Status)
+    → Opens start rest event names number → Fits s event [] journal m → RunsLines rest now names journal m number why after new t lines → RunsAll start now names s why after new t lines
+runs_all start rest now event names after s m t journal new number lines why opens fits runs =
+    let first : FitsScript s (opens.opening ++ event ∷ []) journal m =
+    subst (λ (l : List Entry). FitsScript s (opens.opening ++ event ∷ []) l m) (sym fits.grew) (fits_more s s m opens.opening event [] fits.part (fits_opening s opens.opening opens.are) fits.step) in
+    let count : number + length runs.read.texts ≡ length (opens.read.texts ++ runs.read.texts) = omega (arith, opens.read.counts, length-append opens.read.texts runs.read.texts) in
+    record {
+      events = (opens.opening ++ event ∷ []) ++ runs.events;
+      stopped = record {
+        left = runs.left;
+        count = number + length runs.read.texts;
+        read = record {
+          texts = opens.read.texts ++ runs.read.texts;
+          taken = taken-append start rest runs.left opens.read.texts runs.read.texts opens.read.taken
+              (record { taken = runs.read.taken; short = runs.read.short; few = omega (arith, runs.read.few) }) (omega (arith, runs.read.few, opens.read.counts));
+          spell = spell_append opens.read.texts runs.read.texts no_names names after (opens.opening ++ event ∷ []) runs.events opens.read.spell runs.read.spell;
+          counts = count;
+        };
+        held = runs.held;
+        stop = runs.stop;
+        lines_are = runs.lines_are;
+      };
+      fits = subst (λ (l : List Entry). Grew why s ((opens.opening ++ event ∷ []) ++ runs.events) l t) (sym runs.grew) (grew_append (ending why) s m t (opens.opening ++ event ∷ []) runs.events journal runs.part first runs.fits);
+      disks = same_disks runs.read.texts names after runs.events opens.ended runs.read.spell;
+      attached = λ _ are. not_opening opens.opening event (other_line event opens.other) (opening_halves (opens.opening ++ event ∷ []) runs.events are).0;
+    }
+
+-- memory was wanted in the midst of that first event
+pub runs_first_cut : (start now : Option (List ℕ)) (held : List ℕ) (event : Event) (names : NamesState) (s t : ListState) (journal : List Entry) (number : ℕ)
+    → Opens start (prepend_known held now) event names number → FitsSoFar s event [] journal t → RunsAll start now names s status.NoMemory names journal t number
+runs_first_cut start now held event names s t journal number opens fits = record {
+  events = opens.opening ++ event ∷ [];
+  stopped = stopped_behind start now held event names number status.NoMemory opens (keeps_same (prepend_known held now)) refl;
+  fits = inr (record { before = opens.opening; last = event; events_are = refl; front = []; middle = s; fits = fits_opening s opens.opening opens.are; so_far = fits });
+  disks = refl;
+  attached = λ _. not_opening opens.opening event (other_line event opens.other);
+}
+
+-- nothing but declarations
+pub runs_none_more : (start now : Option (List ℕ)) (names : NamesState) (s : ListState) (lines : ℕ) → OpensAndStops start now status.Done names lines → RunsAll start now names s status.Done names [] s lines
+runs_none_more start now names s lines opens = record { events = opens.opening; stopped = opens.stopped; fits = fits_opening s opens.opening opens.are; disks = refl; attached = λ other. absurd (other refl) }
+
+-- what holds of each status with which reading ends
+pub by_readers : (P : Status → Type 0) → P status.Done → ((at : ℕ) (fault : LineFault) → P (status.Script at fault)) → P status.SourceFault → ((at : ℕ) (kind : LimitKind) → P (status.Limit at kind)) → P status.NoMemory
+    → (why : Status) → IsReaders why → P why
+by_readers P done script source limit memory status.Done readers = done
+by_readers P done script source limit memory (status.Script at fault) readers = script at fault
+by_readers P done script source limit memory status.SourceFault readers = source
+by_readers P done script source limit memory (status.Limit at kind) readers = limit at kind
+by_readers P done script source limit memory status.NoMemory readers = memory
+by_readers P done script source limit memory status.Usage readers = absurd readers
+by_readers P done script source limit memory status.SinkFault readers = absurd readers
+by_readers P done script source limit memory status.HostFault readers = absurd readers
+by_readers P done script source limit memory status.StoreFault readers = absurd readers
+by_readers P done script source limit memory (status.ImageSize need have) readers = absurd readers
+
+-- what holds of a run's status whether the image failed or not
+pub ended_as : (P : Status → Type 0) (why : Status) (faulty : Bool) → IsReaders why → (P status.Done → P status.StoreFault) → P why → P (ended_status why faulty)
+ended_as P why faulty readers also =
+    by_readers (λ (w : Status). P w → P (ended_status w faulty)) (done faulty) (λ at fault p. p) (λ p. p) (λ at kind p. p) (λ p. p) why readers
+  where
+    done : (faulty : Bool) → P status.Done → P (ended_status status.Done faulty)
+    done true p = also p
+    done false p = p
+
+ended_stop : (why : Status) (faulty : Bool) (names : NamesState) (left now : Option (List ℕ)) (held : List ℕ) (count : ℕ) → IsReaders why → StopsAt why left held now names count → StopsAt (ended_status why faulty) left held now names count
+ended_stop why faulty names left now held count readers = ended_as (λ (w : Status). StopsAt w left held now names count) why faulty readers (λ stop. stop)
+
+ended_count : (why : Status) (faulty : Bool) (count : ℕ) → IsReaders why → counted_lines why count ≡ counted_lines (ended_status why faulty) count
+ended_count why faulty count readers = ended_as (λ (w : Status). counted_lines why count ≡ counted_lines w count) why faulty readers (λ is. is) refl
+
+ended_journal : (why : Status) (faulty : Bool) (s t : ListState) (events : List Event) (journal : List Entry) → IsReaders why → Grew why s events journal t → JournalIs (ended_status why faulty) s events journal t
+ended_journal why faulty s t events journal readers grew =
+    ended_as (λ (w : Status). JournalIs w s events journal t) why faulty readers (λ is. is)
+    (by_readers (λ (w : Status). Grew w s events journal t → JournalIs w s events journal t) (λ is. is) (λ at fault is. is) (λ is. is) (λ at kind is. is) (λ is. is) why readers grew)
+
+ended_faults : {D : Type 0} (image : D) (why : Status) (faulty : Bool) (faults : ℕ) → IsReaders why → (IsTrue faulty ↔ (0 < faults)) → FaultsAre (ended_status why faulty) (Some image) faults
+ended_faults image why faulty faults readers tells =
+    by_readers (λ (w : Status). FaultsAre (ended_status w faulty) (Some image) faults) (done faulty faults tells) (λ at fault. tt) tt (λ at kind. tt) tt why readers
+  where
+    done : (faulty : Bool) (faults : ℕ) → (IsTrue faulty ↔ (0 < faults)) → FaultsAre (ended_status status.Done faulty) (Some image) faults
+    done true faults tells = (refl, tells.0 refl)
+    done false zero tells = (refl, refl)
+    done false (suc n) tells = absurd (cc (tells.1 (omega arith)))
+
+-- a run in a world has an image
+ended_image : {D : Type 0} (image : D) (why : Status) (faulty : Bool) (events : List Event) (rest : Option (List ℕ)) (journal : List Entry) → IsReaders why → (why ≢ status.Done → AreOpening events → ⊥)
+    → ImageStands (ended_status why faulty) events rest journal (Some image)
+ended_image image why faulty events rest journal readers =
+    by_readers (λ (w : Status). (w ≢ status.Done → AreOpening events → ⊥) → ImageStands (ended_status w faulty) events rest journal (Some image))
+    (λ _. done faulty)
+    (λ at fault attached. (λ none. cc none, λ are. absurd (attached (λ is. cc) are)))
+    (λ attached. (λ none. cc none, λ are. absurd (attached (λ is. cc) are)))
+    (λ at kind attached. (λ none. cc none, λ are. absurd (attached (λ is. cc) are)))
+    (λ attached are. absurd (attached (λ is. cc) are)) why readers
+  where
+    done : (faulty : Bool) → ImageStands (ended_status status.Done faulty) events rest journal (Some image)
+    done true = refl
+    done false = refl
+
+-- a run that ended in its declarations has none
+opening_image : (D : Type 0) (why : Status) (events : List Event) (rest : Option (List ℕ)) → IsReaders why → why ≢ status.Done → AreOpening events → ImageStands {D = D} why events rest [] None
+opening_image D why events rest readers other are =
+    by_readers (λ (w : Status). w ≢ status.Done → ImageStands {D = D} w events rest [] None) (λ o. absurd (o refl)) (λ at fault o. (λ _. are, λ _. refl)) (λ o. (λ _. are, λ _. refl)) (λ at kind o. (λ _. are, λ _. refl))
+    (λ o. (refl, inl are)) why readers other
+
+-- attaching an image failed, or there was no memory for its world
+refused_image : {D : Type 0} (fault : AttachFault) (events : List Event) (rest : Option (List ℕ)) (image : Option D) → AttachesAt events rest → (fault ≡ Failed → IsNone image) → ImageStands (attach_status fault) events rest [] image
+refused_image Failed events rest image at none = (none refl, at)
+refused_image Memory events rest None at none = (refl, inr at)
+refused_image Memory events rest (Some disk) at none = attached_there events rest at
+
+opening_journal : (why : Status) (s : ListState) (events : List Event) → IsReaders why → FitsScript s events [] s → JournalIs why s events [] s
+opening_journal why s events readers fits = by_readers (λ (w : Status). JournalIs w s events [] s) fits (λ at fault. fits) fits (λ at kind. fits) (inl fits) why readers
+
+opening_faults : {D : Type 0} (image : Option D) (why : Status) (faults : ℕ) → IsReaders why → why ≢ status.Done → FaultsAre why image faults
+opening_faults image why faults readers =
+    by_readers (λ (w : Status). w ≢ status.Done → FaultsAre w image faults) (λ other. absurd (other refl)) (λ at fault other. tt) (λ other. tt) (λ at kind other. tt) (λ other. tt) why readers
+
+-- none of a line's steps were made
+none_of : (s : ListState) (event : Event) → FitsSoFar s event [] [] s
+none_of s event = record { part = []; grew = refl; begun = none_begun event; run = refl }
+
+nothing_held : (start now : Option (List ℕ)) → now ≡ start → Keeps start (prepend_known [] now)
+nothing_held None now same = tt
+nothing_held (Some bytes) now same = subst (λ (o : Option (List ℕ)). Keeps (Some bytes) (prepend_known [] o)) (sym same) refl
+
+module _ {D : Type 0} (content : D → Option (List ℕ)) (faults : D → ℕ) (start now : Option (List ℕ)) (gives : ℕ → Option (List ℕ)) where
+  -- a run in a world that ended
+  pub replayed_of : (why : Status) (faulty : Bool) (names after : NamesState) (s t : ListState) (journal : List Entry) (lines : ℕ) (image : D) → IsReaders why → RunsAll start now names s why after journal t lines → s ≡ start_of names gives
+      → content image ≡ t.told → faults image ≡ t.faults → (IsTrue faulty ↔ (0 < t.faults)) → Replayed content faults start now gives (ended_status why faulty) lines after journal (Some image)
+  replayed_of why faulty names after s t journal lines image readers runs begins told failed tells =
+      let begin : s ≡ start_of after gives = begins ∙ ap (λ (disks : List _). start_of (record { disks = disks; ended = true }) gives) (sym runs.disks) in
+      let fits : Grew why (start_of after gives) runs.events journal t = subst (λ (x : ListState). Grew why x runs.events journal t) begin runs.fits in
+      record {
+        events = runs.events;
+        stopped = record {
+          left = runs.stopped.left;
+          count = runs.stopped.count;
+          read = runs.stopped.read;
+          held = runs.stopped.held;
+          stop = ended_stop why faulty after runs.stopped.left now runs.stopped.held runs.stopped.count readers runs.stopped.stop;
+          lines_are = runs.stopped.lines_are ∙ ended_count why faulty runs.stopped.count readers;
+        };
+        final = t;
+        journal_is = ended_journal why faulty (start_of after gives) t runs.events journal readers fits;
+        image_is = (told, failed);
+        faults_are = ended_faults image why faulty t.faults readers tells;
+        image_stands = ended_image image why faulty runs.events runs.stopped.left journal readers runs.attached;
+      }
+
+  -- a run that ended before an image was attached: in its declarations
+  pub replayed_unattached : (why : Status) (names : NamesState) (lines : ℕ) → IsReaders why → why ≢ status.Done → OpensAndStops start now why names lines → Replayed content faults start now gives why lines names [] None
+  replayed_unattached why names lines readers other opens = record {
+    events = opens.opening;
+    stopped = opens.stopped;
+    final = start_of names gives;
+    journal_is = opening_journal why (start_of names gives) opens.opening readers (fits_opening (start_of names gives) opens.opening opens.are);
+    image_is = tt;
+    faults_are = opening_faults None why (start_of names gives).faults readers other;
+    image_stands = opening_image D why opens.opening opens.stopped.left readers other opens.are;
+  }
+
+  refused_stop : (fault : AttachFault) (left : Option (List ℕ)) (held : List ℕ) (names : NamesState) (count : ℕ) → Keeps left (prepend_known held now) → StopsAt (attach_status fault) left held now names count
+  refused_stop Failed left held names count kept = kept
+  refused_stop Memory left held names count kept = kept
+
+  refused_count : (fault : AttachFault) (count : ℕ) → count ≡ counted_lines (attach_status fault) count
+  refused_count Failed count = refl
+  refused_count Memory count = refl
+
+  refused_faults : (fault : AttachFault) (image : Option D) → FaultsAre (attach_status fault) image (start_of no_names gives).faults
+  refused_faults Failed image = tt
+  refused_faults Memory image = tt
+
+  refused_opening : (fault : AttachFault) (names : NamesState) (opening : List Event) → AreOpening opening → JournalIs (attach_status fault) (start_of names gives) opening [] (start_of names gives)
+  refused_opening Failed names opening are = (refl, refl)
+  refused_opening Memory names opening are = inl (fits_opening (start_of names gives) opening are)
+
+  refused_first : (fault : AttachFault) (names : NamesState) (opening : List Event) (event : Event) → AreOpening opening → JournalIs (attach_status fault) (start_of names gives) (opening ++ event ∷ []) [] (start_of names gives)
+  refused_first Failed names opening event are = (refl, refl)
+  refused_first Memory names opening event are = inr (record {
+    before = opening;
+    last = event;
+    events_are = refl;
+    front = [];
+    middle = start_of names gives;
+    fits = fits_opening (start_of names gives) opening are;
+    so_far = none_of (start_of names gives) event;
+  })
+
+  -- the image couldn't be attached, or there was no memory for its world
+  pub replayed_refused : (fault : AttachFault) (held : List ℕ) (first : Option Event) (names : NamesState) (lines : ℕ) (image : Option D) → IfSome image (λ disk. (content disk ≡ (start_of names gives).told) × (faults disk ≡ 0))
+      → (fault ≡ Failed → IsNone image) → Opened start held now first names lines → Replayed content faults start now gives (attach_status fault) lines names [] image
+  replayed_refused fault held None names lines image is none opened = record {
+    events = opened.opening;
+    stopped = record { left = opened.stopped.left; count = opened.stopped.count; read = opened.stopped.read; held = opened.stopped.held; stop = refused_stop fault opened.stopped.left opened.stopped.held names opened.stopped.count opened.stopped.stop.1; lines_are = opened.stopped.lines_are ∙ refused_count fault opened.stopped.count };
+    final = start_of names gives;
+    journal_is = refused_opening fault names opened.opening opened.are;
+    image_is = is;
+    faults_are = refused_faults fault image;
+    image_stands = refused_image fault opened.opening opened.stopped.left image (inl (opened.are, opened.stopped.stop.0)) none;
+  }
+  replayed_refused fault held (Some event) names lines image is none opened = record {
+    events = opened.opening ++ event ∷ [];
+    stopped = stopped_behind start now held event names lines (attach_status fault) opened (refused_stop fault (prepend_known held now) held names lines (keeps_same (prepend_known held now))) (refused_count fault lines);
+    final = start_of names gives;
+    journal_is = refused_first fault names opened.opening event opened.are;
+    image_is = is;
+    faults_are = refused_faults fault image;
+    image_stands = refused_image fault (opened.opening ++ event ∷ []) (prepend_known held now) image (inr (record { opening = opened.opening; are = opened.are; event = event; other = other_line event opened.other; events_are = refl })) none;
+  }
+
+  -- the image that was attached is too short
+  pub replayed_short : (need have : ℕ) (held : List ℕ) (first : Option Event) (names : NamesState) (lines : ℕ) (image : D) → content image ≡ gives (512 * blocks_of names.disks) → faults image ≡ 0
+      → Opened start held now first names lines → Replayed content faults start now gives (status.ImageSize need have) lines names [] (Some image)
+  replayed_short need have held None names lines image told none opened = record {
+    events = opened.opening;
+    stopped = record { left = opened.stopped.left; count = opened.stopped.count; read = opened.stopped.read; held = opened.stopped.held; stop = opened.stopped.stop.1; lines_are = opened.stopped.lines_are };
+    final = start_of names gives;
+    journal_is = (refl, refl);
+    image_is = (told, none);
+    faults_are = tt;
+    image_stands = (refl, inl (opened.are, opened.stopped.stop.0));
+  }
+  replayed_short need have held (Some event) names lines image told none opened = record {
+    events = opened.opening ++ event ∷ [];
+    stopped = stopped_behind start now held event names lines (status.ImageSize need have) opened (keeps_same (prepend_known held now)) refl;
+    final = start_of names gives;
+    journal_is = (refl, refl);
+    image_is = (told, none);
+    faults_are = tt;
+    image_stands = (
+      refl,
+      inr (record { opening = opened.opening; are = opened.are; event = event; other = other_line event opened.other; events_are = refl }),
+    );
+  }
+
+  -- there was no memory to read a line
+  pub replayed_none : (names : NamesState) → names ≡ no_names → now ≡ start → Replayed content faults start now gives status.NoMemory 0 names [] None
+  replayed_none names is same = record {
+    events = [];
+    stopped = record { left = start; count = 0; read = read_none start names 0 is refl; held = []; stop = nothing_held start now same; lines_are = refl };
+    final = start_of names gives;
+    journal_is = inl (fits_none (start_of names gives));
+    image_is = tt;
+    faults_are = tt;
+    image_stands = (refl, inl tt);
+  }
+
+  -- the same run, its parts said otherwise
+  pub replayed_as : (why ended : Status) (lines number : ℕ) (names : NamesState) (journal entries : List Entry) (image disk : Option D) → ended ≡ why → number ≡ lines → entries ≡ journal → disk ≡ image
+      → Replayed content faults start now gives why lines names journal image → Replayed content faults start now gives ended number names entries disk
+  replayed_as why ended lines number names journal entries image disk status_is lines_are journal_is image_is replayed =
+      subst (λ (w : Status). Replayed content faults start now gives w number names entries disk) (sym status_is)
+      (subst (λ (n : ℕ). Replayed content faults start now gives why n names entries disk) (sym lines_are)
+      (subst (λ (l : List Entry). Replayed content faults start now gives why lines names l disk) (sym journal_is)
+      (subst (λ (d : Option D). Replayed content faults start now gives why lines names journal d) (sym image_is) replayed)))

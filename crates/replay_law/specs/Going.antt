@@ -1,0 +1,67 @@
+-- The lines of a script after its declarations.
+use Rattle.std.specs.Prelude.{◌≡◌, ◌≢◌, ℕ, ◌+◌, ◌≤◌, ◌⊎◌, List, ◌++◌, length, Option, ⊤}
+use Rattle.domain_script.specs.declared.event.Event.{Event}
+use Rattle.domain_script.specs.NamesState.{NamesState}
+use Rattle.ldom_journal.specs.declared.entry.Entry.{Entry}
+use Rattle.ldom_journal.specs.declared.status.Status.{Status}
+use Rattle.ldom_journal.specs.declared.status.Status.TheVariants as status
+use Rattle.disk_law.specs.ListState.{ListState}
+use Rattle.ldom_journal.specs.LinesEnd.{counted_lines}
+use Rattle.replay_law.specs.Attached.{AreOpening}
+use Rattle.replay_law.specs.Endings.{Ending, MayBeCut, ending}
+use Rattle.replay_law.specs.Reading.{StopsAt}
+use Rattle.replay_law.specs.Replayed.{Stopped}
+use Rattle.domain_script.specs.ScriptLines.{AreShort, TakesLines}
+use Rattle.domain_script.specs.ScriptEvents.{AllSpell}
+use Rattle.replay_law.specs.Script.{FitsScript, FitsCutOff}
+
+-- what the journal got by how it ended: after want of memory the last line's part may be cut off
+abbrev pub GrewTo : Ending → ListState → List Event → List Entry → ListState → Type 0
+GrewTo MayBeCut s events part t = FitsScript s events part t ⊎ FitsCutOff s events part t
+GrewTo other s events part t = FitsScript s events part t
+
+abbrev pub Grew : Status → ListState → List Event → List Entry → ListState → Type 0
+Grew why s events part t = GrewTo (ending why) s events part t
+
+-- from the bytes that are still to come, after so many lines, these lines were read
+pub record ReadsOn (start left : Option (List ℕ)) (before : NamesState) (number : ℕ) (events : List Event) (after : NamesState) : Type 0 where
+  pub texts : List (List ℕ)
+  pub taken : TakesLines start left texts
+  pub short : AreShort texts
+  pub few : number + length texts ≤ 20000
+  pub spell : AllSpell texts before events after
+
+-- they were read and run, and then no further one was taken up
+pub record RunsLines (start now : Option (List ℕ)) (before : NamesState) (old : List Entry) (s : ListState) (number : ℕ)
+    (why : Status) (after : NamesState) (new : List Entry) (t : ListState) (lines : ℕ) : Type 0 where
+  pub events : List Event
+  pub left : Option (List ℕ)
+  pub read : ReadsOn start left before number events after
+  pub part : List Entry
+  pub grew : new ≡ old ++ part
+  pub fits : Grew why s events part t
+  pub held : List ℕ
+  pub stop : StopsAt why left held now after (number + length read.texts)
+  pub lines_are : lines ≡ counted_lines why (number + length read.texts)
+
+-- a status with which reading a script ends
+abbrev pub IsReaders : Status → Type 0
+IsReaders status.Done = ⊤
+IsReaders (status.Script line fault) = ⊤
+IsReaders status.SourceFault = ⊤
+IsReaders (status.Limit line kind) = ⊤
+IsReaders status.NoMemory = ⊤
+IsReaders status.Usage = ⊥
+IsReaders status.SinkFault = ⊥
+IsReaders status.HostFault = ⊥
+IsReaders status.StoreFault = ⊥
+IsReaders (status.ImageSize need have) = ⊥
+
+-- From its first line on the script was read and run, and then no further line was taken up.
+pub record RunsAll (start now : Option (List ℕ)) (before : NamesState) (s : ListState) (why : Status) (after : NamesState) (journal : List Entry) (t : ListState) (lines : ℕ) : Type 0 where
+  pub events : List Event
+  pub stopped : Stopped start now why events after lines
+  pub fits : Grew why s events journal t
+  pub disks : after.disks ≡ before.disks
+  -- but at the input's end, a line came at which the image is attached
+  pub attached : why ≢ status.Done → AreOpening events → ⊥

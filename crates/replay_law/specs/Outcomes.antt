@@ -1,0 +1,33 @@
+-- What the top call did.
+use Rattle.std.specs.Prelude.{◌≡◌, ℕ, ◌*◌, ◌⊎◌, List, Option, IfSome}
+use Rattle.std.specs.Io.KnownBytes.{Appends}
+use Rattle.domain_script.specs.NamesState.{NamesState}
+use Rattle.gathered_text.specs.Gathered.{WroteFront}
+use Rattle.ldom_journal.specs.Report.{report}
+use Rattle.ldom_journal.specs.declared.entry.Entry.{Entry}
+use Rattle.ldom_journal.specs.declared.status.Mode.TheVariants as mode
+use Rattle.ldom_journal.specs.declared.status.Status.{Status}
+use Rattle.ldom_journal.specs.declared.status.Status.TheVariants.{SinkFault}
+use Rattle.replay_law.specs.Admitting.{AdmitsRequests}
+use Rattle.replay_law.specs.Outside.{KeepsTold, accepted_requests}
+use Rattle.replay_law.specs.Replayed.{Replayed}
+use Rattle.replay_law.specs.Sized.{SizeIs}
+use Rattle.replay_law.specs.Worlds.{blocks_of}
+
+-- The whole text was written and the status is the run's, or the sink failed after some front of the text.
+abbrev pub Reports : Status → Status → Option (List ℕ) → Option (List ℕ) → List ℕ → Type 0
+Reports ran status old new text = ((status ≡ ran) × Appends old new text) ⊎ ((status ≡ SinkFault) × WroteFront old new text)
+
+-- the script was run, and the report of its journal written; the source has `now` left
+pub record RunsScript {D : Type 0} (content : D → Option (List ℕ)) (faults size : D → ℕ) (script now : Option (List ℕ)) (gives : ℕ → Option (List ℕ))
+    (status : Status) (journal : List Entry) (image : Option D) (old new : Option (List ℕ)) : Type 0 where
+  -- how the run ended before its report
+  pub ran : Status
+  -- how many lines the report counts
+  pub lines : ℕ
+  pub names : NamesState
+  pub replayed : Replayed content faults script now gives ran lines names journal image
+  pub admits : AdmitsRequests ran names.disks replayed.events journal
+  pub sized : SizeIs size ran (512 * blocks_of names.disks) (gives (512 * blocks_of names.disks)) image
+  pub others : IfSome image (λ disk. KeepsTold (gives (512 * blocks_of names.disks)) (accepted_requests journal) (content disk))
+  pub reports : Reports ran status old new (report mode.Run names.disks lines journal ran)

@@ -1,0 +1,43 @@
+-- One line of a script after another, and why no further one is taken up.
+use Rattle.std.specs.Prelude.{◌≡◌, ℕ, ◌+◌, ◌≤◌, List, length, Option}
+use Rattle.std.specs.Io.KnownBytes.{IsAtEnd, Keeps, prepend_known}
+use Rattle.domain_script.specs.declared.event.Event.{Event}
+use Rattle.domain_script.specs.declared.event.LineFault.{LineFault}
+use Rattle.domain_script.specs.declared.event.LineFault.TheVariants.{Word}
+use Rattle.domain_script.specs.NamesState.{NamesState, noted}
+use Rattle.domain_script.specs.Pieces.{HasNoFeed}
+use Rattle.domain_script.specs.ScriptLines.{TakesLine}
+use Rattle.domain_script.specs.Spells.{Spells}
+use Rattle.ldom_journal.specs.LinesEnd.{IsPast}
+use Rattle.ldom_journal.specs.declared.status.Status.{Status}
+use Rattle.ldom_journal.specs.declared.status.Status.TheVariants as status
+
+-- the next line spells this event
+pub record ReadsEvent (rest left : Option (List ℕ)) (names : NamesState) (event : Event) (after : NamesState) : Type 0 where
+  pub text : List ℕ
+  pub taken : TakesLine rest left text
+  pub short : length text ≤ 3100
+  pub spells : Spells text names event
+  pub noted_is : after ≡ noted names event
+
+-- the next line spells nothing
+pub record IsFaulty (rest left : Option (List ℕ)) (names : NamesState) (fault : LineFault) : Type 0 where
+  pub text : List ℕ
+  pub taken : TakesLine rest left text
+  pub short : length text ≤ 3100
+  pub nothing : (event : Event) → Spells text names event → ⊥
+  pub word : fault ≡ Word
+
+-- Why no line is taken up after so many: `rest` is to come, which is now `held` and what the source has left.
+-- Where the source failed, no whole line is held.
+abbrev pub StopsAt : Status → Option (List ℕ) → List ℕ → Option (List ℕ) → NamesState → ℕ → Type 0
+StopsAt (status.Script at fault) rest held now names count = (at ≡ count + 1) × (at ≤ 20000) × IsFaulty rest (prepend_known held now) names fault
+StopsAt (status.Limit at kind) rest held now names count = (at ≡ count + 1) × IsPast kind rest count × Keeps rest (prepend_known held now)
+StopsAt status.Done rest held now names count = IsAtEnd rest × Keeps rest (prepend_known held now)
+StopsAt status.StoreFault rest held now names count = IsAtEnd rest × Keeps rest (prepend_known held now)
+StopsAt status.SourceFault rest held now names count = HasNoFeed held × Keeps rest (prepend_known held now)
+StopsAt status.HostFault rest held now names count = Keeps rest (prepend_known held now)
+StopsAt (status.ImageSize need have) rest held now names count = Keeps rest (prepend_known held now)
+StopsAt status.NoMemory rest held now names count = Keeps rest (prepend_known held now)
+StopsAt status.Usage rest held now names count = ⊥
+StopsAt status.SinkFault rest held now names count = ⊥
