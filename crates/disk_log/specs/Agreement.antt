@@ -1,7 +1,10 @@
 -- How a lane's log and its state agree: what is a part of both is equal, and what one has less of is told by the other.
 use Rattle.std.specs.Prelude.{◌≡◌, ℕ, ◌+◌, ◌-◌, ◌%◌, ◌^◌, false, not, List, [], ◌∷◌, ◌++◌, drop, length, replicate, Option, Some, None, slice_get, slice_index, ⊤}
 use Rattle.dring.specs.Slots.{free_state, slot_bytes}
+use Rattle.ldc_link.specs.Following.{OffersLittle}
 use Rattle.ldc_link.specs.LinkState.{LinkState, is_up}
+use Rattle.ldc_queue.specs.declared.end.End.{End}
+use Rattle.ldc_queue.specs.declared.end.End.TheVariants.{A, B}
 use Rattle.ldc_queue.specs.Messages.{is_empty}
 use Rattle.ldc_queue.specs.Talk.{Turn}
 use Rattle.vdisk_msg.specs.declared.desc.DiskDesc.{DiskDesc}
@@ -11,9 +14,12 @@ use Rattle.vdisk_msg.specs.Pieces.{Finishes, Moves, Piece, Stores, read_pieces, 
 use Rattle.vdisk_msg.specs.Requested as asks_for
 use Rattle.lane_law.specs.Sayings.{count_heard, count_said, half_heard, half_said}
 use Rattle.lane_law.specs.WireAt.{counts_next}
+use Rattle.disk_steps.specs.ClientRule as client_rules
 use Rattle.disk_steps.specs.ClientState.{ClientSession, ClientState, ever_published_count}
 use Rattle.disk_steps.specs.LaneState.{LaneState}
 use Rattle.disk_steps.specs.Ranges.{wrapped}
+use Rattle.disk_steps.specs.Seeing.{seen}
+use Rattle.disk_steps.specs.ServerRule as server_rules
 use Rattle.disk_steps.specs.ServerState.{Ends, Flushes, Gathers, Gives, Progress, Reads, ServerSession, Work, Writes}
 use Rattle.disk_log.specs.DiskLog.{DiskLog}
 use Rattle.disk_log.specs.NearLog.{NearLog}
@@ -21,7 +27,7 @@ use Rattle.disk_log.specs.RingLog.{Accepted, Done, Free, Ready, SlotLog, Zeros}
 use Rattle.disk_log.specs.WorkLog.{ClientCounts, ServerCounts, WorkLog}
 
 -- A LINK counts what was said and heard, and holds what came of a message that isn't whole; part of its own message is put where part of
--- one was said; before it is up it has heard nothing and holds nothing.
+-- one was said; before it is up it has heard nothing and holds nothing; the version that it offers in place of a refused one is 1.0 or 0.0.
 pub record LinkAgrees (k : LinkState) (turns : List Turn) : Type 0 where
   pub put : k.put_next ≡ counts_next (count_said turns)
   pub take : k.take_next ≡ counts_next (count_heard turns)
@@ -29,6 +35,7 @@ pub record LinkAgrees (k : LinkState) (turns : List Turn) : Type 0 where
   pub seen : k.whole ≡ None
   pub begun : k.begun ≡ not (is_empty (half_said turns))
   pub nothing_below : is_up k ≡ false → k.to_send ≡ []
+  pub offers : OffersLittle k.phase
 
 -- THE REQUESTS that are pending are those that were accepted and aren't done
 pub record RequestsAgree (c : ClientState) (w : WorkLog) : Type 0 where
@@ -102,6 +109,12 @@ pub record RingAgrees (memory : List ℕ) (slots : ℕ) (issued : List Request) 
   pub long : length ring ≡ slots
   pub each : (slot : ℕ) (is : SlotLog) → slice_get ring slot ≡ Some is → SlotAgrees issued slots slot is (slot_bytes 128 slot memory)
 
+-- AN END THAT WAS IDLE in the last event has nothing to do yet
+abbrev pub IdleAgrees : LaneState → Option End → Type 0
+IdleAgrees s None = ⊤
+IdleAgrees s (Some A) = client_rules.client_rule s.client (seen A s.shape.entries s.wire.wire) ≡ client_rules.Rests
+IdleAgrees s (Some B) = (s.stopped ≡ false) × (server_rules.server_rule s.server (seen B s.shape.entries s.wire.wire) ≡ server_rules.Rests)
+
 pub record AgreesWithLog (s : LaneState) (l : DiskLog) : Type 0 where
   pub shape : s.shape ≡ l.shape
   pub wire : s.wire ≡ l.wire
@@ -113,4 +126,5 @@ pub record AgreesWithLog (s : LaneState) (l : DiskLog) : Type 0 where
   pub client : ClientAgrees s.client.session l.work.done l.work.client
   pub server : ServerAgrees s.server.session s.server.work l.work.server
   pub near : l.wire.forged ≡ false → NearAgrees s l.near
+  pub idle : IdleAgrees s l.last_idle
   pub ring : l.wire.forged ≡ false → RingAgrees s.memory l.shape.slots l.work.issued l.ring

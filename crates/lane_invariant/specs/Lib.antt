@@ -1,0 +1,11 @@
+pub mod Advances
+pub mod Budget
+pub mod CompletedIds
+pub mod Conversation
+pub mod HeardStands
+pub mod LaneTalks
+pub mod MemoryStands
+pub mod RuleFacts
+pub mod Sound
+pub mod Standing
+pub mod TableStands
