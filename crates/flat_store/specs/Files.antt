@@ -1,6 +1,9 @@
--- Fronts of ranges of a file's bytes, where it tells them.
-use Rattle.std.specs.Prelude.{ℕ, List, take, Option}
+-- Fronts of ranges of a file's bytes, where it tells them, and what its calls came to.
+use Rattle.std.specs.Prelude.{◌≡◌, ℕ, ◌+◌, ◌≤◌, ◌==◌, ◌⊎◌, if◌then◌else◌, List, take, min, Option, Result, Ok, Err}
+use Rattle.vio_io.specs.Causes.{last_count, next_count}
 use Rattle.vio_io.specs.Stores.{ReadsRange, WritesRange}
+use Rattle.flat_store.specs.declared.image_file.FileFault.{FileFault}
+use Rattle.flat_store.specs.declared.image_file.FileFault.TheVariants.{Interrupted, Other}
 
 -- the first n bytes of the buffer are those of the content from the place `at` on
 abbrev pub ReadsFront : Option (List ℕ) → ℕ → ℕ → List ℕ → Type 0
@@ -9,3 +12,42 @@ ReadsFront content at n buf = ReadsRange content at (take n buf)
 -- exactly the first n of these bytes were written, from the place `at` on
 abbrev pub WritesFront : Option (List ℕ) → Option (List ℕ) → ℕ → ℕ → List ℕ → Type 0
 WritesFront old new at n bytes = WritesRange old new at (take n bytes)
+
+-- how many calls did all that was asked, how many moved less or failed, and how many were interrupted
+pub record FileCalls : Type 0 where
+  pub done : ℕ
+  pub failed : ℕ
+  pub interrupted : ℕ
+
+abbrev pub one_done : FileCalls → FileCalls
+one_done c = record c { done = next_count c.done }
+
+abbrev pub one_failed : FileCalls → FileCalls
+one_failed c = record c { failed = next_count c.failed }
+
+abbrev pub one_interrupted : FileCalls → FileCalls
+one_interrupted c = record c { interrupted = next_count c.interrupted }
+
+abbrev pub after_fault : FileFault → FileCalls → FileCalls
+after_fault Interrupted c = one_interrupted c
+after_fault Other c = one_failed c
+
+-- behind a call that was asked to move so many bytes, by its answer
+abbrev pub after_move : ℕ → Result ℕ FileFault → FileCalls → FileCalls
+after_move wanted (Ok moved) c = if moved == wanted then one_done c else one_failed c
+after_move wanted (Err fault) c = after_fault fault c
+
+-- behind a call that was asked to make last what was written
+abbrev pub after_sync : {A : Type 0} → Result A FileFault → FileCalls → FileCalls
+after_sync (Ok done) c = one_done c
+after_sync (Err fault) c = after_fault fault c
+
+-- one call did all that was asked, and none moved less or failed
+pub record Succeeded (old new : FileCalls) : Type 0 where
+  pub done : new.done ≡ next_count old.done
+  pub failed : new.failed ≡ old.failed
+
+-- no call did what was asked: one moved less or failed, or 10,000 were interrupted
+pub record Lacked (old new : FileCalls) : Type 0 where
+  pub done : new.done ≡ old.done
+  pub why : (new.failed ≡ next_count old.failed) ⊎ ((new.failed ≡ old.failed) × (min (old.interrupted + 10000) last_count ≤ new.interrupted))

@@ -3,4 +3,5 @@ pub mod HostDiskState
 pub mod Hosts
 pub mod ListHostState
 pub mod MemStoreState
+pub mod StdFileState
 pub mod Zeros

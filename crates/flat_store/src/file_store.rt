@@ -1,6 +1,7 @@
-ghost use Rattle.std.specs.Prelude.{◌≡◌, ◌≤◌, length, OnErr, OnOk};
+ghost use Rattle.std.specs.Prelude.{◌≡◌, ◌≢◌, ◌≤◌, length, OnErr, OnOk};
 ghost use Rattle.vio_io.specs.Causes.{Rose, next_count};
 ghost use Rattle.vio_io.specs.Stores.{IsUnitRange, KeepsOutside, ReadsRange, WritesRange};
+ghost use Rattle.flat_store.specs.Files.{Lacked, Succeeded};
 
 use crate::{FileFault, ImageFile};
 use vio_io::{Failed, Store};
@@ -47,17 +48,54 @@ impl<F: ImageFile> Store for FileStore<F> {
         self.file.len()
     }
 
-    fn read_at(&mut self, at: u64, buf: &mut [u8]) -> Result<(), Failed> {
+    fn read_at(&mut self, at: u64, buf: &mut [u8]) -> Result<(), Failed>
+        requires { IsUnitRange (F.size self.old.file) at (length buf.old) }
+        ensures told { OnOk result (ReadsRange (F.content self.old.file) at buf.new) }
+        ensures content { F.content self.new.file ≡ F.content self.old.file }
+        ensures size { F.size self.new.file ≡ F.size self.old.file }
+        ensures calls { self.new.calls ≡ next_count self.old.calls }
+        ensures ok { OnOk result (self.new.faults ≡ self.old.faults) }
+        ensures count { self.old.faults ≤ self.new.faults }
+        ensures cause { OnErr result (Rose self.old.faults self.new.faults) }
+        ensures once { OnErr result (self.new.faults ≡ next_count self.old.faults) }
+
+        ensures succeeded { OnOk result (Succeeded (F.calls self.old.file) (F.calls self.new.file)) }
+        ensures lacked { OnErr result (Lacked (F.calls self.old.file) (F.calls self.new.file)) }
+    {
         self.calls = self.calls.saturating_add(1);
         count_fault(read_whole(&mut self.file, at, buf), &mut self.faults)
     }
 
-    fn write_at(&mut self, at: u64, bytes: &[u8]) -> Result<(), Failed> {
+    fn write_at(&mut self, at: u64, bytes: &[u8]) -> Result<(), Failed>
+        requires { IsUnitRange (F.size self.old.file) at (length bytes.now) }
+        ensures told { OnOk result (WritesRange (F.content self.old.file) (F.content self.new.file) at bytes.now) }
+        ensures outside { KeepsOutside (F.content self.old.file) (F.content self.new.file) at (length bytes.now) }
+        ensures size { F.size self.new.file ≡ F.size self.old.file }
+        ensures calls { self.new.calls ≡ next_count self.old.calls }
+        ensures ok { OnOk result (self.new.faults ≡ self.old.faults) }
+        ensures count { self.old.faults ≤ self.new.faults }
+        ensures cause { OnErr result (Rose self.old.faults self.new.faults) }
+        ensures once { OnErr result (self.new.faults ≡ next_count self.old.faults) }
+
+        ensures succeeded { OnOk result (Succeeded (F.calls self.old.file) (F.calls self.new.file)) }
+        ensures lacked { OnErr result (Lacked (F.calls self.old.file) (F.calls self.new.file)) }
+    {
         self.calls = self.calls.saturating_add(1);
         count_fault(write_whole(&mut self.file, at, bytes), &mut self.faults)
     }
 
-    fn flush(&mut self) -> Result<(), Failed> {
+    fn flush(&mut self) -> Result<(), Failed>
+        ensures content { F.content self.new.file ≡ F.content self.old.file }
+        ensures size { F.size self.new.file ≡ F.size self.old.file }
+        ensures calls { self.new.calls ≡ next_count self.old.calls }
+        ensures ok { OnOk result (self.new.faults ≡ self.old.faults) }
+        ensures count { self.old.faults ≤ self.new.faults }
+        ensures cause { OnErr result (Rose self.old.faults self.new.faults) }
+        ensures once { OnErr result (self.new.faults ≡ next_count self.old.faults) }
+
+        ensures succeeded { OnOk result (Succeeded (F.calls self.old.file) (F.calls self.new.file)) }
+        ensures lacked { OnErr result (Lacked (F.calls self.old.file) (F.calls self.new.file)) }
+    {
         self.calls = self.calls.saturating_add(1);
         count_fault(sync(&mut self.file), &mut self.faults)
     }
@@ -83,7 +121,8 @@ fn count_fault(done: Result<(), Failed>, faults: &mut u64) -> Result<(), Failed>
 
 // Whether a call moved all of so many bytes.
 fn whole(moved: usize, wanted: usize) -> Result<(), Failed>
-    ensures { OnOk result (moved ≡ wanted) }
+    ensures ok { OnOk result (moved ≡ wanted) }
+    ensures err { OnErr result (moved ≢ wanted) }
 {
     if moved == wanted { Ok(()) } else { Err(Failed) }
 }
@@ -93,8 +132,10 @@ fn read_whole<F: ImageFile>(file: &mut F, at: u64, buf: &mut [u8]) -> Result<(),
     ensures told { OnOk result (ReadsRange (F.content file.old) at buf.new) }
     ensures content { F.content file.new ≡ F.content file.old }
     ensures size { F.size file.new ≡ F.size file.old }
+    ensures succeeded { OnOk result (Succeeded (F.calls file.old) (F.calls file.new)) }
+    ensures lacked { OnErr result (Lacked (F.calls file.old) (F.calls file.new)) }
 {
-    for _ in 0..MOST_TRIES {
+    for tried in 0..MOST_TRIES {
         match file.read_some(at, buf) {
             Ok(moved) => return whole(moved, buf.len()),
             Err(FileFault::Interrupted) => {}
@@ -109,8 +150,10 @@ fn write_whole<F: ImageFile>(file: &mut F, at: u64, bytes: &[u8]) -> Result<(), 
     ensures told { OnOk result (WritesRange (F.content file.old) (F.content file.new) at bytes.now) }
     ensures outside { KeepsOutside (F.content file.old) (F.content file.new) at (length bytes.now) }
     ensures size { F.size file.new ≡ F.size file.old }
+    ensures succeeded { OnOk result (Succeeded (F.calls file.old) (F.calls file.new)) }
+    ensures lacked { OnErr result (Lacked (F.calls file.old) (F.calls file.new)) }
 {
-    for _ in 0..MOST_TRIES {
+    for tried in 0..MOST_TRIES {
         match file.write_some(at, bytes) {
             Ok(moved) => return whole(moved, bytes.len()),
             Err(FileFault::Interrupted) => {}
@@ -123,8 +166,10 @@ fn write_whole<F: ImageFile>(file: &mut F, at: u64, bytes: &[u8]) -> Result<(), 
 fn sync<F: ImageFile>(file: &mut F) -> Result<(), Failed>
     ensures content { F.content file.new ≡ F.content file.old }
     ensures size { F.size file.new ≡ F.size file.old }
+    ensures succeeded { OnOk result (Succeeded (F.calls file.old) (F.calls file.new)) }
+    ensures lacked { OnErr result (Lacked (F.calls file.old) (F.calls file.new)) }
 {
-    for _ in 0..MOST_TRIES {
+    for tried in 0..MOST_TRIES {
         match file.sync() {
             Ok(()) => return Ok(()),
             Err(FileFault::Interrupted) => {}

@@ -1,6 +1,6 @@
 ghost use Rattle.std.specs.Prelude.{◌≡◌, ℕ, ◌≤◌, List, Option, length, IfOk, IfSome};
 ghost use Rattle.vio_io.specs.Stores.{IsUnitRange, KeepsOutside};
-ghost use Rattle.flat_store.specs.Files.{ReadsFront, WritesFront};
+ghost use Rattle.flat_store.specs.Files.{FileCalls, ReadsFront, WritesFront, after_move, after_sync};
 
 /// Why a call of a file moved no byte, as far as it matters here.
 #[derive(Clone, Copy, Debug, PartialEq, Eq)]
@@ -19,6 +19,9 @@ pub trait ImageFile: Drop {
     /// The file's length in bytes.
     ghost size: { Self → ℕ };
 
+    /// What its calls came to.
+    ghost calls: { Self → FileCalls };
+
     /// The length of the file, in bytes.
     fn len(&self) -> u64
         ensures { result ≡ size self.now };
@@ -27,6 +30,7 @@ pub trait ImageFile: Drop {
     fn read_some(&mut self, at: u64, buf: &mut [u8]) -> Result<usize, FileFault>
         requires { IsUnitRange (size self.old) at (length buf.old) }
         ensures within { IfOk result (λ n. n ≤ length buf.new) }
+        ensures calls { calls self.new ≡ after_move (length buf.new) result (calls self.old) }
         ensures told { IfOk result (λ n. ReadsFront (content self.old) at n buf.new) }
         ensures content { content self.new ≡ content self.old }
         ensures size { size self.new ≡ size self.old };
@@ -36,6 +40,7 @@ pub trait ImageFile: Drop {
     fn write_some(&mut self, at: u64, bytes: &[u8]) -> Result<usize, FileFault>
         requires { IsUnitRange (size self.old) at (length bytes.now) }
         ensures within { IfOk result (λ n. n ≤ length bytes.now) }
+        ensures calls { calls self.new ≡ after_move (length bytes.now) result (calls self.old) }
         ensures told { IfOk result (λ n. WritesFront (content self.old) (content self.new) at n bytes.now) }
         ensures outside { KeepsOutside (content self.old) (content self.new) at (length bytes.now) }
         ensures interrupted { result ≡ Err FileFault.Interrupted → content self.new ≡ content self.old }
@@ -43,6 +48,7 @@ pub trait ImageFile: Drop {
 
     /// What was written before is to last. It changes no byte.
     fn sync(&mut self) -> Result<(), FileFault>
+        ensures calls { calls self.new ≡ after_sync result (calls self.old) }
         ensures content { content self.new ≡ content self.old }
         ensures size { size self.new ≡ size self.old };
 

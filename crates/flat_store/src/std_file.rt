@@ -1,4 +1,6 @@
-ghost use Rattle.std.specs.Prelude.{None};
+ghost use Rattle.std.specs.Prelude.{◌≡◌, None, if◌then◌else◌};
+ghost use Rattle.flat_store.specs.Files.{after_fault, after_move, after_sync, one_done, one_failed};
+ghost use Rattle.flat_store.specs.StdFileState.{file_calls};
 
 use crate::{FileFault, ImageFile};
 use std::fs::{File, OpenOptions};
@@ -12,15 +14,49 @@ use std::rt::Files;
 pub struct StdFile {
     file: File,
     len: u64,
+    done: u64,
+    failed: u64,
+    interrupted: u64,
 }
 
 impl StdFile {
     /// Opens what has this name for reading and writing. It is never made, cut or lengthened. A directory can't be opened so,
-    /// and what has no length, as a pipe, is refused.
+    /// and what has no length, as a pipe, is refused. A clone's descriptor is above those of the standard streams: where one
+    /// of them is closed, what is written to it doesn't come into the file.
     pub fn open<R: Files<File = File>>(files: &R, name: &str) -> io::Result<Self> {
-        let mut file = OpenOptions::new().read(true).write(true).open(files, name)?;
+        let opened = OpenOptions::new().read(true).write(true).open(files, name)?;
+        let mut file = opened.try_clone()?;
         let len = file.seek(SeekFrom::End(0))?;
-        Ok(StdFile { file, len })
+        Ok(StdFile {
+            file,
+            len,
+            done: 0,
+            failed: 0,
+            interrupted: 0,
+        })
+    }
+
+    // Counts a call that moved all, or less.
+    fn note_move(&mut self, whole: bool)
+        ensures calls { file_calls self.new ≡ (if whole then one_done (file_calls self.old) else one_failed (file_calls self.old)) }
+        ensures len { self.new.len ≡ self.old.len }
+    {
+        if whole {
+            self.done = self.done.saturating_add(1);
+        } else {
+            self.failed = self.failed.saturating_add(1);
+        }
+    }
+
+    // Counts a call that failed.
+    fn note_fault(&mut self, fault: FileFault)
+        ensures calls { file_calls self.new ≡ after_fault fault (file_calls self.old) }
+        ensures len { self.new.len ≡ self.old.len }
+    {
+        match fault {
+            FileFault::Interrupted => self.interrupted = self.interrupted.saturating_add(1),
+            FileFault::Other => self.failed = self.failed.saturating_add(1),
+        }
     }
 }
 
@@ -28,6 +64,8 @@ impl ImageFile for StdFile {
     ghost content = { λ _. None };
 
     ghost size = { λ f. f.len };
+
+    ghost calls = { file_calls };
 
     ghost told_size = { λ _. tt };
 
@@ -37,22 +75,43 @@ impl ImageFile for StdFile {
 
     fn read_some(&mut self, at: u64, buf: &mut [u8]) -> Result<usize, FileFault> {
         match self.file.read_at(buf, at) {
-            Ok(moved) => Ok(moved),
-            Err(error) => Err(fault_of(&error)),
+            Ok(moved) => {
+                self.note_move(moved == buf.len());
+                Ok(moved)
+            }
+            Err(error) => {
+                let fault = fault_of(&error);
+                self.note_fault(fault);
+                Err(fault)
+            }
         }
     }
 
     fn write_some(&mut self, at: u64, bytes: &[u8]) -> Result<usize, FileFault> {
         match self.file.write_at(bytes, at) {
-            Ok(moved) => Ok(moved),
-            Err(error) => Err(fault_of(&error)),
+            Ok(moved) => {
+                self.note_move(moved == bytes.len());
+                Ok(moved)
+            }
+            Err(error) => {
+                let fault = fault_of(&error);
+                self.note_fault(fault);
+                Err(fault)
+            }
         }
     }
 
     fn sync(&mut self) -> Result<(), FileFault> {
         match self.file.sync_data() {
-            Ok(()) => Ok(()),
-            Err(error) => Err(fault_of(&error)),
+            Ok(()) => {
+                self.note_move(true);
+                Ok(())
+            }
+            Err(error) => {
+                let fault = fault_of(&error);
+                self.note_fault(fault);
+                Err(fault)
+            }
         }
     }
 }

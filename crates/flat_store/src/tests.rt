@@ -1,3 +1,6 @@
+ghost use Rattle.std.specs.Prelude.{◌≡◌, ◌≤◌, IfOk};
+ghost use Rattle.flat_store.specs.Files.{after_move};
+
 use crate::*;
 use std::fs;
 use std::test::Fail;
@@ -8,15 +11,46 @@ use vio_io::{AttachFault, Failed, Host, Store};
 struct AnsweringFile {
     interruptions: u32,
     answer: Result<usize, FileFault>,
+    done: u64,
+    failed: u64,
+    interrupted: u64,
 }
 
 impl AnsweringFile {
-    fn call(&mut self) -> Result<usize, FileFault> {
-        if self.interruptions == 0 {
-            return self.answer;
+    fn new(interruptions: u32, answer: Result<usize, FileFault>) -> Self {
+        AnsweringFile {
+            interruptions,
+            answer,
+            done: 0,
+            failed: 0,
+            interrupted: 0,
         }
-        self.interruptions -= 1;
-        Err(FileFault::Interrupted)
+    }
+
+    // Answers a call that is asked to move so many bytes, and counts it.
+    fn call(&mut self, wanted: usize) -> Result<usize, FileFault>
+        ensures within { IfOk result (λ n. n ≤ wanted) }
+        ensures calls { record { done = self.new.done; failed = self.new.failed; interrupted = self.new.interrupted } ≡ after_move wanted result (record { done = self.old.done; failed = self.old.failed; interrupted = self.old.interrupted }) }
+    {
+        if self.interruptions > 0 {
+            self.interruptions -= 1;
+            self.interrupted = self.interrupted.saturating_add(1);
+            return Err(FileFault::Interrupted);
+        }
+        match self.answer {
+            Ok(moved) if moved >= wanted => {
+                self.done = self.done.saturating_add(1);
+                Ok(wanted)
+            }
+            Err(FileFault::Interrupted) => {
+                self.interrupted = self.interrupted.saturating_add(1);
+                Err(FileFault::Interrupted)
+            }
+            answer => {
+                self.failed = self.failed.saturating_add(1);
+                answer
+            }
+        }
     }
 }
 
@@ -27,6 +61,8 @@ impl ImageFile for AnsweringFile {
 
     ghost size = { λ _. 8192 };
 
+    ghost calls = { λ f. record { done = f.done; failed = f.failed; interrupted = f.interrupted } };
+
     ghost told_size = { λ _. tt };
 
     fn len(&self) -> u64 {
@@ -34,45 +70,38 @@ impl ImageFile for AnsweringFile {
     }
 
     fn read_some(&mut self, _: u64, buf: &mut [u8]) -> Result<usize, FileFault> {
-        Ok(self.call()?.min(buf.len()))
+        self.call(buf.len())
     }
 
     fn write_some(&mut self, _: u64, bytes: &[u8]) -> Result<usize, FileFault> {
-        Ok(self.call()?.min(bytes.len()))
+        self.call(bytes.len())
     }
 
     fn sync(&mut self) -> Result<(), FileFault> {
-        self.call()?;
-        Ok(())
+        match self.call(0) {
+            Ok(_) => Ok(()),
+            Err(fault) => Err(fault),
+        }
     }
 }
 
 // Whether reading a block of a file that answers so succeeds. It counts a fault where it doesn't.
 fn reads(interruptions: u32, answer: Result<usize, FileFault>) -> Option<bool> {
-    let mut store = FileStore::new(AnsweringFile {
-        interruptions,
-        answer,
-    });
+    let mut store = FileStore::new(AnsweringFile::new(interruptions, answer));
     let read = store.read_at(512, &mut [0; 512]).is_ok();
     (read != store.faulty()).then_some(read)
 }
 
 // The same of writing a block.
 fn writes(interruptions: u32, answer: Result<usize, FileFault>) -> Option<bool> {
-    let mut store = FileStore::new(AnsweringFile {
-        interruptions,
-        answer,
-    });
+    let mut store = FileStore::new(AnsweringFile::new(interruptions, answer));
     let wrote = store.write_at(512, &[0; 512]).is_ok();
     (wrote != store.faulty()).then_some(wrote)
 }
 
 // The same of flushing.
 fn flushes(interruptions: u32, answer: Result<usize, FileFault>) -> Option<bool> {
-    let mut store = FileStore::new(AnsweringFile {
-        interruptions,
-        answer,
-    });
+    let mut store = FileStore::new(AnsweringFile::new(interruptions, answer));
     let flushed = store.flush().is_ok();
     (flushed != store.faulty()).then_some(flushed)
 }
