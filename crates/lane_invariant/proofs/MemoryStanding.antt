@@ -38,7 +38,7 @@ cleared_long slots memory long = length-put_at 0 (free_slots 128 slots) memory (
 pub freed_long : (slots slot : ℕ) (memory : List ℕ) → slot < slots → length memory ≡ memory_long slots → length (put_at (128 * slot) (free_state ∷ []) memory) ≡ length memory
 freed_long slots slot memory below long = length-put_at (128 * slot) (free_state ∷ []) memory (omega (arith, below, long))
 
-desc_long : (id : ℕ) (request : Request) (slot slots : ℕ) → length (slot_says.canonical (descriptor_of id request slot slots)) ≡ 128
+pub desc_long : (id : ℕ) (request : Request) (slot slots : ℕ) → length (slot_says.canonical (descriptor_of id request slot slots)) ≡ 128
 unfolding descriptor_of buffer_cookies
 desc_long id request slot slots = omega arith
 

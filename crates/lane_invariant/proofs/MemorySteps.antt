@@ -143,7 +143,7 @@ moves_long (Gives u bytes) work r unit fault next new moves = ap length moves.3 
 moves_long (Gathers u) work r unit fault next new moves = ap length moves.3
 moves_long _ work r unit fault next new moves = absurd moves
 
-got_sound : (blocks : ℕ) (requests : List Request) (n : ℕ) (request : Request) → AreSound blocks requests → slice_get requests n ≡ Some request → defect blocks request ≡ None
+pub got_sound : (blocks : ℕ) (requests : List Request) (n : ℕ) (request : Request) → AreSound blocks requests → slice_get requests n ≡ Some request → defect blocks request ≡ None
 got_sound blocks [] n request sound is = absurd (cc)
 got_sound blocks (one ∷ requests) zero request sound is = let same : one ≡ request = cc is in subst (λ (r : Request). defect blocks r ≡ None) same sound.0
 got_sound blocks (one ∷ requests) (suc n) request sound is = got_sound blocks requests n request sound.2 is

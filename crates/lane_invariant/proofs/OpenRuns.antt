@@ -60,7 +60,7 @@ opened_if_open : (b : Bool) (c : ClientState) → is_some (opened_if b c) ≡ (b
 opened_if_open true c = refl
 opened_if_open false c = refl
 
-behind_open : (kind : PutKind) (c : ClientState) → is_some (session_behind kind c) ≡ (put_opens kind c.shake || is_some c.session)
+pub behind_open : (kind : PutKind) (c : ClientState) → is_some (session_behind kind c) ≡ (put_opens kind c.shake || is_some c.session)
 behind_open EndsOwn c = announced_open c.session
 behind_open Goes c = refl
 behind_open ComesUp c = refl

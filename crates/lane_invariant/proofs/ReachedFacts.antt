@@ -26,7 +26,7 @@ counts_stand shape events s sound run = (run_talks shape events s sound run).cli
 pub pending_fits : (shape : Shape) (events : List DiskEvent) (s : LaneState) → IsShape shape → Run LaneStep (fresh shape) events s → length s.client.pending ≤ s.client.slots
 pending_fits shape events s sound run = (run_talks shape events s sound run).client.pending
 
-all_behind : (shape : Shape) (events : List DiskEvent) (s : LaneState) → IsShape shape → Run LaneStep (fresh shape) events s → AllStand s (log_of after (nothing_yet shape) events)
+pub all_behind : (shape : Shape) (events : List DiskEvent) (s : LaneState) → IsShape shape → Run LaneStep (fresh shape) events s → AllStand s (log_of after (nothing_yet shape) events)
 all_behind shape events s sound run =
     (run_lawful LaneStep CarriesAt after AllStand all_step (fresh shape) s (nothing_yet shape) events (fresh_all shape sound) run).1
 

@@ -1,28 +1,40 @@
 // What follows from the invariant of a lane.
 
-ghost use Rattle.std.specs.Prelude.{◌≡◌, ◌≤◌, ◌*◌, false, length, List};
+ghost use Rattle.std.specs.Prelude.{◌≡◌, ℕ, ◌≤◌, ◌*◌, false, true, length, List, ◌<◌, ◌+◌, Option, is_some};
 ghost use Rattle.runs.specs.Lawful.{log_of, Lawful};
 ghost use Rattle.runs.specs.Run.{Run};
+ghost use Rattle.cookie_copy.specs.Identity.{IsIdentity};
+ghost use Rattle.ldc_link.specs.declared.phase.Role.TheVariants.{Initiator, Responder};
 ghost use Rattle.ldc_link.specs.Following.{Follows};
+ghost use Rattle.ldc_queue.specs.declared.end.End.TheVariants.{A};
 ghost use Rattle.ldc_queue.specs.declared.end.End.{End};
+ghost use Rattle.ldc_queue.specs.declared.end.End.TheVariants.{A, B};
 ghost use Rattle.ldc_queue.specs.OneStream.{IsFront};
 ghost use Rattle.ldc_queue.specs.Talk.{numbered_heard, numbered_said};
 ghost use Rattle.ldc_queue.specs.Wire.{peer_of};
 ghost use Rattle.lane_law.specs.Sayings.{heard, said};
 ghost use Rattle.lane_law.specs.TalkLog.{talk_of};
 ghost use Rattle.lane_law.specs.WireAt.{IsUp};
+ghost use Rattle.lane_law.specs.WireEvent.{Sent, Reset};
+ghost use Rattle.vio_tag.specs.declared.cause.Cause.{Cause};
 ghost use Rattle.disk_log.specs.Agreement.{IdleAgrees};
 ghost use Rattle.disk_log.specs.DiskLog.{after, nothing_yet};
 ghost use Rattle.disk_log.specs.QuietLaws.{TickAt};
 ghost use Rattle.disk_log.specs.RequestLaws.{AdmissionAt, CarriesAt, OnceAt, TurnsAt};
-ghost use Rattle.disk_steps.specs.DiskEvent.{DiskEvent};
+ghost use Rattle.disk_steps.specs.DiskEvent.{DiskEvent, Done, OnWire, Published, Works};
 ghost use Rattle.disk_steps.specs.LaneState.{fresh, pages_of, IsShape, LaneState, Shape};
 ghost use Rattle.disk_steps.specs.LaneStep.{LaneStep};
 ghost use Rattle.lane_invariant.specs.CompletedIds.{done_ids, CountsFrom};
+ghost use Rattle.lane_invariant.specs.Grounds.{OpenRests};
 ghost use Rattle.lane_invariant.specs.HeardStands.{HeardAt};
 ghost use Rattle.lane_invariant.specs.LaneTalks.{talk_behind};
+ghost use Rattle.lane_invariant.specs.SlotsWritten.{SlotFreed, SlotPublished, SlotsCleared};
+ghost use Rattle.lane_invariant.specs.Remaining.{remaining};
+ghost use Rattle.lane_invariant.specs.RemainingSteps.{TakesNothing};
+ghost use Rattle.lane_invariant.specs.OneSid.{HaveOneSid};
 ghost use Rattle.lane_invariant.specs.Sound.{CountsInOrder};
 ghost use Rattle.lane_invariant.specs.TableStands.{AnswersAt, TableAt};
+ghost use Rattle.lane_invariant.specs.Utterances.{SaysEach};
 
 /// On a lane that nobody forged, whatever was lost, reset, stopped or restarted on the way there: what an end that is
 /// up has heard since it last began is a front of what the other end has said since it last began, packet by packet of
@@ -123,4 +135,100 @@ pub fn an_idle_end_has_nothing_to_do()
     ensures { (shape : Shape) (events : List DiskEvent) (s : LaneState)
         → IsShape shape → Run LaneStep (fresh shape) events s
         → IdleAgrees s (log_of after (nothing_yet shape) events).last_idle }
+{}
+
+/// At each moment of a lane, also where somebody forges packets and memory: the table grants to the server each page of
+/// the client's memory at the page's own index, with both rights, and nothing else.
+pub fn pages_of_a_lane_stay_granted()
+    ensures { (shape : Shape) (events : List DiskEvent) (s : LaneState)
+        → IsShape shape → Run LaneStep (fresh shape) events s
+        → IsIdentity s.table (pages_of s.shape) }
+{}
+
+/// What a client writes into its ring at a step of a lane, also where somebody forges packets and memory: as its
+/// session opens each slot holds nothing; a request that is published stands, READY, in the slot of its number; the slot
+/// of a request that is done was DONE, with the status that the completion carries, and is FREE. No other slot changes,
+/// though a write's bytes are put into its buffer in the same step.
+pub fn a_client_writes_one_slot()
+    ensures opens { (shape : Shape) (events : List DiskEvent) (s t : LaneState) (packet : List ℕ)
+        → IsShape shape → Run LaneStep (fresh shape) events s → LaneStep s (OnWire (Sent A packet true)) t
+        → SlotsCleared t }
+    ensures publishes { (shape : Shape) (events : List DiskEvent) (s t : LaneState) (id : ℕ)
+        → IsShape shape → Run LaneStep (fresh shape) events s → LaneStep s (Works (Published id)) t
+        → SlotPublished s id t }
+    ensures frees { (shape : Shape) (events : List DiskEvent) (s t : LaneState)
+        (id operation status : ℕ) (bytes : List ℕ)
+        → IsShape shape → Run LaneStep (fresh shape) events s → LaneStep s (Works (Done id operation status bytes)) t
+        → SlotFreed s status t }
+{}
+
+/// What remains to be done on a lane, along every run, also where somebody forges packets and memory. A fresh lane has
+/// 36 before it. Each step of an end that takes nothing lowers it: that an end joins or puts a packet, that the client
+/// publishes or completes a request, and that the server fetches a descriptor, does a piece of it or ends it. Behind a
+/// reset of an end that was up exactly 35 remain, and 16 for each pending request; where a packet was lost before, that
+/// is less than remained.
+pub fn what_remains_falls_by_what_an_end_does()
+    ensures fresh { (shape : Shape) → remaining (fresh shape) ≡ 36 }
+    ensures steps { (shape : Shape) (events : List DiskEvent) (s : LaneState) (event : DiskEvent) (t : LaneState)
+        → IsShape shape → Run LaneStep (fresh shape) events s
+        → LaneStep s event t → TakesNothing event → remaining t < remaining s }
+    ensures resets { (shape : Shape) (events : List DiskEvent) (s : LaneState) (e : End) (cause : Cause)
+        (packet : Option (List ℕ)) (lost : ℕ) (t : LaneState)
+        → IsShape shape → Run LaneStep (fresh shape) events s → IsUp e s.wire.wire
+        → LaneStep s (OnWire (Reset e cause packet lost)) t
+        → remaining t ≡ 35 + 16 * length s.client.pending }
+    ensures again { (shape : Shape) (events : List DiskEvent) (s : LaneState) (e : End) (cause : Cause)
+        (packet : Option (List ℕ)) (lost : ℕ) (t : LaneState)
+        → IsShape shape → Run LaneStep (fresh shape) events s → IsUp e s.wire.wire → s.wire.lossy ≡ true
+        → LaneStep s (OnWire (Reset e cause packet lost)) t → remaining t < remaining s }
+{}
+
+/// Along every run of a lane, also where somebody forges packets and memory: where an end's session is open, the end
+/// heard since it last began the messages by which it agreed on what it holds: the client the agreements to its version
+/// and to its ring, with the number that the server has for it; the server the offer of a version, of which it took the
+/// smaller minor, and the registration of the client's ring. All have the session's sid.
+pub fn open_sessions_rest_on_what_was_heard()
+    ensures client { (shape : Shape) (events : List DiskEvent) (s : LaneState)
+        → IsShape shape → Run LaneStep (fresh shape) events s
+        → is_some s.client.session ≡ true
+        → OpenRests Initiator s.client.shake (heard (talk_behind events).client) }
+    ensures server { (shape : Shape) (events : List DiskEvent) (s : LaneState)
+        → IsShape shape → Run LaneStep (fresh shape) events s
+        → is_some s.server.session ≡ true
+        → OpenRests Responder s.server.shake (heard (talk_behind events).server) }
+{}
+
+/// Along every run of a lane, also where somebody forges packets and memory: each message that an end said since it last
+/// began is as its handshake has it. The client's have its sid, offer its version and register its ring; the server's
+/// agree to the minor that its session holds, and give the client's ring the number by which it knows it.
+pub fn ends_say_what_their_handshakes_hold()
+    ensures client { (shape : Shape) (events : List DiskEvent) (s : LaneState)
+        → IsShape shape → Run LaneStep (fresh shape) events s
+        → SaysEach Initiator s.client.shake.phase s.client.shake.offer s.client.shake.draft (said (talk_behind events).client) }
+    ensures server { (shape : Shape) (events : List DiskEvent) (s : LaneState)
+        → IsShape shape → Run LaneStep (fresh shape) events s
+        → SaysEach Responder s.server.shake.phase s.server.shake.offer s.server.shake.draft (said (talk_behind events).server) }
+{}
+
+/// On a lane that nobody forged, each message that an end that is up has heard since it last began is as the other end's
+/// handshake has it now, whatever was lost, reset, stopped or restarted on the way there.
+pub fn what_is_heard_is_as_the_other_end_has_it()
+    ensures client { (shape : Shape) (events : List DiskEvent) (s : LaneState)
+        → IsShape shape → Run LaneStep (fresh shape) events s
+        → s.wire.forged ≡ false → IsUp A s.wire.wire
+        → SaysEach Responder s.server.shake.phase s.server.shake.offer s.server.shake.draft (heard (talk_behind events).client) }
+    ensures server { (shape : Shape) (events : List DiskEvent) (s : LaneState)
+        → IsShape shape → Run LaneStep (fresh shape) events s
+        → s.wire.forged ≡ false → IsUp B s.wire.wire
+        → SaysEach Initiator s.client.shake.phase s.client.shake.offer s.client.shake.draft (heard (talk_behind events).server) }
+{}
+
+/// On a lane that nobody forged, where both sessions are open and the server's end is up: both have one sid, and the
+/// server knows the client's ring by it.
+pub fn open_sessions_have_one_sid()
+    ensures { (shape : Shape) (events : List DiskEvent) (s : LaneState)
+        → IsShape shape → Run LaneStep (fresh shape) events s
+        → s.wire.forged ≡ false → IsUp B s.wire.wire
+        → is_some s.client.session ≡ true → is_some s.server.session ≡ true
+        → HaveOneSid s.client.shake s.server.shake }
 {}

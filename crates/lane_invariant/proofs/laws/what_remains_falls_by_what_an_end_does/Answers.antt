@@ -1,0 +1,15 @@
+use Rattle.lane_invariant.proofs.RemainingBounds.{fresh_remains}
+use Rattle.lane_invariant.proofs.RemainingRuns.{resets_fall, resets_remain, steps_fall}
+use Rattle.lane_invariant.proofs.laws.what_remains_falls_by_what_an_end_does.Goals as goal
+
+pub returns-clause-fresh : goal.returns-clause-fresh
+returns-clause-fresh c = fresh_remains
+
+pub returns-clause-steps : goal.returns-clause-steps
+returns-clause-steps c = steps_fall
+
+pub returns-clause-resets : goal.returns-clause-resets
+returns-clause-resets c = resets_remain
+
+pub returns-clause-again : goal.returns-clause-again
+returns-clause-again c = resets_fall
