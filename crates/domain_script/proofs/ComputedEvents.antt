@@ -1,6 +1,6 @@
 -- The events that are computed of lines are those that they spell.
 use Rattle.std.proofs.Common.{◌≡◌, ℕ, ◌-◌, ◌≤◌, ◌<◌, ◌^◌, Bool, true, false, not, ◌&&◌, List, [], ◌∷◌, ◌++◌, length, take, drop, replicate, Option, Some, None, IfSome, Result, Ok, Err, refl, sym, ◌∙◌, ap, subst, arith}
-use Rattle.std.specs.Prelude.{if◌then◌else◌, codes}
+use Rattle.std.specs.Prelude.{if◌then◌else◌}
 use Rattle.std.specs.Option.{option_and_then}
 use Rattle.std.specs.Result.{is_ok}
 use Rattle.std.specs.Str.{bytes_eq}
@@ -9,14 +9,17 @@ use Rattle.std.proofs.lemmas.List.{length-append, length-replicate}
 use Rattle.std.proofs.lemmas.Slice.Eq.{bytes_eq-Decides}
 use Rattle.hex.specs.Hex.{decode_of, encode_lower}
 use Rattle.hex.specs.declared.error.FromHexError.{FromHexError}
-use Rattle.vdisk_msg.specs.declared.request.Request.TheVariants.{Read, Write, Flush}
 use Rattle.domain_script.specs.declared.event.DiskDecl.{DiskDecl}
 use Rattle.domain_script.specs.declared.event.Event.{Event}
 use Rattle.domain_script.specs.declared.event.Event.TheVariants.{Blank, Disk, Issue, Settle}
-use Rattle.domain_script.specs.Computed.{value_of, is_number, name_of, begins_name, is_name, names_first, ok_bytes, fill_of, is_fill, exponent_of, declares_none, disk_of, is_disk, event_if, row_event, is_blank, event_of, in_front, events_of}
+use Rattle.domain_script.specs.declared.rows.RowKind.{RowKind}
+use Rattle.domain_script.specs.declared.rows.RowKind.TheVariants as row
+use Rattle.domain_script.specs.Computed.{begins_name, declares_none, event_made, event_of, events_of, exponent_of, field_value, field_values, fill_of, found_event, in_front, is_blank, is_disk, is_fill, is_name, is_number, may_stand, name_of, names_first, ok_bytes, row_event, some_if, value_in_front, value_of, words_event}
+use Rattle.domain_script.specs.Declarations.{IsDisk}
 use Rattle.domain_script.specs.NamesState.{NamesState, IsDiskNamed, noted}
+use Rattle.domain_script.specs.Rows.{Bytes, Counted, DiskName, Field, Filled, MayStand, Named, NewName, Number, Value, made, row_named, row_of}
 use Rattle.domain_script.specs.ScriptEvents.{AllSpell}
-use Rattle.domain_script.specs.Spells.{IsBlank, NamesDisk, Spells, SpellsDisk, SpellsWords}
+use Rattle.domain_script.specs.Spells.{IsBlank, NamesDisk, Spells, SpellsField, SpellsFields, SpellsFound, SpellsRow, SpellsWords}
 use Rattle.domain_script.specs.Words.{words, IsNameWord, SpellsFill, SpellsName, SpellsNumber}
 use Rattle.domain_script.proofs.SameName.{same_name}
 
@@ -79,51 +82,39 @@ fill_spelled word is =
       lower = is_bytes word (encode_lower bytes) most.1 ∙ ap (λ (l : List ℕ). encode_lower l) (sym front);
     }
 
-disk_within : (name blocks ring queue : List ℕ) → is_disk name blocks ring queue ≡ true → (line : List (List ℕ)) (names : NamesState) → line ≡ codes "disk" ∷ name ∷ blocks ∷ ring ∷ queue ∷ [] → names.disks ≡ [] → names.ended ≡ false
-    → SpellsDisk line names (disk_of name blocks ring queue)
-disk_within name blocks ring queue is line names row first still_open =
-    let named = and_parts _ _ is in
-    let first_number = and_parts _ _ named.1 in
-    let second_number = and_parts _ _ first_number.1 in
-    let third_number = and_parts _ _ second_number.1 in
-    let least = and_parts _ _ third_number.1 in
-    let most = and_parts _ _ least.1 in
-    let powers = and_parts _ _ most.1 in
-    let ring_least = and_parts _ _ powers.0 in
-    let ring_most = and_parts _ _ ring_least.1 in
-    let queue_least = and_parts _ _ powers.1 in
-    let queue_most = and_parts _ _ queue_least.1 in
-    record {
-      name = name;
-      blocks = blocks;
-      ring = ring;
-      queue = queue;
-      is = row;
-      name_spelled = name_spelled name named.0;
-      blocks_spelled = number_spelled blocks first_number.0;
-      ring_spelled = number_spelled ring second_number.0;
-      queue_spelled = number_spelled queue third_number.0;
-      limits = record {
-        some_blocks = leb-true 1 (value_of blocks) least.0;
-        most_blocks = leb-true (value_of blocks) 65536 most.0;
-        least_ring = leb-true 2 (value_of ring) ring_least.0;
-        most_ring = leb-true (value_of ring) 256 ring_most.0;
-        ring_power = (exponent_of (value_of ring), eqb-true (value_of ring) _ ring_most.1);
-        least_queue = leb-true 8 (value_of queue) queue_least.0;
-        most_queue = leb-true (value_of queue) 256 queue_most.0;
-        queue_power = (exponent_of (value_of queue), eqb-true (value_of queue) _ queue_most.1);
-      };
-      first = first;
-      still_open = still_open;
-    }
+-- what follows from an option that has a value
+then_some : {A : Type 0} {B : Type 0} (o : Option A) (f : A → Option B) (P : B → Type 0) → ((a : A) → o ≡ Some a → IfSome (f a) P) → IfSome (option_and_then f o) P
+then_some None f P holds = tt
+then_some (Some a) f P holds = holds a refl
 
-if_event : (test : Bool) (event : Event) (P : Event → Type 0) → (test ≡ true → P event) → IfSome (event_if test event) P
-if_event true event P holds = holds refl
-if_event false event P holds = tt
+if_some : {A : Type 0} (test : Bool) (a : A) (P : A → Type 0) → (test ≡ true → P a) → IfSome (some_if test a) P
+if_some true a P holds = holds refl
+if_some false a P holds = tt
 
-either_event : (test : Bool) (first second : Option Event) (P : Event → Type 0) → (test ≡ true → IfSome first P) → IfSome second P → IfSome (if test then first else second) P
-either_event true first second P left right = left refl
-either_event false first second P left right = right
+some_of : {A : Type 0} (o : Option A) (a : A) (P : A → Type 0) → o ≡ Some a → IfSome o P → P a
+some_of {A = A} o a P is holds = subst (λ (x : Option A). IfSome x P) is holds
+
+value_spelled : (names : NamesState) (field : Field) (word : List ℕ) → IfSome (field_value names field word) (SpellsField names field word)
+value_spelled names NewName word = if_some (is_name word) (Named (name_of word)) (SpellsField names NewName word) (name_spelled word)
+value_spelled names DiskName word =
+    if_some (names_first word names.disks) (Counted 0) (SpellsField names DiskName word) (first_named names word names.disks refl)
+value_spelled names Number word = if_some (is_number word) (Counted (value_of word)) (SpellsField names Number word) (number_spelled word)
+value_spelled names Bytes word = if_some (is_fill word) (Filled (fill_of word)) (SpellsField names Bytes word) (fill_spelled word)
+
+values_in_front : (names : NamesState) (field : Field) (fields : List Field) (word : List ℕ) (line : List (List ℕ)) (value : Value) (values : Option (List Value))
+    → SpellsField names field word value → IfSome values (SpellsFields names fields line)
+    → IfSome (value_in_front value values) (SpellsFields names (field ∷ fields) (word ∷ line))
+values_in_front names field fields word line value None first rest = tt
+values_in_front names field fields word line value (Some values) first rest = (first, rest)
+
+values_spelled : (names : NamesState) (fields : List Field) (line : List (List ℕ)) → IfSome (field_values names fields line) (SpellsFields names fields line)
+values_spelled names [] [] = tt
+values_spelled names [] (word ∷ line) = tt
+values_spelled names (field ∷ fields) [] = tt
+values_spelled names (field ∷ fields) (word ∷ line) =
+    then_some (field_value names field word) (λ value. value_in_front value (field_values names fields line)) (SpellsFields names (field ∷ fields) (word ∷ line))
+    (λ value is. values_in_front names field fields word line value (field_values names fields line)
+    (some_of (field_value names field word) value (SpellsField names field word) is (value_spelled names field word)) (values_spelled names fields line))
 
 none_declared : (disks : List DiskDecl) → declares_none disks ≡ true → disks ≡ []
 none_declared [] is = refl
@@ -137,71 +128,73 @@ is_false : (b : Bool) → not b ≡ true → b ≡ false
 is_false true is = let both : false ≡ true = is in cc
 is_false false is = refl
 
-row_spelled : (names : NamesState) (line : List (List ℕ)) → IfSome (row_event names line) (SpellsWords line names)
-row_spelled names [] = tt
-row_spelled names (row ∷ []) = if_event _ Settle (SpellsWords (row ∷ []) names) settle
-  where
-    settle : (bytes_eq row (codes "settle") && not (declares_none names.disks)) ≡ true → SpellsWords (row ∷ []) names Settle
-    settle is = let parts = and_parts _ _ is in record { is = ap (λ (w : List ℕ). w ∷ []) (is_bytes row _ parts.0); some = some_declared names.disks parts.1 }
-row_spelled names (row ∷ name ∷ []) = if_event _ (Issue 0 Flush) (SpellsWords (row ∷ name ∷ []) names) flush
-  where
-    flush : (bytes_eq row (codes "flush") && names_first name names.disks) ≡ true → SpellsWords (row ∷ name ∷ []) names (Issue 0 Flush)
-    flush is = let parts = and_parts _ _ is in record { name = name; is = ap (λ (w : List ℕ). w ∷ name ∷ []) (is_bytes row _ parts.0); named = first_named names name names.disks refl parts.1 }
-row_spelled names (row ∷ name ∷ place ∷ []) = tt
-row_spelled names (row ∷ name ∷ place ∷ size ∷ []) = if_event _ (Issue 0 (Read (value_of place) (value_of size))) (SpellsWords (row ∷ name ∷ place ∷ size ∷ []) names) read
-  where
-    read : (bytes_eq row (codes "read") && (names_first name names.disks && (is_number place && is_number size))) ≡ true → SpellsWords (row ∷ name ∷ place ∷ size ∷ []) names (Issue 0 (Read (value_of place) (value_of size)))
-    read is =
-        let parts = and_parts _ _ is in
-        let named = and_parts _ _ parts.1 in
-        let numbers = and_parts _ _ named.1 in
-        record {
-          name = name;
-          place = place;
-          size = size;
-          is = ap (λ (w : List ℕ). w ∷ name ∷ place ∷ size ∷ []) (is_bytes row _ parts.0);
-          named = first_named names name names.disks refl named.0;
-          block_spelled = number_spelled place numbers.0;
-          count_spelled = number_spelled size numbers.1;
-        }
-row_spelled names (row ∷ name ∷ second ∷ third ∷ fourth ∷ []) =
-    either_event (bytes_eq row (codes "disk")) _ _ (SpellsWords (row ∷ name ∷ second ∷ third ∷ fourth ∷ []) names)
-    (λ is. if_event _ (Disk (disk_of name second third fourth)) (SpellsWords (row ∷ name ∷ second ∷ third ∷ fourth ∷ []) names) (disk is))
-    (if_event _ (Issue 0 (Write (value_of second) (value_of third) (fill_of fourth))) (SpellsWords (row ∷ name ∷ second ∷ third ∷ fourth ∷ []) names) write)
-  where
-    disk : bytes_eq row (codes "disk") ≡ true → (declares_none names.disks && (not names.ended && is_disk name second third fourth)) ≡ true → SpellsWords (row ∷ name ∷ second ∷ third ∷ fourth ∷ []) names (Disk (disk_of name second third fourth))
-    disk same is =
-        let none = and_parts _ _ is in
-        let still_open = and_parts _ _ none.1 in
-        disk_within name second third fourth still_open.1 (row ∷ name ∷ second ∷ third ∷ fourth ∷ []) names (ap (λ (w : List ℕ). w ∷ name ∷ second ∷ third ∷ fourth ∷ []) (is_bytes row _ same))
-        (none_declared names.disks none.0) (is_false names.ended still_open.0)
+disk_within : (disk : DiskDecl) → is_disk disk ≡ true → IsDisk disk
+disk_within disk is =
+    let least = and_parts _ _ is in
+    let most = and_parts _ _ least.1 in
+    let powers = and_parts _ _ most.1 in
+    let ring_least = and_parts _ _ powers.0 in
+    let ring_most = and_parts _ _ ring_least.1 in
+    let queue_least = and_parts _ _ powers.1 in
+    let queue_most = and_parts _ _ queue_least.1 in
+    record {
+      some_blocks = leb-true 1 disk.blocks least.0;
+      most_blocks = leb-true disk.blocks 65536 most.0;
+      least_ring = leb-true 2 disk.ring ring_least.0;
+      most_ring = leb-true disk.ring 256 ring_most.0;
+      ring_power = (exponent_of disk.ring, eqb-true disk.ring _ ring_most.1);
+      least_queue = leb-true 8 disk.queue queue_least.0;
+      most_queue = leb-true disk.queue 256 queue_most.0;
+      queue_power = (exponent_of disk.queue, eqb-true disk.queue _ queue_most.1);
+    }
 
-    write : (bytes_eq row (codes "write") && (names_first name names.disks && (is_number second && (is_number third && is_fill fourth)))) ≡ true
-        → SpellsWords (row ∷ name ∷ second ∷ third ∷ fourth ∷ []) names (Issue 0 (Write (value_of second) (value_of third) (fill_of fourth)))
-    write is =
-        let parts = and_parts _ _ is in
-        let named = and_parts _ _ parts.1 in
-        let first_number = and_parts _ _ named.1 in
-        let numbers = and_parts _ _ first_number.1 in
-        record {
-          name = name;
-          place = second;
-          size = third;
-          digits = fourth;
-          is = ap (λ (w : List ℕ). w ∷ name ∷ second ∷ third ∷ fourth ∷ []) (is_bytes row _ parts.0);
-          named = first_named names name names.disks refl named.0;
-          block_spelled = number_spelled second first_number.0;
-          count_spelled = number_spelled third numbers.0;
-          fill_spelled = fill_spelled fourth numbers.1;
-        }
-row_spelled names (row ∷ name ∷ second ∷ third ∷ fourth ∷ fifth ∷ others) = tt
+stands : (names : NamesState) (event : Event) → may_stand names event ≡ true → MayStand names event
+stands names Blank is = let both : false ≡ true = is in cc
+stands names (Disk disk) is =
+    let parts = and_parts _ _ is in
+    let first = and_parts _ _ parts.1 in
+    (disk_within disk parts.0, none_declared names.disks first.0, is_false names.ended first.1)
+stands names (Issue disk request) is = tt
+stands names Settle is = some_declared names.disks is
+
+made_spelled : (names : NamesState) (kind : RowKind) (line : List (List ℕ)) (values : Option (List Value))
+    → IfSome values (SpellsFields names (row_of kind).fields line) → IfSome (event_made names kind values) (SpellsRow kind line names)
+made_spelled names kind line None spelled = tt
+made_spelled names kind line (Some values) spelled =
+    if_some (may_stand names (made kind values)) (made kind values) (SpellsRow kind line names)
+    (λ may. record { values = values; spelled = spelled; makes = refl; stands = stands names (made kind values) may })
+
+row_spelled : (names : NamesState) (kind : RowKind) (line : List (List ℕ)) → IfSome (row_event names kind line) (SpellsRow kind line names)
+row_spelled names kind line =
+    made_spelled names kind line (field_values names (row_of kind).fields line) (values_spelled names (row_of kind).fields line)
+
+found_spelled : (names : NamesState) (found : Option RowKind) (line : List (List ℕ)) → IfSome (found_event names found line) (SpellsFound found line names)
+found_spelled names None line = tt
+found_spelled names (Some kind) line = row_spelled names kind line
+
+words_spelled : (names : NamesState) (line : List (List ℕ)) → IfSome (words_event names line) (SpellsWords line names)
+words_spelled names [] = tt
+words_spelled names (word ∷ line) = found_spelled names (row_named word) line
+
+either_event : (test : Bool) (first second : Option Event) (P : Event → Type 0) → (test ≡ true → IfSome first P) → IfSome second P → IfSome (if test then first else second) P
+either_event true first second P left right = left refl
+either_event false first second P left right = right
 
 blank_spelled : (line : List ℕ) → is_blank line ≡ true → IsBlank line
 blank_spelled [] is = tt
 blank_spelled (b ∷ bs) is = let parts = and_parts _ _ is in (eqb-true b 35 parts.0, parts.1)
 
+-- no row makes a blank line
+no_blank_found : (found : Option RowKind) (line : List (List ℕ)) (names : NamesState) → SpellsFound found line names Blank → ⊥
+no_blank_found None line names spells = spells
+no_blank_found (Some kind) line names spells = spells.stands
+
+no_blank : (line : List (List ℕ)) (names : NamesState) → SpellsWords line names Blank → ⊥
+no_blank [] names spells = spells
+no_blank (word ∷ line) names spells = no_blank_found (row_named word) line names spells
+
 row_alone : (line : List ℕ) (names : NamesState) (event : Event) → SpellsWords (words line) names event → Spells line names event
-row_alone line names Blank spells = absurd spells
+row_alone line names Blank spells = absurd (no_blank (words line) names spells)
 row_alone line names (Disk disk) spells = spells
 row_alone line names (Issue disk request) spells = spells
 row_alone line names Settle spells = spells
@@ -213,8 +206,8 @@ weaker (Some a) P Q more holds = more a holds
 -- the event of a line
 pub event_spelled : (line : List ℕ) (names : NamesState) → IfSome (event_of line names) (Spells line names)
 event_spelled line names =
-    either_event (is_blank line) (Some Blank) (row_event names (words line)) (Spells line names) (blank_spelled line)
-    (weaker (row_event names (words line)) (SpellsWords (words line) names) (Spells line names) (row_alone line names) (row_spelled names (words line)))
+    either_event (is_blank line) (Some Blank) (words_event names (words line)) (Spells line names) (blank_spelled line)
+    (weaker (words_event names (words line)) (SpellsWords (words line) names) (Spells line names) (row_alone line names) (words_spelled names (words line)))
 
 -- Lines spell the events that are computed of them. Where the bytes of a script are known this computes to `AllSpell` of
 -- its events: `events_spelled (script_lines bytes) no_names`, in a lemma that unfolds `decode_pairs`, `encode_with` and

@@ -21,7 +21,7 @@ pub are_disks_push : (disks : List DiskDecl) (disk : DiskDecl) → AreDisks disk
 are_disks_push [] disk are is = (is, tt)
 are_disks_push (x ∷ xs) disk are is = (are.0, are_disks_push xs disk are.1 is)
 
--- one more disk, written behind the first n
+-- one more disk, written after the first n
 pub are_disks_set : (disks : List DiskDecl) (n : ℕ) (disk : DiskDecl) → n < length disks → AreDisks (take n disks) → IsDisk disk → AreDisks (take (n + 1) (set disks n disk))
 are_disks_set disks n disk lt are is =
     subst (λ (l : List DiskDecl). AreDisks l) (sym (take_more_set disks n disk lt)) (are_disks_push (take n disks) disk are is)

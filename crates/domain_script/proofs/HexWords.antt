@@ -33,7 +33,7 @@ spells_front word bytes len is some most room behind reads lower = record {
   lower = lower;
 }
 
--- a list by its front and what stands behind it
+-- a list by its front and what follows it
 same_by_parts : (xs ys : List ℕ) (n : ℕ) → take n xs ≡ take n ys → drop n xs ≡ drop n ys → xs ≡ ys
 same_by_parts xs ys n front rest =
     sym (take-append-drop n xs) ∙ ap (λ (l : List ℕ). l ++ drop n xs) front ∙ ap (λ (l : List ℕ). take n ys ++ l) rest ∙ take-append-drop n ys

@@ -22,7 +22,7 @@ no_line_by : (given : Bool) (line : List ℕ) → (cond given line []) ≡ [] �
 no_line_by true line forgotten full = forgotten
 no_line_by false line forgotten full = full refl
 
--- no line is begun behind the last that there may be
+-- no line is begun after the last that there may be
 pub no_line : (reader : Inside) (s : LinesState) → reader_state reader ≡ s → s.line ≡ [] → (reader.given ≡ false → reader.line.items ≡ []) → reader.line.items ≡ []
 no_line reader s is forgotten full = no_line_by reader.given reader.line.items (ap (λ (t : LinesState). t.line) is ∙ forgotten) full
 
@@ -33,7 +33,7 @@ some_to_come (Some all) None bytes told some = absurd told
 some_to_come (Some all) (Some x) [] told some = absurd (some refl)
 some_to_come (Some all) (Some x) (b ∷ bs) told some = λ none. let e : b ∷ (bs ++ x) ≡ [] = told ∙ none in cc
 
--- nothing is to come behind the end
+-- nothing is to come after the end
 pub none_to_come : (rest left : Option (List ℕ)) (bytes : List ℕ) → Keeps rest (prepend_known bytes left) → bytes ≡ [] → IsAtEnd left → IsAtEnd rest
 none_to_come None left bytes told none end = tt
 none_to_come (Some all) None bytes told none end = absurd told

@@ -72,7 +72,7 @@ fed-append : (xs ys : List (List ℕ)) → fed (xs ++ ys) ≡ fed xs ++ fed ys
 fed-append [] ys = refl
 fed-append (x ∷ xs) ys = ap (λ (l : List ℕ). x ++ 10 ∷ l) (fed-append xs ys) ∙ sym (append_assoc x (10 ∷ fed xs) (fed ys))
 
--- behind a last line there is none
+-- after a last line there is none
 last_bytes : (bytes rest left : List ℕ) (xs ys : List (List ℕ)) → bytes ++ 10 ∷ [] ≡ fed xs → rest ≡ [] → script_lines rest ≡ ys ++ script_lines left → AreBytesOf ys left rest → AreBytesOf (xs ++ ys) left bytes
 last_bytes bytes rest left xs [] all none lines (inl is) = inr (all ∙ ap (λ (l : List (List ℕ)). fed l) (sym (append-nil xs)), sym is ∙ none)
 last_bytes bytes rest left xs [] all none lines (inr is) = absurd (omega (arith, length-append rest (10 ∷ []), ap (λ (l : List ℕ). length l) is.0))

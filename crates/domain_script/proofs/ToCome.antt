@@ -9,14 +9,14 @@ use Rattle.domain_script.specs.ScriptLines.{script_lines, TakesLine, BeginsWithL
 use Rattle.domain_script.specs.Pieces.{HasNoFeed, IsTooLong, MovesPart, ReadsLine}
 use Rattle.domain_script.proofs.ScriptLemmas.{lines_feed, lines_last, begins_longer}
 
--- a read behind the bytes of a line
+-- a read after the bytes of a line
 pub keeps_behind : (a b : Option (List ℕ)) (line old new : List ℕ) → Keeps (prepend_known old a) (prepend_known new b) → Keeps (prepend_known (line ++ old) a) (prepend_known (line ++ new) b)
 keeps_behind None b line old new same = tt
 keeps_behind (Some x) None line old new same = absurd same
 keeps_behind (Some x) (Some y) line old new same =
     append_assoc line new y ∙ ap (λ (l : List ℕ). line ++ l) same ∙ sym (append_assoc line old x)
 
--- the same, behind what is known so far
+-- the same, after what is known so far
 pub keeps_on : (rest a b : Option (List ℕ)) (line old new : List ℕ) → Keeps rest (prepend_known (line ++ old) a) → Keeps (prepend_known old a) (prepend_known new b) → Keeps rest (prepend_known (line ++ new) b)
 keeps_on rest a b line old new told same = Keeps-trans rest (prepend_known (line ++ old) a) (prepend_known (line ++ new) b) told (keeps_behind a b line old new same)
 

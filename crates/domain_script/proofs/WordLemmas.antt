@@ -12,7 +12,7 @@ not_space : (b : ℕ) → b ≢ 32 → eqb b 32 ≡ false
 not_space b other = ⊎_elim (λ is. absurd (other is.1)) (λ is. is.0) (eqb_tells b 32)
 
 -- a byte that is no space stands in front of the first word
-words_cons : (b : ℕ) (bs : List ℕ) → b ≢ 32 → words (b ∷ bs) ≡ onto_first b (words bs)
+pub words_cons : (b : ℕ) (bs : List ℕ) → b ≢ 32 → words (b ∷ bs) ≡ onto_first b (words bs)
 words_cons b bs other = ap (λ (t : Bool). cond t ([] ∷ words bs) (onto_first b (words bs))) (not_space b other)
 
 -- a text without a space is one word
@@ -25,7 +25,7 @@ pub words_space : (xs ys : List ℕ) → HasNo 32 xs → words (xs ++ 32 ∷ ys)
 words_space [] ys clean = refl
 words_space (x ∷ xs) ys clean = words_cons x (xs ++ 32 ∷ ys) clean.0 ∙ ap (λ (ws : List (List ℕ)). onto_first x ws) (words_space xs ys clean.1)
 
--- the word before the first space, which stands at n, and the text behind it as a slice gives it
+-- the word before the first space, which stands at n, and the text after it as a slice gives it
 pub words_cut : (text : List ℕ) (n : ℕ) → HasNo 32 (take n text) → n < length text → eqb (get_or text n 0) 32 ≡ true
     → words text ≡ take n text ∷ words (take (length text - (n + 1)) (drop (n + 1) text))
 words_cut text n clean lt is =
@@ -36,11 +36,3 @@ words_cut text n clean lt is =
 -- there is at least one word
 pub words_some : (text : List ℕ) → 0 < length (words text)
 words_some text = omega (arith, length-slice_split (λ b. eqb b 32) text)
-
-front_of : (b : ℕ) (ws : List (List ℕ)) → get_or (get_or (onto_first b ws) 0 []) 0 0 ≡ b
-front_of b [] = refl
-front_of b (w ∷ ws) = refl
-
--- the first word begins as the text does
-pub first_of_words : (b : ℕ) (bs : List ℕ) → b ≢ 32 → get_or (get_or (words (b ∷ bs)) 0 []) 0 0 ≡ b
-first_of_words b bs other = ap (λ (ws : List (List ℕ)). get_or (get_or ws 0 []) 0 0) (words_cons b bs other) ∙ front_of b (words bs)

@@ -1,5 +1,5 @@
 -- The events of lines that are known byte for byte: `events_of` computes them.
-use Rattle.std.specs.Prelude.{ℕ, ◌+◌, ◌-◌, ◌*◌, ◌^◌, ◌==◌, nat_le, nat_lt, ◌&&◌, not, cond, if◌then◌else◌, Bool, true, false, List, [], ◌∷◌, ◌++◌, length, replicate, codes, decimal, Option, Some, None, Result, Ok, Err}
+use Rattle.std.specs.Prelude.{ℕ, ◌+◌, ◌-◌, ◌*◌, ◌^◌, ◌==◌, nat_le, nat_lt, ◌&&◌, not, cond, if◌then◌else◌, Bool, true, false, List, [], ◌∷◌, ◌++◌, length, replicate, decimal, Option, Some, None, Result, Ok, Err}
 use Rattle.std.specs.Char.{is_ascii_lowercase}
 use Rattle.std.specs.List.{list_all}
 use Rattle.std.specs.Option.{option_and_then}
@@ -8,16 +8,17 @@ use Rattle.std.specs.Str.{bytes_eq}
 use Rattle.hex.specs.Hex.{decode_of, encode_lower}
 use Rattle.hex.specs.declared.error.FromHexError.{FromHexError}
 use Rattle.vdisk_msg.specs.declared.request.Fill.{Fill}
-use Rattle.vdisk_msg.specs.declared.request.Request.TheVariants.{Read, Write, Flush}
 use Rattle.domain_script.specs.declared.event.DiskDecl.{DiskDecl}
 use Rattle.domain_script.specs.declared.event.Event.{Event}
 use Rattle.domain_script.specs.declared.event.Event.TheVariants.{Blank, Disk, Issue, Settle}
 use Rattle.domain_script.specs.declared.event.Name.{Name}
+use Rattle.domain_script.specs.declared.rows.RowKind.{RowKind}
 use Rattle.domain_script.specs.NamesState.{NamesState, noted}
+use Rattle.domain_script.specs.Rows.{Bytes, Counted, DiskName, Field, Filled, Named, NewName, Number, Value, made, row_named, row_of}
 use Rattle.domain_script.specs.Spells.{is_printable}
 use Rattle.domain_script.specs.Words.{words, is_name_byte}
 
--- the number that decimal digits spell behind others, and whether a word is that number's text
+-- the number that decimal digits spell after others, and whether a word is that number's text
 abbrev pub digits_value : ℕ → List ℕ → ℕ
 digits_value n [] = n
 digits_value n (digit ∷ digits) = digits_value (10 * n + (digit - 48)) digits
@@ -66,28 +67,50 @@ abbrev pub declares_none : List DiskDecl → Bool
 declares_none [] = true
 declares_none (disk ∷ disks) = false
 
--- the event of a row's words, and whether they are such a row
-abbrev pub disk_of : List ℕ → List ℕ → List ℕ → List ℕ → DiskDecl
-disk_of name blocks ring queue = record { name = name_of name; blocks = value_of blocks; ring = value_of ring; queue = value_of queue }
+abbrev pub is_disk : DiskDecl → Bool
+is_disk disk = nat_le 1 disk.blocks && (nat_le disk.blocks 65536 && (is_power_from 2 disk.ring && is_power_from 8 disk.queue))
 
-abbrev pub is_disk : List ℕ → List ℕ → List ℕ → List ℕ → Bool
-is_disk name blocks ring queue =
-    is_name name && (is_number blocks && (is_number ring && (is_number queue && (nat_le 1 (value_of blocks) && (nat_le (value_of blocks) 65536
-    && (is_power_from 2 (value_of ring) && is_power_from 8 (value_of queue)))))))
+abbrev pub some_if : {A : Type 0} → Bool → A → Option A
+some_if test a = if test then Some a else None
 
-abbrev pub event_if : Bool → Event → Option Event
-event_if test event = if test then Some event else None
+-- the value that a word spells as a field
+abbrev pub field_value : NamesState → Field → List ℕ → Option Value
+field_value names NewName word = some_if (is_name word) (Named (name_of word))
+field_value names DiskName word = some_if (names_first word names.disks) (Counted 0)
+field_value names Number word = some_if (is_number word) (Counted (value_of word))
+field_value names Bytes word = some_if (is_fill word) (Filled (fill_of word))
 
-abbrev pub row_event : NamesState → List (List ℕ) → Option Event
-row_event names (row ∷ []) = event_if (bytes_eq row (codes "settle") && not (declares_none names.disks)) Settle
-row_event names (row ∷ name ∷ []) = event_if (bytes_eq row (codes "flush") && names_first name names.disks) (Issue 0 Flush)
-row_event names (row ∷ name ∷ place ∷ size ∷ []) =
-    event_if (bytes_eq row (codes "read") && (names_first name names.disks && (is_number place && is_number size))) (Issue 0 (Read (value_of place) (value_of size)))
-row_event names (row ∷ name ∷ second ∷ third ∷ fourth ∷ []) =
-    if bytes_eq row (codes "disk") then event_if (declares_none names.disks && (not names.ended && is_disk name second third fourth)) (Disk (disk_of name second third fourth))
-    else event_if (bytes_eq row (codes "write") && (names_first name names.disks && (is_number second && (is_number third && is_fill fourth))))
-    (Issue 0 (Write (value_of second) (value_of third) (fill_of fourth)))
-row_event names other = None
+abbrev pub value_in_front : Value → Option (List Value) → Option (List Value)
+value_in_front value None = None
+value_in_front value (Some values) = Some (value ∷ values)
+
+abbrev pub field_values : NamesState → List Field → List (List ℕ) → Option (List Value)
+field_values names [] [] = Some []
+field_values names (field ∷ fields) (word ∷ line) =
+    option_and_then (λ value. value_in_front value (field_values names fields line)) (field_value names field word)
+field_values names _ _ = None
+
+abbrev pub may_stand : NamesState → Event → Bool
+may_stand names Blank = false
+may_stand names (Disk disk) = is_disk disk && (declares_none names.disks && not names.ended)
+may_stand names Settle = not (declares_none names.disks)
+may_stand names (Issue disk request) = true
+
+-- the event of a row's words, and of all words of a line
+abbrev pub event_made : NamesState → RowKind → Option (List Value) → Option Event
+event_made names kind None = None
+event_made names kind (Some values) = some_if (may_stand names (made kind values)) (made kind values)
+
+abbrev pub row_event : NamesState → RowKind → List (List ℕ) → Option Event
+row_event names kind line = event_made names kind (field_values names (row_of kind).fields line)
+
+abbrev pub found_event : NamesState → Option RowKind → List (List ℕ) → Option Event
+found_event names None line = None
+found_event names (Some kind) line = row_event names kind line
+
+abbrev pub words_event : NamesState → List (List ℕ) → Option Event
+words_event names [] = None
+words_event names (word ∷ line) = found_event names (row_named word) line
 
 abbrev pub is_blank : List ℕ → Bool
 is_blank [] = true
@@ -95,7 +118,7 @@ is_blank (b ∷ bs) = (b == 35) && list_all is_printable bs
 
 -- the event that a line spells, where at most one disk is declared
 abbrev pub event_of : List ℕ → NamesState → Option Event
-event_of line names = if is_blank line then Some Blank else row_event names (words line)
+event_of line names = if is_blank line then Some Blank else words_event names (words line)
 
 -- one event in front of others
 abbrev pub in_front : Event → Option (List Event × NamesState) → Option (List Event × NamesState)

@@ -6,6 +6,7 @@ pub mod Pieces
 pub mod Reader
 pub mod Fills
 pub mod Words
+pub mod Rows
 pub mod Spells
 pub mod ScriptEvents
 pub mod Computed

@@ -37,7 +37,7 @@ pub record GivesNone (rest left : Option (List ℕ)) (before after : LinesState)
   pub count : after.number ≡ before.number
   pub stop : after.stop ≡ why
 
--- An answer of a reader that goes on: `rest` is to come before the call, `left` behind it. Where the source failed, no
+-- An answer of a reader that goes on: `rest` is to come before the call, `left` after it. Where the source failed, no
 -- whole line is held.
 abbrev pub Reads : Option (List ℕ) → Option (List ℕ) → LinesState → Result Bool LinesFault → LinesState → Type 0
 Reads rest left before (Ok true) after = GivesLine rest left before after

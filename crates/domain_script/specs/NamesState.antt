@@ -37,7 +37,7 @@ CanNote names (Disk disk) = CanDeclare names disk
 CanNote names (Issue disk request) = Unit {0}
 CanNote names Settle = Unit {0}
 
--- the names behind an event
+-- the names after an event
 abbrev pub noted : NamesState → Event → NamesState
 noted names Blank = names
 noted names (Disk disk) = record { disks = names.disks ++ disk ∷ []; ended = names.ended }

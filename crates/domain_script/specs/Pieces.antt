@@ -30,7 +30,7 @@ Extends old more (Err Memory) new = new ≡ old
 Extends old more (Err Source) new = ⊥
 Extends old more (Err Many) new = ⊥
 
--- the bytes before the first line feed of a piece were moved behind a line, or all where it has none
+-- the bytes before the first line feed of a piece were moved after a line, or all where it has none
 abbrev pub MovesPart : List ℕ → List ℕ → Result Bool LinesFault → List ℕ → List ℕ → Type 0
 MovesPart piece line (Ok true) piece_after line_after = (line ++ piece ≡ line_after ++ 10 ∷ piece_after) × HasNoFeed line_after × (length line_after ≤ 3100)
 MovesPart piece line (Ok false) piece_after line_after = (line_after ≡ line ++ piece) × (piece_after ≡ []) × HasNoFeed line_after × (length line_after ≤ 3100)
@@ -39,7 +39,7 @@ MovesPart piece line (Err Memory) piece_after line_after = (piece_after ≡ piec
 MovesPart piece line (Err Source) piece_after line_after = ⊥
 MovesPart piece line (Err Many) piece_after line_after = ⊥
 
--- a line was read: `rest` is to come before the call; behind it a line, a piece, and what the source has left
+-- a line was read: `rest` is to come before the call; after it a line, a piece, and what the source has left
 abbrev pub ReadsLine : Option (List ℕ) → Result Bool LinesFault → List ℕ → List ℕ → Option (List ℕ) → Type 0
 ReadsLine rest (Ok true) line piece left = TakesLine rest (prepend_known piece left) line
 ReadsLine rest (Ok false) line piece left = Keeps rest (prepend_known (line ++ piece) left) × (line ≡ []) × IsAtEnd rest

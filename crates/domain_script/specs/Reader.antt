@@ -18,7 +18,7 @@ pub record IsReader (reader : Inside) : Type 0 where
   pub short : length reader.line.items ≤ 3100
   pub no_feed : HasNoFeed reader.line.items
   pub few : reader.number ≤ 20000
-  -- behind the last line that there may be, no line is begun
+  -- after the last line that there may be, no line is begun
   pub all : reader.number ≡ 20000 → reader.given ≡ false → reader.line.items ≡ []
   -- a reader that stopped has given no line
   pub stopped : reader.given ≡ true → reader.stop ≡ Going

@@ -19,7 +19,7 @@ fed (line ∷ lines) = line ++ 10 ∷ fed lines
 abbrev pub AreBytesOf : List (List ℕ) → List ℕ → List ℕ → Type 0
 AreBytesOf texts left bytes = (bytes ≡ fed texts ++ left) ⊎ ((bytes ++ 10 ∷ [] ≡ fed texts) × (left ≡ []))
 
--- known bytes begin with these lines, and what is left are the bytes behind them
+-- known bytes begin with these lines, and what is left are the bytes after them
 abbrev pub TakesLines : Option (List ℕ) → Option (List ℕ) → List (List ℕ) → Type 0
 TakesLines None left texts = ⊤
 TakesLines (Some bytes) None texts = ⊥

@@ -19,12 +19,12 @@ SpellsNumber word n = (word ≡ decimal n) × (n < 2 ^ 64)
 abbrev pub is_name_byte : ℕ → Bool
 is_name_byte b = is_ascii_lowercase b || is_ascii_digit b
 
--- a letter a to z, and letters or digits behind it
+-- a letter a to z, and letters or digits after it
 abbrev pub IsNameWord : List ℕ → Type 0
 IsNameWord [] = ⊥
 IsNameWord (b ∷ bs) = IsTrue (is_ascii_lowercase b) × IsTrue (list_all is_name_byte bs)
 
--- a name: its bytes, at most eight, and zeros behind them
+-- a name: its bytes, at most eight, and zeros after them
 pub record SpellsName (word : List ℕ) (name : Name) : Type 0 where
   pub letters : IsNameWord word
   pub most : length word ≤ 8

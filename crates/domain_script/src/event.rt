@@ -2,7 +2,7 @@ use thiserror::Error;
 use vdisk_msg::Request;
 
 /// A name that a script declares: a letter a to z and up to seven letters a to z or digits. `len` bytes, 1 to 8, and
-/// zeros behind them.
+/// zeros after them.
 #[derive(Clone, Copy, Debug, PartialEq, Eq)]
 pub struct Name {
     pub len: u8,

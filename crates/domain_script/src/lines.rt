@@ -23,7 +23,7 @@ pub enum LinesFault {
     #[error("a line is too long")]
     Long,
 
-    /// There is a line behind the 20,000th.
+    /// There is a line after the 20,000th.
     #[error("too many lines")]
     Many,
 
@@ -62,7 +62,7 @@ enum LinesStop {
 }
 
 /// The lines of a script, one after another from a source that stays with the caller. Each read asks for at most
-/// 4,096 bytes; those behind a line are kept for the next. Behind the end, a line that is too long or one too many
+/// 4,096 bytes; those after a line are kept for the next. After the end, a line that is too long or one too many
 /// nothing more is read.
 #[derive(Drop)]
 pub struct Lines {
@@ -112,7 +112,7 @@ impl Lines {
         ensures advances { Advances (to_come self.old (S.left source.old)) (to_come self.new (S.left source.new)) self.old result self.new }
         ensures empty { result ≢ Ok true → self.new.line ≡ [] }
 
-        // Behind a stop the source isn't asked.
+        // After a stop the source isn't asked.
         ensures stays { self.old.stop ≢ LinesStop.Going → source.new ≡ source.old }
         ensures unfailed { result ≢ Err LinesFault.Source → S.faults source.new ≡ S.faults source.old }
         ensures count { S.faults source.old ≤ S.faults source.new }
@@ -195,7 +195,7 @@ impl Lines {
         }
     }
 
-    /// Looks whether there is a byte behind the last line that there may be.
+    /// Looks whether there is a byte after the last line that there may be.
     fn read_behind_last<S: Source>(&mut self, source: &mut S) -> Result<bool, LinesFault>
         requires going { self.old.stop ≡ LinesStop.Going }
         requires forgotten { self.old.line ≡ [] }

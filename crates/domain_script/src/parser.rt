@@ -4,11 +4,11 @@ ghost use Rattle.domain_script.specs.declared.event.Event.{Event as event_data};
 ghost use Rattle.domain_script.specs.NamesState.{CanNote, NamesState};
 ghost use Rattle.domain_script.specs.Spells.{is_printable, IsBlank, IsDeclared, Spells};
 
-use crate::rows::{row_with_fields, settle_row};
+use crate::rows::{row_alone, row_with_fields};
 use crate::words::split_once;
 use crate::{Event, LineFault, Names};
 
-/// The event that a line spells behind the lines that were noted. A line, without its line feed, is empty or a
+/// The event that a line spells after the lines that were noted. A line, without its line feed, is empty or a
 /// comment, or one of the rows `disk NAME BLOCKS RING QUEUE`, `write NAME BLOCK COUNT HEX`, `read NAME BLOCK COUNT`,
 /// `flush NAME` and `settle`, with one space between two words. `Word` exactly where it spells no event.
 pub fn parse(line: &[u8], names: &Names) -> Result<Event, LineFault>
@@ -48,8 +48,8 @@ fn spelled_row(line: &[u8], names: &Names, event: &mut Event) -> Option<()>
     ensures none { IfNone result ((event : event_data) → Spells line.now names.now event → ⊥) }
 {
     match split_once(line) {
-        Some((row, fields)) => row_with_fields(row, fields, names, event),
-        None => settle_row(line, names, event),
+        Some((word, fields)) => row_with_fields(word, fields, names, event),
+        None => row_alone(line, names, event),
     }
 }
 
@@ -63,7 +63,7 @@ fn is_blank(line: &[u8]) -> bool
     }
 }
 
-/// Whether bytes are printable. Each is looked at, also behind one that isn't, so that many can be at once.
+/// Whether bytes are printable. Each is looked at, also after one that isn't, so that many can be at once.
 fn are_printable(bytes: &[u8]) -> bool
     ensures { result ≡ list_all is_printable bytes.now }
 {

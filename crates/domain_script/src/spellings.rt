@@ -11,7 +11,7 @@ use crate::{Fill, Name};
 /// The most bytes that a write repeats.
 const MOST_FILL: usize = 1024;
 
-/// The fill of a write before its word is put into it: no bytes, and all zeros behind them.
+/// The fill of a write before its word is put into it: no bytes, and all zeros after them.
 pub const NO_FILL: Fill = Fill {
     len: 0,
     bytes: [0; MOST_FILL],
@@ -33,7 +33,7 @@ pub fn name(word: &[u8]) -> Option<Name>
     })
 }
 
-/// Whether a word is a letter and letters or digits behind it.
+/// Whether a word is a letter and letters or digits after it.
 fn is_name_word(word: &[u8]) -> bool
     ensures { IsTrue result ↔ IsNameWord word.now }
 {

@@ -80,7 +80,7 @@ fn a_line_has_at_most_3100_bytes(rt: HostRuntime) -> Result<(), Fail> {
     reads(&rt, rt.alloc(), &script[..3101], 4096, &[], &wanted)
 }
 
-/// How many lines a script of so many line feeds gives, and what comes behind them.
+/// How many lines a script of so many line feeds gives, and what comes after them.
 fn count_lines(alloc: Global, feeds: usize) -> Result<(u32, Result<bool, LinesFault>), Fail> {
     let script = vec![in alloc; b'\n'; feeds]?;
     let mut source = ListSource::new(alloc, &script, 4096, &[])?;
@@ -115,7 +115,7 @@ enum Told<'a> {
     Settle,
 }
 
-/// Whether a line spells this event behind these names.
+/// Whether a line spells this event after these names.
 fn tells(line: &[u8], names: &Names, told: Option<Told>) -> bool {
     match (parse(line, names), told) {
         (Err(_), None) => true,

@@ -3,7 +3,7 @@ ghost use Rattle.domain_script.specs.Words.{words};
 
 use memchr::memchr;
 
-/// The first word, and what stands behind the space that ends it. None where there is no space.
+/// The first word, and what follows the space that ends it. None where there is no space.
 pub fn split_once(text: &[u8]) -> Option<(&[u8], &[u8])>
     ensures { MatchOption result (words text.now ≡ text.now ∷ []) (λ p. words text.now ≡ p.0.now ∷ words p.1.now) }
 {

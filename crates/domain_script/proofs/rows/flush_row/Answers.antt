@@ -1,11 +1,13 @@
-use Rattle.std.proofs.Common.{◌≡◌, ℕ, List, sym, ◌∙◌, subst}
-use Rattle.domain_script.specs.Spells.{NamesDisk}
-use Rattle.domain_script.specs.Words.{words}
-use Rattle.domain_script.proofs.RowLemmas.{flush_parts, same_first}
+use Rattle.std.proofs.Common.{[], ◌∷◌, refl, sym}
+use Rattle.domain_script.specs.declared.rows.RowKind.TheVariants as row
+use Rattle.domain_script.specs.Rows.{Counted, row_of}
+use Rattle.domain_script.specs.Spells.{SpellsFields}
 use Rattle.domain_script.proofs.rows.flush_row.Goals as goal
 
-pub returns-in_err-disk-clause-none : goal.returns-in_err-disk-clause-none
-returns-in_err-disk-clause-none c = rw c.from_residual-in_err-disk.ensures (λ event spells.
-    let parts = flush_parts (words c.args.fields.now) c.args.names.now event spells in
-    let same : parts.name ≡ c.in_ok-one_word.field-0.now = same_first _ _ _ _ (sym parts.is ∙ c.in_ok-one_word.ensures) in
-    c.in_err-disk.ensures.none parts.disk (subst (λ (w : List ℕ). NamesDisk c.args.names.now w parts.disk) same parts.named))
+pub returns-clause-some : goal.returns-clause-some
+returns-clause-some c = record {
+  values = Counted c.in_ok-disk.disk ∷ [];
+  spelled = rw c.in_ok-one_word.ensures (c.in_ok-disk.ensures.some, tt);
+  makes = refl;
+  stands = tt;
+}
