@@ -26,7 +26,7 @@ appends_piece a b c xs rest at n is p q =
     subst (λ (l : List ℕ). Appends a c l) (ap (λ (r : List ℕ). take at xs ++ take n r) is ∙ sym (take-add at n xs))
     (Appends-trans a b c (take at xs) (take n rest) p q)
 
--- a call that failed wrote nothing behind the front that was written
+-- a call that failed wrote nothing after the front that was written
 pub wrote_front_kept : (a b c : Option (List ℕ)) (xs : List ℕ) (at : ℕ) → Appends a b (take at xs) → Keeps b c → WroteFront a c xs
 wrote_front_kept a b c xs at p k = record {
   front = take at xs;
@@ -47,7 +47,7 @@ gathers_written a b text gathered none p = record {
   written = p;
 }
 
--- bytes were gathered behind a text
+-- bytes were gathered after a text
 pub gathers_more : (a b : Option (List ℕ)) (old new text bytes : List ℕ) → Gathers a b old text → new ≡ old ++ bytes → Gathers a b new (text ++ bytes)
 gathers_more a b old new text bytes g is = record {
   front = g.front;
@@ -55,7 +55,7 @@ gathers_more a b old new text bytes g is = record {
   written = g.written;
 }
 
--- one step behind another
+-- one step after another
 pub gathers_then : (a b c : Option (List ℕ)) (first second text bytes : List ℕ) → Gathers a b first text → Gathers b c second (first ++ bytes) → Gathers a c second (text ++ bytes)
 gathers_then a b c first second text bytes p q = record {
   front = p.front ++ q.front;
@@ -63,7 +63,7 @@ gathers_then a b c first second text bytes p q = record {
   written = Appends-trans a b c p.front q.front p.written q.written;
 }
 
--- a step that failed behind another
+-- a step that failed after another
 pub wrote_front_then : (a b c : Option (List ℕ)) (first text bytes : List ℕ) → Gathers a b first text → WroteFront b c (first ++ bytes) → WroteFront a c (text ++ bytes)
 wrote_front_then a b c first text bytes p q = record {
   front = p.front ++ q.front;
@@ -86,12 +86,12 @@ pub appends_gathered : (a b : Option (List ℕ)) (gathered text : List ℕ) → 
 appends_gathered a b gathered text none p =
     subst (λ (l : List ℕ). Appends a b l) (sym (p.whole ∙ ap (λ (l : List ℕ). p.front ++ l) none ∙ append-nil p.front)) p.written
 
--- one step behind another, of a text in two parts
+-- one step after another, of a text in two parts
 pub gathers_behind : (a b c : Option (List ℕ)) (first second text so_far bytes : List ℕ) → Gathers a b first (text ++ so_far) → Gathers b c second (first ++ bytes) → Gathers a c second (text ++ (so_far ++ bytes))
 gathers_behind a b c first second text so_far bytes p q =
     subst (λ (l : List ℕ). Gathers a c second l) (append_assoc text so_far bytes) (gathers_then a b c first second (text ++ so_far) bytes p q)
 
--- a step that failed behind another, and what was still to come
+-- a step that failed after another, and what was still to come
 pub wrote_front_behind : (a b c : Option (List ℕ)) (first text so_far more whole : List ℕ) → whole ≡ so_far ++ more → Gathers a b first (text ++ so_far) → WroteFront b c first → WroteFront a c (text ++ whole)
 wrote_front_behind a b c first text so_far more whole is p q = record {
   front = p.front ++ q.front;
@@ -104,7 +104,7 @@ wrote_front_behind a b c first text so_far more whole is p q = record {
   written = Appends-trans a b c p.front q.front p.written q.written;
 }
 
--- a count that rose behind another
+-- a count that rose after another
 pub rose_later : (a b c : ℕ) → a ≤ b → b ≤ c → Rose b c → Rose a c
 rose_later a b c ab bc rose =
     λ lt. elim (cases_lt b last_count) [
@@ -134,11 +134,11 @@ wrote_front_last a b c gathered text p q = record {
   written = Appends-trans a b c p.front q.front p.written q.written;
 }
 
--- bytes that were put last, and others behind them
+-- bytes that were put last, and others after them
 pub pushed_behind : (text first second middle last : List ℕ) → middle ≡ text ++ first → last ≡ middle ++ second → last ≡ text ++ (first ++ second)
 pushed_behind text first second middle last p q = q ∙ ap (λ (l : List ℕ). l ++ second) p ∙ append_assoc text first second
 
--- a front of a text was written behind another that was written whole
+-- a front of a text was written after another that was written whole
 pub wrote_front_appended : (a b c : Option (List ℕ)) (first second : List ℕ) → Appends a b first → WroteFront b c second → WroteFront a c (first ++ second)
 wrote_front_appended a b c first second p q = record {
   front = first ++ q.front;

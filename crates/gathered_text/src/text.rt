@@ -109,13 +109,18 @@ impl Text {
     }
 }
 
-/// What prints itself can be gathered by `write!`, as far as there is room.
+/// What prints itself can be gathered by `write!`: each piece is gathered whole where there is room for it, else
+/// nothing of it.
 impl fmt::Write for Text {
-    ghost use Rattle.std.specs.Prelude.{◌≡◌, ◌++◌};
+    ghost use Rattle.std.specs.Prelude.{◌≡◌, ◌+◌, ◌++◌, ◌≤◌, ◌↔◌, IsOk, OnErr, length};
 
     ghost write_str_gives = { λ before bytes after. after ≡ before ++ bytes };
 
-    fn write_str(&mut self, s: &str) -> fmt::Result {
+    fn write_str(&mut self, s: &str) -> fmt::Result
+        ensures ok { IsOk result → self.new ≡ self.old ++ s.now }
+        ensures room { IsOk result ↔ (length self.old + length s.now ≤ TEXT_ROOM) }
+        ensures kept { OnErr result (self.new ≡ self.old) }
+    {
         if TEXT_ROOM - self.len < s.len() {
             return Err(fmt::Error);
         }
