@@ -1,5 +1,5 @@
 -- What the lists of accepted and completed requests have to do with a disk's state.
-use Rattle.std.proofs.Common.{◌≡◌, ℕ, ◌+◌, List, [], ◌∷◌, ◌++◌, length, refl, sym, ◌∙◌, ap, subst, arith, append_assoc, length-append, Option}
+use Rattle.std.proofs.Common.{◌≡◌, ℕ, ◌+◌, List, [], ◌∷◌, ◌++◌, length, refl, sym, ◌∙◌, ap, subst, arith, append_assoc, length-append}
 use Rattle.std.proofs.lemmas.List.{append-nil}
 use Rattle.vdisk_msg.specs.declared.request.Request.{Request}
 use Rattle.runs.specs.Run.{Run}
@@ -23,7 +23,7 @@ completed-append (Refused why request ∷ es) fs = completed-append es fs
 completed-append (Done id operation status bytes ∷ es) fs = ap (λ (l : List ℕ). id ∷ l) (completed-append es fs)
 completed-append (Rested ∷ es) fs = completed-append es fs
 
--- behind these events the disk is in this state: the accepted requests are the completed ones and the pending ones
+-- after these events the disk is in this state: the accepted requests are the completed ones and the pending ones
 pub record Counted (blocks ring : ℕ) (es : List DiskEvent) (s : ListState) : Type 0 where
   pub blocks_are : s.blocks ≡ blocks
   pub ring_is : s.ring ≡ ring
@@ -55,12 +55,12 @@ counted_step blocks ring es (Accepted id request) s t c step = subst (λ (x : Li
 counted_step blocks ring es (Full request) s t c step = same blocks ring es (Full request) s t c refl refl step.2
 counted_step blocks ring es (Refused why request) s t c step = same blocks ring es (Refused why request) s t c refl refl step.1
 counted_step blocks ring es (Done id operation status bytes) s t c step = record {
-  blocks_are = step.blocks ∙ c.blocks_are;
-  ring_is = step.ring ∙ c.ring_is;
-  counts = ap length (completed-append es (Done id operation status bytes ∷ [])) ∙ length-append (completed es) (id ∷ []) ∙ ap (λ (n : ℕ). n + 1) c.counts ∙ sym step.counts;
+  blocks_are = ap (λ (x : ListState). x.blocks) step.after ∙ c.blocks_are;
+  ring_is = ap (λ (x : ListState). x.ring) step.after ∙ c.ring_is;
+  counts = ap length (completed-append es (Done id operation status bytes ∷ [])) ∙ length-append (completed es) (id ∷ []) ∙ ap (λ (n : ℕ). n + 1) c.counts ∙ sym (ap (λ (x : ListState). x.done) step.after);
   finished = c.finished ++ step.request ∷ [];
   split = issued-append es (Done id operation status bytes ∷ []) ∙ append-nil (issued es) ∙ c.split ∙ ap (λ (l : List Request). c.finished ++ l) step.front ∙ sym (append_assoc c.finished (step.request ∷ []) t.pending);
-  long = length-append c.finished (step.request ∷ []) ∙ ap (λ (n : ℕ). n + 1) c.long ∙ sym step.counts;
+  long = length-append c.finished (step.request ∷ []) ∙ ap (λ (n : ℕ). n + 1) c.long ∙ sym (ap (λ (x : ListState). x.done) step.after);
 }
 counted_step blocks ring es Rested s t c step = same blocks ring es Rested s t c refl refl step.1
 
@@ -70,8 +70,8 @@ counted_run blocks ring before (e ∷ es) s t c run =
     subst (λ (l : List DiskEvent). Counted blocks ring l t) (append_assoc before (e ∷ []) es)
     (counted_run blocks ring (before ++ e ∷ []) es run.0 t (counted_step blocks ring before e s run.0 c run.1) run.2)
 
-pub counted_fresh : (blocks ring : ℕ) (told : Option (List ℕ)) (faults : ℕ) → Counted blocks ring [] (fresh blocks ring told faults)
-counted_fresh blocks ring told faults = record { blocks_are = refl; ring_is = refl; counts = refl; finished = []; split = refl; long = refl }
+pub counted_fresh : (first blocks ring : ℕ) → Counted blocks ring [] (fresh first blocks ring)
+counted_fresh first blocks ring = record { blocks_are = refl; ring_is = refl; counts = refl; finished = []; split = refl; long = refl }
 
 pub counted_pending : (blocks ring : ℕ) (es : List DiskEvent) (s : ListState) → Counted blocks ring es s → pending_count es ≡ length s.pending
 counted_pending blocks ring es s c = omega (arith, ap length c.split, length-append c.finished s.pending, c.long, c.counts)

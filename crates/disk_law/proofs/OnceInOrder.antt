@@ -1,5 +1,5 @@
 -- Requests on a plain list complete once and in order, and each is admitted by what is pending.
-use Rattle.std.proofs.Common.{◌≡◌, ℕ, List, [], ◌∷◌, ◌++◌, length, refl, sym, ◌∙◌, ap, subst, arith, Option, Some, None, slice_get}
+use Rattle.std.proofs.Common.{◌≡◌, ℕ, List, [], ◌∷◌, ◌++◌, length, refl, sym, ◌∙◌, ap, subst, arith, Some, None, slice_get}
 use Rattle.vdisk_msg.specs.declared.request.Request.{Request}
 use Rattle.runs.specs.Run.{Run, run_split}
 use Rattle.disk_law.specs.Requests.{defect}
@@ -15,13 +15,13 @@ pub record Before (blocks ring : ℕ) (before : List DiskEvent) (e : DiskEvent) 
   pub next : ListState
   pub step : ListStep state e next
 
-pub before_event : (blocks ring faults : ℕ) (told : Option (List ℕ)) (t : ListState) (es before after : List DiskEvent) (e : DiskEvent) → Run ListStep (fresh blocks ring told faults) es t → es ≡ before ++ e ∷ after → Before blocks ring before e
-before_event blocks ring faults told t es before after e run is =
-    let start = fresh blocks ring told faults in
+pub before_event : (first blocks ring : ℕ) (t : ListState) (es before after : List DiskEvent) (e : DiskEvent) → Run ListStep (fresh first blocks ring) es t → es ≡ before ++ e ∷ after → Before blocks ring before e
+before_event first blocks ring t es before after e run is =
+    let start = fresh first blocks ring in
     let halves = run_split ListStep start t before (e ∷ after) (subst (λ (l : List DiskEvent). Run ListStep start l t) is run) in
     record {
       state = halves.0;
-      counted = counted_run blocks ring [] before start halves.0 (counted_fresh blocks ring told faults) halves.1;
+      counted = counted_run blocks ring [] before start halves.0 (counted_fresh first blocks ring) halves.1;
       next = halves.2.0;
       step = halves.2.1;
     }
@@ -30,9 +30,9 @@ get_behind : (xs ys : List Request) (x : Request) (n : ℕ) → length xs ≡ n 
 get_behind [] ys x n is = subst (λ (k : ℕ). slice_get (x ∷ ys) k ≡ Some x) is refl
 get_behind (y ∷ xs) ys x n is = subst (λ (k : ℕ). slice_get (y ∷ xs ++ x ∷ ys) k ≡ Some x) is (get_behind xs ys x (length xs) refl)
 
-pub once_in_order : (blocks ring faults : ℕ) (told : Option (List ℕ)) (t : ListState) (es : List DiskEvent) → Run ListStep (fresh blocks ring told faults) es t → CompletesOnceInOrder es
-once_in_order blocks ring faults told t es run before after id operation status bytes is =
-    let b = before_event blocks ring faults told t es before after (Done id operation status bytes) run is in
+pub once_in_order : (first blocks ring : ℕ) (t : ListState) (es : List DiskEvent) → Run ListStep (fresh first blocks ring) es t → CompletesOnceInOrder es
+once_in_order first blocks ring t es run before after id operation status bytes is =
+    let b = before_event first blocks ring t es before after (Done id operation status bytes) run is in
     record {
       next = b.step.id_is ∙ sym b.counted.counts;
       request = b.step.request;
@@ -55,5 +55,5 @@ admits blocks ring before (Refused why request) b = subst (λ (n : ℕ). defect 
 admits blocks ring before (Done id operation status bytes) b = tt
 admits blocks ring before Rested b = tt
 
-pub admission : (blocks ring faults : ℕ) (told : Option (List ℕ)) (t : ListState) (es : List DiskEvent) → Run ListStep (fresh blocks ring told faults) es t → Admission blocks ring es
-admission blocks ring faults told t es run before after e is = admits blocks ring before e (before_event blocks ring faults told t es before after e run is)
+pub admission : (first blocks ring : ℕ) (t : ListState) (es : List DiskEvent) → Run ListStep (fresh first blocks ring) es t → Admission blocks ring es
+admission first blocks ring t es run before after e is = admits blocks ring before e (before_event first blocks ring t es before after e run is)

@@ -1,4 +1,4 @@
--- Ranges of a told content that are read or written one behind the other.
+-- Ranges of a told content that are read or written one after the other.
 use Rattle.std.proofs.Common.{◌≡◌, ℕ, ◌+◌, ◌-◌, ◌≤◌, List, [], ◌++◌, length, take, drop, refl, sym, ◌∙◌, ap, arith, append_assoc, length-append, Option, Some, None, IfSome}
 use Rattle.std.proofs.lemmas.List.{take-append-drop, take_at, drop_at, drop-drop, length-take-le, length-drop, take-append-le}
 use Rattle.std.proofs.Math.Seq.{take-add}

@@ -37,7 +37,7 @@ pub record CompletesNext (before : List DiskEvent) (id operation : ℕ) : Type 0
 abbrev pub CompletesOnceInOrder : List DiskEvent → Type 0
 CompletesOnceInOrder es = (before after : List DiskEvent) (id operation status : ℕ) (bytes : List ℕ) → es ≡ before ++ Done id operation status bytes ∷ after → CompletesNext before id operation
 
--- what a request gets from a disk of so many blocks and a ring of so many slots, behind what happened before
+-- what a request gets from a disk of so many blocks and a ring of so many slots, after what happened before
 abbrev pub Admits : ℕ → ℕ → List DiskEvent → DiskEvent → Type 0
 Admits blocks ring before (Accepted id request) = (defect blocks request ≡ None) × (pending_count before < ring) × (id ≡ length (issued before))
 Admits blocks ring before (Full request) = (defect blocks request ≡ None) × (pending_count before ≡ ring)

@@ -1,8 +1,10 @@
--- A disk whose requests are a plain list: what is pending, and the image that it is served from.
+-- A disk whose requests are a plain list: where its blocks lie in the image, and what is pending.
 use Rattle.std.specs.Prelude.{ℕ, ◌+◌, List, [], length, Option}
 use Rattle.vdisk_msg.specs.declared.request.Request.{Request}
 
 pub record ListState : Type 0 where
+  -- the block of the image at which the disk's blocks begin
+  pub first : ℕ
   -- how many blocks of 512 bytes the disk has
   pub blocks : ℕ
   -- how many requests may be pending
@@ -11,15 +13,18 @@ pub record ListState : Type 0 where
   pub done : ℕ
   -- those that were accepted and not yet completed, in order
   pub pending : List Request
-  -- the image's bytes, where they are told
-  pub told : Option (List ℕ)
-  -- how often the image failed
-  pub faults : ℕ
 
 -- the id of the next request that is accepted
 abbrev pub next_id : ListState → ℕ
 next_id s = s.done + length s.pending
 
 -- nothing was asked yet
-abbrev pub fresh : ℕ → ℕ → Option (List ℕ) → ℕ → ListState
-fresh blocks ring told faults = record { blocks = blocks; ring = ring; done = 0; pending = []; told = told; faults = faults }
+abbrev pub fresh : ℕ → ℕ → ℕ → ListState
+fresh first blocks ring = record { first = first; blocks = blocks; ring = ring; done = 0; pending = [] }
+
+-- an image that disks are served from
+pub record ImageState : Type 0 where
+  -- its bytes, where they are told
+  pub told : Option (List ℕ)
+  -- how often it failed
+  pub faults : ℕ

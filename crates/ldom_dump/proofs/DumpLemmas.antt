@@ -14,7 +14,8 @@ use Rattle.gathered_text.proofs.GatheredText.{appends_last, gathers_all, gathers
 use Rattle.ldom_dump.specs.Decoded.{AreOfLines, Decoded, IsOfLine, decoded_lines, decoded_text, is_fault, is_ok, is_packet}
 use Rattle.ldom_dump.specs.DumpReport.{Dumps, Written, dump_text, end_line}
 use Rattle.ldom_dump.specs.Going.{DumpsLines, Finishes, GathersUnlessSinkFault, PutsPacket, TellsCarried, TellsMessage}
-use Rattle.ldom_dump.specs.Reading.{IsReaders, ReadsBytes, StopsAt}
+use Rattle.ldom_journal.specs.Stops.{IsReaders}
+use Rattle.ldom_dump.specs.Reading.{ReadsBytes, StopsAt}
 
 -- the message that a packet carries was told
 pub tells_carried : (of : Option (List ℕ)) (bytes old new : List ℕ) → of ≡ Some bytes → TellsMessage bytes old new → TellsCarried of old new
@@ -152,7 +153,7 @@ nothing_held (Some bytes) = refl
 pub lines_unread : (start old : Option (List ℕ)) (gathered : List ℕ) → gathered ≡ [] → DumpsLines start start the_status.NoMemory old old gathered 0 0 0
 lines_unread start old gathered none = lines_stop start start start old old [] the_status.NoMemory gathered 0 0 0 0 (so_far_none start old gathered 0 refl none) tt (nothing_held start) refl
 
--- how a last line was written behind what was gathered
+-- how a last line was written after what was gathered
 ends : (why status : Status) (old mid new : Option (List ℕ)) (gathered text last whole : List ℕ) → whole ≡ text ++ last → Gathers old mid gathered text
     → ((status ≡ why) × Appends mid new (gathered ++ last)) ⊎ ((status ≡ the_status.SinkFault) × WroteFront mid new (gathered ++ last))
     → ((status ≡ why) × Appends old new whole) ⊎ ((status ≡ the_status.SinkFault) × WroteFront old new whole)

@@ -71,7 +71,7 @@ is_packet decoded = is_ok decoded.packet
 abbrev pub is_fault : Decoded → Bool
 is_fault decoded = not (is_ok decoded.packet)
 
--- the line of the packet, and behind it that of the message
+-- the line of the packet, and after it that of the message
 abbrev pub decoded_text : Decoded → List ℕ
 decoded_text decoded = packet_line decoded.packet ++ carried_line decoded.said
 

@@ -21,12 +21,12 @@ counts_text lines packets faults = field_text (codes "end lines=") lines ++ fiel
 abbrev pub end_line : ℕ → ℕ → ℕ → Status → List ℕ
 end_line lines packets faults why = counts_text lines packets faults ++ field_text (codes " status=") (status_number why) ++ cause_text why ++ codes "\n"
 
--- the text of a dump that ends so behind these lines
+-- the text of a dump that ends so after these lines
 abbrev pub dump_text : List Decoded → Status → List ℕ
 dump_text all why = decoded_lines all ++ end_line (counted_lines why (length all)) (count_by is_packet all) (count_by is_fault all) why
 
--- The sink failed behind some front of the lines, or the lines were read to where reading ended; then the whole text was
--- written, or the sink failed behind some front of it.
+-- The sink failed after some front of the lines, or the lines were read to where reading ended; then the whole text was
+-- written, or the sink failed after some front of it.
 abbrev pub Written : Status → Status → Option (List ℕ) → Option (List ℕ) → List Decoded → Type 0
 Written SinkFault status old new all = (status ≡ SinkFault) × WroteFront old new (decoded_lines all)
 Written why status old new all = ((status ≡ why) × Appends old new (dump_text all why)) ⊎ ((status ≡ SinkFault) × WroteFront old new (dump_text all why))
@@ -34,7 +34,7 @@ Written why status old new all = ((status ≡ why) × Appends old new (dump_text
 -- These lines were read and decoded from the front of what a source had, and then no further one. It has `now` left.
 pub record Dumps (start now : Option (List ℕ)) (status : Status) (old new : Option (List ℕ)) : Type 0 where
   pub all : List Decoded
-  -- what was to come behind these lines
+  -- what was to come after these lines
   pub left : Option (List ℕ)
   pub taken : LinesTaken start left (map (λ decoded. decoded.line) all)
   pub are : AreOfLines all

@@ -3,7 +3,7 @@ use Rattle.std.specs.Prelude.{ℕ, Bool, true, false, List, ◌++◌, codes, dec
 use Rattle.ldc_packet.specs.declared.packet.Subtype.{Subtype}
 use Rattle.ldc_packet.specs.declared.packet.Subtype.TheVariants.{Info, Ack, Nack}
 
--- a number behind its name, as ` seq=7`
+-- a number after its name, as ` seq=7`
 abbrev pub field_text : List ℕ → ℕ → List ℕ
 field_text name value = name ++ decimal value
 

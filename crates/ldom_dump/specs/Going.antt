@@ -19,7 +19,7 @@ use Rattle.ldom_dump.specs.MessageText.{carried_line, message_line}
 use Rattle.ldom_dump.specs.PacketText.{packet_line}
 use Rattle.ldom_dump.specs.Reading.{StopsAt}
 
--- the line of the message that these bytes spell was put behind a text, or that of their fault
+-- the line of the message that these bytes spell was put after a text, or that of their fault
 pub record TellsMessage (bytes old new : List ℕ) : Type 0 where
   pub said : Result Message TagFault
   pub says : Decodes bytes said
@@ -64,7 +64,7 @@ pub record DumpsLines (start now : Option (List ℕ)) (why : Status) (old new : 
   pub faults_are : faults ≡ count_by is_fault all
   pub gathers : GathersUnlessSinkFault why old new gathered (decoded_lines all)
 
--- what was gathered and the last line were written, or a front of them; nothing behind a fault of the sink
+-- what was gathered and the last line were written, or a front of them; nothing after a fault of the sink
 abbrev pub Finishes : Status → Status → Option (List ℕ) → Option (List ℕ) → List ℕ → List ℕ → Type 0
 Finishes SinkFault status old new gathered last = (status ≡ SinkFault) × (new ≡ old)
 Finishes why status old new gathered last = ((status ≡ why) × Appends old new (gathered ++ last)) ⊎ ((status ≡ SinkFault) × WroteFront old new (gathered ++ last))

@@ -25,7 +25,7 @@ message_name (DringData seq ident start end state) = codes "message dring "
 message_name (Mcast set count addresses) = codes "message mcast "
 message_name (Plain envelope) = codes "message plain "
 
--- what a message says behind its tag
+-- what a message says after its tag
 abbrev pub said_text : MsgBody → List ℕ
 said_text (Ver major minor class) = field_text (codes " major=") major ++ field_text (codes " minor=") minor ++ field_text (codes " class=") class
 said_text (Attr bytes) = codes " " ++ encode_lower bytes

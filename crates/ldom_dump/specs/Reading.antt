@@ -1,5 +1,5 @@
 -- Why no further line of a dump is decoded.
-use Rattle.std.specs.Prelude.{◌≡◌, ℕ, ◌+◌, ◌≤◌, List, length, Option, ⊤}
+use Rattle.std.specs.Prelude.{◌≡◌, ℕ, ◌+◌, ◌≤◌, List, length, Option}
 use Rattle.std.specs.Io.KnownBytes.{IsAtEnd, Keeps, prepend_known}
 use Rattle.domain_script.specs.declared.event.LineFault.{LineFault}
 use Rattle.domain_script.specs.declared.event.LineFault.TheVariants.{Hex}
@@ -25,7 +25,7 @@ pub record IsNoDigits (rest left : Option (List ℕ)) (fault : LineFault) : Type
   pub nothing : (bytes : List ℕ) → SpellsBytes line bytes → ⊥
   pub hex : fault ≡ Hex
 
--- Why no further line is decoded behind so many: `rest` is to come behind them, and then `held` and what the source has
+-- Why no further line is decoded after so many: `rest` is to come after them, and then `held` and what the source has
 -- left. Where the source failed, no whole line is held; where the sink did, one more line was read.
 abbrev pub StopsAt : Status → Option (List ℕ) → List ℕ → Option (List ℕ) → ℕ → Type 0
 StopsAt (status.Script at fault) rest held now count = (at ≡ count + 1) × (at ≤ 20000) × IsNoDigits rest (prepend_known held now) fault
@@ -38,16 +38,3 @@ StopsAt status.StoreFault rest held now count = ⊥
 StopsAt (status.ImageSize need have) rest held now count = ⊥
 StopsAt status.HostFault rest held now count = ⊥
 StopsAt status.Usage rest held now count = ⊥
-
--- a status with which reading ends, before its text is written
-abbrev pub IsReaders : Status → Type 0
-IsReaders status.Done = ⊤
-IsReaders (status.Script line fault) = ⊤
-IsReaders (status.Limit line kind) = ⊤
-IsReaders status.SourceFault = ⊤
-IsReaders status.NoMemory = ⊤
-IsReaders status.SinkFault = ⊥
-IsReaders status.StoreFault = ⊥
-IsReaders (status.ImageSize need have) = ⊥
-IsReaders status.HostFault = ⊥
-IsReaders status.Usage = ⊥

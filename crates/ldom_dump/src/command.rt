@@ -23,14 +23,16 @@ pub fn dump<S: Source, K: Sink>(alloc: Global, script: &mut S, out: &mut K) -> S
     ensures dumps { Dumps (S.left script.old) (S.left script.new) result (K.written out.old) (K.written out.new) }
 
     // A script of packets alone is dumped to its end, unless something failed.
-    ensures complete { (bytes : List ℕ) → S.left script.old ≡ Some bytes → IsWhole bytes → ¬ Rose (S.faults script.old) (S.faults script.new) → ¬ Rose (K.faults out.old) (K.faults out.new)
+    ensures complete { (bytes : List ℕ) → S.left script.old ≡ Some bytes → IsWhole bytes
+        → ¬ Rose (S.faults script.old) (S.faults script.new) → ¬ Rose (K.faults out.old) (K.faults out.new)
         → (result ≡ Status.Done) ⊎ (result ≡ Status.NoMemory) }
 
     // A fault of the outside is answered only where its count rose, and where another status is answered, it stays: a
     // fault of the sink, which comes last, may hide one of the source.
     ensures source_fault { result ≡ Status.SourceFault → Rose (S.faults script.old) (S.faults script.new) }
     ensures sink_fault { result ≡ Status.SinkFault → Rose (K.faults out.old) (K.faults out.new) }
-    ensures source_unfailed { result ≢ Status.SourceFault → result ≢ Status.SinkFault → S.faults script.new ≡ S.faults script.old }
+    ensures source_unfailed { result ≢ Status.SourceFault → result ≢ Status.SinkFault
+        → S.faults script.new ≡ S.faults script.old }
     ensures sink_unfailed { result ≢ Status.SinkFault → K.faults out.new ≡ K.faults out.old }
     ensures source_count { S.faults script.old ≤ S.faults script.new }
     ensures sink_count { K.faults out.old ≤ K.faults out.new }

@@ -1,14 +1,15 @@
 // A line of hexadecimal digits.
-ghost use Rattle.std.specs.Prelude.{◌≡◌, ◌≢◌, ◌+◌, ◌≤◌, ℕ, List, IfErr, IfNone, IfOk, IfSome};
-ghost use Rattle.vio_io.specs.Causes.{Rose};
+ghost use Rattle.std.specs.Prelude.{◌≡◌, ◌+◌, ◌≤◌, ℕ, List, IfErr, IfNone, IfOk, IfSome};
 ghost use Rattle.domain_script.specs.declared.lines.LinesStop.TheVariants.{Going};
 ghost use Rattle.domain_script.specs.LinesState.{to_come};
 ghost use Rattle.ldom_journal.specs.LinesEnd.{counted_lines};
 ghost use Rattle.ldom_dump.specs.Decoded.{SpellsBytes};
-ghost use Rattle.ldom_dump.specs.Reading.{IsReaders, ReadsBytes, StopsAt};
+ghost use Rattle.ldom_journal.specs.Failing.{Fails};
+ghost use Rattle.ldom_journal.specs.Stops.{stop_status};
+ghost use Rattle.ldom_dump.specs.Reading.{ReadsBytes, StopsAt};
 
 use domain_script::{Lines, decode_lower};
-use ldom_journal::{LineFault, Status};
+use ldom_journal::{LineFault, Stop, next_line};
 use vio_io::Source;
 
 /// The bytes of a packet.
@@ -27,31 +28,26 @@ pub fn bytes_of(line: &[u8]) -> Option<[u8; 64]>
     }
 }
 
-/// The bytes of the next line; else why there are none, `Done` at the end.
-pub fn read_bytes<S: Source>(lines: &mut Lines, source: &mut S) -> Result<[u8; 64], Status>
+/// The bytes of the next line; else why there are none.
+pub fn read_bytes<S: Source>(lines: &mut Lines, source: &mut S) -> Result<[u8; 64], Stop>
     requires going { lines.old.stop ≡ Going }
     requires few { lines.old.number ≤ 20000 }
 
-    ensures bytes { IfOk result (ReadsBytes (to_come lines.old (S.left source.old)) (to_come lines.new (S.left source.new))) }
-    ensures next { IfOk result (λ _. (lines.new.number ≡ lines.old.number + 1) × (lines.new.number ≤ 20000) × (lines.new.stop ≡ Going)) }
+    ensures bytes { IfOk result (ReadsBytes (to_come lines.old (S.left source.old))
+        (to_come lines.new (S.left source.new))) }
+    ensures next { IfOk result (λ _. (lines.new.number ≡ lines.old.number + 1) × (lines.new.number ≤ 20000)
+        × (lines.new.stop ≡ Going)) }
 
-    ensures stop { IfErr result (λ status. StopsAt status (to_come lines.old (S.left source.old)) lines.new.held (S.left source.new) lines.old.number) }
-    ensures readers { IfErr result IsReaders }
-    ensures lines { IfErr result (λ status. lines.new.number ≡ counted_lines status lines.old.number) }
-    ensures unfailed { result ≢ Err Status.SourceFault → S.faults source.new ≡ S.faults source.old }
-    ensures count { S.faults source.old ≤ S.faults source.new }
-    ensures cause { result ≡ Err Status.SourceFault → Rose (S.faults source.old) (S.faults source.new) }
+    ensures stop { IfErr result (λ stop. StopsAt (stop_status stop lines.new.number)
+        (to_come lines.old (S.left source.old)) lines.new.held (S.left source.new) lines.old.number) }
+    ensures lines { IfErr result (λ stop. lines.new.number ≡ counted_lines (stop_status stop lines.new.number)
+        lines.old.number) }
+    ensures most { lines.new.number ≤ 20000 }
+    ensures source { Fails (result ≡ Err Stop.Source) (S.faults source.old) (S.faults source.new) }
 {
-    match lines.advance(source) {
-        Ok(true) => {}
-        Ok(false) => return Err(Status::Done),
-        Err(fault) => return Err(Status::of_lines(fault, lines.number())),
-    }
+    next_line(lines, source)?;
     match bytes_of(lines.line()) {
         Some(bytes) => Ok(bytes),
-        None => Err(Status::Script {
-            line: lines.number(),
-            fault: LineFault::Hex,
-        }),
+        None => Err(Stop::Faulty(LineFault::Hex)),
     }
 }

@@ -5,7 +5,7 @@ ghost use Rattle.ldom_dump.specs.Fields.{field_text, flag_number, head_text, sub
 use gathered_text::{TEXT_ROOM, Text};
 use ldc_packet::Subtype;
 
-/// A number behind its name.
+/// A number after its name.
 pub fn push_field(text: &mut Text, name: &[u8], value: u64)
     requires { length text.old + length name.now + 20 ≤ TEXT_ROOM }
     ensures text { text.new ≡ text.old ++ field_text name.now value }
@@ -33,7 +33,7 @@ fn subtype_word(subtype: Subtype) -> &'static [u8]
     }
 }
 
-/// How the line of a packet or message begins: its name and subtype, and a first number behind its name.
+/// How the line of a packet or message begins: its name and subtype, and a first number after its name.
 pub fn push_head(text: &mut Text, name: &[u8], subtype: Subtype, field: &[u8], value: u64)
     requires { length text.old + length name.now + length field.now + 24 ≤ TEXT_ROOM }
     ensures text { text.new ≡ text.old ++ head_text name.now subtype field.now value }

@@ -1,8 +1,9 @@
 // The lines of a dump, one after another.
-ghost use Rattle.std.specs.Prelude.{◌≡◌, ◌≢◌, ◌+◌, ◌<◌, ◌≤◌, [], length, Some, IfOk, OnErr, OnOk};
+ghost use Rattle.std.specs.Prelude.{◌≡◌, ◌+◌, ◌≤◌, [], length, IfOk, OnErr, OnOk};
 ghost use Rattle.vio_io.specs.Causes.{Rose};
 ghost use Rattle.domain_script.specs.declared.lines.LinesStop.TheVariants.{Going};
 ghost use Rattle.domain_script.specs.LinesState.{to_come};
+ghost use Rattle.ldom_journal.specs.Failing.{Fails};
 ghost use Rattle.gathered_text.specs.Gathered.{Gathers, WroteFront};
 ghost use Rattle.ldc_packet.specs.Form.{IsWellFormed};
 ghost use Rattle.ldom_dump.specs.Decoded.{carried_bytes};
@@ -95,13 +96,10 @@ pub fn dump_all<S: Source, K: Sink>(
     out: &mut K,
 ) -> Ended
     requires { text.old ≡ [] }
-    ensures dumps { DumpsLines (S.left source.old) (S.left source.new) result.why (K.written out.old) (K.written out.new) text.new result.lines result.packets result.faults }
-    ensures source_unfailed { result.why ≢ Status.SourceFault → S.faults source.new ≡ S.faults source.old }
-    ensures sink_unfailed { result.why ≢ Status.SinkFault → K.faults out.new ≡ K.faults out.old }
-    ensures source_count { S.faults source.old ≤ S.faults source.new }
-    ensures sink_count { K.faults out.old ≤ K.faults out.new }
-    ensures source_fault { result.why ≡ Status.SourceFault → Rose (S.faults source.old) (S.faults source.new) }
-    ensures sink_fault { result.why ≡ Status.SinkFault → Rose (K.faults out.old) (K.faults out.new) }
+    ensures dumps { DumpsLines (S.left source.old) (S.left source.new) result.why (K.written out.old)
+        (K.written out.new) text.new result.lines result.packets result.faults }
+    ensures source { Fails (result.why ≡ Status.SourceFault) (S.faults source.old) (S.faults source.new) }
+    ensures sink { Fails (result.why ≡ Status.SinkFault) (K.faults out.old) (K.faults out.new) }
 {
     match Lines::new(alloc) {
         Ok(mut lines) => dump_lines(&mut lines, source, text, out),
@@ -124,22 +122,19 @@ fn dump_lines<S: Source, K: Sink>(
     requires going { lines.old.stop ≡ Going }
     requires first { lines.old.number ≡ 0 }
     requires empty { text.old ≡ [] }
-    ensures dumps { DumpsLines (to_come lines.old (S.left source.old)) (S.left source.new) result.why (K.written out.old) (K.written out.new) text.new result.lines result.packets result.faults }
-    ensures source_unfailed { result.why ≢ Status.SourceFault → S.faults source.new ≡ S.faults source.old }
-    ensures sink_unfailed { result.why ≢ Status.SinkFault → K.faults out.new ≡ K.faults out.old }
-    ensures source_count { S.faults source.old ≤ S.faults source.new }
-    ensures sink_count { K.faults out.old ≤ K.faults out.new }
-    ensures source_fault { result.why ≡ Status.SourceFault → Rose (S.faults source.old) (S.faults source.new) }
-    ensures sink_fault { result.why ≡ Status.SinkFault → Rose (K.faults out.old) (K.faults out.new) }
+    ensures dumps { DumpsLines (to_come lines.old (S.left source.old)) (S.left source.new) result.why
+        (K.written out.old) (K.written out.new) text.new result.lines result.packets result.faults }
+    ensures source { Fails (result.why ≡ Status.SourceFault) (S.faults source.old) (S.faults source.new) }
+    ensures sink { Fails (result.why ≡ Status.SinkFault) (K.faults out.old) (K.faults out.new) }
 {
     let mut packets: u32 = 0;
     let mut faults: u32 = 0;
     loop {
         let bytes = match read_bytes(lines, source) {
             Ok(bytes) => bytes,
-            Err(why) => {
+            Err(stop) => {
                 return Ended {
-                    why,
+                    why: stop.status(lines.number()),
                     lines: lines.number(),
                     packets,
                     faults,

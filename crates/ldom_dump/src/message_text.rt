@@ -85,7 +85,7 @@ fn push_data(text: &mut Text, seq: u64, ident: u64, start: u32, end: u32, state:
     push_field(text, b" state=", u64::from(state));
 }
 
-/// What a message says behind its tag.
+/// What a message says after its tag.
 fn push_said(text: &mut Text, body: &MsgBody)
     requires formed { HasForm body.now }
     requires room { length text.old + 1000 ≤ TEXT_ROOM }

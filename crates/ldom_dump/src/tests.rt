@@ -4,7 +4,7 @@ use std::process::Abort;
 use std::test::Fail;
 use vio_io::{ListSink, ListSource};
 
-/// Digits and zeros behind them, `count` in all.
+/// Digits and zeros after them, `count` in all.
 fn padded(alloc: Global, digits: &str, count: usize) -> Result<String, AllocError> {
     let mut text = String::from_str(alloc, digits)?;
     for _ in digits.len()..count {
@@ -83,7 +83,7 @@ fn what_is_no_packet_is_told_by_its_fault(rt: HostRuntime) -> Result<(), Fail> {
     Ok(())
 }
 
-/// A packet of seqid 7 that carries a message of `len` bytes, these digits and zeros behind them, is told so.
+/// A packet of seqid 7 that carries a message of `len` bytes, these digits and zeros after them, is told so.
 fn carries(rt: &impl Abort, alloc: Global, len: u8, digits: &str, line: &str) -> Result<(), Fail> {
     let env = match len {
         4 => "c4",

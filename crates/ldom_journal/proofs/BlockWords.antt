@@ -107,7 +107,7 @@ found_here block i r lt is holds from =
     sym (found_step block i lt from
     ∙ ap (λ (b : Bool). unwrap_or (cond b (Some (get_or shorter_lengths i 0)) (find (repeats block) (drop (i + 1) word_lengths))) 512) (sym is ∙ holds))
 
--- the first block of a list, and the blocks behind it
+-- the first block of a list, and the blocks after it
 pub blocks_text_more : (so_far whole rest block behind : List ℕ) → whole ≡ so_far ++ blocks_text rest → block ≡ take 512 rest → behind ≡ drop 512 rest → length behind + 512 ≡ length rest
     → whole ≡ so_far ++ word_text block ++ blocks_text behind
 unfolding blocks_text

@@ -1,3 +1,4 @@
 pub mod BlockWords
 pub mod PackedBlocks
 pub mod ReportLines
+pub mod StopLemmas

@@ -24,7 +24,7 @@ pub length-block_of : (n : ℕ) (xs : List ℕ) → length (block_of n xs) ≡ 5
 unfolding block_of
 length-block_of n xs = length-map-range_with_len (λ (i : ℕ). get_or xs (i % n) 0) 0 512
 
--- what is behind a word doesn't matter to its block
+-- what is after a word doesn't matter to its block
 block_of_front : (n : ℕ) (xs ys : List ℕ) → 0 < n → n ≤ length xs → block_of n (xs ++ ys) ≡ block_of n xs
 block_of_front n xs ys some le =
     ext_get_or 0 (block_of n (xs ++ ys)) (block_of n xs) (length-block_of n (xs ++ ys) ∙ sym (length-block_of n xs))
@@ -59,7 +59,7 @@ kept_lengths (n ∷ lengths) kept are =
     let whole : length (unpacked (n ∷ lengths) kept) ≡ length (block_of n kept) + length (unpacked lengths (drop n kept)) = length-append (block_of n kept) (unpacked lengths (drop n kept)) in
     (omega (arith, total, more.0, word.whole, behind), omega (arith, total, whole, more.1, more.0, word.whole, behind, block))
 
--- bytes behind the others leave what is kept
+-- bytes after the others leave what is kept
 pub kept_behind : (lengths kept rest : List ℕ) → AreKept lengths kept → AreKept lengths (kept ++ rest)
 kept_behind [] kept rest are = tt
 kept_behind (n ∷ lengths) kept rest are =
@@ -84,7 +84,7 @@ unpacked_behind (n ∷ lengths) kept rest are =
     ∙ ap (λ (l : List ℕ). block_of n kept ++ l) (unpacked_behind lengths (drop n kept) rest are.1)
     ∙ sym (append_assoc (block_of n kept) (unpacked lengths (drop n kept)) rest)
 
--- a further block is kept where nothing is behind the others
+-- a further block is kept where nothing is after the others
 pub kept_more : (lengths kept block : List ℕ) (n : ℕ) → AreKept lengths kept → sum lengths ≡ length kept → length block ≡ 512 → 0 < n → n ≤ 512 → repeats block n ≡ true → n ≡ word_length block
     → AreKept (lengths ++ n ∷ []) (kept ++ take n block)
 kept_more [] [] block n are all long some most is least =
@@ -126,7 +126,7 @@ unpacked_more (m ∷ lengths) kept block n are all long some most is =
     ∙ ap (λ (l : List ℕ). block_of m kept ++ l) (unpacked_more lengths (drop m kept) block n are.1 (omega (arith, all, total, behind, word.whole)) long some most is)
     ∙ sym (append_assoc (block_of m kept) (unpacked lengths (drop m kept)) block)
 
--- the i-th word, and what is behind it
+-- the i-th word, and what is after it
 pub record NextWord (lengths kept : List ℕ) (i n : ℕ) : Type 0 where
   pub word : IsKept n kept
   pub others : AreKept (drop (i + 1) lengths) (drop n kept)

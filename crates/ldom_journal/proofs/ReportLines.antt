@@ -1,4 +1,4 @@
--- The lines of a report, one behind another.
+-- The lines of a report, one after another.
 use Rattle.std.proofs.Common.{◌≡◌, refl, ℕ, ◌+◌, ◌<◌, List, [], ◌∷◌, ◌++◌, append_assoc, length, get_or, take, drop, sym, ap, ◌∙◌}
 use Rattle.std.proofs.lemmas.List.{take_more, flat_map_more, take-append-drop}
 use Rattle.std.specs.List.{flat_map}
@@ -17,7 +17,7 @@ flat_map-take_more f xs i x lt is =
     ∙ ap (λ y. flat_map f (take i xs ++ y ∷ [])) is
     ∙ ap (flat_map f) (sym (take_more xs i x lt))
 
--- and of all behind them
+-- and of all after them
 pub flat_map-front : {X : Type 0} (f : X → List ℕ) (xs ys : List X) → flat_map f (xs ++ ys) ≡ flat_map f xs ++ flat_map f ys
 flat_map-front f [] ys = refl
 flat_map-front f (x ∷ xs) ys = ap (λ (l : List ℕ). f x ++ l) (flat_map-front f xs ys) ∙ sym (append_assoc (f x) (flat_map f xs) (flat_map f ys))

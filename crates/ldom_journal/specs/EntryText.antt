@@ -48,7 +48,7 @@ why_word Range = codes "range"
 abbrev pub operation_word : ℕ → List ℕ
 operation_word operation = if operation == 1 then codes "read" else if operation == 2 then codes "write" else codes "flush"
 
--- what stands behind a completion: the words of its blocks behind a read with status 0
+-- what stands after a completion: the words of its blocks after a read with status 0
 abbrev pub read_text : Entry → List ℕ
 read_text (Done disk id operation status bytes) = if (operation == 1) && (status == 0) then blocks_text bytes.items else []
 read_text entry = []

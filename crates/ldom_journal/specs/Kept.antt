@@ -1,4 +1,4 @@
--- The request that a journal keeps without the zeros behind a word.
+-- The request that a journal keeps without the zeros after a word.
 use Rattle.std.specs.Prelude.{ℕ, ◌-◌, ◌≤◌, List, ◌++◌, length, replicate, ⊤}
 use Rattle.vdisk_msg.specs.declared.request.Fill.{Fill}
 use Rattle.vdisk_msg.specs.declared.request.Request.{Request}
@@ -6,7 +6,7 @@ use Rattle.vdisk_msg.specs.declared.request.Request.TheVariants.{Read, Write, Fl
 use Rattle.ldom_journal.specs.declared.kept_request.Kept.{Kept}
 use Rattle.ldom_journal.specs.declared.kept_request.Kept.TheVariants as kept
 
--- a word by its front, with zeros behind it
+-- a word by its front, with zeros after it
 abbrev pub fill_of : ℕ → List ℕ → Fill
 fill_of len front = record { len = len; bytes = front ++ replicate (1024 - length front) 0 }
 

@@ -2,6 +2,7 @@ pub mod BlockWord
 pub mod Bytes
 pub mod DiskEvents
 pub mod EntryText
+pub mod Failing
 pub mod HasWords
 pub mod JournalState
 pub mod Kept
@@ -9,3 +10,4 @@ pub mod LinesEnd
 pub mod Packed
 pub mod Report
 pub mod Status
+pub mod Stops

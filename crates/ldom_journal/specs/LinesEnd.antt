@@ -17,10 +17,3 @@ IsPast Bytes rest count = (count < 20000) × IfSome rest (BeginsWithLonger 3100)
 abbrev pub counted_lines : Status → ℕ → ℕ
 counted_lines (status.Script at fault) count = count + 1
 counted_lines other count = count
-
--- a fault of the reader as a status, behind so many lines
-abbrev pub stopped : LinesFault → ℕ → Status
-stopped Source count = status.SourceFault
-stopped Memory count = status.NoMemory
-stopped Long count = status.Limit (count + 1) Bytes
-stopped Many count = status.Limit (count + 1) Lines

@@ -1,5 +1,5 @@
 -- Blocks of 512 bytes that are kept as the words that they repeat. `lengths` are those of the words, and `kept` are the
--- words, one behind the other, and bytes behind them that are kept as they are.
+-- words, one after the other, and bytes after them that are kept as they are.
 use Rattle.std.specs.Prelude.{◌≡◌, ℕ, ⊤, ◌<◌, ◌≤◌, List, [], ◌∷◌, ◌++◌, length, drop}
 use Rattle.ldom_journal.specs.BlockWord.{cycle, word_length}
 
@@ -7,7 +7,7 @@ use Rattle.ldom_journal.specs.BlockWord.{cycle, word_length}
 unfoldable pub block_of : ℕ → List ℕ → List ℕ
 block_of n bytes = cycle n 512 bytes
 
--- the blocks, and the bytes behind them
+-- the blocks, and the bytes after them
 abbrev pub unpacked : List ℕ → List ℕ → List ℕ
 unpacked [] kept = kept
 unpacked (n ∷ lengths) kept = block_of n kept ++ unpacked lengths (drop n kept)

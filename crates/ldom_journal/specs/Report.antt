@@ -41,7 +41,7 @@ abbrev pub limit_text : LimitKind → List ℕ
 limit_text Lines = codes "lines"
 limit_text Bytes = codes "bytes"
 
--- behind a status: the line at which the run ended, and why; or how long the image had to be, and is
+-- after a status: the line at which the run ended, and why; or how long the image had to be, and is
 abbrev pub cause_text : Status → List ℕ
 cause_text (Script line fault) = codes " at=" ++ decimal line ++ codes " fault=" ++ fault_text fault
 cause_text (ImageSize need have) = codes " need=" ++ decimal need ++ codes " have=" ++ decimal have

@@ -15,10 +15,10 @@ pub struct Bytes {
     /// How long the word of each block is.
     lengths: Vec<u16>,
 
-    /// The words of the blocks, one behind the other, and the bytes behind the blocks.
+    /// The words of the blocks, one after the other, and the bytes after the blocks.
     kept: Vec<u8>,
 
-    /// How many bytes are behind the blocks.
+    /// How many bytes are after the blocks.
     plain: usize,
     room: usize,
 }
@@ -120,7 +120,7 @@ impl Bytes {
         self.len() == 0
     }
 
-    /// How long the words of the blocks are; and the words, with the bytes behind the blocks.
+    /// How long the words of the blocks are; and the words, with the bytes after the blocks.
     pub(crate) fn words(&self) -> (&[u16], &[u8])
         ensures items { unpacked result.0.now result.1.now ≡ self.now.items }
         ensures kept { AreKept result.0.now result.1.now }
@@ -155,7 +155,7 @@ fn give_back(kept: &mut Vec<u8>, room: usize)
     }
 }
 
-/// Keeps the blocks at the front of these bytes, unless there are bytes behind the blocks that were kept before; so many
+/// Keeps the blocks at the front of these bytes, unless there are bytes after the blocks that were kept before; so many
 /// are `plain`. Answers the bytes that are still to be kept.
 fn keep_blocks<'a>(
     lengths: &mut Vec<u16>,
@@ -186,7 +186,7 @@ fn keep_blocks<'a>(
     rest
 }
 
-/// Keeps a block behind the others.
+/// Keeps a block after the others.
 fn keep_block(lengths: &mut Vec<u16>, kept: &mut Vec<u8>, block: &[u8; 512])
     requires kept { AreKept lengths.old.items kept.old.items }
     requires plain { sum lengths.old.items ≡ length kept.old.items }

@@ -62,7 +62,7 @@ fn limit_bytes(kind: LimitKind) -> &'static [u8]
     }
 }
 
-/// Behind a status: the line at which the run ended, and why; or how long the image had to be, and is. Nothing where
+/// After a status: the line at which the run ended, and why; or how long the image had to be, and is. Nothing where
 /// the status tells neither.
 pub fn push_cause(text: &mut Text, status: &Status)
     requires { length text.old + 100 ≤ TEXT_ROOM }

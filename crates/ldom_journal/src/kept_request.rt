@@ -6,13 +6,13 @@ use vdisk_msg::{Fill, Request};
 use vio_bytes::NoMemory;
 
 /// A request that an entry keeps. It takes no memory but for the word of a write, which stands out of line and without
-/// the zeros behind it.
+/// the zeros after it.
 #[derive(Debug, Drop)]
 pub struct KeptRequest {
     inner: Kept,
 }
 
-/// A request, a write with the front of its word's bytes: zeros are behind it.
+/// A request, a write with the front of its word's bytes: zeros are after it.
 #[derive(Debug, Drop)]
 enum Kept {
     Read {
@@ -87,7 +87,7 @@ impl KeptRequest {
     }
 }
 
-/// The bytes of a word, without the zeros behind it; all 1,024 where others are behind it.
+/// The bytes of a word, without the zeros after it; all 1,024 where others are after it.
 fn front(fill: &Fill) -> &[u8]
     ensures within { length result.now ≤ 1024 }
     ensures front { result.now ≡ take (length result.now) fill.now.bytes }
@@ -101,7 +101,7 @@ fn front(fill: &Fill) -> &[u8]
     }
 }
 
-/// Whether bytes are zeros. Each is looked at, also behind one that isn't, so that many can be at once.
+/// Whether bytes are zeros. Each is looked at, also after one that isn't, so that many can be at once.
 fn are_zeros(bytes: &[u8]) -> bool
     ensures { IsTrue result ↔ (bytes.now ≡ replicate (length bytes.now) 0) }
 {

@@ -11,6 +11,7 @@ mod journal;
 mod kept_request;
 mod lines;
 mod status;
+mod stop;
 #[cfg(test)]
 mod tests;
 
@@ -21,5 +22,6 @@ pub use entry::{Entry, VD_OP_BREAD, VD_OP_BWRITE, VD_OP_FLUSH, Who, Why};
 pub use journal::Journal;
 pub use kept_request::KeptRequest;
 pub use status::{LimitKind, Mode, Status};
+pub use stop::{Stop, next_line};
 pub use vio_bytes::NoMemory;
 pub use vio_io::{Failed, Sink};

@@ -62,7 +62,7 @@ fn push_who(text: &mut Text, who: Who, names: &Names)
     push_disk(text, disk, names);
 }
 
-/// The disk and the id of a request, behind the kind of its entry.
+/// The disk and the id of a request, after the kind of its entry.
 fn push_id(text: &mut Text, kind: &[u8], disk: u32, id: u64, names: &Names)
     requires declared { disk < length names.now.disks }
     requires room { length text.old + length kind.now + 29 ≤ TEXT_ROOM }
@@ -75,7 +75,7 @@ fn push_id(text: &mut Text, kind: &[u8], disk: u32, id: u64, names: &Names)
     text.push_number(id);
 }
 
-/// A range of blocks, behind the word of an operation.
+/// A range of blocks, after the word of an operation.
 fn push_range(text: &mut Text, block: u64, count: u64)
     requires { length text.old + 41 ≤ TEXT_ROOM }
     ensures text { text.new ≡ text.old ++ range_text block count }

@@ -1,8 +1,7 @@
-ghost use Rattle.std.specs.Prelude.{◌≡◌, ◌-◌, ◌^◌, ◌<◌};
-ghost use Rattle.ldom_journal.specs.LinesEnd.{stopped};
+ghost use Rattle.std.specs.Prelude.{◌≡◌};
 ghost use Rattle.ldom_journal.specs.Status.{status_number};
 
-use domain_script::{LineFault, LinesFault};
+use domain_script::LineFault;
 
 /// Which entries a report shows.
 #[derive(Clone, Copy, Debug, PartialEq, Eq)]
@@ -77,25 +76,6 @@ impl Status {
             Status::ImageSize { .. } => 7,
             Status::Limit { .. } => 8,
             Status::NoMemory => 9,
-        }
-    }
-
-    /// What a fault of the reader is as a status, behind so many lines.
-    pub fn of_lines(fault: LinesFault, number: u32) -> Self
-        requires { number < 2 ^ 32 - 1 }
-        ensures { result ≡ stopped fault number }
-    {
-        match fault {
-            LinesFault::Source => Status::SourceFault,
-            LinesFault::Memory => Status::NoMemory,
-            LinesFault::Long => Status::Limit {
-                line: number + 1,
-                kind: LimitKind::Bytes,
-            },
-            LinesFault::Many => Status::Limit {
-                line: number + 1,
-                kind: LimitKind::Lines,
-            },
         }
     }
 }

@@ -1,2 +1,3 @@
 mod Holding
+mod OneWorld
 mod Refusing

@@ -1,1 +1,2 @@
+pub mod OneDisk
 pub mod Refusals

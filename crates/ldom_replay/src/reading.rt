@@ -1,52 +1,96 @@
-// The events of a script, one after another.
-ghost use Rattle.std.specs.Prelude.{◌≡◌, ◌≢◌, ◌+◌, ◌-◌, ◌^◌, ◌<◌, ◌≤◌, IfErr, OnOk};
-ghost use Rattle.vio_io.specs.Causes.{Rose};
+// What a run has read of its script.
+ghost use Rattle.std.specs.Prelude.{◌≡◌, ◌+◌, ◌≤◌, [], IfErr, IfOk, OnOk};
 ghost use Rattle.domain_script.specs.declared.lines.LinesStop.TheVariants.{Going};
 ghost use Rattle.domain_script.specs.LinesState.{to_come};
+ghost use Rattle.domain_script.specs.ScriptEvents.{no_names};
 ghost use Rattle.domain_script.specs.Spells.{IsDeclared};
-ghost use Rattle.replay_law.specs.Going.{IsReaders};
-ghost use Rattle.ldom_journal.specs.LinesEnd.{counted_lines, stopped};
+ghost use Rattle.ldom_journal.specs.LinesEnd.{counted_lines};
+ghost use Rattle.ldom_journal.specs.Stops.{stop_status};
+ghost use Rattle.ldom_journal.specs.Failing.{Fails};
 ghost use Rattle.replay_law.specs.Reading.{ReadsEvent, StopsAt};
 
+use crate::run::Run;
 use domain_script::{Event, Lines, Names, parse_into};
-use ldom_journal::Status;
-use vio_io::Source;
+use ldom_journal::{Journal, Status, Stop, next_line};
+use std::alloc::Global;
+use vio_bytes::NoMemory;
+use vio_io::{Source, Store};
 
-/// The event of the next line, which is noted in the names; else why no line was taken up, `Done` at the end.
-pub fn read_event<S: Source>(
-    lines: &mut Lines,
-    source: &mut S,
-    names: &mut Names,
-    event: &mut Event,
-) -> Result<(), Status>
-    requires going { lines.old.stop ≡ Going }
-    requires few { lines.old.number ≤ 20000 }
+/// The lines of a script, the names that it declared so far, and the journal of what its lines did.
+#[derive(Drop)]
+pub struct Reader {
+    pub lines: Lines,
+    pub names: Names,
+    pub journal: Journal,
+}
 
-    ensures event { OnOk result (ReadsEvent (to_come lines.old (S.left source.old)) (to_come lines.new (S.left source.new)) names.old event.new names.new) }
-    ensures declared { OnOk result (IsDeclared names.new event.new) }
-    ensures next { OnOk result ((lines.new.number ≡ lines.old.number + 1) × (lines.new.number ≤ 20000) × (lines.new.stop ≡ Going)) }
-    ensures most { lines.new.number ≤ 20000 }
-
-    ensures stop { IfErr result (λ status. StopsAt status (to_come lines.old (S.left source.old)) lines.new.held (S.left source.new) names.old lines.old.number) }
-    ensures readers { IfErr result IsReaders }
-    ensures lines { IfErr result (λ status. (lines.new.number ≡ counted_lines status lines.old.number) × (names.new ≡ names.old)) }
-    ensures unfailed { result ≢ Err Status.SourceFault → S.faults source.new ≡ S.faults source.old }
-    ensures count { S.faults source.old ≤ S.faults source.new }
-    ensures cause { result ≡ Err Status.SourceFault → Rose (S.faults source.old) (S.faults source.new) }
-{
-    match lines.advance(source) {
-        Ok(true) => {}
-        Ok(false) => return Err(Status::Done),
-        Err(fault) => return Err(Status::of_lines(fault, lines.number())),
+impl Reader {
+    /// Nothing was read.
+    pub fn new(alloc: Global) -> Result<Self, NoMemory>
+        ensures lines { IfOk result (λ reader. reader.lines ≡ record
+            { held = []; line = []; number = 0; stop = Going }) }
+        ensures names { IfOk result (λ reader. reader.names ≡ no_names) }
+        ensures journal { IfOk result (λ reader. reader.journal ≡ record { entries = []; room = 0 }) }
+    {
+        Ok(Reader {
+            lines: Lines::new(alloc)?,
+            names: Names::new(),
+            journal: Journal::new(alloc),
+        })
     }
-    match parse_into(lines.line(), names, event) {
-        Ok(()) => {
-            names.note(event);
-            Ok(())
+
+    /// Reads the event of the next line, which is noted in the names; else says why no line was taken up.
+    pub fn read_event<S: Source>(&mut self, source: &mut S, event: &mut Event) -> Result<(), Stop>
+        requires going { self.old.lines.stop ≡ Going }
+        requires few { self.old.lines.number ≤ 20000 }
+
+        ensures event { OnOk result (ReadsEvent (to_come self.old.lines (S.left source.old))
+            (to_come self.new.lines (S.left source.new)) self.old.names event.new self.new.names) }
+        ensures declared { OnOk result (IsDeclared self.new.names event.new) }
+        ensures next { OnOk result ((self.new.lines.number ≡ self.old.lines.number + 1)
+            × (self.new.lines.number ≤ 20000) × (self.new.lines.stop ≡ Going)) }
+        ensures most { self.new.lines.number ≤ 20000 }
+        ensures journal { self.new.journal ≡ self.old.journal }
+
+        ensures stop { IfErr result (λ stop. StopsAt (stop_status stop self.new.lines.number)
+            (to_come self.old.lines (S.left source.old)) self.new.lines.held (S.left source.new) self.old.names
+            self.old.lines.number) }
+        ensures lines { IfErr result (λ stop. (self.new.lines.number ≡ counted_lines
+            (stop_status stop self.new.lines.number) self.old.lines.number) × (self.new.names ≡ self.old.names)) }
+        ensures source { Fails (result ≡ Err Stop.Source) (S.faults source.old) (S.faults source.new) }
+    {
+        next_line(&mut self.lines, source)?;
+        match parse_into(self.lines.line(), &self.names, event) {
+            Ok(()) => {
+                self.names.note(event);
+                Ok(())
+            }
+            Err(fault) => Err(Stop::Faulty(fault)),
         }
-        Err(fault) => Err(Status::Script {
-            line: lines.number(),
-            fault,
-        }),
+    }
+
+    /// How a run ends whose lines stop so.
+    pub fn status(&self, stop: Stop) -> Status
+        requires { self.now.lines.number ≤ 20000 }
+        ensures { result ≡ stop_status stop self.now.lines.number }
+    {
+        stop.status(self.lines.number())
+    }
+
+    /// The run of what was read, with this status and this image.
+    pub fn into_run<D: Store>(self, status: Status, image: Option<D>) -> Run<D>
+        ensures status { result.status ≡ status }
+        ensures lines { result.lines ≡ self.lines.number }
+        ensures names { result.names ≡ self.names }
+        ensures journal { result.journal ≡ self.journal }
+        ensures image { result.image ≡ image }
+    {
+        Run {
+            status,
+            lines: self.lines.number(),
+            names: self.names,
+            journal: self.journal,
+            image,
+        }
     }
 }

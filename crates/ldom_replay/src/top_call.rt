@@ -14,9 +14,10 @@ ghost use Rattle.ldom_journal.specs.HasWords.{HasWords};
 ghost use Rattle.ldom_journal.specs.Report.{report, usage_line};
 ghost use Rattle.ldom_dump.specs.DumpReport.{Dumps};
 ghost use Rattle.ldom_dump.specs.Whole.{IsWhole};
+ghost use Rattle.replay_law.specs.Counts.{FaultsTold, NoneFailed, counts};
 ghost use Rattle.replay_law.specs.Clean.{IsCleanScript, NeverFails, StandsStill};
 ghost use Rattle.replay_law.specs.Failures.{SucceedOrFail, failed_count};
-ghost use Rattle.replay_law.specs.Outside.{KeepsGiven, accepted_requests};
+ghost use Rattle.replay_law.specs.Outside.{IsOutsideAccepted, KeepsGiven};
 ghost use Rattle.ldom_journal.specs.DiskEvents.{history};
 ghost use Rattle.replay_law.specs.Outcomes.{Reports, RunsScript};
 ghost use Rattle.replay_law.specs.Quiet.{IsQuietScript};
@@ -80,15 +81,16 @@ pub fn replay<H: Host, S: Source, K: Sink>(
     // An image that a host gave, and whose bytes it tells, keeps them but for what accepted writes name.
     ensures outside { (image : List ℕ) → AsksRun (map string_bytes words.now) image
         → ((least : ℕ) → IsSome (H.gives host.old image least))
-        → IfSome result.image (λ disk. KeepsGiven (H.gives host.old image) (accepted_requests result.journal.entries)
-        (H.Disk.content disk)) }
+        → IfSome result.image (λ disk. KeepsGiven (H.gives host.old image)
+        (IsOutsideAccepted result.journal.entries) (H.Disk.content disk)) }
 
     // A script without faults and within the limits, over `-` or an image that is as long as its disks, is run to its
     // end, where no count rose and memory suffices.
     ensures complete { (image : List ℕ) → AsksRun (map string_bytes words.now) image
         → (bytes : List ℕ) → S.left script.old ≡ Some bytes → (clean : IsCleanScript bytes)
-        → StandsStill (S.faults script.old) (S.faults script.new) → StandsStill (H.faults host.old) (H.faults host.new)
-        → StandsStill (K.faults out.old) (K.faults out.new) → IfSome result.image (λ disk. H.Disk.faults disk ≡ 0)
+        → NoneFailed (counts (S.faults script.old) (H.faults host.old) (K.faults out.old))
+        (counts (S.faults script.new) (H.faults host.new) (K.faults out.new))
+        → IfSome result.image (λ disk. H.Disk.faults disk ≡ 0)
         → (image ≢ codes "-" → IfSome result.image (λ disk. 512 * blocks_of clean.names.disks ≤ H.Disk.size disk))
         → (result.status ≡ Status.Done) ⊎ (result.status ≡ Status.NoMemory) }
 
@@ -126,24 +128,12 @@ pub fn replay<H: Host, S: Source, K: Sink>(
     ensures nothing { ((image : List ℕ) → AsksRun (map string_bytes words.now) image → ⊥)
         → (result.journal.entries ≡ []) × IsNone result.image }
 
-    // A fault of the source, the host or the sink is answered only where its count rose.
-    ensures source_fault { result.status ≡ Status.SourceFault → Rose (S.faults script.old) (S.faults script.new) }
-    ensures host_fault { result.status ≡ Status.HostFault → Rose (H.faults host.old) (H.faults host.new) }
-    ensures sink_fault { result.status ≡ Status.SinkFault → Rose (K.faults out.old) (K.faults out.new) }
-
-    // Where another status is answered, it stays; a fault of the sink, which comes last, may hide one of the others. At
-    // status 0 the image never failed either.
-    ensures source_unfailed { result.status ≢ Status.SourceFault → result.status ≢ Status.SinkFault
-        → S.faults script.new ≡ S.faults script.old }
-    ensures host_unfailed { result.status ≢ Status.HostFault → result.status ≢ Status.SinkFault
-        → H.faults host.new ≡ H.faults host.old }
-    ensures sink_unfailed { result.status ≢ Status.SinkFault → K.faults out.new ≡ K.faults out.old }
+    // A fault of the source, the host or the sink is answered only where its count rose, and each other status where it
+    // didn't, but that a fault of the sink comes last. At status 0 the image never failed either.
+    ensures faults { FaultsTold result.status
+        (counts (S.faults script.old) (H.faults host.old) (K.faults out.old))
+        (counts (S.faults script.new) (H.faults host.new) (K.faults out.new)) }
     ensures image_unfailed { result.status ≡ Status.Done → IfSome result.image (λ image. H.Disk.faults image ≡ 0) }
-
-    // No count falls.
-    ensures source_count { S.faults script.old ≤ S.faults script.new }
-    ensures host_count { H.faults host.old ≤ H.faults host.new }
-    ensures sink_count { K.faults out.old ≤ K.faults out.new }
 {
     match read_words(alloc, words) {
         Some(Asked::Run { image }) => report_run(run_script(alloc, image, host, script), out),

@@ -1,10 +1,13 @@
-ghost use Rattle.std.specs.Prelude.{◌≡◌, ◌*◌, ◌<◌, ◌≤◌, ◌↔◌, length, IfOk, IfErr, IsTrue, OnErr, OnOk};
+ghost use Rattle.std.specs.Prelude.{◌≡◌, ◌+◌, ◌*◌, ◌<◌, ◌≤◌, ◌↔◌, ℕ, [], length, IfOk, IfErr, IsTrue, OnErr, OnOk};
+ghost use Rattle.domain_script.specs.declared.event.Event.TheVariants as line;
 ghost use Rattle.vdisk_msg.specs.Fills.{IsRequest};
-ghost use Rattle.disk_law.specs.ListState.{ListState, fresh, next_id};
+ghost use Rattle.disk_law.specs.ListState.{next_id};
 ghost use Rattle.ldom_journal.specs.Report.{accepted_count};
+ghost use Rattle.plain_disk.specs.PlainDiskState.{image_of};
 ghost use Rattle.ldom_replay.specs.Refusals.{refusal_of};
-ghost use Rattle.replay_law.specs.Worlds.{blocks_of};
-ghost use Rattle.replay_law.specs.Parts.{Fits, FitsSoFar, IsForDisk, refused_entry};
+ghost use Rattle.replay_law.specs.Worlds.{AddsDone, WorldState, accepted_in, blocks_in, blocks_of, disk_in};
+ghost use Rattle.replay_law.specs.Worlds.{fresh_world, one_disk};
+ghost use Rattle.replay_law.specs.Parts.{Answers, Fits, FitsSoFar, IsForDisk, refused_entry};
 
 use domain_script::{Event, Names, Request};
 use ldom_journal::{Bytes, Entry, Journal, KeptRequest, Lane, Who, Why};
@@ -14,50 +17,68 @@ use std::marker::Model;
 use vio_bytes::NoMemory;
 use vio_io::Store;
 
-/// The domains of a script, over an image: at this stage one disk on a plain list of requests.
+/// The number of the one disk that a script may declare so far.
+const FIRST_DISK: u32 = 0;
+
+/// The disks of a script and the image that all of them are served from. At this stage there is at most one disk, on a
+/// plain list of requests.
 #[derive(Drop)]
 pub struct World<D: Store> {
     alloc: Global,
-    disk: PlainDisk<D>,
+    disk: Option<PlainDisk>,
+    image: D,
 }
 
 impl<D: Store> Model for World<D> {
-    ghost use Rattle.disk_law.specs.ListState.{ListState};
+    ghost use Rattle.std.specs.Prelude.{◌+◌, ◌*◌, ◌≤◌, IfSome};
+    ghost use Rattle.ldom_replay.specs.OneDisk.{disks_of};
+    ghost use Rattle.plain_disk.specs.PlainDiskState.{image_of};
+    ghost use Rattle.replay_law.specs.Worlds.{WorldState};
 
-    ghost Value = { ListState };
+    ghost Value = { WorldState };
 
-    ghost view = { λ w. w.disk.list };
+    ghost view = { λ w. record { disks = disks_of w.disk; image = image_of (D.content w.image) (D.faults w.image) } };
+
+    ghost invariant = { λ w. IfSome w.disk (λ d. 512 * (d.list.first + d.list.blocks) ≤ D.size w.image) };
 }
 
 impl<D: Store> World<D> {
-    ghost use Rattle.replay_law.specs.Worlds.{AddsDone, ring_of};
-
     /// The world of these declarations over an image that holds all their blocks. Where memory is wanted the image is
     /// given back.
     pub fn new(alloc: Global, names: &Names, image: D) -> Result<Self, (NoMemory, D)>
         requires few { length names.now.disks ≤ 1 }
         requires image { 512 * blocks_of names.now.disks ≤ D.size image }
-        ensures made { IfOk result (λ w. w ≡ fresh (blocks_of names.now.disks) (ring_of names.now.disks) (D.content image) (D.faults image)) }
+        ensures made { IfOk result (λ w. w ≡ fresh_world names.now.disks (image_of (D.content image) (D.faults image))) }
         ensures given_back { IfErr result (λ e. e.1 ≡ image) }
     {
-        let (blocks, ring) = match names.disk(0) {
-            Some(disk) => (disk.blocks, disk.ring),
-            None => (0, 0),
+        let declared = match names.disk(FIRST_DISK) {
+            Some(declared) => declared,
+            None => {
+                return Ok(World {
+                    alloc,
+                    disk: None,
+                    image,
+                });
+            }
         };
-        match PlainDisk::new(alloc, blocks as u64, ring as usize, image) {
-            Ok(disk) => Ok(World { alloc, disk }),
-            Err(fault) => Err(fault),
+        match PlainDisk::new(alloc, 0, declared.blocks as u64, declared.ring as usize) {
+            Ok(disk) => Ok(World {
+                alloc,
+                disk: Some(disk),
+                image,
+            }),
+            Err(fault) => Err((fault, image)),
         }
     }
 
     /// Does what a line of the script says, and adds its part to the journal. After want of memory the journal holds
     /// every step that was made and no other.
     pub fn apply(&mut self, event: &Event, journal: &mut Journal) -> Result<(), NoMemory>
-        requires event { IsForDisk event.now }
-        requires agrees { accepted_count journal.old.entries ≡ next_id self.old }
+        requires event { IsForDisk (length self.old.disks) event.now }
+        requires agrees { accepted_count journal.old.entries ≡ accepted_in self.old.disks }
         ensures fits { OnOk result (Fits self.old event.now journal.old.entries journal.new.entries self.new) }
         ensures so_far { OnErr result (FitsSoFar self.old event.now journal.old.entries journal.new.entries self.new) }
-        ensures agrees { accepted_count journal.new.entries ≡ next_id self.new }
+        ensures agrees { accepted_count journal.new.entries ≡ accepted_in self.new.disks }
     {
         match event {
             Event::Blank | Event::Disk(_) => Ok(()),
@@ -68,95 +89,166 @@ impl<D: Store> World<D> {
 
     /// Whether the image ever failed.
     pub fn faulty(&self) -> bool
-        ensures { IsTrue result ↔ (0 < self.now.faults) }
+        ensures { IsTrue result ↔ (0 < self.now.image.faults) }
     {
-        self.disk.faulty()
+        self.image.faulty()
     }
 
     /// The image, which holds all blocks of the disks.
     pub fn finish(self) -> D
-        ensures content { D.content result ≡ self.told }
-        ensures faults { D.faults result ≡ self.faults }
-        ensures size { 512 * self.blocks ≤ D.size result }
+        ensures content { D.content result ≡ self.image.told }
+        ensures faults { D.faults result ≡ self.image.faults }
+        ensures size { 512 * blocks_in self.disks ≤ D.size result }
     {
-        let World { alloc: _, disk } = self;
-        disk.into_image()
+        let World {
+            alloc: _,
+            disk: _,
+            image,
+        } = self;
+        image
     }
 
-    #[tactic(auto, using(replay_law::proofs::Answering::accepted_fits, crate::proofs::Refusing::refused_by))]
     fn issue(&mut self, disk: u32, request: &Request, journal: &mut Journal) -> Result<(), NoMemory>
-        requires disk { disk ≡ 0 }
+        requires disk { disk < length self.old.disks }
         requires request { IsRequest request.now }
-        requires agrees { accepted_count journal.old.entries ≡ next_id self.old }
-        ensures fits { OnOk result (Fits self.old (Event.Issue disk request.now) journal.old.entries journal.new.entries self.new) }
-        ensures so_far { OnErr result (FitsSoFar self.old (Event.Issue disk request.now) journal.old.entries journal.new.entries self.new) }
-        ensures agrees { accepted_count journal.new.entries ≡ next_id self.new }
+        requires agrees { accepted_count journal.old.entries ≡ accepted_in self.old.disks }
+        ensures fits { OnOk result (Fits self.old (line.Issue disk request.now) journal.old.entries journal.new.entries
+            self.new) }
+        ensures so_far { OnErr result (FitsSoFar self.old (line.Issue disk request.now) journal.old.entries
+            journal.new.entries self.new) }
+        ensures agrees { accepted_count journal.new.entries ≡ accepted_in self.new.disks }
     {
-        journal.reserve(1)?;
-        let _len = journal.len();
-        if let Some(fault) = self.disk.refuses(request) {
-            journal.push(refusal(disk, fault));
-            return Ok(());
+        match &mut self.disk {
+            Some(lane) => issue_to(lane, self.alloc, disk, request, journal),
+            None => unreachable!(),
         }
-        let kept = KeptRequest::new(self.alloc, request)?;
-        match self.disk.issue(request) {
-            Ok(id) => journal.push(Entry::Accepted {
-                disk,
-                id,
-                request: kept,
-            }),
-            Err(fault) => journal.push(refusal(disk, fault)),
-        }
-        Ok(())
     }
 
-    #[tactic(auto, using(replay_law::proofs::Settling::none_done, replay_law::proofs::Settling::more_done))]
     fn settle(&mut self, journal: &mut Journal) -> Result<(), NoMemory>
-        requires agrees { accepted_count journal.old.entries ≡ next_id self.old }
-        ensures fits { OnOk result (Fits self.old Event.Settle journal.old.entries journal.new.entries self.new) }
-        ensures so_far { OnErr result (FitsSoFar self.old Event.Settle journal.old.entries journal.new.entries self.new) }
-        ensures agrees { accepted_count journal.new.entries ≡ next_id self.new }
+        requires agrees { accepted_count journal.old.entries ≡ accepted_in self.old.disks }
+        ensures fits { OnOk result (Fits self.old line.Settle journal.old.entries journal.new.entries self.new) }
+        ensures so_far { OnErr result (FitsSoFar self.old line.Settle journal.old.entries journal.new.entries self.new) }
+        ensures agrees { accepted_count journal.new.entries ≡ accepted_in self.new.disks }
     {
-        while self.disk.pending() > 0 {
-            self.complete_next(journal)?;
-        }
+        self.complete_all(journal)?;
         journal.reserve(1)?;
         journal.push(Entry::Settled);
         Ok(())
     }
 
-    // Completes the first pending request, once there is room for its entry.
-    fn complete_next(&mut self, journal: &mut Journal) -> Result<(), NoMemory>
-        requires some { 0 < length self.old.pending }
-        requires agrees { accepted_count journal.old.entries ≡ next_id self.old }
-        ensures done { OnOk result (AddsDone self.old journal.old.entries journal.new.entries self.new) }
-        ensures same { OnErr result ((self.new ≡ self.old) × (journal.new.entries ≡ journal.old.entries)) }
-        ensures agrees { accepted_count journal.new.entries ≡ next_id self.new }
+    // Completes the pending requests of every disk.
+    fn complete_all(&mut self, journal: &mut Journal) -> Result<(), NoMemory>
+        requires agrees { accepted_count journal.old.entries ≡ accepted_in self.old.disks }
+        ensures so_far { FitsSoFar self.old line.Settle journal.old.entries journal.new.entries self.new }
+        ensures rests { OnOk result ((x : ℕ) → (disk_in self.new.disks x).pending ≡ []) }
+        ensures agrees { accepted_count journal.new.entries ≡ accepted_in self.new.disks }
     {
-        let mut bytes = Bytes::with_room(self.alloc, self.disk.front_len())?;
-        journal.reserve(1)?;
-        let done = self.disk.complete();
-        bytes.fill(self.disk.bytes());
-        journal.push(Entry::Done {
-            disk: 0,
-            id: done.id,
-            operation: done.operation,
-            status: done.status,
-            bytes,
-        });
-        Ok(())
+        match &mut self.disk {
+            Some(lane) => complete_of(lane, &mut self.image, self.alloc, journal),
+            None => Ok(()),
+        }
     }
 }
 
 /// How many blocks the disks have together.
 pub fn blocks_declared(names: &Names) -> u64
+    requires few { length names.now.disks ≤ 1 }
     ensures declared { result ≡ blocks_of names.now.disks }
     ensures few { result ≤ 65536 }
 {
-    match names.disk(0) {
+    match names.disk(FIRST_DISK) {
         Some(disk) => disk.blocks as u64,
         None => 0,
     }
+}
+
+// Gives a request to the disk with this number, and adds the answer to the journal.
+#[tactic(auto, using(crate::proofs::Refusing::refused_answers, crate::proofs::Refusing::accepted_answers))]
+fn issue_to(
+    lane: &mut PlainDisk,
+    alloc: Global,
+    disk: u32,
+    request: &Request,
+    journal: &mut Journal,
+) -> Result<(), NoMemory>
+    requires request { IsRequest request.now }
+    requires agrees { accepted_count journal.old.entries ≡ next_id lane.old.list }
+    ensures answers { OnOk result (Answers lane.old.list disk request.now journal.old.entries journal.new.entries
+        lane.new.list) }
+    ensures same { OnErr result ((lane.new ≡ lane.old) × (journal.new.entries ≡ journal.old.entries)) }
+    ensures agrees { accepted_count journal.new.entries ≡ next_id lane.new.list }
+    ensures place { (lane.new.list.first ≡ lane.old.list.first) × (lane.new.list.blocks ≡ lane.old.list.blocks) }
+{
+    journal.reserve(1)?;
+    let _len = journal.len();
+    if let Some(fault) = lane.refuses(request) {
+        journal.push(refusal(disk, fault));
+        return Ok(());
+    }
+    let kept = KeptRequest::new(alloc, request)?;
+    let id = lane.issue(request);
+    journal.push(Entry::Accepted {
+        disk,
+        id,
+        request: kept,
+    });
+    Ok(())
+}
+
+// Completes all pending requests of the one disk, one after another.
+#[tactic(auto, using(replay_law::proofs::Settling::none_done, replay_law::proofs::Settling::more_done))]
+fn complete_of<D: Store>(
+    lane: &mut PlainDisk,
+    image: &mut D,
+    alloc: Global,
+    journal: &mut Journal,
+) -> Result<(), NoMemory>
+    requires image { 512 * (lane.old.list.first + lane.old.list.blocks) ≤ D.size image.old }
+    requires agrees { accepted_count journal.old.entries ≡ next_id lane.old.list }
+    ensures so_far { FitsSoFar (one_disk lane.old.list (image_of (D.content image.old) (D.faults image.old)))
+        line.Settle journal.old.entries journal.new.entries
+        (one_disk lane.new.list (image_of (D.content image.new) (D.faults image.new))) }
+    ensures rests { OnOk result (lane.new.list.pending ≡ []) }
+    ensures agrees { accepted_count journal.new.entries ≡ next_id lane.new.list }
+    ensures image { 512 * (lane.new.list.first + lane.new.list.blocks) ≤ D.size image.new }
+{
+    while lane.pending() > 0 {
+        complete_next(lane, image, alloc, journal)?;
+    }
+    Ok(())
+}
+
+// Completes the first pending request of the one disk, once there is room for its entry.
+fn complete_next<D: Store>(
+    lane: &mut PlainDisk,
+    image: &mut D,
+    alloc: Global,
+    journal: &mut Journal,
+) -> Result<(), NoMemory>
+    requires some { 0 < length lane.old.list.pending }
+    requires image { 512 * (lane.old.list.first + lane.old.list.blocks) ≤ D.size image.old }
+    requires agrees { accepted_count journal.old.entries ≡ next_id lane.old.list }
+    ensures done { OnOk result (AddsDone (one_disk lane.old.list (image_of (D.content image.old) (D.faults image.old)))
+        journal.old.entries journal.new.entries
+        (one_disk lane.new.list (image_of (D.content image.new) (D.faults image.new)))) }
+    ensures fewer { OnOk result (length lane.old.list.pending ≡ length lane.new.list.pending + 1) }
+    ensures same { OnErr result ((lane.new ≡ lane.old) × (image.new ≡ image.old)
+        × (journal.new.entries ≡ journal.old.entries)) }
+    ensures agrees { accepted_count journal.new.entries ≡ next_id lane.new.list }
+    ensures image { 512 * (lane.new.list.first + lane.new.list.blocks) ≤ D.size image.new }
+{
+    let mut bytes = Bytes::with_room(alloc, lane.front_len())?;
+    journal.reserve(1)?;
+    let done = lane.complete(image);
+    bytes.fill(lane.bytes());
+    journal.push(Entry::Done {
+        disk: FIRST_DISK,
+        id: done.id,
+        operation: done.operation,
+        status: done.status,
+        bytes,
+    });
+    Ok(())
 }
 
 fn refusal(disk: u32, fault: IssueFault) -> Entry

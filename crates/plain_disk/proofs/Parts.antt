@@ -59,6 +59,6 @@ pub laid_first : (fill : Fill) (copied rest : List ℕ) → fill.len ≤ length 
 laid_first fill copied rest within is =
     take_at copied rest fill.len (ap length is ∙ length-take-le fill.len fill.bytes within) ∙ is ∙ repeated_front fill within
 
--- what is laid, once more behind itself
+-- what is laid, once more after itself
 pub laid_twice : (fill : Fill) (n : ℕ) (laid : List ℕ) → laid ≡ repeated fill 0 n → n % fill.len ≡ 0 → laid ++ laid ≡ repeated fill 0 (n + n)
 laid_twice fill n laid is words = ap (λ (l : List ℕ). l ++ l) is ∙ sym (repeated_twice fill n words)

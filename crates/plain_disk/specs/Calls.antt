@@ -1,6 +1,6 @@
 -- How many calls a request makes of the image: one for each unit of 8,192 bytes, the last of which may be shorter.
 use Rattle.std.specs.Prelude.{◌≡◌, ℕ, ◌+◌, ◌*◌, ◌/◌, ◌<◌, ◌≤◌, List, [], ◌∷◌}
-use Rattle.vio_io.specs.Causes.{count_after}
+use Rattle.vio_io.specs.Causes.{Rose, count_after, next_count}
 use Rattle.vdisk_msg.specs.declared.request.Request.{Request}
 use Rattle.vdisk_msg.specs.declared.request.Request.TheVariants.{Read, Write, Flush}
 
@@ -25,3 +25,9 @@ pub record StopsCalling (most before now : ℕ) : Type 0 where
   pub some : 0 < made
   pub within : made ≤ most
   pub is : now ≡ count_after made before
+
+-- one call failed and none after it was made: exactly one fault was counted
+pub record OneFault (before now : ℕ) : Type 0 where
+  pub count : before ≤ now
+  pub cause : Rose before now
+  pub once : now ≡ next_count before

@@ -1,8 +1,8 @@
--- A disk on a plain list, with what its last completion gave and how often its image was called.
-use Rattle.std.specs.Prelude.{ℕ, List, [], ◌∷◌}
+-- A disk on a plain list, with what its last completion gave.
+use Rattle.std.specs.Prelude.{ℕ, List, [], ◌∷◌, Option}
 use Rattle.vdisk_msg.specs.declared.request.Request.{Request}
 use Rattle.disk_law.specs.Requests.{BadCount, BadRange, given_count}
-use Rattle.disk_law.specs.ListState.{ListState}
+use Rattle.disk_law.specs.ListState.{ImageState, ListState}
 use Rattle.disk_law.specs.ListStep.{DiskEvent, Full, Refused}
 use Rattle.plain_disk.specs.declared.disk.IssueFault.{IssueFault}
 use Rattle.plain_disk.specs.declared.disk.IssueFault.TheVariants as fault
@@ -11,8 +11,10 @@ pub record PlainDiskState : Type 0 where
   pub list : ListState
   -- the bytes that the last completion gave
   pub last : List ℕ
-  -- how often the image was asked to read, to write or to flush
-  pub calls : ℕ
+
+-- an image, by what it tells and how often it failed
+abbrev pub image_of : Option (List ℕ) → ℕ → ImageState
+image_of told faults = record { told = told; faults = faults }
 
 -- what a refusal is as an event
 abbrev pub refusal : IssueFault → Request → DiskEvent

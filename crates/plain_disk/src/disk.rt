@@ -1,11 +1,12 @@
-ghost use Rattle.std.specs.Prelude.{◌≡◌, ◌+◌, ◌-◌, ◌*◌, ◌^◌, ◌<◌, ◌≤◌, ◌≢◌, ◌↔◌, [], Some, None, length, IfErr, IfNone, IfOk, IfSome, OnOk, IsTrue};
+ghost use Rattle.std.specs.Prelude.{◌≡◌, ◌+◌, ◌-◌, ◌*◌, ◌^◌, ◌<◌, ◌≤◌, ◌≢◌, [], Some, None, length, IfNone, IfOk};
+ghost use Rattle.std.specs.Prelude.{IfSome, OnOk};
 ghost use Rattle.circular_buffer.specs.Buffer.{buffer};
 ghost use Rattle.disk_law.specs.Requests.{BadCount, BadRange, defect, operation_of};
 ghost use Rattle.vdisk_msg.specs.Fills.{IsRequest};
 ghost use Rattle.disk_law.specs.ListState.{fresh, next_id};
-ghost use Rattle.disk_law.specs.ListStep.{Accepted, Done, ListStep};
+ghost use Rattle.disk_law.specs.ListStep.{Accepted, Done, DiskStep, ListStep};
 
-use crate::serve::{MOST_BYTES, PATTERN_ROOM, serve};
+use crate::serve::{BLOCK, MOST_BYTES, PATTERN_ROOM, serve};
 use circular_buffer::HeapCircularBuffer;
 use std::alloc::Global;
 use std::marker::Model;
@@ -34,10 +35,11 @@ pub struct Completion {
     pub status: u32,
 }
 
-/// A disk whose requests are a plain list, over an image.
+/// A disk whose requests are a plain list. Its blocks lie one after another in an image that stays with the caller.
 #[derive(Drop)]
-pub struct PlainDisk<D: Store> {
-    image: D,
+pub struct PlainDisk {
+    /// The block of the image at which the disk's begin.
+    first: u64,
     blocks: u64,
     pending: HeapCircularBuffer<Request>,
     done: u64,
@@ -46,8 +48,8 @@ pub struct PlainDisk<D: Store> {
     pattern: Vec<u8>,
 }
 
-impl<D: Store> Model for PlainDisk<D> {
-    ghost use Rattle.std.specs.Prelude.{◌≡◌, ◌+◌, ◌*◌, ◌^◌, ◌<◌, ◌≤◌, length, take};
+impl Model for PlainDisk {
+    ghost use Rattle.std.specs.Prelude.{◌≡◌, ◌+◌, ◌^◌, ◌<◌, ◌≤◌, length, take};
     ghost use Rattle.disk_law.specs.Requests.{AreSound};
     ghost use Rattle.plain_disk.specs.PlainDiskState.{PlainDiskState};
 
@@ -55,20 +57,18 @@ impl<D: Store> Model for PlainDisk<D> {
 
     ghost view = { λ d. record {
       list = record {
+        first = d.first;
         blocks = d.blocks;
         ring = d.pending.capacity;
         done = d.done;
         pending = d.pending.items;
-        told = D.content d.image;
-        faults = D.faults d.image;
       };
       last = take d.given d.buffer.items;
-      calls = D.calls d.image;
     } };
 
     ghost invariant = { λ d. record {
       few : d.blocks ≤ 65536;
-      image : 512 * d.blocks ≤ D.size d.image;
+      place : d.first + d.blocks ≤ 524288;
       room : length d.pending.items ≤ d.pending.capacity;
       sound : AreSound d.blocks d.pending.items;
       ids : d.done + length d.pending.items < 2 ^ 64;
@@ -78,38 +78,35 @@ impl<D: Store> Model for PlainDisk<D> {
     } };
 }
 
-impl<D: Store> PlainDisk<D> {
+impl PlainDisk {
     ghost use Rattle.vio_io.specs.Causes.{count_after, next_count};
     ghost use Rattle.plain_disk.specs.Calls.{StopsCalling, front_calls};
-    ghost use Rattle.plain_disk.specs.PlainDiskState.{front_count, refusal};
+    ghost use Rattle.plain_disk.specs.PlainDiskState.{front_count, image_of, refusal};
 
-    /// A disk of so many blocks, up to 65,536, over an image that holds them, with room for so many pending requests.
-    /// Where memory is wanted the image is given back.
-    pub fn new(alloc: Global, blocks: u64, ring: usize, image: D) -> Result<Self, (NoMemory, D)>
+    /// A disk of so many blocks, up to 65,536, which begin at this one of the image, with room for so many pending
+    /// requests. They end within eight times as many blocks.
+    pub fn new(alloc: Global, first: u64, blocks: u64, ring: usize) -> Result<Self, NoMemory>
         requires few { blocks ≤ 65536 }
-        requires image { 512 * blocks ≤ D.size image }
-        ensures made { IfOk result (λ d. d.list ≡ fresh blocks ring (D.content image) (D.faults image)) }
-        ensures unasked { IfOk result (λ d. d.calls ≡ D.calls image) }
-        ensures given_back { IfErr result (λ e. e.1 ≡ image) }
+        requires place { first + blocks ≤ 524288 }
+        ensures made { IfOk result (λ d. d.list ≡ fresh first blocks ring) }
     {
-        match rooms(alloc, ring) {
-            Ok((pending, buffer, pattern)) => Ok(PlainDisk {
-                image,
-                blocks,
-                pending,
-                done: 0,
-                buffer,
-                given: 0,
-                pattern,
-            }),
-            Err(fault) => Err((fault, image)),
-        }
+        let (pending, buffer, pattern) = rooms(alloc, ring)?;
+        Ok(PlainDisk {
+            first,
+            blocks,
+            pending,
+            done: 0,
+            buffer,
+            given: 0,
+            pattern,
+        })
     }
 
-    /// Why `issue` would refuse a request. None exactly where it would take it up.
+    /// Why a request can't be taken up. None exactly where it can.
     pub fn refuses(&self, request: &Request) -> Option<IssueFault>
         ensures refused { IfSome result (λ fault. ListStep self.now.list (refusal fault request.now) self.now.list) }
-        ensures none { IfNone result ((defect self.now.list.blocks request.now ≡ None) × (length self.now.list.pending < self.now.list.ring)) }
+        ensures none { IfNone result ((defect self.now.list.blocks request.now ≡ None)
+            × (length self.now.list.pending < self.now.list.ring)) }
     {
         match check_blocks(self.blocks, request) {
             Ok(()) if self.pending.is_full() => Some(IssueFault::Full),
@@ -118,20 +115,19 @@ impl<D: Store> PlainDisk<D> {
         }
     }
 
-    /// Takes a request up and answers its id, or says why not.
-    pub fn issue(&mut self, request: &Request) -> Result<u64, IssueFault>
+    /// Takes a request up that isn't refused, and answers its id.
+    pub fn issue(&mut self, request: &Request) -> u64
         requires fill { IsRequest request.now }
         requires few { next_id self.old.list < 2 ^ 64 - 1 }
-        ensures accepted { IfOk result (λ id. ListStep self.old.list (Accepted id request.now) self.new.list) }
-        ensures refused { IfErr result (λ fault. ListStep self.old.list (refusal fault request.now) self.new.list) }
+        requires admitted { defect self.old.list.blocks request.now ≡ None }
+        requires room { length self.old.list.pending < self.old.list.ring }
+        ensures accepted { ListStep self.old.list (Accepted result request.now) self.new.list }
         ensures last { self.new.last ≡ self.old.last }
-        ensures unasked { self.new.calls ≡ self.old.calls }
     {
-        check_blocks(self.blocks, request)?;
         let id = self.done + self.pending.len() as u64;
         match self.pending.try_push_back(*request) {
-            Ok(()) => Ok(id),
-            Err(_) => Err(IssueFault::Full),
+            Ok(()) => id,
+            Err(_) => unreachable!(),
         }
     }
 
@@ -147,20 +143,26 @@ impl<D: Store> PlainDisk<D> {
         ensures { result ≡ front_count self.now.list.pending }
     {
         match self.pending.front() {
-            Some(Request::Read { count, .. }) => 512 * *count as usize,
+            Some(Request::Read { count, .. }) => (BLOCK * *count) as usize,
             _ => 0,
         }
     }
 
     /// Completes the first pending request, by one call of the image for each unit of 8,192 bytes, or for a flush. What
     /// it gave are the disk's `bytes` then.
-    pub fn complete(&mut self) -> Completion
-        requires { 0 < length self.old.list.pending }
-        ensures step { ListStep self.old.list (Done result.id result.operation result.status self.new.last) self.new.list }
+    pub fn complete<D: Store>(&mut self, image: &mut D) -> Completion
+        requires some { 0 < length self.old.list.pending }
+        requires image { 512 * (self.old.list.first + self.old.list.blocks) ≤ D.size image.old }
+        ensures step { DiskStep self.old.list (image_of (D.content image.old) (D.faults image.old))
+            (Done result.id result.operation result.status self.new.last) self.new.list
+            (image_of (D.content image.new) (D.faults image.new)) }
         ensures given { length self.new.last ≤ front_count self.old.list.pending }
-        ensures calls { result.status ≡ 0 → self.new.calls ≡ count_after (front_calls self.old.list.pending) self.old.calls }
-        ensures stopped { result.status ≡ 5 → StopsCalling (front_calls self.old.list.pending) self.old.calls self.new.calls }
-        ensures once { result.status ≡ 5 → self.new.list.faults ≡ next_count self.old.list.faults }
+        ensures calls { result.status ≡ 0
+            → D.calls image.new ≡ count_after (front_calls self.old.list.pending) (D.calls image.old) }
+        ensures stopped { result.status ≡ 5
+            → StopsCalling (front_calls self.old.list.pending) (D.calls image.old) (D.calls image.new) }
+        ensures once { result.status ≡ 5 → D.faults image.new ≡ next_count (D.faults image.old) }
+        ensures size { D.size image.new ≡ D.size image.old }
     {
         let request = match self.pending.front() {
             Some(request) => request,
@@ -168,7 +170,8 @@ impl<D: Store> PlainDisk<D> {
         };
         let operation = operation_code(request);
         let served = serve(
-            &mut self.image,
+            image,
+            self.first,
             self.blocks,
             request,
             &mut self.buffer,
@@ -195,36 +198,13 @@ impl<D: Store> PlainDisk<D> {
     {
         &self.buffer[..self.given]
     }
-
-    /// Whether the image ever failed.
-    pub fn faulty(&self) -> bool
-        ensures { IsTrue result ↔ (0 < self.now.list.faults) }
-    {
-        self.image.faulty()
-    }
-
-    /// The image.
-    pub fn into_image(self) -> D
-        ensures content { D.content result ≡ self.list.told }
-        ensures faults { D.faults result ≡ self.list.faults }
-        ensures calls { D.calls result ≡ self.calls }
-        ensures size { 512 * self.list.blocks ≤ D.size result }
-    {
-        let PlainDisk {
-            image,
-            blocks: _,
-            pending: _,
-            done: _,
-            buffer: _,
-            given: _,
-            pattern: _,
-        } = self;
-        image
-    }
 }
 
 /// The status of a request that a fault of the image cut off: Linux's `EIO`.
 const EIO: u32 = 5;
+
+/// The most blocks that a read or a write may name.
+const MOST_COUNT: u64 = 64;
 
 type Rooms = (HeapCircularBuffer<Request>, Vec<u8>, Vec<u8>);
 
@@ -264,7 +244,7 @@ fn check_blocks(blocks: u64, request: &Request) -> Result<(), IssueFault>
         Request::Write { block, count, .. } => (*block, *count),
         Request::Flush => return Ok(()),
     };
-    if count == 0 || count > 64 {
+    if count == 0 || count > MOST_COUNT {
         return Err(IssueFault::Count);
     }
     if count > blocks || block > blocks - count {

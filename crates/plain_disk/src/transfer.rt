@@ -1,10 +1,10 @@
 // Runs of blocks between an image and memory, unit by unit.
 ghost use Rattle.std.specs.Prelude.{◌≡◌, ◌+◌, ◌-◌, ◌%◌, ◌<◌, ◌≤◌, ◌^◌, ◌++◌, min, length, take, IfOk, OnErr, OnOk};
-ghost use Rattle.vio_io.specs.Causes.{Rose, count_after, next_count};
+ghost use Rattle.vio_io.specs.Causes.{count_after, next_count};
 ghost use Rattle.vio_io.specs.Stores.{KeepsOutside, ReadsRange, WritesRange};
 ghost use Rattle.disk_law.specs.ListStep.{StopsWriting};
 ghost use Rattle.disk_law.specs.Requests.{repeated};
-ghost use Rattle.plain_disk.specs.Calls.{StopsCalling, units};
+ghost use Rattle.plain_disk.specs.Calls.{OneFault, StopsCalling, units};
 
 use vdisk_msg::Fill;
 use vio_io::{Failed, Store};
@@ -24,9 +24,7 @@ pub fn read_blocks<D: Store>(image: &mut D, start: u64, bytes: &mut [u8]) -> Res
     ensures stopped { OnErr result (StopsCalling (units (length bytes.old)) (D.calls image.old) (D.calls image.new)) }
     ensures size { D.size image.new ≡ D.size image.old }
     ensures ok { OnOk result (D.faults image.new ≡ D.faults image.old) }
-    ensures count { D.faults image.old ≤ D.faults image.new }
-    ensures cause { OnErr result (Rose (D.faults image.old) (D.faults image.new)) }
-    ensures once { OnErr result (D.faults image.new ≡ next_count (D.faults image.old)) }
+    ensures fault { OnErr result (OneFault (D.faults image.old) (D.faults image.new)) }
 {
     let mut at = 0;
     while at < bytes.len() {
@@ -35,7 +33,7 @@ pub fn read_blocks<D: Store>(image: &mut D, start: u64, bytes: &mut [u8]) -> Res
     Ok(())
 }
 
-// Reads the unit at the place `at` behind `start`, and answers where the next one begins.
+// Reads the unit at the place `at` after `start`, and answers where the next one begins.
 fn read_unit<D: Store>(
     image: &mut D,
     start: u64,
@@ -55,9 +53,7 @@ fn read_unit<D: Store>(
     ensures calls { D.calls image.new ≡ next_count (D.calls image.old) }
     ensures size { D.size image.new ≡ D.size image.old }
     ensures ok { OnOk result (D.faults image.new ≡ D.faults image.old) }
-    ensures count { D.faults image.old ≤ D.faults image.new }
-    ensures cause { OnErr result (Rose (D.faults image.old) (D.faults image.new)) }
-    ensures once { OnErr result (D.faults image.new ≡ next_count (D.faults image.old)) }
+    ensures fault { OnErr result (OneFault (D.faults image.old) (D.faults image.new)) }
 {
     let end = bytes.len().min(at + UNIT);
     image.read_at(start + at as u64, &mut bytes[at..end])?;
@@ -80,15 +76,14 @@ pub fn write_blocks<D: Store>(
     requires word { 0 < fill.now.len }
     requires pattern { pattern.now ≡ repeated fill.now 0 (length pattern.now) }
     requires long { fill.now.len + min 8192 total ≤ length pattern.now }
-    ensures told { OnOk result (WritesRange (D.content image.old) (D.content image.new) start (repeated fill.now 0 total)) }
+    ensures told { OnOk result (WritesRange (D.content image.old) (D.content image.new) start
+        (repeated fill.now 0 total)) }
     ensures cut_off { OnErr result (StopsWriting fill.now start total (D.content image.old) (D.content image.new)) }
     ensures calls { OnOk result (D.calls image.new ≡ count_after (units total) (D.calls image.old)) }
     ensures stopped { OnErr result (StopsCalling (units total) (D.calls image.old) (D.calls image.new)) }
     ensures size { D.size image.new ≡ D.size image.old }
     ensures ok { OnOk result (D.faults image.new ≡ D.faults image.old) }
-    ensures count { D.faults image.old ≤ D.faults image.new }
-    ensures cause { OnErr result (Rose (D.faults image.old) (D.faults image.new)) }
-    ensures once { OnErr result (D.faults image.new ≡ next_count (D.faults image.old)) }
+    ensures fault { OnErr result (OneFault (D.faults image.old) (D.faults image.new)) }
 {
     let mut at = 0;
     while at < total {
@@ -116,14 +111,13 @@ fn write_unit<D: Store>(
     requires word { 0 < fill.now.len }
     requires pattern { pattern.now ≡ repeated fill.now 0 (length pattern.now) }
     requires long { fill.now.len + size ≤ length pattern.now }
-    ensures told { OnOk result (WritesRange (D.content image.old) (D.content image.new) place (repeated fill.now at size)) }
+    ensures told { OnOk result (WritesRange (D.content image.old) (D.content image.new) place
+        (repeated fill.now at size)) }
     ensures outside { KeepsOutside (D.content image.old) (D.content image.new) place size }
     ensures calls { D.calls image.new ≡ next_count (D.calls image.old) }
     ensures size { D.size image.new ≡ D.size image.old }
     ensures ok { OnOk result (D.faults image.new ≡ D.faults image.old) }
-    ensures count { D.faults image.old ≤ D.faults image.new }
-    ensures cause { OnErr result (Rose (D.faults image.old) (D.faults image.new)) }
-    ensures once { OnErr result (D.faults image.new ≡ next_count (D.faults image.old)) }
+    ensures fault { OnErr result (OneFault (D.faults image.old) (D.faults image.new)) }
 {
     let within = at % fill.len as usize;
     image.write_at(place, &pattern[within..within + size])
@@ -147,7 +141,7 @@ pub fn lay_pattern(pattern: &mut [u8], fill: &Fill, most: usize) -> usize
     at
 }
 
-// Puts a copy of the first `at` bytes behind them.
+// Puts a copy of the first `at` bytes after them.
 fn lay_again(pattern: &mut [u8], at: usize)
     requires { at + at ≤ length pattern.old }
     ensures { take (at + at) pattern.new ≡ take at pattern.old ++ take at pattern.old }

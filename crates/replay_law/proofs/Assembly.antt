@@ -14,14 +14,15 @@ use Rattle.domain_script.specs.LinesState.{LinesState, to_come}
 use Rattle.domain_script.specs.NamesState.{NamesState, noted}
 use Rattle.domain_script.specs.Spells.{Spells}
 use Rattle.domain_script.proofs.ScriptLemmas.{taken-append}
+use Rattle.domain_script.proofs.Spelling.{declared_first}
 use Rattle.ldom_journal.specs.declared.entry.Entry.{Entry}
 use Rattle.domain_script.specs.declared.event.LineFault.{LineFault}
 use Rattle.ldom_journal.specs.declared.status.LimitKind.{LimitKind}
 use Rattle.ldom_journal.specs.declared.status.Status.{Status}
 use Rattle.ldom_journal.specs.declared.status.Status.TheVariants as status
-use Rattle.disk_law.specs.ListState.{ListState}
 use Rattle.replay_law.specs.Endings.{Ending, MayBeCut, NotBegun, Whole, ending}
-use Rattle.replay_law.specs.Going.{Grew, GrewTo, IsReaders, RunsAll, RunsLines}
+use Rattle.replay_law.specs.Going.{Grew, GrewTo, RunsAll, RunsLines}
+use Rattle.ldom_journal.specs.Stops.{IsReaders}
 use Rattle.replay_law.specs.Attached.{AreOpening, AttachesAt, ImageStands, is_opening}
 use Rattle.replay_law.specs.Opening.{Opened, Opens, OpensAndStops}
 use Rattle.replay_law.specs.Parts.{Fits, FitsSoFar, LineStep}
@@ -30,7 +31,7 @@ use Rattle.replay_law.specs.Reading.{StopsAt}
 use Rattle.replay_law.specs.Replayed.{FaultsAre, JournalIs, Replayed, Stopped, attach_status, ended_status, start_of}
 use Rattle.domain_script.specs.ScriptEvents.{AllSpell, no_names}
 use Rattle.replay_law.specs.Script.{FitsScript, FitsCutOff}
-use Rattle.replay_law.specs.Worlds.{blocks_of}
+use Rattle.replay_law.specs.Worlds.{WorldState, blocks_of}
 use Rattle.replay_law.proofs.LineCases.{none_begun, noted_disks, silent, stays_ended}
 use Rattle.replay_law.proofs.ReadLemmas.{opening_halves, other_line, read_none}
 use Rattle.replay_law.proofs.RunLemmas.{fits_more, fits_none, keeps_same}
@@ -51,7 +52,7 @@ same_disks (x ∷ xs) before after (e ∷ es) ended spell =
     same_disks xs (noted before e) after es (stays_ended before e ended) spell.1 ∙ elim (noted_disks before e) [
       | inl declares ↦
           let spells : Spells x before (line.Disk declares.0) = subst (λ (n : Event). Spells x before n) declares.1 spell.0 in
-          absurd (cc (ended, spells.still_open))
+          absurd (cc (ended, (declared_first x before declares.0 spells).2))
       | inr same ↦ same
     ]
 
@@ -61,7 +62,7 @@ from_start lines None none = refl
 from_start lines (Some bytes) none = ap (λ (l : List ℕ). Some (l ++ bytes)) none
 
 -- declarations give no entry
-fits_opening : (s : ListState) (events : List Event) → AreOpening events → FitsScript s events [] s
+fits_opening : (s : WorldState) (events : List Event) → AreOpening events → FitsScript s events [] s
 fits_opening s [] are = fits_none s
 fits_opening s (event ∷ events) are = one_first (fits_opening s events are.1)
   where
@@ -73,7 +74,7 @@ fits_opening s (event ∷ events) are = one_first (fits_opening s events are.1)
       run = (s, silent s event are.0, fits.run);
     }
 
-fits_append : (s m t : ListState) (es fs : List Event) (xs ys : List Entry) → FitsScript s es xs m → FitsScript m fs ys t → FitsScript s (es ++ fs) (xs ++ ys) t
+fits_append : (s m t : WorldState) (es fs : List Event) (xs ys : List Entry) → FitsScript s es xs m → FitsScript m fs ys t → FitsScript s (es ++ fs) (xs ++ ys) t
 fits_append s m t es fs xs ys first second = record {
   lines = first.lines ++ second.lines;
   events_are = map-append (λ (l : Event × List Entry). l.0) first.lines second.lines ∙ ap (λ (l : List Event). l ++ map (λ (x : Event × List Entry). x.0) second.lines) first.events_are ∙ ap (λ (l : List Event). es ++ l) second.events_are;
@@ -81,7 +82,7 @@ fits_append s m t es fs xs ys first second = record {
   run = run_append LineStep s m t first.lines second.lines first.run second.run;
 }
 
-cut_append : (s m t : ListState) (es fs : List Event) (xs ys : List Entry) → FitsScript s es xs m → FitsCutOff m fs ys t → FitsCutOff s (es ++ fs) (xs ++ ys) t
+cut_append : (s m t : WorldState) (es fs : List Event) (xs ys : List Entry) → FitsScript s es xs m → FitsCutOff m fs ys t → FitsCutOff s (es ++ fs) (xs ++ ys) t
 cut_append s m t es fs xs ys first second = record {
   before = es ++ second.before;
   last = second.last;
@@ -97,7 +98,7 @@ cut_append s m t es fs xs ys first second = record {
   };
 }
 
-grew_append : (ending : Ending) (s m t : ListState) (es fs : List Event) (xs ys : List Entry) → FitsScript s es xs m → GrewTo ending m fs ys t
+grew_append : (ending : Ending) (s m t : WorldState) (es fs : List Event) (xs ys : List Entry) → FitsScript s es xs m → GrewTo ending m fs ys t
     → GrewTo ending s (es ++ fs) (xs ++ ys) t
 grew_append MayBeCut s m t es fs xs ys first (inl second) = inl (fits_append s m t es fs xs ys first second)
 grew_append MayBeCut s m t es fs xs ys first (inr second) = inr (cut_append s m t es fs xs ys first second)
@@ -118,7 +119,7 @@ abbrev stopped_behind : (start now : Option (List ℕ)) (held : List ℕ) (event
 stopped_behind start now held event names count why opens stop is = record { left = prepend_known held now; count = count; read = opens.read; held = held; stop = stop; lines_are = is }
 
 -- the first event that isn't a declaration, and the lines after it
-pub runs_all : (start rest now : Option (List ℕ)) (event : Event) (names after : NamesState) (s m t : ListState) (journal new : List Entry) (number lines : ℕ) (why : Status)
+pub runs_all : (start rest now : Option (List ℕ)) (event : Event) (names after : NamesState) (s m t : WorldState) (journal new : List Entry) (number lines : ℕ) (why : Status)
     → Opens start rest event names number → Fits s event [] journal m → RunsLines rest now names journal m number why after new t lines → RunsAll start now names s why after new t lines
 runs_all start rest now event names after s m t journal new number lines why opens fits runs =
     let first : FitsScript s (opens.opening ++ event ∷ []) journal m =
@@ -146,7 +147,7 @@ runs_all start rest now event names after s m t journal new number lines why ope
     }
 
 -- memory was wanted in the midst of that first event
-pub runs_first_cut : (start now : Option (List ℕ)) (held : List ℕ) (event : Event) (names : NamesState) (s t : ListState) (journal : List Entry) (number : ℕ)
+pub runs_first_cut : (start now : Option (List ℕ)) (held : List ℕ) (event : Event) (names : NamesState) (s t : WorldState) (journal : List Entry) (number : ℕ)
     → Opens start (prepend_known held now) event names number → FitsSoFar s event [] journal t → RunsAll start now names s status.NoMemory names journal t number
 runs_first_cut start now held event names s t journal number opens fits = record {
   events = opens.opening ++ event ∷ [];
@@ -157,7 +158,7 @@ runs_first_cut start now held event names s t journal number opens fits = record
 }
 
 -- nothing but declarations
-pub runs_none_more : (start now : Option (List ℕ)) (names : NamesState) (s : ListState) (lines : ℕ) → OpensAndStops start now status.Done names lines → RunsAll start now names s status.Done names [] s lines
+pub runs_none_more : (start now : Option (List ℕ)) (names : NamesState) (s : WorldState) (lines : ℕ) → OpensAndStops start now status.Done names lines → RunsAll start now names s status.Done names [] s lines
 runs_none_more start now names s lines opens = record { events = opens.opening; stopped = opens.stopped; fits = fits_opening s opens.opening opens.are; disks = refl; attached = λ other. absurd (other refl) }
 
 -- what holds of each status with which reading ends
@@ -189,7 +190,7 @@ ended_stop why faulty names left now held count readers = ended_as (λ (w : Stat
 ended_count : (why : Status) (faulty : Bool) (count : ℕ) → IsReaders why → counted_lines why count ≡ counted_lines (ended_status why faulty) count
 ended_count why faulty count readers = ended_as (λ (w : Status). counted_lines why count ≡ counted_lines w count) why faulty readers (λ is. is) refl
 
-ended_journal : (why : Status) (faulty : Bool) (s t : ListState) (events : List Event) (journal : List Entry) → IsReaders why → Grew why s events journal t → JournalIs (ended_status why faulty) s events journal t
+ended_journal : (why : Status) (faulty : Bool) (s t : WorldState) (events : List Event) (journal : List Entry) → IsReaders why → Grew why s events journal t → JournalIs (ended_status why faulty) s events journal t
 ended_journal why faulty s t events journal readers grew =
     ended_as (λ (w : Status). JournalIs w s events journal t) why faulty readers (λ is. is)
     (by_readers (λ (w : Status). Grew w s events journal t → JournalIs w s events journal t) (λ is. is) (λ at fault is. is) (λ is. is) (λ at kind is. is) (λ is. is) why readers grew)
@@ -230,7 +231,7 @@ refused_image Failed events rest image at none = (none refl, at)
 refused_image Memory events rest None at none = (refl, inr at)
 refused_image Memory events rest (Some disk) at none = attached_there events rest at
 
-opening_journal : (why : Status) (s : ListState) (events : List Event) → IsReaders why → FitsScript s events [] s → JournalIs why s events [] s
+opening_journal : (why : Status) (s : WorldState) (events : List Event) → IsReaders why → FitsScript s events [] s → JournalIs why s events [] s
 opening_journal why s events readers fits = by_readers (λ (w : Status). JournalIs w s events [] s) fits (λ at fault. fits) fits (λ at kind. fits) (inl fits) why readers
 
 opening_faults : {D : Type 0} (image : Option D) (why : Status) (faults : ℕ) → IsReaders why → why ≢ status.Done → FaultsAre why image faults
@@ -238,7 +239,7 @@ opening_faults image why faults readers =
     by_readers (λ (w : Status). w ≢ status.Done → FaultsAre w image faults) (λ other. absurd (other refl)) (λ at fault other. tt) (λ other. tt) (λ at kind other. tt) (λ other. tt) why readers
 
 -- none of a line's steps were made
-none_of : (s : ListState) (event : Event) → FitsSoFar s event [] [] s
+none_of : (s : WorldState) (event : Event) → FitsSoFar s event [] [] s
 none_of s event = record { part = []; grew = refl; begun = none_begun event; run = refl }
 
 nothing_held : (start now : Option (List ℕ)) → now ≡ start → Keeps start (prepend_known [] now)
@@ -247,11 +248,11 @@ nothing_held (Some bytes) now same = subst (λ (o : Option (List ℕ)). Keeps (S
 
 module _ {D : Type 0} (content : D → Option (List ℕ)) (faults : D → ℕ) (start now : Option (List ℕ)) (gives : ℕ → Option (List ℕ)) where
   -- a run in a world that ended
-  pub replayed_of : (why : Status) (faulty : Bool) (names after : NamesState) (s t : ListState) (journal : List Entry) (lines : ℕ) (image : D) → IsReaders why → RunsAll start now names s why after journal t lines → s ≡ start_of names gives
-      → content image ≡ t.told → faults image ≡ t.faults → (IsTrue faulty ↔ (0 < t.faults)) → Replayed content faults start now gives (ended_status why faulty) lines after journal (Some image)
+  pub replayed_of : (why : Status) (faulty : Bool) (names after : NamesState) (s t : WorldState) (journal : List Entry) (lines : ℕ) (image : D) → IsReaders why → RunsAll start now names s why after journal t lines → s ≡ start_of names gives
+      → content image ≡ t.image.told → faults image ≡ t.image.faults → (IsTrue faulty ↔ (0 < t.image.faults)) → Replayed content faults start now gives (ended_status why faulty) lines after journal (Some image)
   replayed_of why faulty names after s t journal lines image readers runs begins told failed tells =
       let begin : s ≡ start_of after gives = begins ∙ ap (λ (disks : List _). start_of (record { disks = disks; ended = true }) gives) (sym runs.disks) in
-      let fits : Grew why (start_of after gives) runs.events journal t = subst (λ (x : ListState). Grew why x runs.events journal t) begin runs.fits in
+      let fits : Grew why (start_of after gives) runs.events journal t = subst (λ (x : WorldState). Grew why x runs.events journal t) begin runs.fits in
       record {
         events = runs.events;
         stopped = record {
@@ -265,7 +266,7 @@ module _ {D : Type 0} (content : D → Option (List ℕ)) (faults : D → ℕ) (
         final = t;
         journal_is = ended_journal why faulty (start_of after gives) t runs.events journal readers fits;
         image_is = (told, failed);
-        faults_are = ended_faults image why faulty t.faults readers tells;
+        faults_are = ended_faults image why faulty t.image.faults readers tells;
         image_stands = ended_image image why faulty runs.events runs.stopped.left journal readers runs.attached;
       }
 
@@ -277,7 +278,7 @@ module _ {D : Type 0} (content : D → Option (List ℕ)) (faults : D → ℕ) (
     final = start_of names gives;
     journal_is = opening_journal why (start_of names gives) opens.opening readers (fits_opening (start_of names gives) opens.opening opens.are);
     image_is = tt;
-    faults_are = opening_faults None why (start_of names gives).faults readers other;
+    faults_are = opening_faults None why (start_of names gives).image.faults readers other;
     image_stands = opening_image D why opens.opening opens.stopped.left readers other opens.are;
   }
 
@@ -289,7 +290,7 @@ module _ {D : Type 0} (content : D → Option (List ℕ)) (faults : D → ℕ) (
   refused_count Failed count = refl
   refused_count Memory count = refl
 
-  refused_faults : (fault : AttachFault) (image : Option D) → FaultsAre (attach_status fault) image (start_of no_names gives).faults
+  refused_faults : (fault : AttachFault) (image : Option D) → FaultsAre (attach_status fault) image (start_of no_names gives).image.faults
   refused_faults Failed image = tt
   refused_faults Memory image = tt
 
@@ -310,7 +311,7 @@ module _ {D : Type 0} (content : D → Option (List ℕ)) (faults : D → ℕ) (
   })
 
   -- the image couldn't be attached, or there was no memory for its world
-  pub replayed_refused : (fault : AttachFault) (held : List ℕ) (first : Option Event) (names : NamesState) (lines : ℕ) (image : Option D) → IfSome image (λ disk. (content disk ≡ (start_of names gives).told) × (faults disk ≡ 0))
+  pub replayed_refused : (fault : AttachFault) (held : List ℕ) (first : Option Event) (names : NamesState) (lines : ℕ) (image : Option D) → IfSome image (λ disk. (content disk ≡ (start_of names gives).image.told) × (faults disk ≡ 0))
       → (fault ≡ Failed → IsNone image) → Opened start held now first names lines → Replayed content faults start now gives (attach_status fault) lines names [] image
   replayed_refused fault held None names lines image is none opened = record {
     events = opened.opening;
@@ -369,10 +370,11 @@ module _ {D : Type 0} (content : D → Option (List ℕ)) (faults : D → ℕ) (
   }
 
   -- the same run, its parts said otherwise
-  pub replayed_as : (why ended : Status) (lines number : ℕ) (names : NamesState) (journal entries : List Entry) (image disk : Option D) → ended ≡ why → number ≡ lines → entries ≡ journal → disk ≡ image
-      → Replayed content faults start now gives why lines names journal image → Replayed content faults start now gives ended number names entries disk
-  replayed_as why ended lines number names journal entries image disk status_is lines_are journal_is image_is replayed =
-      subst (λ (w : Status). Replayed content faults start now gives w number names entries disk) (sym status_is)
-      (subst (λ (n : ℕ). Replayed content faults start now gives why n names entries disk) (sym lines_are)
+  pub replayed_as : (why ended : Status) (lines number : ℕ) (names now_named : NamesState) (journal entries : List Entry) (image disk : Option D) → ended ≡ why → number ≡ lines → now_named ≡ names → entries ≡ journal → disk ≡ image
+      → Replayed content faults start now gives why lines names journal image → Replayed content faults start now gives ended number now_named entries disk
+  replayed_as why ended lines number names now_named journal entries image disk status_is lines_are names_are journal_is image_is replayed =
+      subst (λ (w : Status). Replayed content faults start now gives w number now_named entries disk) (sym status_is)
+      (subst (λ (n : ℕ). Replayed content faults start now gives why n now_named entries disk) (sym lines_are)
+      (subst (λ (n : NamesState). Replayed content faults start now gives why lines n entries disk) (sym names_are)
       (subst (λ (l : List Entry). Replayed content faults start now gives why lines names l disk) (sym journal_is)
-      (subst (λ (d : Option D). Replayed content faults start now gives why lines names journal d) (sym image_is) replayed)))
+      (subst (λ (d : Option D). Replayed content faults start now gives why lines names journal d) (sym image_is) replayed))))

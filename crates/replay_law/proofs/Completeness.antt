@@ -25,7 +25,7 @@ use Rattle.replay_law.specs.Script.{ReadSoFar}
 use Rattle.replay_law.specs.Sized.{SizeIs}
 use Rattle.replay_law.specs.Worlds.{blocks_of}
 use Rattle.replay_law.proofs.OneReading.{next_spells, rest_spells}
-use Rattle.replay_law.proofs.Sizes.{first_disk, long_enough, zeros_are_long}
+use Rattle.replay_law.proofs.Sizes.{blocks_stay, long_enough, zeros_are_long}
 
 pub still : (before now : ℕ) → StandsStill before now → Rose before now → ⊥
 still before now stands rose = omega (arith, rose stands.could_rise, stands.same)
@@ -71,13 +71,13 @@ no_limit bytes Bytes (Some left) texts count few short taken counts past =
     let lines : script_lines bytes ≡ texts ++ long.line ∷ long.others = taken.0 ∙ ap (λ (l : List (List ℕ)). texts ++ l) long.is in
     omega (arith, long.long, short_behind texts long.others long.line (subst AreShort lines short))
 
--- behind lines that were read, the first disk is the clean script's
-same_disk : (bytes : List ℕ) (left : Option (List ℕ)) (texts : List (List ℕ)) (names after : NamesState) (events all : List Event) → TakesLines (Some bytes) left texts → AllSpell texts no_names events names → AllSpell (script_lines bytes) no_names all after
-    → 0 < blocks_of names.disks → blocks_of after.disks ≡ blocks_of names.disks
-same_disk bytes None texts names after events all taken read spelled some = absurd taken
-same_disk bytes (Some rest) texts names after events all taken read spelled some =
+-- the clean script declares all disks that were read
+no_fewer : (bytes : List ℕ) (left : Option (List ℕ)) (texts : List (List ℕ)) (names after : NamesState) (events all : List Event) → TakesLines (Some bytes) left texts → AllSpell texts no_names events names → AllSpell (script_lines bytes) no_names all after
+    → blocks_of names.disks ≤ blocks_of after.disks
+no_fewer bytes None texts names after events all taken read spelled = absurd taken
+no_fewer bytes (Some rest) texts names after events all taken read spelled =
     let behind = rest_spells texts (script_lines rest) no_names names after events all read (subst (λ (l : List (List ℕ)). AllSpell l no_names all after) taken.0 spelled) in
-    first_disk (script_lines rest) names after behind.0 behind.1 some
+    blocks_stay (script_lines rest) names after behind.0 behind.1
 
 module _ {D : Type 0} (content : D → Option (List ℕ)) (faults : D → ℕ) (script behind : Option (List ℕ)) (gives : ℕ → Option (List ℕ)) (ran : Status) (lines : ℕ) (names : NamesState) (journal : List Entry) (image : Option D) (run : Replayed content faults script behind gives ran lines names journal image)
     (why : Status) (old new : Option (List ℕ)) (text bytes : List ℕ) (reports : Reports ran why old new text) (known : script ≡ Some bytes) (clean : IsCleanScript bytes)
@@ -91,8 +91,8 @@ module _ {D : Type 0} (content : D → Option (List ℕ)) (faults : D → ℕ) (
       read : ReadSoFar (Some bytes) run.stopped.left run.events names run.stopped.count
       read = subst (λ (s : Option (List ℕ)). ReadSoFar s run.stopped.left run.events names run.stopped.count) known run.stopped.read
 
-      as_needed : 0 < 512 * blocks_of names.disks → 512 * blocks_of clean.names.disks ≡ 512 * blocks_of names.disks
-      as_needed some = ap (λ (n : ℕ). 512 * n) (same_disk bytes run.stopped.left read.texts names clean.names run.events clean.events read.taken.taken read.spell clean.spelled (omega (arith, some)))
+      as_needed : 512 * blocks_of names.disks ≤ 512 * blocks_of clean.names.disks
+      as_needed = omega (arith, no_fewer bytes run.stopped.left read.texts names clean.names run.events clean.events read.taken.taken read.spell clean.spelled)
 
       by_name : (dash : Bool) → bytes_eq name (45 ∷ []) ≡ dash → ⊥
       by_name true tests = zeros_are_long size ran (512 * blocks_of names.disks) need have (gives (512 * blocks_of names.disks)) image is (zeros ((bytes_eq-Decides name (45 ∷ [])).0 tests) (512 * blocks_of names.disks)) sized
@@ -115,7 +115,7 @@ module _ {D : Type 0} (content : D → Option (List ℕ)) (faults : D → ℕ) (
   by_ran status.HostFault ended is replayed = absurd (host ended)
   by_ran (status.ImageSize need have) ended is replayed = absurd (never_short need have ended)
   by_ran status.StoreFault ended is replayed =
-      absurd (store_works image replayed.final.faults replayed.faults_are.0 (counts image replayed.final.told replayed.final.faults replayed.image_is) store replayed.faults_are.1)
+      absurd (store_works image replayed.final.image.faults replayed.faults_are.0 (counts image replayed.final.image.told replayed.final.image.faults replayed.image_is) store replayed.faults_are.1)
   by_ran (status.Script at fault) ended is replayed =
       let left : Option (List ℕ) = prepend_known replayed.stopped.held behind in
       let faulty : IsFaulty replayed.stopped.left left names fault = replayed.stopped.stop.2 in

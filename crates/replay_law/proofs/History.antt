@@ -1,24 +1,49 @@
--- What a journal tells of its disks by itself, whatever its lines asked, is a run of the one disk.
-use Rattle.std.proofs.Common.{◌≡◌, ◌≢◌, ℕ, zero, suc, ◌==◌, if◌then◌else◌, Bool, true, false, List, [], ◌∷◌, ◌++◌, refl, sym, ◌∙◌, ap, subst, arith, Option, Some, None}
+-- What a journal tells of its disks, each by its number: with what its lines asked, and by itself.
+use Rattle.std.proofs.Common.{◌≡◌, ℕ, ◌==◌, if◌then◌else◌, Bool, true, false, List, [], ◌∷◌, ◌++◌, length, sym, ◌∙◌, ap, subst, Option, Some, None}
 use Rattle.std.specs.List.{flat_map, cons_option}
 use Rattle.std.proofs.lemmas.List.Elements.{filter_map-append}
-use Rattle.std.proofs.lemmas.Bool.Decides.{nat_tests}
 use Rattle.runs.specs.Run.{Run, run_append}
 use Rattle.vdisk_msg.specs.declared.request.Request.{Request}
+use Rattle.domain_script.specs.declared.event.DiskDecl.{DiskDecl}
 use Rattle.domain_script.specs.declared.event.Event.{Event}
 use Rattle.domain_script.specs.declared.event.Event.TheVariants as line
-use Rattle.ldom_journal.specs.DiskEvents.{Refusal, NoRoom, Defective, Said, OfDisk, NotTaken, AllRest, Nothing, refused, request_asked, for_disk, said, said_of, said_of_any, disk_event, happened, history, whole_history}
+use Rattle.ldom_journal.specs.DiskEvents.{Refusal, NoRoom, Defective, Said, OfDisk, NotTaken, AllRest, Nothing, refused, request_asked, said, said_of, disk_event, happened, history}
 use Rattle.ldom_journal.specs.declared.entry.Entry.{Entry}
-use Rattle.disk_law.specs.ListState.{ListState, fresh}
+use Rattle.disk_law.specs.ListState.{ImageState, ListState}
 use Rattle.disk_law.specs.ListStep.{DiskEvent, Done, ListStep}
 use Rattle.disk_law.specs.Issued.{completed, CompletesOnceInOrder}
 use Rattle.disk_law.proofs.Counted.{completed-append}
 use Rattle.disk_law.proofs.OnceInOrder.{once_in_order}
-use Rattle.replay_law.specs.Parts.{FitsSoFar, LineStep}
+use Rattle.replay_law.specs.Parts.{DisksMove, DisksRun, Fits, LineStep, Moves, WorldStep, all_happened}
 use Rattle.replay_law.specs.Script.{FitsScript, FitsCutOff}
-use Rattle.replay_law.proofs.FirstDisk.{AreOfFirst, IsOfFirst, begun_first, first-append, part_first}
+use Rattle.replay_law.specs.Worlds.{WorldState, blocks_at, disk_in, first_at, fresh_world, ring_at}
+use Rattle.replay_law.proofs.DiskNumbers.{fresh_at}
 
-module _ (t : ListState) (es fs : List DiskEvent) (next : (m : ListState) → Run ListStep m es t → Run ListStep m fs t) where
+-- each disk ran by what happened to it
+on : (t : ListState) (o : Option DiskEvent) (s m : ListState) (es : List DiskEvent) → Moves o s m → Run ListStep m es t → Run ListStep s (cons_option o es) t
+on t None s m es moves run = subst (λ (x : ListState). Run ListStep x es t) moves run
+on t (Some e) s m es moves run = (m, moves, run)
+
+pub disks_move : (asked : Event) (w v : WorldState) (part : List Entry) → Run (WorldStep asked) w part v → DisksMove asked w part v
+disks_move asked w v [] run x = ap (λ (u : WorldState). disk_in u.disks x) run
+disks_move asked w v (e ∷ part) run x =
+    on (disk_in v.disks x) (disk_event x asked e) (disk_in w.disks x) (disk_in run.0.disks x) (happened x asked part) (run.1.disks x) (disks_move asked run.0 v part run.2 x)
+
+pub disks_run : (w v : WorldState) (lines : List (Event × List Entry)) → Run LineStep w lines v → DisksRun w lines v
+disks_run w v [] run x = ap (λ (u : WorldState). disk_in u.disks x) run
+disks_run w v (step ∷ lines) run x =
+    run_append ListStep (disk_in w.disks x) (disk_in run.0.disks x) (disk_in v.disks x) (happened x step.0 step.1) (all_happened x lines)
+    (disks_move step.0 w run.0 step.1 run.1.1 x) (disks_run run.0 v lines run.2 x)
+
+-- no disk comes or goes
+pub many_part : (asked : Event) (w v : WorldState) (part : List Entry) → Run (WorldStep asked) w part v → length v.disks ≡ length w.disks
+many_part asked w v [] run = ap (λ (u : WorldState). length u.disks) (sym run)
+many_part asked w v (e ∷ part) run = many_part asked run.0 v part run.2 ∙ run.1.many
+
+pub fits_many : (w v : WorldState) (event : Event) (old new : List Entry) → Fits w event old new v → length v.disks ≡ length w.disks
+fits_many w v event old new fits = many_part event w v fits.part fits.step.1
+
+module _ (x : ℕ) (t : ListState) (es fs : List DiskEvent) (next : (m : ListState) → Run ListStep m es t → Run ListStep m fs t) where
   either_kept : (s : ListState) (b : Bool) (e : DiskEvent) → Run ListStep s (cons_option (if b then Some e else None) es) t
       → Run ListStep s (cons_option (if b then Some e else None) fs) t
   either_kept s true e run = (run.0, run.1, next run.0 run.2)
@@ -35,95 +60,52 @@ module _ (t : ListState) (es fs : List DiskEvent) (next : (m : ListState) → Ru
       next s (subst (λ (x : ListState). Run ListStep x es t) (refused_same s run.0 refusal request run.1) run.2)
   refused_dropped s false refusal request run = next s run
 
-  said_alone : (s : ListState) (asked : Option Request) (w : Said) → Run ListStep s (cons_option (said_of 0 asked w) es) t
-      → Run ListStep s (cons_option (said_of 0 None w) fs) t
-  said_alone s asked (OfDisk disk event) run = either_kept s (disk == 0) event run
+  said_alone : (s : ListState) (asked : Option Request) (w : Said) → Run ListStep s (cons_option (said_of x asked w) es) t
+      → Run ListStep s (cons_option (said_of x None w) fs) t
+  said_alone s asked (OfDisk disk event) run = either_kept s (disk == x) event run
   said_alone s None (NotTaken disk refusal) run = next s run
-  said_alone s (Some request) (NotTaken disk refusal) run = refused_dropped s (disk == 0) refusal request run
+  said_alone s (Some request) (NotTaken disk refusal) run = refused_dropped s (disk == x) refusal request run
   said_alone s asked AllRest run = (run.0, run.1, next run.0 run.2)
   said_alone s asked Nothing run = next s run
 
 -- without the requests that weren't taken up, which the journal tells by their lines alone
-alone_run : (s t : ListState) (asked : Event) (part : List Entry) → Run ListStep s (happened 0 asked part) t → Run ListStep s (history 0 part) t
-alone_run s t asked [] run = run
-alone_run s t asked (e ∷ part) run =
-    said_alone t (happened 0 asked part) (history 0 part) (λ m rest. alone_run m t asked part rest) s (request_asked asked) (said e) run
+alone_run : (x : ℕ) (s t : ListState) (asked : Event) (part : List Entry) → Run ListStep s (happened x asked part) t → Run ListStep s (history x part) t
+alone_run x s t asked [] run = run
+alone_run x s t asked (e ∷ part) run =
+    said_alone x t (happened x asked part) (history x part) (λ m rest. alone_run x m t asked part rest) s (request_asked asked) (said e) run
 
 history-append : (x : ℕ) (xs ys : List Entry) → history x (xs ++ ys) ≡ history x xs ++ history x ys
 history-append x xs ys = filter_map-append (disk_event x line.Blank) xs ys
 
--- the journal of lines with their parts is a run of its history
-lines_run : (s t : ListState) (lines : List (Event × List Entry)) → Run LineStep s lines t → Run ListStep s (history 0 (flat_map (λ l. l.1) lines)) t
-lines_run s t [] run = run
-lines_run s t (step ∷ lines) run =
-    subst (λ (l : List DiskEvent). Run ListStep s l t) (sym (history-append 0 step.1 (flat_map (λ l. l.1) lines)))
-    (run_append ListStep s run.0 t (history 0 step.1) (history 0 (flat_map (λ l. l.1) lines))
-    (alone_run s run.0 step.0 step.1 run.1.1) (lines_run run.0 t lines run.2))
+-- what a journal tells of each disk is a run of that disk
+abbrev pub Tells : WorldState → List Entry → WorldState → Type 0
+Tells w journal v = (x : ℕ) → Run ListStep (disk_in w.disks x) (history x journal) (disk_in v.disks x)
 
-script_run : (s t : ListState) (events : List Event) (journal : List Entry) → FitsScript s events journal t → Run ListStep s (history 0 journal) t
-script_run s t events journal fits =
-    subst (λ (l : List Entry). Run ListStep s (history 0 l) t) fits.parts (lines_run s t fits.lines fits.run)
+tells_append : (w m v : WorldState) (front part : List Entry) → Tells w front m → Tells m part v → Tells w (front ++ part) v
+tells_append w m v front part first second x =
+    subst (λ (l : List DiskEvent). Run ListStep (disk_in w.disks x) l (disk_in v.disks x)) (sym (history-append x front part))
+    (run_append ListStep (disk_in w.disks x) (disk_in m.disks x) (disk_in v.disks x) (history x front) (history x part) (first x) (second x))
 
-so_far_run : (s m t : ListState) (asked : Event) (front journal : List Entry) → Run ListStep s (history 0 front) m
-    → FitsSoFar m asked front journal t → Run ListStep s (history 0 journal) t
-so_far_run s m t asked front journal before so_far =
-    subst (λ (l : List Entry). Run ListStep s (history 0 l) t) (sym so_far.grew)
-    (subst (λ (l : List DiskEvent). Run ListStep s l t) (sym (history-append 0 front so_far.part))
-    (run_append ListStep s m t (history 0 front) (history 0 so_far.part) before (alone_run m t asked so_far.part so_far.run)))
+part_tells : (asked : Event) (w v : WorldState) (part : List Entry) → Run (WorldStep asked) w part v → Tells w part v
+part_tells asked w v part run x = alone_run x (disk_in w.disks x) (disk_in v.disks x) asked part (disks_move asked w v part run x)
 
-lines_first : (s t : ListState) (lines : List (Event × List Entry)) → Run LineStep s lines t → AreOfFirst (flat_map (λ l. l.1) lines)
-lines_first s t [] run = tt
-lines_first s t (step ∷ lines) run =
-    first-append step.1 (flat_map (λ l. l.1) lines) (part_first step.0 step.1 run.1.0 run.1.2) (lines_first run.0 t lines run.2)
+lines_tell : (w v : WorldState) (lines : List (Event × List Entry)) → Run LineStep w lines v → Tells w (flat_map (λ l. l.1) lines) v
+lines_tell w v [] run = λ x. ap (λ (u : WorldState). disk_in u.disks x) run
+lines_tell w v (step ∷ lines) run =
+    tells_append w run.0 v step.1 (flat_map (λ l. l.1) lines) (part_tells step.0 w run.0 step.1 run.1.1) (lines_tell run.0 v lines run.2)
 
-script_first : (s t : ListState) (events : List Event) (journal : List Entry) → FitsScript s events journal t → AreOfFirst journal
-script_first s t events journal fits = subst AreOfFirst fits.parts (lines_first s t fits.lines fits.run)
+pub script_tells : (w v : WorldState) (events : List Event) (journal : List Entry) → FitsScript w events journal v → Tells w journal v
+script_tells w v events journal fits = subst (λ (l : List Entry). Tells w l v) fits.parts (lines_tell w v fits.lines fits.run)
 
--- of one disk alone the journal tells as much as of all together
-first_said : (w : Said) → IsOfFirst w → said_of_any w ≡ said_of 0 None w
-first_said (OfDisk disk event) is = sym (ap (λ (n : ℕ). for_disk 0 n event) is)
-first_said (NotTaken disk refusal) is = refl
-first_said AllRest is = refl
-first_said Nothing is = refl
+pub cut_off_tells : (w v : WorldState) (events : List Event) (journal : List Entry) → FitsCutOff w events journal v → Tells w journal v
+cut_off_tells w v events journal cut =
+    subst (λ (l : List Entry). Tells w l v) (sym cut.so_far.grew)
+    (tells_append w cut.middle v cut.front cut.so_far.part (script_tells w cut.middle cut.before cut.front cut.fits)
+    (part_tells cut.last cut.middle v cut.so_far.part cut.so_far.run))
 
-whole_first : (journal : List Entry) → AreOfFirst journal → whole_history journal ≡ history 0 journal
-whole_first [] are = refl
-whole_first (e ∷ journal) are =
-    ap (λ (o : Option DiskEvent). cons_option o (whole_history journal)) (first_said (said e) are.0)
-    ∙ ap (λ (l : List DiskEvent). cons_option (said_of 0 None (said e)) l) (whole_first journal are.1)
-
--- and of another disk no completion
-other_disk : (x k : ℕ) (event : DiskEvent) → x ≢ 0 → k ≡ 0 → for_disk x k event ≡ None
-other_disk x k event other is = let apart : k ≢ x = λ same. other (sym same ∙ is) in grind (arith, nat_tests)
-
-other_said : (x : ℕ) (w : Said) (es : List DiskEvent) → x ≢ 0 → IsOfFirst w → completed (cons_option (said_of x None w) es) ≡ completed es
-other_said x (OfDisk disk event) es other is = ap (λ (o : Option DiskEvent). completed (cons_option o es)) (other_disk x disk event other is)
-other_said x (NotTaken disk refusal) es other is = refl
-other_said x AllRest es other is = refl
-other_said x Nothing es other is = refl
-
-others_none : (x : ℕ) (journal : List Entry) → x ≢ 0 → AreOfFirst journal → completed (history x journal) ≡ []
-others_none x [] other are = refl
-others_none x (e ∷ journal) other are = other_said x (said e) (history x journal) other are.0 ∙ others_none x journal other are.1
-
--- what a journal tells
-pub record Tells (s : ListState) (journal : List Entry) (t : ListState) : Type 0 where
-  pub run : Run ListStep s (history 0 journal) t
-  pub first : AreOfFirst journal
-
-pub whole_is : (s t : ListState) (journal : List Entry) → Tells s journal t → whole_history journal ≡ history 0 journal
-whole_is s t journal tells = whole_first journal tells.first
-
-pub script_tells : (s t : ListState) (events : List Event) (journal : List Entry) → FitsScript s events journal t → Tells s journal t
-script_tells s t events journal fits = record { run = script_run s t events journal fits; first = script_first s t events journal fits }
-
-pub cut_off_tells : (s t : ListState) (events : List Event) (journal : List Entry) → FitsCutOff s events journal t → Tells s journal t
-cut_off_tells s t events journal cut = record {
-  run = so_far_run s cut.middle t cut.last cut.front journal (script_run s cut.middle cut.before cut.front cut.fits) cut.so_far;
-  first = subst AreOfFirst (sym cut.so_far.grew)
-      (first-append cut.front cut.so_far.part (script_first s cut.middle cut.before cut.front cut.fits)
-      (begun_first cut.last cut.so_far.part cut.so_far.begun));
-}
+pub many_lines : (w v : WorldState) (lines : List (Event × List Entry)) → Run LineStep w lines v → length v.disks ≡ length w.disks
+many_lines w v [] run = ap (λ (u : WorldState). length u.disks) (sym run)
+many_lines w v (step ∷ lines) run = many_lines run.0 v lines run.2 ∙ many_part step.0 w run.0 step.1 run.1.1
 
 -- where nothing completes, all that completes does so in order
 pub none_once : (es : List DiskEvent) → completed es ≡ [] → CompletesOnceInOrder es
@@ -134,8 +116,8 @@ none_once es none before after id operation status bytes is =
     no_front [] y ys is = cc is
     no_front (x ∷ xs) y ys is = cc is
 
-pub tells_once : (x blocks ring faults : ℕ) (content : Option (List ℕ)) (t : ListState) (journal : List Entry)
-    → Tells (fresh blocks ring content faults) journal t → CompletesOnceInOrder (history x journal)
-tells_once zero blocks ring faults content t journal tells = once_in_order blocks ring faults content t (history 0 journal) tells.run
-tells_once (suc x) blocks ring faults content t journal tells =
-    none_once (history (suc x) journal) (others_none (suc x) journal (λ is. omega (arith, is)) tells.first)
+pub tells_once : (disks : List DiskDecl) (image : ImageState) (v : WorldState) (journal : List Entry) → Tells (fresh_world disks image) journal v
+    → (x : ℕ) → CompletesOnceInOrder (history x journal)
+tells_once disks image v journal tells x =
+    once_in_order (first_at disks x) (blocks_at disks x) (ring_at disks x) (disk_in v.disks x) (history x journal)
+    (subst (λ (s : ListState). Run ListStep s (history x journal) (disk_in v.disks x)) (fresh_at 0 disks x) (tells x))

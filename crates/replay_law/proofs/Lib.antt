@@ -1,13 +1,14 @@
+mod Admitted
 pub mod Answering
 pub mod Assembly
 pub mod Completeness
+pub mod DiskNumbers
 mod FaultsRise
-mod FirstDisk
 pub mod History
 pub mod MoreFacts
 mod OneReading
 mod OutsideKept
-mod LineCases
+pub mod LineCases
 mod PlainAgrees
 mod PlainLaw
 mod PlainLines

@@ -1,5 +1,5 @@
 -- What each kind of line does: no other lemma lists the kinds, but for `line_agrees`.
-use Rattle.std.proofs.Common.{◌≡◌, ℕ, ◌<◌, ◌≤◌, true, false, List, [], ◌∷◌, ◌++◌, length, refl, sym, subst, arith, ◌⊎◌, inl, inr, IsTrue}
+use Rattle.std.proofs.Common.{◌≡◌, ℕ, ◌<◌, true, false, List, [], ◌∷◌, ◌++◌, length, refl, sym, subst, arith, ◌⊎◌, inl, inr, IsTrue}
 use Rattle.std.specs.Prelude.{map}
 use Rattle.vdisk_msg.specs.declared.request.Request.{Request}
 use Rattle.domain_script.specs.declared.event.DiskDecl.{DiskDecl}
@@ -9,8 +9,8 @@ use Rattle.domain_script.specs.NamesState.{NamesState, noted}
 use Rattle.domain_script.specs.Spells.{IsDeclared}
 use Rattle.ldom_journal.specs.declared.entry.Entry.{Entry}
 use Rattle.ldom_journal.specs.declared.entry.Entry.TheVariants as entry
-use Rattle.disk_law.specs.ListState.{ListState}
 use Rattle.replay_law.specs.Attached.{is_opening}
+use Rattle.replay_law.specs.Worlds.{WorldState}
 use Rattle.replay_law.specs.Parts.{Answer, Completion, answer_entry, done_entry, BeginsPart, IsForDisk, LineStep, PartOf}
 
 -- what holds of each line with its part: nothing, an answer, or completions and `Settled`
@@ -33,7 +33,7 @@ by_begun P none done (line.Issue disk request) part is = subst (λ (l : List Ent
 by_begun P none done line.Settle part is = subst (λ (l : List Entry). P line.Settle l) (sym is.1) (done is.0)
 
 -- a blank line or a declaration gives no entry
-pub silent : (s : ListState) (e : Event) → IsTrue (is_opening e) → LineStep s (e, []) s
+pub silent : (s : WorldState) (e : Event) → IsTrue (is_opening e) → LineStep s (e, []) s
 silent s line.Blank is = (refl, refl, tt)
 silent s (line.Disk disk) is = (refl, refl, tt)
 silent s (line.Issue disk request) is = absurd (cc is)
@@ -73,9 +73,9 @@ some_disk names (line.Disk disk) other is = absurd (cc other)
 some_disk names (line.Issue disk request) other is = omega (arith, is.0)
 some_disk names line.Settle other is = is
 
--- the event is for the one disk
-pub for_one : (names : NamesState) (e : Event) → length names.disks ≤ 1 → IsDeclared names e → IsForDisk e
-for_one names line.Blank one is = tt
-for_one names (line.Disk disk) one is = tt
-for_one names (line.Issue disk request) one is = (omega (arith, one, is.0), is.1)
-for_one names line.Settle one is = tt
+-- the event is for one of the disks that are declared
+pub for_declared : (names : NamesState) (e : Event) → IsDeclared names e → IsForDisk (length names.disks) e
+for_declared names line.Blank is = tt
+for_declared names (line.Disk disk) is = tt
+for_declared names (line.Issue disk request) is = is
+for_declared names line.Settle is = tt

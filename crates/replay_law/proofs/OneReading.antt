@@ -42,7 +42,7 @@ pub all_read : (bytes : List ℕ) (left : Option (List ℕ)) (texts : List (List
 all_read bytes None texts end taken = absurd taken
 all_read bytes (Some rest) texts end taken = taken.0 ∙ ap (λ (l : List ℕ). texts ++ script_lines l) end ∙ append-nil texts
 
--- the lines behind those that were read spell events
+-- the lines after those that were read spell events
 pub rest_spells : (texts more : List (List ℕ)) (first middle after : NamesState) (es fs : List Event) → AllSpell texts first es middle → AllSpell (texts ++ more) first fs after → (gs : List Event) × AllSpell more middle gs after
 rest_spells [] more first middle after [] fs read all = (fs, subst (λ (n : NamesState). AllSpell more n fs after) (sym read) all)
 rest_spells [] more first middle after (e ∷ es) fs read all = absurd read

@@ -21,21 +21,28 @@ use Rattle.ldom_journal.specs.declared.entry.Entry.TheVariants as entry
 use Rattle.ldom_journal.specs.declared.entry.Who.TheVariants.{Lane}
 use Rattle.ldom_journal.specs.declared.entry.Why.TheVariants.{Count, Range}
 use Rattle.ldom_journal.specs.declared.status.Mode.TheVariants as mode
-use Rattle.disk_law.specs.Requests.{operation_of, after_request}
-use Rattle.disk_law.specs.ListState.{ListState}
-use Rattle.disk_law.specs.ListStep.{DiskEvent, Succeeds, Ends, Completes}
+use Rattle.vio_bytes.specs.Place.{put_at}
+use Rattle.disk_law.specs.Requests.{operation_of, after_request, written}
+use Rattle.disk_law.specs.ListState.{ImageState, ListState}
+use Rattle.disk_law.specs.ListStep.{DiskEvent, Succeeds, Serves, ServesFirst, Completes, block_place}
 use Rattle.disk_law.specs.Issued.{completed}
 use Rattle.disk_law.proofs.Counted.{completed-append}
 use Rattle.ldom_journal.specs.DiskEvents.{said, said_of_any, whole_history}
 use Rattle.replay_law.specs.Completed.{completed_ids}
 use Rattle.replay_law.specs.PlainRun.{Plain, name_text, done_line, complete}
 
-pub record Agrees (disk : DiskDecl) (s : ListState) (journal : List Entry) (p : Plain) : Type 0 where
+-- a disk and the image, whose first blocks are the disk's, and what the plain run has kept
+pub record Stands (disk : DiskDecl) (s : ListState) (image : ImageState) (completed : ℕ) (waiting : List Request) (content : List ℕ) : Type 0 where
+  pub first_is : s.first ≡ 0
   pub blocks_are : s.blocks ≡ disk.blocks
   pub ring_is : s.ring ≡ disk.ring
-  pub completed_are : s.done ≡ p.completed
-  pub waiting_are : s.pending ≡ p.waiting
-  pub content_is : s.told ≡ Some p.content
+  pub completed_are : s.done ≡ completed
+  pub waiting_are : s.pending ≡ waiting
+  pub content_is : image.told ≡ Some content
+
+-- and what was written
+pub record Agrees (disk : DiskDecl) (s : ListState) (image : ImageState) (journal : List Entry) (p : Plain) : Type 0 where
+  pub stands : Stands disk s image p.completed p.waiting p.content
   pub text_is : report_entries mode.Run (disk ∷ []) journal ≡ p.text
   pub accepted_are : accepted_count journal ≡ s.done + length s.pending
   pub done_are : done_count journal ≡ s.done
@@ -102,51 +109,65 @@ status_zero a word spaced is =
 abbrev done_front : DiskDecl → ℕ → List ℕ
 done_front disk id = codes "done " ++ name_text disk ++ codes " " ++ decimal id
 
-done_text : (disk : DiskDecl) (id : ℕ) (request : Request) (content : List ℕ) (now : Option (List ℕ)) (bytes : BytesState) → Succeeds request bytes.items (Some content) now → entry_lines mode.Run (disk ∷ []) (entry.Done 0 id (operation_of request) 0 bytes) ≡ done_line disk id content request
+-- the blocks of a disk that begins with the image
+first_place : (block : ℕ) → block_place 0 block ≡ 512 * block
+first_place block = omega arith
+
+done_text : (disk : DiskDecl) (id : ℕ) (request : Request) (content : List ℕ) (now : Option (List ℕ)) (bytes : BytesState) → Succeeds 0 request bytes.items (Some content) now → entry_lines mode.Run (disk ∷ []) (entry.Done 0 id (operation_of request) 0 bytes) ≡ done_line disk id content request
 done_text disk id (Read block count) content now bytes ends =
-    let given : bytes.items ≡ take (512 * count) (drop (512 * block) content) = ends.1 ∙ ap (λ (n : ℕ). take n (drop (512 * block) content)) ends.0 in
+    let given : bytes.items ≡ take (512 * count) (drop (512 * block) content) =
+    ends.1 ∙ ap (λ (n : ℕ). take n (drop (block_place 0 block) content)) ends.0 ∙ ap (λ (n : ℕ). take (512 * count) (drop n content)) (first_place block) in
     ap (λ (l : List ℕ). l ++ blocks_text bytes.items ++ codes "\n") (status_zero (done_front disk id) (codes "read") (codes " read") refl)
     ∙ ap (λ (l : List ℕ). done_front disk id ++ codes " read" ++ codes " 0" ++ blocks_text l ++ codes "\n") given
 done_text disk id (Write block count fill) content now bytes ends = ap (λ (l : List ℕ). l ++ [] ++ codes "\n") (status_zero (done_front disk id) (codes "write") (codes " write") refl)
 done_text disk id Flush content now bytes ends = ap (λ (l : List ℕ). l ++ [] ++ codes "\n") (status_zero (done_front disk id) (codes "flush") (codes " flush") refl)
 
 -- a request that succeeded over a told content leaves what the plain run leaves
-left_content : (request : Request) (content bytes : List ℕ) (now : Option (List ℕ)) → Succeeds request bytes (Some content) now → now ≡ Some (after_request content request)
+left_content : (request : Request) (content bytes : List ℕ) (now : Option (List ℕ)) → Succeeds 0 request bytes (Some content) now → now ≡ Some (after_request content request)
 left_content (Read block count) content bytes now ends = ends.2
-left_content (Write block count fill) content bytes (Some new) ends = ap (λ (l : List ℕ). Some l) ends.1
+left_content (Write block count fill) content bytes (Some new) ends = ap (λ (l : List ℕ). Some l) (ends.1 ∙ ap (λ (n : ℕ). put_at n (written fill count) content) (first_place block))
 left_content (Write block count fill) content bytes None ends = absurd ends.1
 left_content Flush content bytes now ends = ends.1
 
 -- where the image never failed, a completion succeeded
 pub record Went (request : Request) (status : ℕ) (bytes : List ℕ) (before now : Option (List ℕ)) : Type 0 where
   pub status_is : status ≡ 0
-  pub succeeds : Succeeds request bytes before now
+  pub succeeds : Succeeds 0 request bytes before now
 
-went : (request : Request) (status : ℕ) (bytes : List ℕ) (s t : ListState) → Ends request status bytes s t → t.faults ≡ 0 → Went request status bytes s.told t.told
-went request status bytes s t ends none = elim ends [
-  | inl good ↦ record { status_is = good.0; succeeds = good.1 }
-  | inr failed ↦ absurd (let some : s.faults < last_count = omega (arith, failed.3, none) in omega (arith, failed.4 some, failed.3, none))
+went : (first : ℕ) (request : Request) (status : ℕ) (bytes : List ℕ) (i j : ImageState) → first ≡ 0 → Serves first request status bytes i j → j.faults ≡ 0 → Went request status bytes i.told j.told
+went first request status bytes i j begins serves none = elim serves [
+  | inl good ↦ record { status_is = good.0; succeeds = subst (λ (n : ℕ). Succeeds n request bytes i.told j.told) begins good.1 }
+  | inr failed ↦ absurd (let some : i.faults < last_count = omega (arith, failed.3, none) in omega (arith, failed.4 some, failed.3, none))
 ]
 
 -- the first that waited is completed
-pub done_agrees : (disk : DiskDecl) (s t : ListState) (journal : List Entry) (p : Plain) (id operation status : ℕ) (bytes : BytesState) → Agrees disk s journal p → (c : Completes s id operation status bytes.items t) → t.faults ≡ 0 → Agrees disk t (journal ++ entry.Done 0 id operation status bytes ∷ []) (complete disk p c.request t.pending)
-done_agrees disk s t journal p id operation status bytes agrees c none =
-    let well = went c.request status bytes.items s t c.ends none in
-    let succeeds : Succeeds c.request bytes.items (Some p.content) t.told = subst (λ (told : Option (List ℕ)). Succeeds c.request bytes.items told t.told) agrees.content_is well.succeeds in
+pub done_agrees : (disk : DiskDecl) (s t : ListState) (i j : ImageState) (journal : List Entry) (p : Plain) (id operation status : ℕ) (bytes : BytesState) → Agrees disk s i journal p → (c : Completes s id operation status bytes.items t) → ServesFirst s status bytes.items i j → j.faults ≡ 0
+    → Agrees disk t j (journal ++ entry.Done 0 id operation status bytes ∷ []) (complete disk p c.request t.pending)
+done_agrees disk s t i j journal p id operation status bytes agrees c serves none =
+    let same : serves.request ≡ c.request = first_same (sym serves.front ∙ c.front) in
+    let well = went s.first c.request status bytes.items i j agrees.stands.first_is (subst (λ (r : Request). Serves s.first r status bytes.items i j) same serves.serves) none in
+    let succeeds : Succeeds 0 c.request bytes.items (Some p.content) j.told = subst (λ (told : Option (List ℕ)). Succeeds 0 c.request bytes.items told j.told) agrees.stands.content_is well.succeeds in
+    let counts : t.done ≡ s.done + 1 = ap (λ (x : ListState). x.done) c.after in
     let shown : entry_lines mode.Run (disk ∷ []) (entry.Done 0 id operation status bytes) ≡ done_line disk p.completed p.content c.request =
-    ap (λ (n : ℕ). entry_lines mode.Run (disk ∷ []) (entry.Done 0 n operation status bytes)) (c.id_is ∙ agrees.completed_are)
+    ap (λ (n : ℕ). entry_lines mode.Run (disk ∷ []) (entry.Done 0 n operation status bytes)) (c.id_is ∙ agrees.stands.completed_are)
     ∙ ap (λ (n : ℕ). entry_lines mode.Run (disk ∷ []) (entry.Done 0 p.completed n status bytes)) c.operation_is
     ∙ ap (λ (n : ℕ). entry_lines mode.Run (disk ∷ []) (entry.Done 0 p.completed (operation_of c.request) n bytes)) well.status_is
-    ∙ done_text disk p.completed c.request p.content t.told bytes succeeds in
+    ∙ done_text disk p.completed c.request p.content j.told bytes succeeds in
     record {
-      blocks_are = c.blocks ∙ agrees.blocks_are;
-      ring_is = c.ring ∙ agrees.ring_is;
-      completed_are = c.counts ∙ ap (λ (n : ℕ). n + 1) agrees.completed_are;
-      waiting_are = refl;
-      content_is = left_content c.request p.content bytes.items t.told succeeds;
+      stands = record {
+        first_is = ap (λ (x : ListState). x.first) c.after ∙ agrees.stands.first_is;
+        blocks_are = ap (λ (x : ListState). x.blocks) c.after ∙ agrees.stands.blocks_are;
+        ring_is = ap (λ (x : ListState). x.ring) c.after ∙ agrees.stands.ring_is;
+        completed_are = counts ∙ ap (λ (n : ℕ). n + 1) agrees.stands.completed_are;
+        waiting_are = refl;
+        content_is = left_content c.request p.content bytes.items j.told succeeds;
+      };
       text_is = text_push disk journal (entry.Done 0 id operation status bytes) p.text (done_line disk p.completed p.content c.request) agrees.text_is shown;
       accepted_are = count_push is_accepted journal (entry.Done 0 id operation status bytes) (s.done + length s.pending) 0 agrees.accepted_are refl
-          ∙ omega (arith, c.counts, ap length c.front);
-      done_are = count_push is_done journal (entry.Done 0 id operation status bytes) s.done 1 agrees.done_are refl ∙ sym c.counts;
-      ids_are = ids_push journal (entry.Done 0 id operation status bytes) (range_with_len 0 s.done) (id ∷ []) agrees.ids_are refl ∙ next_id_done s.done t.done id c.counts c.id_is;
+          ∙ omega (arith, counts, ap length c.front);
+      done_are = count_push is_done journal (entry.Done 0 id operation status bytes) s.done 1 agrees.done_are refl ∙ sym counts;
+      ids_are = ids_push journal (entry.Done 0 id operation status bytes) (range_with_len 0 s.done) (id ∷ []) agrees.ids_are refl ∙ next_id_done s.done t.done id counts c.id_is;
     }
+  where
+    first_same : {x y : Request} {xs ys : List Request} → x ∷ xs ≡ y ∷ ys → x ≡ y
+    first_same is = cc is

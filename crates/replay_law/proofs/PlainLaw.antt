@@ -1,5 +1,5 @@
 -- A quiet script that fits its journal without a fault is what the plain run makes of it.
-use Rattle.std.proofs.Common.{◌≡◌, ℕ, ◌+◌, ◌-◌, ◌≤◌, List, [], ◌∷◌, ◌++◌, length, map, refl, sym, ◌∙◌, ap, subst, arith, append_assoc, Some}
+use Rattle.std.proofs.Common.{◌≡◌, ℕ, ◌+◌, ◌-◌, List, [], ◌∷◌, ◌++◌, length, map, refl, sym, ◌∙◌, ap, subst, arith, append_assoc, Some}
 use Rattle.std.specs.Prelude.{codes, decimal}
 use Rattle.std.specs.List.{flat_map, range_with_len}
 use Rattle.std.proofs.lemmas.List.{append-nil}
@@ -10,30 +10,25 @@ use Rattle.ldom_journal.specs.Report.{accepted_count, done_count, end_line, repo
 use Rattle.ldom_journal.specs.declared.entry.Entry.{Entry}
 use Rattle.ldom_journal.specs.declared.status.Mode.TheVariants as mode
 use Rattle.ldom_journal.specs.declared.status.Status.TheVariants as status
-use Rattle.disk_law.specs.ListState.{ListState, fresh}
-use Rattle.ldom_journal.specs.DiskEvents.{happened}
+use Rattle.disk_law.specs.ListState.{ImageState, ListState}
 use Rattle.replay_law.specs.Parts.{LineStep}
 use Rattle.replay_law.specs.Completed.{completed_ids}
 use Rattle.replay_law.specs.PlainRun.{Plain, untouched, plain_line, plain_run, plain_end, plain_text, plain_content, plain_ids}
 use Rattle.replay_law.specs.Quiet.{IsQuiet}
 use Rattle.replay_law.specs.Script.{FitsScript}
-use Rattle.replay_law.specs.Worlds.{blocks_of, ring_of}
-use Rattle.replay_law.proofs.FaultsRise.{faults_run}
+use Rattle.replay_law.specs.Worlds.{WorldState, disk_in, fresh_world}
+use Rattle.replay_law.proofs.FaultsRise.{faults_lines}
 use Rattle.replay_law.proofs.PlainAgrees.{Agrees, zero_text}
-use Rattle.replay_law.proofs.PlainLines.{line_agrees}
+use Rattle.replay_law.proofs.PlainLines.{AgreesWith, line_agrees}
 
-lines_faults : (s t : ListState) (lines : List (Event × List Entry)) → Run LineStep s lines t → s.faults ≤ t.faults
-lines_faults s t [] run = omega (arith, ap (λ (x : ListState). x.faults) run)
-lines_faults s t (step ∷ lines) run = omega (arith, faults_run s run.0 (happened 0 step.0 step.1) run.1.1, lines_faults run.0 t lines run.2)
-
-lines_agree : (disk : DiskDecl) (s t : ListState) (journal : List Entry) (p : Plain) (lines : List (Event × List Entry)) → Agrees disk s journal p → Run LineStep s lines t → t.faults ≡ 0
-    → Agrees disk t (journal ++ flat_map (λ (l : Event × List Entry). l.1) lines) (plain_run disk p (map (λ (l : Event × List Entry). l.0) lines))
-lines_agree disk s t journal p [] agrees run none =
-    subst (λ (l : List Entry). Agrees disk t l p) (sym (append-nil journal)) (subst (λ (x : ListState). Agrees disk x journal p) run agrees)
-lines_agree disk s t journal p (step ∷ lines) agrees run none =
-    let still : run.0.faults ≡ 0 = omega (arith, lines_faults run.0 t lines run.2, none) in
-    let next = lines_agree disk run.0 t (journal ++ step.1) (plain_line disk p step.0) lines (line_agrees disk s run.0 journal step.1 p step.0 agrees run.1 still) run.2 none in
-    subst (λ (l : List Entry). Agrees disk t l (plain_run disk (plain_line disk p step.0) (map (λ (l : Event × List Entry). l.0) lines))) (append_assoc journal step.1 (flat_map (λ (l : Event × List Entry). l.1) lines)) next
+lines_agree : (disk : DiskDecl) (w v : WorldState) (journal : List Entry) (p : Plain) (lines : List (Event × List Entry)) → AgreesWith disk w journal p → Run LineStep w lines v → v.image.faults ≡ 0
+    → AgreesWith disk v (journal ++ flat_map (λ (l : Event × List Entry). l.1) lines) (plain_run disk p (map (λ (l : Event × List Entry). l.0) lines))
+lines_agree disk w v journal p [] agrees run none =
+    subst (λ (l : List Entry). AgreesWith disk v l p) (sym (append-nil journal)) (subst (λ (x : WorldState). AgreesWith disk x journal p) run agrees)
+lines_agree disk w v journal p (step ∷ lines) agrees run none =
+    let still : run.0.image.faults ≡ 0 = omega (arith, faults_lines run.0 v lines run.2, none) in
+    let next = lines_agree disk run.0 v (journal ++ step.1) (plain_line disk p step.0) lines (line_agrees disk w run.0 journal step.1 p step.0 agrees run.1 still) run.2 none in
+    subst (λ (l : List Entry). AgreesWith disk v l (plain_run disk (plain_line disk p step.0) (map (λ (l : Event × List Entry). l.0) lines))) (append_assoc journal step.1 (flat_map (λ (l : Event × List Entry). l.1) lines)) next
 
 regroup : (x a b c d e f : List ℕ) → x ++ (a ++ b ++ c ++ d ++ e ++ f) ≡ x ++ a ++ b ++ c ++ d ++ e ++ f
 regroup x a b c d e f = simp append_assoc
@@ -49,10 +44,10 @@ abbrev counts : ℕ → ℕ → ℕ → List ℕ
 counts accepted done pending = codes " accepted=" ++ decimal accepted ++ codes " done=" ++ decimal done ++ codes " pending=" ++ decimal pending
 
 -- the end line, by the counts of the plain run
-ends_agree : (disk : DiskDecl) (t : ListState) (journal : List Entry) (p : Plain) (lines : ℕ) → Agrees disk t journal p → end_line lines journal status.Done ≡ plain_end lines p
-ends_agree disk t journal p lines agrees =
-    let completed : done_count journal ≡ p.completed = agrees.done_are ∙ agrees.completed_are in
-    let accepted : accepted_count journal ≡ p.completed + length p.waiting = omega (arith, agrees.accepted_are, agrees.completed_are, ap length agrees.waiting_are) in
+ends_agree : (disk : DiskDecl) (t : ListState) (image : ImageState) (journal : List Entry) (p : Plain) (lines : ℕ) → Agrees disk t image journal p → end_line lines journal status.Done ≡ plain_end lines p
+ends_agree disk t image journal p lines agrees =
+    let completed : done_count journal ≡ p.completed = agrees.done_are ∙ agrees.stands.completed_are in
+    let accepted : accepted_count journal ≡ p.completed + length p.waiting = omega (arith, agrees.accepted_are, agrees.stands.completed_are, ap length agrees.stands.waiting_are) in
     let waiting : accepted_count journal - done_count journal ≡ length p.waiting = omega (arith, accepted, completed) in
     let tail = codes " resets=0 frames=0 status=" in
     ap (λ (n : ℕ). front lines ++ counts n (done_count journal) (accepted_count journal - done_count journal) ++ tail ++ decimal 0 ++ [] ++ codes "\n") accepted
@@ -63,16 +58,20 @@ ends_agree disk t journal p lines agrees =
     ∙ ap (λ (l : List ℕ). l ++ codes " resets=0 frames=0 status=0\n")
     (regroup (front lines) (codes " accepted=") (decimal (p.completed + length p.waiting)) (codes " done=") (decimal p.completed) (codes " pending=") (decimal (length p.waiting)))
 
-pub plain_law : (disk : DiskDecl) (content : List ℕ) (events : List Event) (journal : List Entry) (t : ListState) → IsQuiet disk events → FitsScript (fresh (blocks_of (disk ∷ [])) (ring_of (disk ∷ [])) (Some content) 0) events journal t → t.faults ≡ 0
-    → (report mode.Run (disk ∷ []) (length events) journal status.Done ≡ plain_text disk content events) × (t.told ≡ Some (plain_content disk content events)) × (completed_ids journal ≡ plain_ids disk content events)
-plain_law disk content events journal t quiet fits none =
-    let s = fresh disk.blocks disk.ring (Some content) 0 in
-    let start : Agrees disk s [] (untouched content) = record { blocks_are = refl; ring_is = refl; completed_are = refl; waiting_are = refl; content_is = refl; text_is = refl; accepted_are = refl; done_are = refl; ids_are = refl } in
-    let whole = lines_agree disk s t [] (untouched content) fits.lines start fits.run none in
-    let with_journal = subst (λ (l : List Entry). Agrees disk t l (plain_run disk (untouched content) (map (λ (l : Event × List Entry). l.0) fits.lines))) fits.parts whole in
-    let agrees : Agrees disk t journal (plain_run disk (untouched content) events) = subst (λ (l : List Event). Agrees disk t journal (plain_run disk (untouched content) l)) fits.events_are with_journal in
+pub plain_law : (disk : DiskDecl) (content : List ℕ) (events : List Event) (journal : List Entry) (v : WorldState) → IsQuiet disk events → FitsScript (fresh_world (disk ∷ []) (record { told = Some content; faults = 0 })) events journal v → v.image.faults ≡ 0
+    → (report mode.Run (disk ∷ []) (length events) journal status.Done ≡ plain_text disk content events) × (v.image.told ≡ Some (plain_content disk content events)) × (completed_ids journal ≡ plain_ids disk content events)
+plain_law disk content events journal v quiet fits none =
+    let w : WorldState = fresh_world (disk ∷ []) (record { told = Some content; faults = 0 }) in
+    let start : AgreesWith disk w [] (untouched content) = (
+      refl,
+      record { stands = record { first_is = refl; blocks_are = refl; ring_is = refl; completed_are = refl; waiting_are = refl; content_is = refl }; text_is = refl; accepted_are = refl; done_are = refl; ids_are = refl },
+    ) in
+    let whole = lines_agree disk w v [] (untouched content) fits.lines start fits.run none in
+    let with_journal = subst (λ (l : List Entry). AgreesWith disk v l (plain_run disk (untouched content) (map (λ (l : Event × List Entry). l.0) fits.lines))) fits.parts whole in
+    let all : AgreesWith disk v journal (plain_run disk (untouched content) events) = subst (λ (l : List Event). AgreesWith disk v journal (plain_run disk (untouched content) l)) fits.events_are with_journal in
+    let agrees = all.1 in
     let p = plain_run disk (untouched content) events in (
-      ap (λ (l : List ℕ). l ++ end_line (length events) journal status.Done) agrees.text_is ∙ ap (λ (l : List ℕ). p.text ++ l) (ends_agree disk t journal p (length events) agrees),
-      agrees.content_is,
-      agrees.ids_are ∙ ap (λ (n : ℕ). range_with_len 0 n) agrees.completed_are,
+      ap (λ (l : List ℕ). l ++ end_line (length events) journal status.Done) agrees.text_is ∙ ap (λ (l : List ℕ). p.text ++ l) (ends_agree disk (disk_in v.disks 0) v.image journal p (length events) agrees),
+      agrees.stands.content_is,
+      agrees.ids_are ∙ ap (λ (n : ℕ). range_with_len 0 n) agrees.stands.completed_are,
     )

@@ -5,6 +5,7 @@ use Rattle.domain_script.specs.declared.event.Event.TheVariants as line
 use Rattle.domain_script.specs.NamesState.{NamesState, noted}
 use Rattle.domain_script.specs.Spells.{Spells}
 use Rattle.domain_script.proofs.ScriptLemmas.{taken_more, taken_none}
+use Rattle.domain_script.proofs.Spelling.{declared_first}
 use Rattle.ldom_journal.specs.declared.status.Status.{Status}
 use Rattle.replay_law.specs.Attached.{AreOpening, is_opening}
 use Rattle.replay_law.specs.Opening.{Opens, OpensAndStops}
@@ -12,7 +13,7 @@ use Rattle.ldom_journal.specs.LinesEnd.{counted_lines}
 use Rattle.replay_law.specs.Reading.{ReadsEvent, StopsAt}
 use Rattle.domain_script.specs.ScriptEvents.{AllSpell, no_names}
 use Rattle.replay_law.specs.Script.{ReadSoFar}
-use Rattle.replay_law.proofs.LineCases.{ends, noted_disks}
+use Rattle.replay_law.proofs.LineCases.{ends, noted_disks, stays_ended}
 
 pub spell_more : (texts : List (List ℕ)) (text : List ℕ) (first names after : NamesState) (events : List Event) (event : Event) → AllSpell texts first events names → Spells text names event → after ≡ noted names event
     → AllSpell (texts ++ text ∷ []) first (events ++ event ∷ []) after
@@ -87,13 +88,33 @@ opens_and_stops start rest now held why names after count lines so_far stops is 
 })
 
 -- at most one disk is declared
+one_noted : (text : List ℕ) (event : Event) (names : NamesState) → Spells text names event → length names.disks ≤ 1 → length (noted names event).disks ≤ 1
+one_noted text event names spelled few = elim (noted_disks names event) [
+  | inl declares ↦
+      let spells : Spells text names (line.Disk declares.0) = subst (λ (e : Event). Spells text names e) declares.1 spelled in
+      subst (λ (e : Event). length (noted names e).disks ≤ 1) (sym declares.1)
+      (omega (arith, length-append names.disks (declares.0 ∷ []), ap length (declared_first text names declares.0 spells).1))
+  | inr same ↦ omega (arith, few, ap length same)
+]
+
 pub one_disk : (rest left : Option (List ℕ)) (event : Event) (names after : NamesState) → ReadsEvent rest left names event after → length names.disks ≤ 1
     → length after.disks ≤ 1
-one_disk rest left event names after reads few =
-    subst (λ (n : NamesState). length n.disks ≤ 1) (sym reads.noted_is) (elim (noted_disks names event) [
-      | inl declares ↦
-          let spells : Spells reads.text names (line.Disk declares.0) = subst (λ (e : Event). Spells reads.text names e) declares.1 reads.spells in
-          subst (λ (e : Event). length (noted names e).disks ≤ 1) (sym declares.1)
-          (omega (arith, length-append names.disks (declares.0 ∷ []), ap length spells.first))
-      | inr same ↦ omega (arith, few, ap length same)
-    ])
+one_disk rest left event names after reads few = subst (λ (n : NamesState). length n.disks ≤ 1) (sym reads.noted_is) (one_noted reads.text event names reads.spells few)
+
+pub names_few : (texts : List (List ℕ)) (names after : NamesState) (events : List Event) → length names.disks ≤ 1 → AllSpell texts names events after → length after.disks ≤ 1
+names_few [] names after [] few spell = subst (λ (n : NamesState). length n.disks ≤ 1) (sym spell) few
+names_few [] names after (e ∷ es) few spell = absurd spell
+names_few (x ∷ xs) names after [] few spell = absurd spell
+names_few (x ∷ xs) names after (e ∷ es) few spell = names_few xs (noted names e) after es (one_noted x e names spell.0 few) spell.1
+
+-- after the declarations none comes, so an event that is spelled is for one of the disks that were declared before
+pub still_ended : (rest left : Option (List ℕ)) (event : Event) (names after : NamesState) → ReadsEvent rest left names event after → names.ended ≡ true → after.ended ≡ true
+still_ended rest left event names after reads ended = ap (λ (n : NamesState). n.ended) reads.noted_is ∙ stays_ended names event ended
+
+pub same_disks : (rest left : Option (List ℕ)) (event : Event) (names after : NamesState) → ReadsEvent rest left names event after → names.ended ≡ true → after.disks ≡ names.disks
+same_disks rest left event names after reads ended = ap (λ (n : NamesState). n.disks) reads.noted_is ∙ elim (noted_disks names event) [
+  | inl declares ↦
+      let spells : Spells reads.text names (line.Disk declares.0) = subst (λ (e : Event). Spells reads.text names e) declares.1 reads.spells in
+      absurd (cc (ended, (declared_first reads.text names declares.0 spells).2))
+  | inr same ↦ same
+]

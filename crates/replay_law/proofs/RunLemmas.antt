@@ -10,22 +10,22 @@ use Rattle.domain_script.specs.NamesState.{NamesState}
 use Rattle.ldom_journal.specs.declared.entry.Entry.{Entry}
 use Rattle.ldom_journal.specs.declared.status.Status.{Status}
 use Rattle.ldom_journal.specs.declared.status.Status.TheVariants as status
-use Rattle.disk_law.specs.ListState.{ListState}
 use Rattle.replay_law.specs.Endings.{Ending, MayBeCut, NotBegun, Whole, ending}
 use Rattle.replay_law.specs.Going.{GrewTo, ReadsOn, RunsLines}
 use Rattle.replay_law.specs.Parts.{Fits, FitsSoFar, LineStep}
 use Rattle.ldom_journal.specs.LinesEnd.{counted_lines}
 use Rattle.replay_law.specs.Reading.{ReadsEvent, StopsAt}
+use Rattle.replay_law.specs.Worlds.{WorldState}
 use Rattle.replay_law.specs.Script.{FitsScript}
 use Rattle.domain_script.proofs.ScriptLemmas.{short-append, takes-append, takes_none}
 use Rattle.replay_law.proofs.ReadLemmas.{spell_more}
 
 -- no line yet
-pub fits_none : (s : ListState) → FitsScript s [] [] s
+pub fits_none : (s : WorldState) → FitsScript s [] [] s
 fits_none s = record { lines = []; events_are = refl; parts = refl; run = refl }
 
 -- one more line with its part
-pub fits_more : (s m t : ListState) (events : List Event) (event : Event) (journal part : List Entry) → FitsScript s events journal m → LineStep m (event, part) t → FitsScript s (events ++ event ∷ []) (journal ++ part) t
+pub fits_more : (s m t : WorldState) (events : List Event) (event : Event) (journal part : List Entry) → FitsScript s events journal m → LineStep m (event, part) t → FitsScript s (events ++ event ∷ []) (journal ++ part) t
 fits_more s m t events event journal part fits step =
     let last : List (Event × List Entry) = (event, part) ∷ [] in
     record {
@@ -52,8 +52,8 @@ on_more start rest left before names after number count next events event read c
 }
 
 -- the lines that were run so far
-pub record RunsSoFar (start : Option (List ℕ)) (before : NamesState) (old : List Entry) (s : ListState) (number : ℕ)
-    (rest : Option (List ℕ)) (names : NamesState) (new : List Entry) (t : ListState) (count : ℕ) : Type 0 where
+pub record RunsSoFar (start : Option (List ℕ)) (before : NamesState) (old : List Entry) (s : WorldState) (number : ℕ)
+    (rest : Option (List ℕ)) (names : NamesState) (new : List Entry) (t : WorldState) (count : ℕ) : Type 0 where
   pub events : List Event
   pub read : ReadsOn start rest before number events names
   pub part : List Entry
@@ -61,7 +61,7 @@ pub record RunsSoFar (start : Option (List ℕ)) (before : NamesState) (old : Li
   pub fits : FitsScript s events part t
   pub counts : count ≡ number + length read.texts
 
-pub runs_none : (start : Option (List ℕ)) (names : NamesState) (old : List Entry) (s : ListState) (number : ℕ) → number ≤ 20000
+pub runs_none : (start : Option (List ℕ)) (names : NamesState) (old : List Entry) (s : WorldState) (number : ℕ) → number ≤ 20000
     → RunsSoFar start names old s number start names old s number
 runs_none start names old s number few = record {
   events = [];
@@ -72,7 +72,7 @@ runs_none start names old s number few = record {
   counts = omega arith;
 }
 
-pub runs_more : (start rest left : Option (List ℕ)) (before names after : NamesState) (old mid new : List Entry) (s m t : ListState)
+pub runs_more : (start rest left : Option (List ℕ)) (before names after : NamesState) (old mid new : List Entry) (s m t : WorldState)
     (number count next : ℕ) (event : Event) → RunsSoFar start before old s number rest names mid m count → ReadsEvent rest left names event after
     → next ≡ count + 1 → next ≤ 20000 → Fits m event mid new t → RunsSoFar start before old s number left after new t next
 runs_more start rest left before names after old mid new s m t number count next event so_far reads is few fits = record {
@@ -84,14 +84,14 @@ runs_more start rest left before names after old mid new s m t number count next
   counts = omega (arith, is, so_far.counts, length-append so_far.read.texts (reads.text ∷ []));
 }
 
-grew_whole : (ending : Ending) (s : ListState) (events : List Event) (part : List Entry) (t : ListState) → FitsScript s events part t
+grew_whole : (ending : Ending) (s : WorldState) (events : List Event) (part : List Entry) (t : WorldState) → FitsScript s events part t
     → GrewTo ending s events part t
 grew_whole MayBeCut s events part t fits = inl fits
 grew_whole NotBegun s events part t fits = fits
 grew_whole Whole s events part t fits = fits
 
 -- no further line is taken up
-pub runs_stop : (start rest now : Option (List ℕ)) (held : List ℕ) (before names after : NamesState) (old new : List Entry) (s t : ListState)
+pub runs_stop : (start rest now : Option (List ℕ)) (held : List ℕ) (before names after : NamesState) (old new : List Entry) (s t : WorldState)
     (number count lines : ℕ) (why : Status) → RunsSoFar start before old s number rest names new t count → StopsAt why rest held now names count
     → lines ≡ counted_lines why count → after ≡ names → RunsLines start now before old s number why after new t lines
 runs_stop start rest now held before names after old new s t number count lines why so_far stop is same =
@@ -112,7 +112,7 @@ keeps_same None = tt
 keeps_same (Some bytes) = refl
 
 -- memory was wanted in the midst of a line
-pub runs_cut : (start rest now : Option (List ℕ)) (held : List ℕ) (before names after : NamesState) (old mid new : List Entry) (s m t : ListState)
+pub runs_cut : (start rest now : Option (List ℕ)) (held : List ℕ) (before names after : NamesState) (old mid new : List Entry) (s m t : WorldState)
     (number count next : ℕ) (event : Event) → RunsSoFar start before old s number rest names mid m count
     → ReadsEvent rest (prepend_known held now) names event after → next ≡ count + 1 → next ≤ 20000 → FitsSoFar m event mid new t
     → RunsLines start now before old s number status.NoMemory after new t next

@@ -1,32 +1,32 @@
 -- What a script's journal says of the image: what stays, and what failed.
-use Rattle.std.proofs.Common.{◌≡◌, ℕ, suc, ◌*◌, ◌^◌, ◌≤◌, ◌<◌, List, [], ◌∷◌, length, ap, arith, subst, sym, Option, None, Some, inl, inr}
-use Rattle.std.specs.List.{All, count_by, cons_option, filter_map}
+use Rattle.std.proofs.Common.{◌≡◌, ℕ, suc, ◌*◌, ◌^◌, ◌≤◌, ◌<◌, List, [], ◌∷◌, ◌++◌, length, ap, arith, subst, sym, ◌∙◌, append_assoc, Option, None, Some, inl, inr}
+use Rattle.std.specs.List.{All, cons_option, filter_map, flat_map}
+use Rattle.std.proofs.lemmas.List.{append-nil}
+use Rattle.std.proofs.lemmas.List.Elements.{All-nil}
 use Rattle.std.proofs.lemmas.List.Sums.{count_by-le-length}
+use Rattle.runs.specs.Run.{Run}
+use Rattle.domain_script.specs.declared.event.DiskDecl.{DiskDecl}
 use Rattle.domain_script.specs.declared.event.Event.{Event}
 use Rattle.ldom_journal.specs.declared.entry.Entry.{Entry}
-use Rattle.disk_law.specs.ListState.{ListState, fresh}
-use Rattle.disk_law.specs.ListStep.{DiskEvent}
-use Rattle.disk_law.specs.Issued.{issued}
-use Rattle.ldom_journal.specs.DiskEvents.{history, said, said_of_any, whole_history}
+use Rattle.ldom_journal.specs.DiskEvents.{said, said_of_any, whole_history}
 use Rattle.replay_law.specs.Failures.{has_failed, failed_count, SucceedOrFail, SucceedsOrFails}
-use Rattle.replay_law.specs.Outside.{accepted_requests, KeepsOthers}
+use Rattle.replay_law.specs.Outside.{IsOutsideDisks, KeepsOthers}
+use Rattle.replay_law.specs.Parts.{LineStep}
 use Rattle.replay_law.specs.Script.{FitsScript, FitsCutOff}
-use Rattle.replay_law.proofs.FaultsRise.{failed_run, statuses_run}
-use Rattle.replay_law.proofs.OutsideKept.{fresh_kept}
-use Rattle.replay_law.proofs.History.{Tells, script_tells, cut_off_tells, whole_is}
+use Rattle.replay_law.specs.Worlds.{WorldState, blocks_of, fresh_world}
+use Rattle.replay_law.proofs.FaultsRise.{Reaches, failed_run, faults_run, faults_lines, statuses_run}
+use Rattle.replay_law.proofs.OutsideKept.{cut_keeps, lines_keep}
 
-tells_kept : (blocks ring faults : ℕ) (content : List ℕ) (journal : List Entry) (t : ListState) → 512 * blocks ≤ length content
-    → Tells (fresh blocks ring (Some content) faults) journal t → KeepsOthers (accepted_requests journal) content t.told
-tells_kept blocks ring faults content journal t within tells =
-    let s = fresh blocks ring (Some content) faults in
-    subst (λ (es : List DiskEvent). KeepsOthers (issued es) content t.told) (sym (whole_is s t journal tells))
-    (fresh_kept blocks ring faults content t (history 0 journal) within tells.run)
+pub script_kept : (disks : List DiskDecl) (faults : ℕ) (content : List ℕ) (events : List Event) (journal : List Entry) (v : WorldState) → 512 * blocks_of disks ≤ length content → FitsScript (fresh_world disks (record { told = Some content; faults = faults })) events journal v
+    → KeepsOthers (IsOutsideDisks disks journal) content v.image.told
+script_kept disks faults content events journal v within fits =
+    subst (λ (l : List Entry). KeepsOthers (IsOutsideDisks disks l) content v.image.told) fits.parts (lines_keep disks faults v fits.lines content within fits.run)
 
-pub script_kept : (blocks ring faults : ℕ) (content : List ℕ) (events : List Event) (journal : List Entry) (t : ListState) → 512 * blocks ≤ length content → FitsScript (fresh blocks ring (Some content) faults) events journal t → KeepsOthers (accepted_requests journal) content t.told
-script_kept blocks ring faults content events journal t within fits = tells_kept blocks ring faults content journal t within (script_tells (fresh blocks ring (Some content) faults) t events journal fits)
-
-pub cut_off_kept : (blocks ring faults : ℕ) (content : List ℕ) (events : List Event) (journal : List Entry) (t : ListState) → 512 * blocks ≤ length content → FitsCutOff (fresh blocks ring (Some content) faults) events journal t → KeepsOthers (accepted_requests journal) content t.told
-cut_off_kept blocks ring faults content events journal t within cut = tells_kept blocks ring faults content journal t within (cut_off_tells (fresh blocks ring (Some content) faults) t events journal cut)
+pub cut_off_kept : (disks : List DiskDecl) (faults : ℕ) (content : List ℕ) (events : List Event) (journal : List Entry) (v : WorldState) → 512 * blocks_of disks ≤ length content → FitsCutOff (fresh_world disks (record { told = Some content; faults = faults })) events journal v
+    → KeepsOthers (IsOutsideDisks disks journal) content v.image.told
+cut_off_kept disks faults content events journal v within cut =
+    subst (λ (l : List Entry). KeepsOthers (IsOutsideDisks disks l) content v.image.told) (ap (λ (l : List Entry). l ++ cut.so_far.part) cut.fits.parts ∙ sym cut.so_far.grew)
+    (cut_keeps disks faults cut.last cut.middle v cut.fits.lines cut.so_far.part content within cut.fits.run cut.so_far.run)
 
 -- a list gives no more than one thing for each of its items
 most_told : {X Y : Type 0} (f : X → Option Y) (xs : List X) → length (filter_map f xs) ≤ length xs
@@ -37,27 +37,54 @@ most_told f (x ∷ xs) = one_more (f x) (filter_map f xs) xs (most_told f xs)
     one_more None ys rest most = omega (arith, most)
     one_more (Some y) ys rest most = omega (arith, most)
 
-tells_failed : (s t : ListState) (journal : List Entry) → s.faults ≡ 0 → length journal < 2 ^ 63 → Tells s journal t → failed_count journal ≤ t.faults
-tells_failed s t journal none short tells =
-    let whole = ap (λ (es : List DiskEvent). count_by has_failed es) (whole_is s t journal tells) in
-    elim (failed_run s t (history 0 journal) tells.run) [
-      | inl reached ↦ omega (arith, reached, whole, none)
-      | inr last ↦
-          omega (arith, last, short, count_by-le-length has_failed (whole_history journal), most_told (λ (e : Entry). said_of_any (said e)) journal)
-    ]
+lines_failed : (w v : WorldState) (lines : List (Event × List Entry)) (rest : List Entry) (now : ℕ) → Run LineStep w lines v → v.image.faults ≤ now
+    → Reaches v.image.faults (failed_count rest) now → Reaches w.image.faults (failed_count (flat_map (λ l. l.1) lines ++ rest)) now
+lines_failed w v [] rest now run later reached = subst (λ (x : WorldState). Reaches x.image.faults (failed_count rest) now) (sym run) reached
+lines_failed w v (step ∷ lines) rest now run later reached =
+    subst (λ (l : List Entry). Reaches w.image.faults (failed_count l) now) (sym (append_assoc step.1 (flat_map (λ (l : Event × List Entry). l.1) lines) rest))
+    (failed_run step.0 w run.0 step.1 (flat_map (λ (l : Event × List Entry). l.1) lines ++ rest) now run.1.1 (omega (arith, faults_lines run.0 v lines run.2, later))
+    (lines_failed run.0 v lines rest now run.2 later reached))
 
-pub script_failed : (s t : ListState) (events : List Event) (journal : List Entry) → s.faults ≡ 0 → length journal < 2 ^ 63 → FitsScript s events journal t → failed_count journal ≤ t.faults
-script_failed s t events journal none short fits = tells_failed s t journal none short (script_tells s t events journal fits)
+counted : (journal : List Entry) (from now : ℕ) → from ≡ 0 → length journal < 2 ^ 63 → Reaches from (failed_count journal) now → failed_count journal ≤ now
+counted journal from now none short reaches = elim reaches [
+  | inl reached ↦ omega (arith, reached, none)
+  | inr last ↦ omega (arith, last, short, count_by-le-length has_failed (whole_history journal), most_told (λ (e : Entry). said_of_any (said e)) journal)
+]
 
-pub cut_off_failed : (s t : ListState) (events : List Event) (journal : List Entry) → s.faults ≡ 0 → length journal < 2 ^ 63 → FitsCutOff s events journal t → failed_count journal ≤ t.faults
-cut_off_failed s t events journal none short cut = tells_failed s t journal none short (cut_off_tells s t events journal cut)
+none_failed : (now : ℕ) → Reaches now (failed_count []) now
+none_failed now = inl (omega arith)
 
-tells_statuses : (s t : ListState) (journal : List Entry) → Tells s journal t → SucceedOrFail journal
-tells_statuses s t journal tells =
-    subst (λ (es : List DiskEvent). All SucceedsOrFails es) (sym (whole_is s t journal tells)) (statuses_run s t (history 0 journal) tells.run)
+pub script_failed : (w v : WorldState) (events : List Event) (journal : List Entry) → w.image.faults ≡ 0 → length journal < 2 ^ 63 → FitsScript w events journal v → failed_count journal ≤ v.image.faults
+script_failed w v events journal none short fits =
+    let parts : List Entry = flat_map (λ (l : Event × List Entry). l.1) fits.lines in
+    counted journal w.image.faults v.image.faults none short
+    (subst (λ (l : List Entry). Reaches w.image.faults (failed_count l) v.image.faults) (append-nil parts ∙ fits.parts)
+    (lines_failed w v fits.lines [] v.image.faults fits.run (omega arith) (none_failed v.image.faults)))
 
-pub script_statuses : (s t : ListState) (events : List Event) (journal : List Entry) → FitsScript s events journal t → SucceedOrFail journal
-script_statuses s t events journal fits = tells_statuses s t journal (script_tells s t events journal fits)
+pub cut_off_failed : (w v : WorldState) (events : List Event) (journal : List Entry) → w.image.faults ≡ 0 → length journal < 2 ^ 63 → FitsCutOff w events journal v → failed_count journal ≤ v.image.faults
+cut_off_failed w v events journal none short cut =
+    let part : List Entry = cut.so_far.part in
+    let m = cut.middle in
+    counted journal w.image.faults v.image.faults none short
+    (subst (λ (l : List Entry). Reaches w.image.faults (failed_count l) v.image.faults) (ap (λ (l : List Entry). l ++ part) cut.fits.parts ∙ sym cut.so_far.grew)
+    (lines_failed w m cut.fits.lines part v.image.faults cut.fits.run (faults_run cut.last m v part cut.so_far.run)
+    (subst (λ (l : List Entry). Reaches m.image.faults (failed_count l) v.image.faults) (append-nil part)
+    (failed_run cut.last m v part [] v.image.faults cut.so_far.run (omega arith) (none_failed v.image.faults)))))
 
-pub cut_off_statuses : (s t : ListState) (events : List Event) (journal : List Entry) → FitsCutOff s events journal t → SucceedOrFail journal
-cut_off_statuses s t events journal cut = tells_statuses s t journal (cut_off_tells s t events journal cut)
+lines_statuses : (w v : WorldState) (lines : List (Event × List Entry)) (rest : List Entry) → Run LineStep w lines v → All SucceedsOrFails (whole_history rest) → All SucceedsOrFails (whole_history (flat_map (λ l. l.1) lines ++ rest))
+lines_statuses w v [] rest run are = are
+lines_statuses w v (step ∷ lines) rest run are =
+    subst (λ (l : List Entry). All SucceedsOrFails (whole_history l)) (sym (append_assoc step.1 (flat_map (λ (l : Event × List Entry). l.1) lines) rest))
+    (statuses_run step.0 w run.0 step.1 (flat_map (λ (l : Event × List Entry). l.1) lines ++ rest) run.1.1 (lines_statuses run.0 v lines rest run.2 are))
+
+pub script_statuses : (w v : WorldState) (events : List Event) (journal : List Entry) → FitsScript w events journal v → SucceedOrFail journal
+script_statuses w v events journal fits =
+    let parts : List Entry = flat_map (λ (l : Event × List Entry). l.1) fits.lines in
+    subst SucceedOrFail (append-nil parts ∙ fits.parts) (lines_statuses w v fits.lines [] fits.run (All-nil SucceedsOrFails))
+
+pub cut_off_statuses : (w v : WorldState) (events : List Event) (journal : List Entry) → FitsCutOff w events journal v → SucceedOrFail journal
+cut_off_statuses w v events journal cut =
+    let part : List Entry = cut.so_far.part in
+    subst SucceedOrFail (ap (λ (l : List Entry). l ++ part) cut.fits.parts ∙ sym cut.so_far.grew)
+    (lines_statuses w cut.middle cut.fits.lines part cut.fits.run
+    (subst SucceedOrFail (append-nil part) (statuses_run cut.last cut.middle v part [] cut.so_far.run (All-nil SucceedsOrFails))))

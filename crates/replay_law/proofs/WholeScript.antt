@@ -1,5 +1,5 @@
 -- A run with status 0: its script was read to the end, and its report was written.
-use Rattle.std.proofs.Common.{◌≡◌, inl, inr, ℕ, ◌*◌, List, [], ◌∷◌, length, sym, ◌∙◌, ap, subst, Option, Some, None, IfSome}
+use Rattle.std.proofs.Common.{◌≡◌, inl, inr, ℕ, ◌*◌, arith, List, [], ◌∷◌, length, sym, ◌∙◌, ap, subst, Option, Some, None, IfSome}
 use Rattle.std.specs.Prelude.{IsSome, IsSomeAnd}
 use Rattle.std.specs.Io.KnownBytes.{Appends}
 use Rattle.domain_script.specs.declared.event.DiskDecl.{DiskDecl}
@@ -11,7 +11,6 @@ use Rattle.ldom_journal.specs.declared.entry.Entry.{Entry}
 use Rattle.ldom_journal.specs.declared.status.Mode.TheVariants as mode
 use Rattle.ldom_journal.specs.declared.status.Status.{Status}
 use Rattle.ldom_journal.specs.declared.status.Status.TheVariants as status
-use Rattle.disk_law.specs.ListState.{ListState, fresh}
 use Rattle.replay_law.specs.Outcomes.{Reports, RunsScript}
 use Rattle.replay_law.specs.PlainRun.{plain_content}
 use Rattle.replay_law.specs.Quiet.{IsQuietScript}
@@ -19,7 +18,7 @@ use Rattle.replay_law.specs.Replayed.{Replayed, start_of}
 use Rattle.domain_script.specs.ScriptEvents.{AllSpell, no_names}
 use Rattle.replay_law.specs.Script.{FitsScript}
 use Rattle.replay_law.specs.Whole.{RunsWhole, RunsPlainly}
-use Rattle.replay_law.specs.Worlds.{blocks_of, ring_of}
+use Rattle.replay_law.specs.Worlds.{WorldState, blocks_of, fresh_world}
 use Rattle.replay_law.proofs.OneReading.{all_read, as_many, one_reading}
 use Rattle.replay_law.proofs.PlainLaw.{plain_law}
 use Rattle.replay_law.proofs.QuietNames.{quiet_disks}
@@ -53,7 +52,7 @@ module _ {D : Type 0} (content : D → Option (List ℕ)) (faults size : D → �
         written = subst (λ (l : List ℕ). Appends old new l) text told.1;
       }
     where
-      attached : (i : Option D) (t : ListState) → IfSome i (λ d. (content d ≡ t.told) × (faults d ≡ t.faults)) → IsSome i → t.faults ≡ 0 → IsSomeAnd i (λ d. (content d ≡ t.told) × (faults d ≡ 0))
+      attached : (i : Option D) (t : WorldState) → IfSome i (λ d. (content d ≡ t.image.told) × (faults d ≡ t.image.faults)) → IsSome i → t.image.faults ≡ 0 → IsSomeAnd i (λ d. (content d ≡ t.image.told) × (faults d ≡ 0))
       attached None t is some none = absurd (cc some)
       attached (Some d) t is some none = (is.0, is.1 ∙ none)
 
@@ -62,10 +61,12 @@ module _ {D : Type 0} (content : D → Option (List ℕ)) (faults size : D → �
   runs_plainly disk given quiet gave =
       let whole = runs_whole quiet.names quiet.spelled in
       let disks : quiet.names.disks ≡ disk ∷ [] = quiet_disks disk (script_lines bytes) events quiet.names quiet.quiet quiet.spelled in
-      let one : FitsScript (fresh (blocks_of (disk ∷ [])) (ring_of (disk ∷ [])) (gives (512 * blocks_of (disk ∷ []))) 0) events journal whole.final =
-      subst (λ (d : List DiskDecl). FitsScript (fresh (blocks_of d) (ring_of d) (gives (512 * blocks_of d)) 0) events journal whole.final) disks whole.fits in
-      let fits : FitsScript (fresh (blocks_of (disk ∷ [])) (ring_of (disk ∷ [])) (Some given) 0) events journal whole.final =
-      subst (λ (o : Option (List ℕ)). FitsScript (fresh (blocks_of (disk ∷ [])) (ring_of (disk ∷ [])) o 0) events journal whole.final) gave one in
+      let least : blocks_of (disk ∷ []) ≡ disk.blocks = omega arith in
+      let told : gives (512 * blocks_of (disk ∷ [])) ≡ Some given = ap (λ (n : ℕ). gives (512 * n)) least ∙ gave in
+      let one : FitsScript (fresh_world (disk ∷ []) (record { told = gives (512 * blocks_of (disk ∷ [])); faults = 0 })) events journal whole.final =
+      subst (λ (d : List DiskDecl). FitsScript (fresh_world d (record { told = gives (512 * blocks_of d); faults = 0 })) events journal whole.final) disks whole.fits in
+      let fits : FitsScript (fresh_world (disk ∷ []) (record { told = Some given; faults = 0 })) events journal whole.final =
+      subst (λ (o : Option (List ℕ)). FitsScript (fresh_world (disk ∷ []) (record { told = o; faults = 0 })) events journal whole.final) told one in
       let law = plain_law disk given events journal whole.final quiet.quiet fits whole.faultless in
       record {
         written = subst (λ (l : List ℕ). Appends old new l) (ap (λ (d : List DiskDecl). report mode.Run d (length events) journal status.Done) disks ∙ law.0) whole.written;
@@ -73,6 +74,6 @@ module _ {D : Type 0} (content : D → Option (List ℕ)) (faults size : D → �
         ids = law.2;
       }
     where
-      told_by : (i : Option D) (t : ListState) → IsSomeAnd i (λ d. (content d ≡ t.told) × (faults d ≡ 0)) → t.told ≡ Some (plain_content disk given events) → IsSomeAnd i (λ d. content d ≡ Some (plain_content disk given events))
+      told_by : (i : Option D) (t : WorldState) → IsSomeAnd i (λ d. (content d ≡ t.image.told) × (faults d ≡ 0)) → t.image.told ≡ Some (plain_content disk given events) → IsSomeAnd i (λ d. content d ≡ Some (plain_content disk given events))
       told_by None t is told = absurd is
       told_by (Some d) t is told = is.0 ∙ told

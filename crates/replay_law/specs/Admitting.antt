@@ -1,20 +1,14 @@
 -- What each request line of a script got.
-use Rattle.std.specs.Prelude.{◌≡◌, List, [], ◌∷◌, ◌++◌, map}
+use Rattle.std.specs.Prelude.{◌≡◌, ℕ, List, [], ◌∷◌, ◌++◌, map}
 use Rattle.std.specs.List.{flat_map}
 use Rattle.disk_law.specs.Issued.{Admission}
-use Rattle.disk_law.specs.ListStep.{DiskEvent}
 use Rattle.domain_script.specs.declared.event.DiskDecl.{DiskDecl}
 use Rattle.domain_script.specs.declared.event.Event.{Event}
 use Rattle.ldom_journal.specs.declared.entry.Entry.{Entry}
 use Rattle.ldom_journal.specs.declared.status.Status.{Status}
-use Rattle.ldom_journal.specs.DiskEvents.{happened}
 use Rattle.replay_law.specs.Endings.{Ending, MayBeCut, NotBegun, Whole, ending}
-use Rattle.replay_law.specs.Parts.{BeginsPart, PartOf}
-use Rattle.replay_law.specs.Worlds.{blocks_of, ring_of}
-
--- what happened to the one disk in lines with their parts
-abbrev pub all_happened : List (Event × List Entry) → List DiskEvent
-all_happened lines = flat_map (λ l. happened 0 l.0 l.1) lines
+use Rattle.replay_law.specs.Parts.{BeginsPart, PartOf, all_happened}
+use Rattle.replay_law.specs.Worlds.{blocks_at, ring_at}
 
 -- each part is that of its line
 abbrev pub AreParts : List (Event × List Entry) → Type 0
@@ -43,4 +37,5 @@ pub record AdmitsRequests (why : Status) (disks : List DiskDecl) (events : List 
   pub parts : flat_map (λ l. l.1) (lines ++ last) ≡ journal
   pub are_parts : AreParts lines
   pub lacks : LacksParts (ending why) last rest
-  pub admission : Admission (blocks_of disks) (ring_of disks) (all_happened (lines ++ last))
+  -- for each disk by its number; at one that no disk has, no request is taken up
+  pub admission : (x : ℕ) → Admission (blocks_at disks x) (ring_at disks x) (all_happened x (lines ++ last))

@@ -1,11 +1,10 @@
 -- The lines of a script after its declarations.
-use Rattle.std.specs.Prelude.{◌≡◌, ◌≢◌, ℕ, ◌+◌, ◌≤◌, ◌⊎◌, List, ◌++◌, length, Option, ⊤}
+use Rattle.std.specs.Prelude.{◌≡◌, ◌≢◌, ℕ, ◌+◌, ◌≤◌, ◌⊎◌, List, ◌++◌, length, Option}
 use Rattle.domain_script.specs.declared.event.Event.{Event}
 use Rattle.domain_script.specs.NamesState.{NamesState}
 use Rattle.ldom_journal.specs.declared.entry.Entry.{Entry}
 use Rattle.ldom_journal.specs.declared.status.Status.{Status}
 use Rattle.ldom_journal.specs.declared.status.Status.TheVariants as status
-use Rattle.disk_law.specs.ListState.{ListState}
 use Rattle.ldom_journal.specs.LinesEnd.{counted_lines}
 use Rattle.replay_law.specs.Attached.{AreOpening}
 use Rattle.replay_law.specs.Endings.{Ending, MayBeCut, ending}
@@ -14,13 +13,14 @@ use Rattle.replay_law.specs.Replayed.{Stopped}
 use Rattle.domain_script.specs.ScriptLines.{AreShort, TakesLines}
 use Rattle.domain_script.specs.ScriptEvents.{AllSpell}
 use Rattle.replay_law.specs.Script.{FitsScript, FitsCutOff}
+use Rattle.replay_law.specs.Worlds.{WorldState}
 
 -- what the journal got by how it ended: after want of memory the last line's part may be cut off
-abbrev pub GrewTo : Ending → ListState → List Event → List Entry → ListState → Type 0
+abbrev pub GrewTo : Ending → WorldState → List Event → List Entry → WorldState → Type 0
 GrewTo MayBeCut s events part t = FitsScript s events part t ⊎ FitsCutOff s events part t
 GrewTo other s events part t = FitsScript s events part t
 
-abbrev pub Grew : Status → ListState → List Event → List Entry → ListState → Type 0
+abbrev pub Grew : Status → WorldState → List Event → List Entry → WorldState → Type 0
 Grew why s events part t = GrewTo (ending why) s events part t
 
 -- from the bytes that are still to come, after so many lines, these lines were read
@@ -32,8 +32,8 @@ pub record ReadsOn (start left : Option (List ℕ)) (before : NamesState) (numbe
   pub spell : AllSpell texts before events after
 
 -- they were read and run, and then no further one was taken up
-pub record RunsLines (start now : Option (List ℕ)) (before : NamesState) (old : List Entry) (s : ListState) (number : ℕ)
-    (why : Status) (after : NamesState) (new : List Entry) (t : ListState) (lines : ℕ) : Type 0 where
+pub record RunsLines (start now : Option (List ℕ)) (before : NamesState) (old : List Entry) (s : WorldState) (number : ℕ)
+    (why : Status) (after : NamesState) (new : List Entry) (t : WorldState) (lines : ℕ) : Type 0 where
   pub events : List Event
   pub left : Option (List ℕ)
   pub read : ReadsOn start left before number events after
@@ -44,21 +44,8 @@ pub record RunsLines (start now : Option (List ℕ)) (before : NamesState) (old 
   pub stop : StopsAt why left held now after (number + length read.texts)
   pub lines_are : lines ≡ counted_lines why (number + length read.texts)
 
--- a status with which reading a script ends
-abbrev pub IsReaders : Status → Type 0
-IsReaders status.Done = ⊤
-IsReaders (status.Script line fault) = ⊤
-IsReaders status.SourceFault = ⊤
-IsReaders (status.Limit line kind) = ⊤
-IsReaders status.NoMemory = ⊤
-IsReaders status.Usage = ⊥
-IsReaders status.SinkFault = ⊥
-IsReaders status.HostFault = ⊥
-IsReaders status.StoreFault = ⊥
-IsReaders (status.ImageSize need have) = ⊥
-
 -- From its first line on the script was read and run, and then no further line was taken up.
-pub record RunsAll (start now : Option (List ℕ)) (before : NamesState) (s : ListState) (why : Status) (after : NamesState) (journal : List Entry) (t : ListState) (lines : ℕ) : Type 0 where
+pub record RunsAll (start now : Option (List ℕ)) (before : NamesState) (s : WorldState) (why : Status) (after : NamesState) (journal : List Entry) (t : WorldState) (lines : ℕ) : Type 0 where
   pub events : List Event
   pub stopped : Stopped start now why events after lines
   pub fits : Grew why s events journal t

@@ -2,6 +2,7 @@ pub mod Admitting
 pub mod Attached
 pub mod Clean
 pub mod Completed
+pub mod Counts
 pub mod Endings
 pub mod Failures
 pub mod Going

@@ -9,7 +9,7 @@ use Rattle.ldom_journal.specs.declared.status.Mode.TheVariants as mode
 use Rattle.ldom_journal.specs.declared.status.Status.{Status}
 use Rattle.ldom_journal.specs.declared.status.Status.TheVariants.{SinkFault}
 use Rattle.replay_law.specs.Admitting.{AdmitsRequests}
-use Rattle.replay_law.specs.Outside.{KeepsTold, accepted_requests}
+use Rattle.replay_law.specs.Outside.{IsOutsideDisks, KeepsTold}
 use Rattle.replay_law.specs.Replayed.{Replayed}
 use Rattle.replay_law.specs.Sized.{SizeIs}
 use Rattle.replay_law.specs.Worlds.{blocks_of}
@@ -29,5 +29,5 @@ pub record RunsScript {D : Type 0} (content : D → Option (List ℕ)) (faults s
   pub replayed : Replayed content faults script now gives ran lines names journal image
   pub admits : AdmitsRequests ran names.disks replayed.events journal
   pub sized : SizeIs size ran (512 * blocks_of names.disks) (gives (512 * blocks_of names.disks)) image
-  pub others : IfSome image (λ disk. KeepsTold (gives (512 * blocks_of names.disks)) (accepted_requests journal) (content disk))
+  pub others : IfSome image (λ disk. KeepsTold (gives (512 * blocks_of names.disks)) (IsOutsideDisks names.disks journal) (content disk))
   pub reports : Reports ran status old new (report mode.Run names.disks lines journal ran)

@@ -7,13 +7,12 @@ use Rattle.ldom_journal.specs.declared.status.Status.{Status}
 use Rattle.ldom_journal.specs.declared.status.Status.TheVariants as status
 use Rattle.vio_io.specs.declared.host.AttachFault.{AttachFault}
 use Rattle.vio_io.specs.declared.host.AttachFault.TheVariants.{Failed, Memory}
-use Rattle.disk_law.specs.ListState.{ListState, fresh}
 use Rattle.ldom_journal.specs.LinesEnd.{counted_lines}
 use Rattle.replay_law.specs.Attached.{ImageStands}
 use Rattle.replay_law.specs.Endings.{Ending, MayBeCut, NotBegun, Whole, ending}
 use Rattle.replay_law.specs.Reading.{StopsAt}
 use Rattle.replay_law.specs.Script.{ReadSoFar, FitsScript, FitsCutOff}
-use Rattle.replay_law.specs.Worlds.{blocks_of, ring_of}
+use Rattle.replay_law.specs.Worlds.{WorldState, blocks_of, fresh_world}
 
 -- These events were read, and then no further line was taken up; the report counts so many lines. The source has `now`
 -- left, and what was taken from it and is in no line is held.
@@ -26,13 +25,13 @@ pub record Stopped (start now : Option (List ℕ)) (why : Status) (events : List
   pub lines_are : lines ≡ counted_lines why count
 
 -- the journal of a run: after want of memory the last line's part may be cut off, and without an image there is none
-abbrev pub JournalEnds : Ending → ListState → List Event → List Entry → ListState → Type 0
+abbrev pub JournalEnds : Ending → WorldState → List Event → List Entry → WorldState → Type 0
 JournalEnds MayBeCut s events journal t = FitsScript s events journal t ⊎ FitsCutOff s events journal t
 JournalEnds NotBegun s events journal t = (journal ≡ []) × (t ≡ s)
 JournalEnds Whole s events journal t = FitsScript s events journal t
 
 -- by how it ended
-abbrev pub JournalIs : Status → ListState → List Event → List Entry → ListState → Type 0
+abbrev pub JournalIs : Status → WorldState → List Event → List Entry → WorldState → Type 0
 JournalIs why s events journal t = JournalEnds (ending why) s events journal t
 
 -- why a run ended where no image was attached
@@ -51,9 +50,9 @@ abbrev pub ended_status : Status → Bool → Status
 ended_status status.Done faulty = if faulty then status.StoreFault else status.Done
 ended_status other faulty = other
 
--- the disks' state as a run begins, over what attaching gives for so many bytes
-abbrev pub start_of : NamesState → (ℕ → Option (List ℕ)) → ListState
-start_of names gives = fresh (blocks_of names.disks) (ring_of names.disks) (gives (512 * blocks_of names.disks)) 0
+-- the world as a run begins, over what attaching gives for so many bytes
+abbrev pub start_of : NamesState → (ℕ → Option (List ℕ)) → WorldState
+start_of names gives = fresh_world names.disks (record { told = gives (512 * blocks_of names.disks); faults = 0 })
 
 -- A run: its script was read up to where it stopped, its journal is one part for each line, and the image is what the
 -- journal makes of the one that was attached. The source has `now` left.
@@ -61,8 +60,8 @@ pub record Replayed {D : Type 0} (content : D → Option (List ℕ)) (faults : D
     (why : Status) (lines : ℕ) (names : NamesState) (journal : List Entry) (image : Option D) : Type 0 where
   pub events : List Event
   pub stopped : Stopped script now why events names lines
-  pub final : ListState
+  pub final : WorldState
   pub journal_is : JournalIs why (start_of names gives) events journal final
-  pub image_is : IfSome image (λ disk. (content disk ≡ final.told) × (faults disk ≡ final.faults))
-  pub faults_are : FaultsAre why image final.faults
+  pub image_is : IfSome image (λ disk. (content disk ≡ final.image.told) × (faults disk ≡ final.image.faults))
+  pub faults_are : FaultsAre why image final.image.faults
   pub image_stands : ImageStands why events stopped.left journal image

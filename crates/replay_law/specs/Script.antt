@@ -7,8 +7,8 @@ use Rattle.domain_script.specs.NamesState.{NamesState}
 use Rattle.domain_script.specs.ScriptEvents.{AllSpell, no_names}
 use Rattle.domain_script.specs.ScriptLines.{LinesTaken}
 use Rattle.ldom_journal.specs.declared.entry.Entry.{Entry}
-use Rattle.disk_law.specs.ListState.{ListState}
 use Rattle.replay_law.specs.Parts.{FitsSoFar, LineStep}
+use Rattle.replay_law.specs.Worlds.{WorldState}
 
 -- these lines were read from the front of what a source gives, and spell these events
 pub record ReadSoFar (start left : Option (List ℕ)) (events : List Event) (names : NamesState) (count : ℕ) : Type 0 where
@@ -17,19 +17,19 @@ pub record ReadSoFar (start left : Option (List ℕ)) (events : List Event) (nam
   pub spell : AllSpell texts no_names events names
   pub counts : count ≡ length texts
 
--- the journal is one part for each line, one after another, and the disk was led from one state to another
-pub record FitsScript (s : ListState) (events : List Event) (journal : List Entry) (t : ListState) : Type 0 where
+-- the journal is one part for each line, one after another, and the world was led from one state to another
+pub record FitsScript (s : WorldState) (events : List Event) (journal : List Entry) (t : WorldState) : Type 0 where
   pub lines : List (Event × List Entry)
   pub events_are : map (λ l. l.0) lines ≡ events
   pub parts : flat_map (λ l. l.1) lines ≡ journal
   pub run : Run LineStep s lines t
 
 -- the same, but of the last line only the steps that were made before memory was wanted
-pub record FitsCutOff (s : ListState) (events : List Event) (journal : List Entry) (t : ListState) : Type 0 where
+pub record FitsCutOff (s : WorldState) (events : List Event) (journal : List Entry) (t : WorldState) : Type 0 where
   pub before : List Event
   pub last : Event
   pub events_are : events ≡ before ++ last ∷ []
   pub front : List Entry
-  pub middle : ListState
+  pub middle : WorldState
   pub fits : FitsScript s before front middle
   pub so_far : FitsSoFar middle last front journal t

@@ -8,19 +8,19 @@ use Rattle.ldom_journal.specs.Report.{report}
 use Rattle.ldom_journal.specs.declared.entry.Entry.{Entry}
 use Rattle.ldom_journal.specs.declared.status.Mode.TheVariants as mode
 use Rattle.ldom_journal.specs.declared.status.Status.TheVariants.{Done}
-use Rattle.disk_law.specs.ListState.{ListState}
 use Rattle.replay_law.specs.Completed.{completed_ids}
 use Rattle.replay_law.specs.PlainRun.{plain_text, plain_content, plain_ids}
 use Rattle.replay_law.specs.Replayed.{start_of}
 use Rattle.replay_law.specs.Script.{FitsScript}
+use Rattle.replay_law.specs.Worlds.{WorldState}
 
 -- the journal fits all events, no call of the image failed, and the whole report was written
 pub record RunsWhole {D : Type 0} (content : D → Option (List ℕ)) (faults : D → ℕ) (gives : ℕ → Option (List ℕ)) (names : NamesState) (events : List Event)
     (journal : List Entry) (image : Option D) (old new : Option (List ℕ)) : Type 0 where
-  pub final : ListState
+  pub final : WorldState
   pub fits : FitsScript (start_of names gives) events journal final
-  pub faultless : final.faults ≡ 0
-  pub image_is : IsSomeAnd image (λ disk. (content disk ≡ final.told) × (faults disk ≡ 0))
+  pub faultless : final.image.faults ≡ 0
+  pub image_is : IsSomeAnd image (λ disk. (content disk ≡ final.image.told) × (faults disk ≡ 0))
   pub written : Appends old new (report mode.Run names.disks (length events) journal Done)
 
 -- the written text is that of the plain run over these bytes, and so are what the image is left with and the ids of the

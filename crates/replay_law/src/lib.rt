@@ -7,5 +7,5 @@ mod laws;
 
 pub use laws::{
     a_quiet_script_runs_plainly, bytes_outside_of_writes_stay, completions_succeed_or_fail,
-    failed_completions_are_counted,
+    each_disk_runs, failed_completions_are_counted,
 };

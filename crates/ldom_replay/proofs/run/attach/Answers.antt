@@ -1,11 +1,10 @@
-use Rattle.std.proofs.Common.{◌≡◌, ◌*◌, [], ℕ, None, refl, subst, sym}
-use Rattle.ldom_journal.specs.declared.status.Status.{Status}
+use Rattle.std.proofs.Common.{◌≡◌, ◌*◌, ◌∙◌, [], ℕ, None, refl, ap, subst, sym}
+use Rattle.ldom_journal.specs.JournalState.{JournalState}
 use Rattle.replay_law.specs.Replayed.{attach_status}
-use Rattle.replay_law.specs.Sized.{SizeIs}
 use Rattle.replay_law.specs.Worlds.{blocks_of}
 use Rattle.replay_law.proofs.Assembly.{replayed_as, replayed_refused}
-use Rattle.replay_law.proofs.Sizes.{sized_refused}
-use Rattle.ldom_replay.proofs.Holding.{gave_one}
+use Rattle.replay_law.proofs.Sizes.{sized_as, sized_refused}
+use Rattle.ldom_replay.proofs.Holding.{gave_as, gave_one}
 use Rattle.ldom_replay.proofs.run.attach.Goals as goal
 
 pub returns-in-Ok-clause-replayed : goal.returns-in-Ok-clause-replayed
@@ -24,12 +23,20 @@ returns-in-Ok-clause-image g c = gave_one _ _ c.run_over.result.image c.run_over
 pub returns-in-Err-clause-replayed : goal.returns-in-Err-clause-replayed
 returns-in-Err-clause-replayed g c start opened =
     let gives = g.H.Host.gives c.args.host.now c.args.name.now in
-    replayed_as g.H.Disk.Store.content g.H.Disk.Store.faults start (g.S.Source.left c.args.source.now) gives (attach_status c.in-Err.fault) c.status_of.result c.args.lines.number c.number.result c.args.names [] c.args.journal.entries None None
-    c.status_of.ensures c.number.ensures c.requires.journal refl
-    (replayed_refused g.H.Disk.Store.content g.H.Disk.Store.faults start (g.S.Source.left c.args.source.now) gives c.in-Err.fault c.args.lines.held c.args.first c.args.names c.args.lines.number None tt (λ _. refl) opened)
+    let now = g.S.Source.left c.args.source.now in
+    let read = c.args.reader in
+    replayed_as g.H.Disk.Store.content g.H.Disk.Store.faults start now gives (attach_status c.in-Err.fault) c.into_run.result.status read.lines.number c.into_run.result.lines
+    read.names c.into_run.result.names [] c.into_run.result.journal.entries None c.into_run.result.image
+    (c.into_run.ensures.status ∙ c.status_of.ensures) c.into_run.ensures.lines c.into_run.ensures.names
+    (ap (λ (j : JournalState). j.entries) c.into_run.ensures.journal ∙ c.requires.journal) c.into_run.ensures.image
+    (replayed_refused g.H.Disk.Store.content g.H.Disk.Store.faults start now gives c.in-Err.fault read.lines.held c.args.first read.names read.lines.number None tt (λ _. refl) opened)
 
 pub returns-in-Err-clause-sized : goal.returns-in-Err-clause-sized
 returns-in-Err-clause-sized g c start opened =
-    let least : ℕ = 512 * blocks_of c.args.names.disks in
-    let told = g.H.Host.gives c.args.host.now c.args.name.now least in
-    subst (λ (w : Status). SizeIs g.H.Disk.Store.size w least told None) (sym c.status_of.ensures) (sized_refused g.H.Disk.Store.size c.in-Err.fault least told)
+    let gives = g.H.Host.gives c.args.host.now c.args.name.now in
+    sized_as g.H.Disk.Store.size gives (attach_status c.in-Err.fault) c.into_run.result.status c.args.reader.names c.into_run.result.names None c.into_run.result.image
+    (c.into_run.ensures.status ∙ c.status_of.ensures) c.into_run.ensures.names c.into_run.ensures.image
+    (sized_refused g.H.Disk.Store.size c.in-Err.fault (512 * blocks_of c.args.reader.names.disks) (gives (512 * blocks_of c.args.reader.names.disks)))
+
+pub returns-in-Err-clause-image : goal.returns-in-Err-clause-image
+returns-in-Err-clause-image g c = gave_as _ _ None c.into_run.result.image c.into_run.ensures.image c.in-Err.ensures.none

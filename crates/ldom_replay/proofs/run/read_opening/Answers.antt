@@ -5,19 +5,20 @@ use Rattle.ldom_replay.proofs.run.read_opening.Goals as goal
 
 pub loop-event-preserved : goal.loop-event-preserved
 loop-event-preserved g c =
-    let start = to_come c.args.lines.now (g.S.Source.left c.args.source.now) in
-    let rest = to_come c.loop-event.lines (g.S.Source.left c.loop-event.source) in
-    let left = to_come c.read_event.new.lines (g.S.Source.left c.read_event.new.source) in
+    let start = to_come c.args.reader.now.lines (g.S.Source.left c.args.source.now) in
+    let rest = to_come c.loop-event.reader.lines (g.S.Source.left c.loop-event.source) in
+    let left = to_come c.read_event.new.self.lines (g.S.Source.left c.read_event.new.source) in
     record {
       going = c.in_ok-read_event.ensures.next.2;
       few = c.in_ok-read_event.ensures.next.1;
-      one = one_disk rest left c.read_event.new.event c.loop-event.names c.read_event.new.names c.in_ok-read_event.ensures.event c.loop-event.invariant.one;
-      so_far = opens_more start rest left c.read_event.new.event c.loop-event.names c.read_event.new.names c.loop-event.lines.number c.read_event.new.lines.number
+      one = one_disk rest left c.read_event.new.event c.loop-event.reader.names c.read_event.new.self.names c.in_ok-read_event.ensures.event c.loop-event.invariant.one;
+      so_far = opens_more start rest left c.read_event.new.event c.loop-event.reader.names c.read_event.new.self.names c.loop-event.reader.lines.number c.read_event.new.self.lines.number
           c.loop-event.invariant.so_far c.in_ok-read_event.ensures.event c.in_ok-read_event.ensures.next.0 c.in_ok-read_event.ensures.next.1 (c.if-not-is_opening.ensures.0 refl);
-      unfailed = c.in_ok-read_event.ensures.unfailed (λ is. cc) ∙ c.loop-event.invariant.unfailed;
+      journal = c.in_ok-read_event.ensures.journal ∙ c.loop-event.invariant.journal;
+      unfailed = c.in_ok-read_event.ensures.source.unfailed (λ is. cc) ∙ c.loop-event.invariant.unfailed;
     }
 
 pub returns-then-not-is_opening-clause-opens : goal.returns-then-not-is_opening-clause-opens
 returns-then-not-is_opening-clause-opens g c =
-    opens (to_come c.args.lines.now (g.S.Source.left c.args.source.now)) (to_come c.loop-event.lines (g.S.Source.left c.loop-event.source)) (to_come c.read_event.new.lines (g.S.Source.left c.read_event.new.source))
-    c.read_event.new.event c.loop-event.names c.read_event.new.names c.loop-event.lines.number c.read_event.new.lines.number c.loop-event.invariant.so_far c.in_ok-read_event.ensures.event c.in_ok-read_event.ensures.next.0 c.in_ok-read_event.ensures.next.1 (λ opening. (cc (c.if-not-is_opening.ensures.1 opening)))
+    opens (to_come c.args.reader.now.lines (g.S.Source.left c.args.source.now)) (to_come c.loop-event.reader.lines (g.S.Source.left c.loop-event.source)) (to_come c.read_event.new.self.lines (g.S.Source.left c.read_event.new.source))
+    c.read_event.new.event c.loop-event.reader.names c.read_event.new.self.names c.loop-event.reader.lines.number c.read_event.new.self.lines.number c.loop-event.invariant.so_far c.in_ok-read_event.ensures.event c.in_ok-read_event.ensures.next.0 c.in_ok-read_event.ensures.next.1 (λ opening. (cc (c.if-not-is_opening.ensures.1 opening)))

@@ -6,12 +6,13 @@ use Rattle.ldom_replay.proofs.run.read_opening.Given as goal
 
 abbrev pub invariant-loop-event : goal.invariant-loop-event
 invariant-loop-event g l = record {
-  going : l.lines.stop ≡ Going;
-  few : l.lines.number ≤ 20000;
-  one : length l.names.disks ≤ 1;
-  so_far : OpensSoFar (to_come l.fn.lines (g.S.Source.left l.fn.source)) (to_come l.lines (g.S.Source.left l.source)) l.names l.lines.number;
+  going : l.reader.lines.stop ≡ Going;
+  few : l.reader.lines.number ≤ 20000;
+  one : length l.reader.names.disks ≤ 1;
+  so_far : OpensSoFar (to_come l.fn.reader.lines (g.S.Source.left l.fn.source)) (to_come l.reader.lines (g.S.Source.left l.source)) l.reader.names l.reader.lines.number;
+  journal : l.reader.journal ≡ l.fn.reader.journal;
   unfailed : g.S.Source.faults l.source ≡ g.S.Source.faults l.fn.source;
 }
 
 abbrev pub decreases-loop-event : goal.decreases-loop-event
-decreases-loop-event g l = 20000 - l.lines.number
+decreases-loop-event g l = 20000 - l.reader.lines.number

@@ -1,8 +1,10 @@
-use Rattle.std.proofs.Common.{List, Option, subst, sym}
+use Rattle.std.proofs.Common.{◌∙◌, List, Option, subst, sym}
+use Rattle.replay_law.proofs.History.{fits_many}
 use Rattle.domain_script.specs.LinesState.{to_come}
 use Rattle.domain_script.specs.declared.event.Event.{Event}
 use Rattle.ldom_journal.specs.declared.entry.Entry.{Entry}
 use Rattle.ldom_journal.specs.declared.status.Status.TheVariants as status
+use Rattle.ldom_journal.specs.Stops.{stop_status}
 use Rattle.replay_law.specs.Going.{RunsAll}
 use Rattle.replay_law.specs.Opening.{Opened}
 use Rattle.replay_law.specs.Parts.{Fits, FitsSoFar}
@@ -12,22 +14,26 @@ use Rattle.ldom_replay.proofs.run.run_first.Goals as goal
 pub returns-in-None-clause-runs : goal.returns-in-None-clause-runs
 returns-in-None-clause-runs g c start opened =
     let now = g.S.Source.left c.args.source.now in
-    subst (λ (l : List Entry). RunsAll start now c.args.names.now c.args.world.now status.Done c.args.names.now l c.args.world.now c.args.lines.now.number) (sym c.requires.journal)
-    (runs_none_more start now c.args.names.now c.args.world.now c.args.lines.now.number
-    (subst (λ (first : Option Event). Opened start c.args.lines.now.held now first c.args.names.now c.args.lines.now.number) c.in-None.is opened))
+    subst (λ (l : List Entry). RunsAll start now c.args.reader.now.names c.args.world.now status.Done c.args.reader.now.names l c.args.world.now c.args.reader.now.lines.number) (sym c.requires.journal)
+    (runs_none_more start now c.args.reader.now.names c.args.world.now c.args.reader.now.lines.number
+    (subst (λ (first : Option Event). Opened start c.args.reader.now.lines.held now first c.args.reader.now.names c.args.reader.now.lines.number) c.in-None.is opened))
 
 pub returns-in-Ok-clause-runs : goal.returns-in-Ok-clause-runs
 returns-in-Ok-clause-runs g c start opened =
     let now = g.S.Source.left c.args.source.now in
-    runs_all start (to_come c.args.lines.now now) (g.S.Source.left c.run_lines.new.source) c.in-Some.event c.args.names.now c.run_lines.new.names c.args.world.now c.apply.new.self c.run_lines.new.world c.apply.new.journal.entries c.run_lines.new.journal.entries
-    c.args.lines.now.number c.run_lines.new.lines.number c.run_lines.result
-    (subst (λ (first : Option Event). Opened start c.args.lines.now.held now first c.args.names.now c.args.lines.now.number) c.in-Some.is opened)
+    runs_all start (to_come c.args.reader.now.lines now) (g.S.Source.left c.run_lines.new.source) c.in-Some.event c.args.reader.now.names c.run_lines.new.reader.names c.args.world.now c.apply.new.self c.run_lines.new.world c.apply.new.journal.entries c.run_lines.new.reader.journal.entries
+    c.args.reader.now.lines.number c.run_lines.new.reader.lines.number (stop_status c.run_lines.result c.run_lines.new.reader.lines.number)
+    (subst (λ (first : Option Event). Opened start c.args.reader.now.lines.held now first c.args.reader.now.names c.args.reader.now.lines.number) c.in-Some.is opened)
     (subst (λ (l : List Entry). Fits c.args.world.now c.in-Some.event l c.apply.new.journal.entries c.apply.new.self) c.requires.journal c.in-Ok.ensures.fits)
     c.run_lines.ensures.runs
 
 pub returns-in-Err-clause-runs : goal.returns-in-Err-clause-runs
 returns-in-Err-clause-runs g c start opened =
     let now = g.S.Source.left c.args.source.now in
-    runs_first_cut start now c.args.lines.now.held c.in-Some.event c.args.names.now c.args.world.now c.apply.new.self c.apply.new.journal.entries c.args.lines.now.number
-    (subst (λ (first : Option Event). Opened start c.args.lines.now.held now first c.args.names.now c.args.lines.now.number) c.in-Some.is opened)
+    runs_first_cut start now c.args.reader.now.lines.held c.in-Some.event c.args.reader.now.names c.args.world.now c.apply.new.self c.apply.new.journal.entries c.args.reader.now.lines.number
+    (subst (λ (first : Option Event). Opened start c.args.reader.now.lines.held now first c.args.reader.now.names c.args.reader.now.lines.number) c.in-Some.is opened)
     (subst (λ (l : List Entry). FitsSoFar c.args.world.now c.in-Some.event l c.apply.new.journal.entries c.apply.new.self) c.requires.journal c.in-Err.ensures.so_far)
+
+pub run_lines-requires-clause-many : goal.run_lines-requires-clause-many
+run_lines-requires-clause-many g c =
+    fits_many c.args.world.now c.apply.new.self c.in-Some.event c.args.reader.now.journal.entries c.apply.new.journal.entries c.in-Ok.ensures.fits ∙ c.requires.many

@@ -1,48 +1,75 @@
-use Rattle.std.proofs.Common.{◌∙◌, refl}
+use Rattle.std.proofs.Common.{◌≡◌, ◌∙◌, List, length, ap, refl, subst, sym}
+use Rattle.ldom_journal.specs.JournalState.{JournalState}
+use Rattle.ldom_journal.specs.declared.status.Status.{Status}
+use Rattle.replay_law.specs.Going.{RunsLines}
+use Rattle.replay_law.specs.Parts.{Fits, FitsSoFar}
 use Rattle.domain_script.specs.LinesState.{to_come}
-use Rattle.replay_law.proofs.ReadLemmas.{one_disk}
+use Rattle.ldom_journal.specs.Stops.{stop_status}
+use Rattle.replay_law.proofs.ReadLemmas.{same_disks, still_ended}
+use Rattle.replay_law.proofs.History.{fits_many}
+use Rattle.replay_law.proofs.LineCases.{for_declared}
+use Rattle.replay_law.specs.Parts.{IsForDisk}
+use Rattle.domain_script.specs.declared.event.DiskDecl.{DiskDecl}
 use Rattle.replay_law.proofs.RunLemmas.{runs_cut, runs_more, runs_none, runs_stop}
 use Rattle.ldom_replay.proofs.run.run_lines.Goals as goal
 
-pub loop-status-init : goal.loop-status-init
-loop-status-init g c =
-    let start = to_come c.args.lines.now (g.S.Source.left c.args.source.now) in
+pub loop-stop-init : goal.loop-stop-init
+loop-stop-init g c =
+    let start = to_come c.args.reader.now.lines (g.S.Source.left c.args.source.now) in
     record {
       going = c.requires.going;
       few = c.requires.few;
-      one = c.requires.one;
+      ended = c.requires.ended;
+      many = c.requires.many;
       agrees = c.requires.agrees;
-      so_far = runs_none start c.args.names.now c.args.journal.now.entries c.args.world.now c.args.lines.now.number c.requires.few;
+      so_far = runs_none start c.args.reader.now.names c.args.reader.now.journal.entries c.args.world.now c.args.reader.now.lines.number c.requires.few;
       unfailed = refl;
     }
 
-pub loop-status-preserved : goal.loop-status-preserved
-loop-status-preserved g c =
-    let start = to_come c.args.lines.now (g.S.Source.left c.args.source.now) in
-    let rest = to_come c.loop-status.lines (g.S.Source.left c.loop-status.source) in
-    let left = to_come c.read_event.new.lines (g.S.Source.left c.read_event.new.source) in
+pub loop-stop-preserved : goal.loop-stop-preserved
+loop-stop-preserved g c =
+    let start = to_come c.args.reader.now.lines (g.S.Source.left c.args.source.now) in
+    let rest = to_come c.loop-stop.reader.lines (g.S.Source.left c.loop-stop.source) in
+    let left = to_come c.read_event.new.self.lines (g.S.Source.left c.read_event.new.source) in
     record {
       going = c.in-Ok.ensures.next.2;
       few = c.in-Ok.ensures.next.1;
-      one = one_disk rest left c.read_event.new.event c.loop-status.names c.read_event.new.names c.in-Ok.ensures.event c.loop-status.invariant.one;
+      ended = still_ended rest left c.read_event.new.event c.loop-stop.reader.names c.read_event.new.self.names c.in-Ok.ensures.event c.loop-stop.invariant.ended;
+      many = fits_many c.loop-stop.world c.apply.new.self c.read_event.new.event c.read_event.new.self.journal.entries c.apply.new.journal.entries c.in-Ok-apply.ensures.fits
+          ∙ c.loop-stop.invariant.many ∙ sym (ap (λ (l : List DiskDecl). length l) (same_disks rest left c.read_event.new.event c.loop-stop.reader.names c.read_event.new.self.names c.in-Ok.ensures.event c.loop-stop.invariant.ended));
       agrees = c.in-Ok-apply.ensures.agrees;
-      so_far = runs_more start rest left c.args.names.now c.loop-status.names c.read_event.new.names c.args.journal.now.entries c.loop-status.journal.entries c.apply.new.journal.entries
-          c.args.world.now c.loop-status.world c.apply.new.self c.args.lines.now.number c.loop-status.lines.number c.read_event.new.lines.number c.read_event.new.event
-          c.loop-status.invariant.so_far c.in-Ok.ensures.event c.in-Ok.ensures.next.0 c.in-Ok.ensures.next.1 c.in-Ok-apply.ensures.fits;
-      unfailed = c.in-Ok.ensures.unfailed (λ is. cc) ∙ c.loop-status.invariant.unfailed;
+      so_far = runs_more start rest left c.args.reader.now.names c.loop-stop.reader.names c.read_event.new.self.names c.args.reader.now.journal.entries c.loop-stop.reader.journal.entries c.apply.new.journal.entries
+          c.args.world.now c.loop-stop.world c.apply.new.self c.args.reader.now.lines.number c.loop-stop.reader.lines.number c.read_event.new.self.lines.number c.read_event.new.event
+          c.loop-stop.invariant.so_far c.in-Ok.ensures.event c.in-Ok.ensures.next.0 c.in-Ok.ensures.next.1
+          (subst (λ (j : JournalState). Fits c.loop-stop.world c.read_event.new.event j.entries c.apply.new.journal.entries c.apply.new.self) c.in-Ok.ensures.journal c.in-Ok-apply.ensures.fits);
+      unfailed = c.in-Ok.ensures.source.unfailed (λ is. cc) ∙ c.loop-stop.invariant.unfailed;
     }
 
 pub returns-in-Err-apply-clause-runs : goal.returns-in-Err-apply-clause-runs
 returns-in-Err-apply-clause-runs g c =
-    runs_cut (to_come c.args.lines.now (g.S.Source.left c.args.source.now)) (to_come c.loop-status.lines (g.S.Source.left c.loop-status.source)) (g.S.Source.left c.read_event.new.source) c.read_event.new.lines.held
-    c.args.names.now c.loop-status.names c.read_event.new.names c.args.journal.now.entries c.loop-status.journal.entries c.apply.new.journal.entries
-    c.args.world.now c.loop-status.world c.apply.new.self c.args.lines.now.number c.loop-status.lines.number c.read_event.new.lines.number c.read_event.new.event
-    c.loop-status.invariant.so_far c.in-Ok.ensures.event c.in-Ok.ensures.next.0 c.in-Ok.ensures.next.1 c.in-Err-apply.ensures.so_far
+    runs_cut (to_come c.args.reader.now.lines (g.S.Source.left c.args.source.now)) (to_come c.loop-stop.reader.lines (g.S.Source.left c.loop-stop.source)) (g.S.Source.left c.read_event.new.source) c.read_event.new.self.lines.held
+    c.args.reader.now.names c.loop-stop.reader.names c.read_event.new.self.names c.args.reader.now.journal.entries c.loop-stop.reader.journal.entries c.apply.new.journal.entries
+    c.args.world.now c.loop-stop.world c.apply.new.self c.args.reader.now.lines.number c.loop-stop.reader.lines.number c.read_event.new.self.lines.number c.read_event.new.event
+    c.loop-stop.invariant.so_far c.in-Ok.ensures.event c.in-Ok.ensures.next.0 c.in-Ok.ensures.next.1
+    (subst (λ (j : JournalState). FitsSoFar c.loop-stop.world c.read_event.new.event j.entries c.apply.new.journal.entries c.apply.new.self) c.in-Ok.ensures.journal c.in-Err-apply.ensures.so_far)
 
 pub returns-in-Err-clause-runs : goal.returns-in-Err-clause-runs
 returns-in-Err-clause-runs g c =
-    let start = to_come c.args.lines.now (g.S.Source.left c.args.source.now) in
-    let rest = to_come c.loop-status.lines (g.S.Source.left c.loop-status.source) in
-    runs_stop start rest (g.S.Source.left c.read_event.new.source) c.read_event.new.lines.held c.args.names.now c.loop-status.names c.read_event.new.names
-    c.args.journal.now.entries c.loop-status.journal.entries c.args.world.now c.loop-status.world c.args.lines.now.number c.loop-status.lines.number
-    c.read_event.new.lines.number c.in-Err.status c.loop-status.invariant.so_far c.in-Err.ensures.stop c.in-Err.ensures.lines.0 c.in-Err.ensures.lines.1
+    let start = to_come c.args.reader.now.lines (g.S.Source.left c.args.source.now) in
+    let rest = to_come c.loop-stop.reader.lines (g.S.Source.left c.loop-stop.source) in
+    let now = g.S.Source.left c.read_event.new.source in
+    let read = c.read_event.new.self in
+    let why : Status = stop_status c.in-Err.stop read.lines.number in
+    subst (λ (j : JournalState). RunsLines start now c.args.reader.now.names c.args.reader.now.journal.entries c.args.world.now c.args.reader.now.lines.number why read.names j.entries c.loop-stop.world read.lines.number) (sym c.in-Err.ensures.journal)
+    (runs_stop start rest now read.lines.held c.args.reader.now.names c.loop-stop.reader.names read.names
+    c.args.reader.now.journal.entries c.loop-stop.reader.journal.entries c.args.world.now c.loop-stop.world c.args.reader.now.lines.number c.loop-stop.reader.lines.number
+    read.lines.number why c.loop-stop.invariant.so_far c.in-Err.ensures.stop c.in-Err.ensures.lines.0 c.in-Err.ensures.lines.1)
+
+pub apply-requires-clause-event : goal.apply-requires-clause-event
+apply-requires-clause-event g c =
+    let rest = to_come c.loop-stop.reader.lines (g.S.Source.left c.loop-stop.source) in
+    let left = to_come c.read_event.new.self.lines (g.S.Source.left c.read_event.new.source) in
+    let names = c.read_event.new.self.names in
+    let many : length names.disks ≡ length c.loop-stop.world.disks =
+    ap (λ (l : List DiskDecl). length l) (same_disks rest left c.read_event.new.event c.loop-stop.reader.names names c.in-Ok.ensures.event c.loop-stop.invariant.ended) ∙ sym c.loop-stop.invariant.many in
+    subst (λ n. IsForDisk n c.read_event.new.event) many (for_declared names c.read_event.new.event c.in-Ok.ensures.declared)

@@ -1,25 +1,36 @@
-use Rattle.std.proofs.Common.{◌*◌, Some, refl, subst, sym}
+use Rattle.std.proofs.Common.{◌≡◌, ◌∙◌, Some, ap}
+use Rattle.ldom_journal.specs.JournalState.{JournalState}
 use Rattle.ldom_journal.specs.declared.status.Status.{Status}
+use Rattle.ldom_journal.specs.Stops.{stop_status}
+use Rattle.ldom_journal.proofs.StopLemmas.{readers_of}
 use Rattle.replay_law.specs.Replayed.{ended_status}
 use Rattle.replay_law.proofs.Assembly.{replayed_as, replayed_of}
-use Rattle.replay_law.specs.Sized.{SizeIs}
-use Rattle.replay_law.specs.Worlds.{blocks_of}
-use Rattle.replay_law.proofs.Sizes.{sized_run}
+use Rattle.replay_law.proofs.Sizes.{sized_as, sized_run}
 use Rattle.ldom_replay.proofs.run.run_world.Goals as goal
 
 pub returns-clause-replayed : goal.returns-clause-replayed
 returns-clause-replayed g c start gives opened begins =
-    let now = g.S.Source.left c.run_first-why.new.source in
-    replayed_as g.D.Store.content g.D.Store.faults start now gives (ended_status c.run_first-why.result c.faulty.result) c.ended-status.result c.run_first-why.new.lines.number c.number.result
-    c.run_first-why.new.names c.run_first-why.new.journal.entries c.run_first-why.new.journal.entries (Some c.finish.result) (Some c.finish.result)
-    c.ended-status.ensures c.number.ensures refl refl
-    (replayed_of g.D.Store.content g.D.Store.faults start now gives c.run_first-why.result c.faulty.result c.args.names c.run_first-why.new.names c.args.world c.run_first-why.new.world
-    c.run_first-why.new.journal.entries c.run_first-why.new.lines.number c.finish.result c.run_first-why.ensures.readers (c.run_first-why.ensures.runs start opened) begins
+    let now = g.S.Source.left c.run_first-stop.new.source in
+    let read = c.run_first-stop.new.reader in
+    let why : Status = stop_status c.run_first-stop.result read.lines.number in
+    let ended_is : c.ended-status.result ≡ ended_status why c.faulty.result = c.ended-status.ensures ∙ ap (λ (w : Status). ended_status w c.faulty.result) c.status.ensures in
+    let status_is : c.into_run.result.status ≡ ended_status why c.faulty.result = c.into_run.ensures.status ∙ ended_is in
+    replayed_as g.D.Store.content g.D.Store.faults start now gives (ended_status why c.faulty.result) c.into_run.result.status read.lines.number c.into_run.result.lines
+    read.names c.into_run.result.names read.journal.entries c.into_run.result.journal.entries (Some c.finish.result) c.into_run.result.image
+    status_is c.into_run.ensures.lines c.into_run.ensures.names
+    (ap (λ (j : JournalState). j.entries) c.into_run.ensures.journal) c.into_run.ensures.image
+    (replayed_of g.D.Store.content g.D.Store.faults start now gives why c.faulty.result c.args.reader.names read.names c.args.world c.run_first-stop.new.world
+    read.journal.entries read.lines.number c.finish.result (readers_of c.run_first-stop.result read.lines.number) (c.run_first-stop.ensures.runs start opened) begins
     c.finish.ensures.content c.finish.ensures.faults c.faulty.ensures)
 
 pub returns-clause-sized : goal.returns-clause-sized
 returns-clause-sized g c start gives opened begins long =
-    let now = g.S.Source.left c.run_first-why.new.source in
-    subst (λ (w : Status). SizeIs g.D.Store.size w (512 * blocks_of c.run_first-why.new.names.disks) (gives (512 * blocks_of c.run_first-why.new.names.disks)) (Some c.finish.result)) (sym c.ended-status.ensures)
-    (sized_run g.D.Store.size start now gives c.run_first-why.result c.faulty.result c.args.names c.run_first-why.new.names c.args.world c.run_first-why.new.world c.run_first-why.new.journal.entries c.run_first-why.new.lines.number
-    c.finish.result c.run_first-why.ensures.readers (c.run_first-why.ensures.runs start opened) begins c.finish.ensures.size long)
+    let now = g.S.Source.left c.run_first-stop.new.source in
+    let read = c.run_first-stop.new.reader in
+    let why : Status = stop_status c.run_first-stop.result read.lines.number in
+    let ended_is : c.ended-status.result ≡ ended_status why c.faulty.result = c.ended-status.ensures ∙ ap (λ (w : Status). ended_status w c.faulty.result) c.status.ensures in
+    let status_is : c.into_run.result.status ≡ ended_status why c.faulty.result = c.into_run.ensures.status ∙ ended_is in
+    sized_as g.D.Store.size gives (ended_status why c.faulty.result) c.into_run.result.status read.names c.into_run.result.names (Some c.finish.result) c.into_run.result.image
+    status_is c.into_run.ensures.names c.into_run.ensures.image
+    (sized_run g.D.Store.size start now gives why c.faulty.result c.args.reader.names read.names c.args.world c.run_first-stop.new.world read.journal.entries read.lines.number
+    c.finish.result (readers_of c.run_first-stop.result read.lines.number) (c.run_first-stop.ensures.runs start opened) begins c.finish.ensures.size long)

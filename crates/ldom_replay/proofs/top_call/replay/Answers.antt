@@ -9,10 +9,9 @@ use Rattle.replay_law.proofs.History.{none_once}
 use Rattle.std.proofs.lemmas.List.Elements.{All-nil}
 use Rattle.replay_law.specs.Failures.{SucceedOrFail, SucceedsOrFails, failed_count}
 use Rattle.replay_law.specs.Outcomes.{RunsScript}
-use Rattle.replay_law.specs.Outside.{accepted_requests}
 use Rattle.replay_law.specs.Worlds.{blocks_of}
 use Rattle.ldom_replay.proofs.Holding.{gave_as, gave_none}
-use Rattle.replay_law.proofs.MoreFacts.{admits, failures, others_given, others_told, said_otherwise, statuses}
+use Rattle.replay_law.proofs.MoreFacts.{admits, failures, few_disks, others_given, others_told, said_otherwise, statuses}
 use Rattle.replay_law.proofs.RunFacts.{once, worded}
 use Rattle.replay_law.proofs.WholeScript.{runs_plainly, runs_whole}
 use Rattle.ldom_words.specs.Asking.{wanted_of}
@@ -73,7 +72,8 @@ returns-in-Some-Run-clause-failures g c =
 pub returns-in-Some-Run-clause-outside : goal.returns-in-Some-Run-clause-outside
 returns-in-Some-Run-clause-outside g c image asks tells =
     let ran = returns-in-Some-Run-clause-runs g c image asks in
-    others_given g.H.Disk.Store.content (g.H.Host.gives c.args.host.now image) (512 * blocks_of ran.names.disks) (accepted_requests c.report_run.result.journal.entries) c.report_run.result.image tells ran.others
+    others_given g.H.Disk.Store.content (g.H.Host.gives c.args.host.now image) (512 * blocks_of ran.names.disks) ran.names.disks c.report_run.result.journal.entries c.report_run.result.image
+    (few_disks _ _ _ _ _ _ _ _ _ _ ran.replayed) tells ran.others
 
 pub returns-in-Some-Run-clause-whole : goal.returns-in-Some-Run-clause-whole
 returns-in-Some-Run-clause-whole g c image asks bytes events names known spelled done =
@@ -84,11 +84,11 @@ returns-in-Some-Run-clause-quiet g c image asks bytes content disk events known 
     runs_plainly _ _ _ _ _ _ _ _ _ _ _ (returns-in-Some-Run-clause-runs g c image asks) bytes events known done disk content quiet gives
 
 pub returns-in-Some-Run-clause-complete : goal.returns-in-Some-Run-clause-complete
-returns-in-Some-Run-clause-complete g c image asks bytes known clean source host sink store long =
+returns-in-Some-Run-clause-complete g c image asks bytes known clean still_all store long =
     let named : image ≡ c.in-Some-Run.image.now =
     one_run (map string_bytes c.args.words.now) c.in-Some-Run.image.now image (ap (λ (asked : Asked). Some (wanted_of asked)) (sym c.in-Some-Run.field-0-is) ∙ c.in-Some-Run.ensures) asks in
     completes _ _ _ _ _ _ _ _ _ _ c.run_script.ensures.replayed c.report_run.result.status (g.K.Sink.written c.args.out.now) (g.K.Sink.written c.report_run.new.out) _ bytes c.report_run.ensures.reports known clean
-    (λ ran. still _ _ source (c.run_script.ensures.source_fault ran)) (λ ran. still _ _ host (c.run_script.ensures.host_fault ran)) (λ told ran. still _ _ sink (c.report_run.ensures.sink_fault told ran))
+    (λ ran. still _ _ still_all.source (c.run_script.ensures.source.cause ran)) (λ ran. still _ _ still_all.host (c.run_script.ensures.host.cause ran)) (λ told ran. still _ _ still_all.sink (c.report_run.ensures.sink_fault told ran))
     (subst (λ (i : Option g.row.H-Disk.Denot). IfSome i (λ disk. g.H.Disk.Store.faults disk ≡ 0)) c.report_run.ensures.image store)
     g.H.Disk.Store.size c.run_script.ensures.sized c.in-Some-Run.image.now (λ is n. subst (λ (name : List ℕ). g.H.Host.gives c.args.host.now name n ≡ Some (replicate n 0)) (sym is) (g.met.H.Host.dash c.args.host.now n))
     (λ other. subst (λ (i : Option g.row.H-Disk.Denot). IfSome i (λ disk. 512 * blocks_of clean.names.disks ≤ g.H.Disk.Store.size disk)) c.report_run.ensures.image (long (λ same. other (sym named ∙ same))))
@@ -98,7 +98,7 @@ returns-in-Some-Run-clause-infallible g c image asks bytes known clean source ho
     let named : image ≡ c.in-Some-Run.image.now =
     one_run (map string_bytes c.args.words.now) c.in-Some-Run.image.now image (ap (λ (asked : Asked). Some (wanted_of asked)) (sym c.in-Some-Run.field-0-is) ∙ c.in-Some-Run.ensures) asks in
     completes _ _ _ _ _ _ _ _ _ _ c.run_script.ensures.replayed c.report_run.result.status (g.K.Sink.written c.args.out.now) (g.K.Sink.written c.report_run.new.out) _ bytes c.report_run.ensures.reports known clean
-    (λ ran. never g.S.Source.faults _ _ source (c.run_script.ensures.source_fault ran)) (λ ran. never g.H.Host.faults _ _ host (c.run_script.ensures.host_fault ran)) (λ told ran. absurd (written told))
+    (λ ran. never g.S.Source.faults _ _ source (c.run_script.ensures.source.cause ran)) (λ ran. never g.H.Host.faults _ _ host (c.run_script.ensures.host.cause ran)) (λ told ran. absurd (written told))
     (all_zero g.H.Disk.Store.faults disk c.run_script.result.image)
     g.H.Disk.Store.size c.run_script.ensures.sized c.in-Some-Run.image.now (λ is n. subst (λ (name : List ℕ). g.H.Host.gives c.args.host.now name n ≡ Some (replicate n 0)) (sym is) (g.met.H.Host.dash c.args.host.now n))
     (λ other. subst (λ (i : Option g.row.H-Disk.Denot). IfSome i (λ image. 512 * blocks_of clean.names.disks ≤ g.H.Disk.Store.size image)) c.report_run.ensures.image (long (λ same. other (sym named ∙ same))))

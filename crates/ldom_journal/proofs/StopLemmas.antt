@@ -1,0 +1,21 @@
+-- Why the lines of a source stopped, as a status.
+use Rattle.std.proofs.Common.{◌≢◌, ℕ, refl}
+use Rattle.ldom_journal.specs.declared.status.Status.TheVariants as status
+use Rattle.ldom_journal.specs.declared.stop.Stop.{Stop}
+use Rattle.ldom_journal.specs.declared.stop.Stop.TheVariants.{End, Source, Limit, Memory, Faulty}
+use Rattle.ldom_journal.specs.Stops.{IsReaders, stop_status}
+
+pub readers_of : (stop : Stop) (lines : ℕ) → IsReaders (stop_status stop lines)
+readers_of End lines = tt
+readers_of Source lines = tt
+readers_of (Limit kind) lines = tt
+readers_of Memory lines = tt
+readers_of (Faulty fault) lines = tt
+
+-- of them all only the end is `Done`
+pub done_at_end : (stop : Stop) (lines : ℕ) → stop ≢ End → stop_status stop lines ≢ status.Done
+done_at_end End lines other is = other refl
+done_at_end Source lines other is = cc is
+done_at_end (Limit kind) lines other is = cc is
+done_at_end Memory lines other is = cc is
+done_at_end (Faulty fault) lines other is = cc is
