@@ -124,7 +124,7 @@ pub client_blocked_utters : (s : ClientState) (at : Seen) (t : ClientState) (tur
     → ClientUtters t turns
 client_blocked_utters s at t turns is rests utters = held_utters s at (client_rule s at) t turns (client_may s at) is rests utters
 
-held_link : (s : ClientState) (at : Seen) (rule : ClientRule) (held : ClientState) (turns : List Turn) → client_holds rule s ≡ Some held → Follows s.link turns → Follows held.link turns
+pub held_link : (s : ClientState) (at : Seen) (rule : ClientRule) (held : ClientState) (turns : List Turn) → client_holds rule s ≡ Some held → Follows s.link turns → Follows held.link turns
 held_link s at Puts held turns is follows = let same : s ≡ held = cc is in subst (λ (x : ClientState). Follows x.link turns) same follows
 held_link s at (Says message) held turns is follows =
     let same : holding message s ≡ held = cc is in

@@ -53,7 +53,7 @@ hears_uttering role k m h turns bytes left utters hears = record {
 }
 
 -- nothing is held where nothing is left
-none_half : (role : Role) (p : Phase) (offer : Offer) (draft : Session) (half left : List ℕ) → left ≡ [] → Holds role p offer draft half left → half ≡ []
+pub none_half : (role : Role) (p : Phase) (offer : Offer) (draft : Session) (half left : List ℕ) → left ≡ [] → Holds role p offer draft half left → half ≡ []
 none_half role p offer draft half [] none holds = holds
 none_half role p offer draft half (byte ∷ bytes) none holds = absurd (cc)
 

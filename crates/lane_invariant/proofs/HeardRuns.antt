@@ -44,7 +44,7 @@ kept_more : (b : Bool) (packet : List ℕ) (n : ℕ) (xs : List (List ℕ)) → 
 kept_more true packet n xs is = omega (arith, is, length-append xs (packet ∷ []))
 kept_more false packet n xs is = omega (arith, is, length-append xs [])
 
-count_is : (turns : List Turn) → count_heard turns ≡ length (numbered_heard turns)
+pub count_is : (turns : List Turn) → count_heard turns ≡ length (numbered_heard turns)
 count_is [] = refl
 count_is (turn.Said packet ∷ turns) = count_is turns
 count_is (turn.Heard packet ∷ turns) = kept_more (is_numbered packet) packet (count_heard turns) (numbered_heard turns) (count_is turns)

@@ -200,7 +200,7 @@ utters_step s (Turns event) t talk talks rests utters step = turns_utter s event
 utters_step s (Rests event) t talk talks rests utters step =
     let same : t ≡ s = calm s event t step in subst (λ (x : LaneState). LaneUtters x talk) (sym same) utters
 
-fresh_utters : (shape : Shape) → LaneUtters (fresh shape) nothing_said
+pub fresh_utters : (shape : Shape) → LaneUtters (fresh shape) nothing_said
 fresh_utters shape = record {
   client = record { utters = record { role_is = refl; said = tt; holds = refl; owed = tt; small = λ is now. absurd (cc) }; silent = λ down. refl; idle = λ down. refl; free = λ down. refl };
   server = record { utters = record { role_is = refl; said = tt; holds = refl; owed = tt; small = λ is now. absurd (cc) }; silent = λ down. refl; idle = λ down. refl; free = λ down. refl };

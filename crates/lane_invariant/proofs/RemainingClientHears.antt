@@ -92,7 +92,7 @@ nothing_owed : (owed : Option Message) → is_some owed ≡ false → owed ≡ N
 nothing_owed None is = refl
 nothing_owed (Some message) is = absurd (cc)
 
-owes_nothing : (s : ClientState) (at : Seen) (packet : List ℕ) → client_rule s at ≡ Takes packet → s.shake.owed ≡ None
+pub owes_nothing : (s : ClientState) (at : Seen) (packet : List ℕ) → client_rule s at ≡ Takes packet → s.shake.owed ≡ None
 owes_nothing s at packet rule =
     let calm : is_urgent s ≡ false = subst (TakeMay s) rule (up_may s at (end_up at.state)) in
     nothing_owed s.shake.owed (middle_false (owes_control s.link) (is_some s.shake.owed) (is_none s.session && owes s.link) calm)

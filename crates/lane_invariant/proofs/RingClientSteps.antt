@@ -29,6 +29,7 @@ use Rattle.lane_invariant.proofs.RingWork.{Known, ids_in, memory_is, slots_are, 
 use Rattle.lane_invariant.proofs.Ruling.{client_may}
 use Rattle.lane_invariant.proofs.SlotBytes.{done_slot, published_is, reads_back}
 use Rattle.lane_invariant.specs.RingAgreed.{InRing, ring_in}
+use Rattle.lane_invariant.specs.CompletesSlot.{CompletesSlot}
 use Rattle.lane_invariant.specs.RingSlots.{HoldsIssued, IdStands, IdsStand, InWork, RingHolds, RingOf, SlotStands, WorkStands}
 use Rattle.lane_invariant.specs.RuleFacts.{ClientMay}
 use Rattle.lane_invariant.specs.Sound.{CountsInOrder, InOrder}
@@ -45,17 +46,17 @@ got_at xs zero m = let same : m ≡ 0 + m = omega arith in ap (slice_get xs) sam
 got_at [] (suc n) m = refl
 got_at (x ∷ xs) (suc n) m = let same : suc (n + m) ≡ suc n + m = omega arith in got_at xs n m ∙ ap (slice_get (x ∷ xs)) same
 
-record Publishing (s : LaneState) (l : DiskLog) (id : ℕ) (session : ClientSession) (k : ClientCounts) (request : Request) : Type 0 where
-  accepted : slice_get l.work.issued id ≡ Some request
-  admitted : defect l.shape.blocks request ≡ None
-  number : id ≡ k.base + k.published
-  since : l.work.done ≤ id
-  turn : k.base + k.published < l.work.done + l.shape.slots
+pub record Publishing (s : LaneState) (l : DiskLog) (id : ℕ) (session : ClientSession) (k : ClientCounts) (request : Request) : Type 0 where
+  pub accepted : slice_get l.work.issued id ≡ Some request
+  pub admitted : defect l.shape.blocks request ≡ None
+  pub number : id ≡ k.base + k.published
+  pub since : l.work.done ≤ id
+  pub turn : k.base + k.published < l.work.done + l.shape.slots
 
 in_order : (s : LaneState) (l : DiskLog) (session : ClientSession) → Known s l → s.client.session ≡ Some session → InOrder (length s.client.pending) session
 in_order s l session known is = subst (CountsInOrder (length s.client.pending)) is known.sound.counts
 
-publishing : (s : LaneState) (l : DiskLog) (id : ℕ) (session : ClientSession) (request : Request) → Known s l → s.client.session ≡ Some session
+pub publishing : (s : LaneState) (l : DiskLog) (id : ℕ) (session : ClientSession) (request : Request) → Known s l → s.client.session ≡ Some session
     → (k : OfClient session l.work.done l.work.client) → id ≡ session.base + session.published → slice_get s.client.pending (session.published - session.completed) ≡ Some request
     → Publishing s l id session k.counts request
 publishing s l id session request known is k id_is_number next =
@@ -143,12 +144,6 @@ published_in_ring s l id t known few step =
 first_number : (bytes : List ℕ) → number_at 1 0 bytes ≡ slice_index bytes 0
 first_number [] = refl
 first_number (x ∷ bytes) = omega arith
-
-pub record CompletesSlot (s : LaneState) (l : DiskLog) (id status : ℕ) (k : ClientCounts) : Type 0 where
-  pub open_is : l.work.client ≡ Some k
-  pub based : k.base ≤ l.work.done
-  pub done_is : slice_get l.ring ((l.work.done - k.base) % l.shape.slots) ≡ Some (IsDone id status)
-  pub number : id ≡ l.work.done
 
 pub completes_slot : (s : LaneState) (l : DiskLog) (id operation status : ℕ) (bytes : List ℕ) (t : LaneState) → Known s l → WorkStep s (Done id operation status bytes) t
     → (k : ClientCounts) × CompletesSlot s l id status k

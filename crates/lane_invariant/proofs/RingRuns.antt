@@ -133,7 +133,7 @@ issued_asked s l (Refused why request) t stands few step = few
 issued_asked s l (Full request) t stands few step = few
 issued_asked s l (Accepted id request) t stands few step = omega (arith, stands.requests.next, step.0.3, length-append l.work.issued (request ∷ []))
 
-issued_behind : (s : LaneState) (l : DiskLog) (event : DiskEvent) (t : LaneState) → LaneStands s l → length l.work.issued < 2 ^ 64 → LaneStep s event t
+pub issued_behind : (s : LaneState) (l : DiskLog) (event : DiskEvent) (t : LaneState) → LaneStands s l → length l.work.issued < 2 ^ 64 → LaneStep s event t
     → length (after l event).work.issued < 2 ^ 64
 issued_behind s l (OnWire event) t stands few step = issued_wired l.shape.slots l.talk l.work event few
 issued_behind s l (Asks event) t stands few step = issued_asked s l event t stands few step
@@ -162,7 +162,7 @@ wire_before l (Idle e) not = not
 wire_before l (Blocked e) not = not
 wire_before l (Declines d) not = not
 
-before : (l : DiskLog) (event : DiskEvent) → (after l event).wire.forged ≡ false → l.wire.forged ≡ false
+pub before : (l : DiskLog) (event : DiskEvent) → (after l event).wire.forged ≡ false → l.wire.forged ≡ false
 before l (OnWire event) not = wire_before l event not
 before l (Asks event) not = not
 before l (Works event) not = not

@@ -97,7 +97,7 @@ more_work r request ring (Some d) stands = λ one.
     record { id = work.id; stands = work.stands; fetched = more_holds r request (d.finished % r.slots) work.id 2 0 d.desc work.fetched }
 
 -- a ring of free slots
-free_entry : (n j : ℕ) (is : SlotLog) → slice_get (replicate n Free) j ≡ Some is → is ≡ Free
+pub free_entry : (n j : ℕ) (is : SlotLog) → slice_get (replicate n Free) j ≡ Some is → is ≡ Free
 free_entry zero j is got = absurd (cc got)
 free_entry (suc n) zero is got = cc got
 free_entry (suc n) (suc j) is got = free_entry n j is got

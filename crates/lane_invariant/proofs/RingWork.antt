@@ -105,14 +105,14 @@ is_two : (n : ℕ) → (n == 2) ≡ true → n ≡ 2
 is_two n is = grind (arith, nat_tests)
 
 -- the slot that is fetched is READY, and of the server's next number
-record ReadyNext (s : LaneState) (l : DiskLog) (d : ServerCounts) (k : ClientCounts) (slot : ℕ) (bytes : List ℕ) : Type 0 where
-  id : ℕ
-  below : slot < l.shape.slots
-  next : slot ≡ d.descs % l.shape.slots
-  number : id ≡ k.base + d.descs
-  stands : IdStands l.shape.slots l.work.done k slot id
-  holds : HoldsIssued (ring_in l) slot id 2 0 bytes
-  bytes_are : bytes ≡ slot_bytes 128 slot s.memory
+pub record ReadyNext (s : LaneState) (l : DiskLog) (d : ServerCounts) (k : ClientCounts) (slot : ℕ) (bytes : List ℕ) : Type 0 where
+  pub id : ℕ
+  pub below : slot < l.shape.slots
+  pub next : slot ≡ d.descs % l.shape.slots
+  pub number : id ≡ k.base + d.descs
+  pub stands : IdStands l.shape.slots l.work.done k slot id
+  pub holds : HoldsIssued (ring_in l) slot id 2 0 bytes
+  pub bytes_are : bytes ≡ slot_bytes 128 slot s.memory
 
 ready_next : (s : LaneState) (l : DiskLog) (slot : ℕ) (bytes : List ℕ) (v : ServerSession) → Known s l → (work : AtWork s l v)
     → slot ≡ v.descs % s.server.shake.draft.peer_slots → work.of.counts.descs < work.one.client.published → work.of.counts.descs < 2 ^ 64
@@ -189,12 +189,12 @@ marked_ring s l d k slot bytes new known server client ready one there t memory 
     }
 
 -- what a fetch comes to: the slot of the server's next number, READY
-record FetchedNext (s : LaneState) (l : DiskLog) (slot : ℕ) (bytes : List ℕ) : Type 0 where
-  session : ServerSession
-  work : AtWork s l session
-  ready : ReadyNext s l work.of.counts work.one.client slot bytes
+pub record FetchedNext (s : LaneState) (l : DiskLog) (slot : ℕ) (bytes : List ℕ) : Type 0 where
+  pub session : ServerSession
+  pub work : AtWork s l session
+  pub ready : ReadyNext s l work.of.counts work.one.client slot bytes
 
-fetched_next : (s : LaneState) (l : DiskLog) (slot : ℕ) (bytes : List ℕ) (t : LaneState) → Known s l → SessionsAgree t (after l (Works (Desc slot bytes)))
+pub fetched_next : (s : LaneState) (l : DiskLog) (slot : ℕ) (bytes : List ℕ) (t : LaneState) → Known s l → SessionsAgree t (after l (Works (Desc slot bytes)))
     → WorkStep s (Desc slot bytes) t → FetchedNext s l slot bytes
 fetched_next s l slot bytes t known agree step =
     let at = seen B s.shape.entries s.wire.wire in

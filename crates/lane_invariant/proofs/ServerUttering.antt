@@ -134,7 +134,7 @@ pub server_blocked_utters : (s : ServerState) (at : Seen) (t : ServerState) (tur
     → ServerUtters t turns
 server_blocked_utters s at t turns is rests utters = held_utters s at (server_rule s at) t turns (server_may s at) is rests utters
 
-held_link : (s : ServerState) (rule : ServerRule) (held : ServerState) (turns : List Turn) → server_holds rule s ≡ Some held → Follows s.link turns → Follows held.link turns
+pub held_link : (s : ServerState) (rule : ServerRule) (held : ServerState) (turns : List Turn) → server_holds rule s ≡ Some held → Follows s.link turns → Follows held.link turns
 held_link s Puts held turns is follows = let same : s ≡ held = cc is in subst (λ (x : ServerState). Follows x.link turns) same follows
 held_link s (Says message) held turns is follows =
     let same : (record s { link = offered (canonical message) s.link }) ≡ held = cc is in

@@ -13,9 +13,14 @@ pub mod RemainingTurn
 pub mod RingAgreed
 pub mod RingSlots
 pub mod RuleFacts
+pub mod SlotsInOrder
 pub mod SlotsWritten
 pub mod Sound
 pub mod Standing
 pub mod TableStands
 pub mod Utterances
-pub mod OneSid
+pub mod ShakeFits
+pub mod Counted
+pub mod OneSession
+pub mod UpStands
+pub mod CompletesSlot

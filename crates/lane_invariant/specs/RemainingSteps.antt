@@ -1,5 +1,5 @@
 -- What an end must be told for its steps to lower what remains, and which steps lower it whatever comes.
-use Rattle.std.specs.Prelude.{◌≡◌, ℕ, ◌+◌, ◌*◌, ◌<◌, ◌≤◌, ◌⊎◌, ⊤, length, Option, Some, None}
+use Rattle.std.specs.Prelude.{◌≡◌, List, [], ◌∷◌, ℕ, ◌+◌, ◌*◌, ◌<◌, ◌≤◌, ◌⊎◌, ⊤, length, Option, Some, None}
 use Rattle.ldc_link.specs.declared.phase.LinkPhase.{LinkPhase}
 use Rattle.ldc_link.specs.declared.phase.LinkPhase.TheVariants.{Established}
 use Rattle.vio_handshake.specs.declared.handshake.Phase.{Phase}
@@ -50,9 +50,22 @@ TakesNothing (OnWire event) = IsPutOrJoined event
 TakesNothing (Works event) = IsWork event
 TakesNothing _ = ⊥
 
+-- a step of an end by which it does something: one of these, or it takes a packet
+abbrev pub DoesOnWire : WireEvent → Type 0
+DoesOnWire (Took e packet opens) = ⊤
+DoesOnWire event = IsPutOrJoined event
+
+abbrev pub DoesSomething : DiskEvent → Type 0
+DoesSomething (OnWire event) = DoesOnWire event
+DoesSomething (Works event) = IsWork event
+DoesSomething _ = ⊥
+
+abbrev pub AllDo : List DiskEvent → Type 0
+AllDo [] = ⊤
+AllDo (event ∷ events) = DoesSomething event × AllDo events
+
 -- A PACKET THAT IS TAKEN lowers what remains where the end that takes it has no more to put than before, and a server that is asked for
--- more is asked for what its client announced. That sessions agree and the ring is in session is to give this of each packet that comes
--- on a lane where nobody forged and nothing was lost.
+-- more is asked for what its client announced. On a lane that nobody forged each packet that is taken is so.
 pub record ClientHears (c t : ClientState) : Type 0 where
   pub packets : client_packets t ≤ client_packets c
   pub pending : length t.pending ≡ length c.pending

@@ -1,6 +1,6 @@
 // What follows from the invariant of a lane.
 
-ghost use Rattle.std.specs.Prelude.{◌≡◌, ℕ, ◌≤◌, ◌*◌, false, true, length, List, ◌<◌, ◌+◌, Option, is_some};
+ghost use Rattle.std.specs.Prelude.{◌≡◌, ℕ, Bool, ◌≤◌, ◌*◌, false, true, length, List, ◌<◌, ◌+◌, Option, Some, is_some};
 ghost use Rattle.runs.specs.Lawful.{log_of, Lawful};
 ghost use Rattle.runs.specs.Run.{Run};
 ghost use Rattle.cookie_copy.specs.Identity.{IsIdentity};
@@ -15,23 +15,29 @@ ghost use Rattle.ldc_queue.specs.Wire.{peer_of};
 ghost use Rattle.lane_law.specs.Sayings.{heard, said};
 ghost use Rattle.lane_law.specs.TalkLog.{talk_of};
 ghost use Rattle.lane_law.specs.WireAt.{IsUp};
-ghost use Rattle.lane_law.specs.WireEvent.{Sent, Reset};
+ghost use Rattle.lane_law.specs.WireEvent.{Sent, Reset, Took};
 ghost use Rattle.vio_tag.specs.declared.cause.Cause.{Cause};
-ghost use Rattle.disk_log.specs.Agreement.{IdleAgrees};
+ghost use Rattle.disk_log.specs.Agreement.{ClientAgrees, IdleAgrees, ServerAgrees};
 ghost use Rattle.disk_log.specs.DiskLog.{after, nothing_yet};
 ghost use Rattle.disk_log.specs.QuietLaws.{TickAt};
 ghost use Rattle.disk_log.specs.RequestLaws.{AdmissionAt, CarriesAt, OnceAt, TurnsAt};
-ghost use Rattle.disk_steps.specs.DiskEvent.{DiskEvent, Done, OnWire, Published, Works};
+ghost use Rattle.disk_log.specs.WorkLaws.{Unforged};
+ghost use Rattle.disk_log.specs.WorkLog.{ClientCounts};
+ghost use Rattle.disk_steps.specs.DiskEvent.{Desc, DiskEvent, Done, OnWire, Published, Works};
 ghost use Rattle.disk_steps.specs.LaneState.{fresh, pages_of, IsShape, LaneState, Shape};
 ghost use Rattle.disk_steps.specs.LaneStep.{LaneStep};
+ghost use Rattle.disk_steps.specs.Offering.{client_offer};
 ghost use Rattle.lane_invariant.specs.CompletedIds.{done_ids, CountsFrom};
+ghost use Rattle.lane_invariant.specs.CompletesSlot.{CompletesSlot};
+ghost use Rattle.lane_invariant.specs.RingAgreed.{AlwaysAgree, RingStands};
 ghost use Rattle.lane_invariant.specs.Grounds.{OpenRests};
 ghost use Rattle.lane_invariant.specs.HeardStands.{HeardAt};
 ghost use Rattle.lane_invariant.specs.LaneTalks.{talk_behind};
+ghost use Rattle.lane_invariant.specs.SlotsInOrder.{RingInOrder};
 ghost use Rattle.lane_invariant.specs.SlotsWritten.{SlotFreed, SlotPublished, SlotsCleared};
 ghost use Rattle.lane_invariant.specs.Remaining.{remaining};
-ghost use Rattle.lane_invariant.specs.RemainingSteps.{TakesNothing};
-ghost use Rattle.lane_invariant.specs.OneSid.{HaveOneSid};
+ghost use Rattle.lane_invariant.specs.RemainingSteps.{AllDo, TakesNothing};
+ghost use Rattle.lane_invariant.specs.OneSession.{AreOneSession};
 ghost use Rattle.lane_invariant.specs.Sound.{CountsInOrder};
 ghost use Rattle.lane_invariant.specs.TableStands.{AnswersAt, TableAt};
 ghost use Rattle.lane_invariant.specs.Utterances.{SaysEach};
@@ -146,9 +152,9 @@ pub fn pages_of_a_lane_stay_granted()
 {}
 
 /// What a client writes into its ring at a step of a lane, also where somebody forges packets and memory: as its
-/// session opens each slot holds nothing; a request that is published stands, READY, in the slot of its number; the slot
-/// of a request that is done was DONE, with the status that the completion carries, and is FREE. No other slot changes,
-/// though a write's bytes are put into its buffer in the same step.
+/// session opens each slot holds nothing; a request that is published stands, READY, in the slot of its number; the
+/// slot of a request that is done was DONE, with the status that the completion carries, and is FREE. No other slot
+/// changes, though a write's bytes are put into its buffer in the same step.
 pub fn a_client_writes_one_slot()
     ensures opens { (shape : Shape) (events : List DiskEvent) (s t : LaneState) (packet : List ℕ)
         → IsShape shape → Run LaneStep (fresh shape) events s → LaneStep s (OnWire (Sent A packet true)) t
@@ -166,7 +172,8 @@ pub fn a_client_writes_one_slot()
 /// 36 before it. Each step of an end that takes nothing lowers it: that an end joins or puts a packet, that the client
 /// publishes or completes a request, and that the server fetches a descriptor, does a piece of it or ends it. Behind a
 /// reset of an end that was up exactly 35 remain, and 16 for each pending request; where a packet was lost before, that
-/// is less than remained.
+/// is less than remained. Where nobody forged, a packet that an end takes lowers it too; so of the steps by which an
+/// end does something no more follow one another than remain.
 pub fn what_remains_falls_by_what_an_end_does()
     ensures fresh { (shape : Shape) → remaining (fresh shape) ≡ 36 }
     ensures steps { (shape : Shape) (events : List DiskEvent) (s : LaneState) (event : DiskEvent) (t : LaneState)
@@ -181,6 +188,13 @@ pub fn what_remains_falls_by_what_an_end_does()
         (packet : Option (List ℕ)) (lost : ℕ) (t : LaneState)
         → IsShape shape → Run LaneStep (fresh shape) events s → IsUp e s.wire.wire → s.wire.lossy ≡ true
         → LaneStep s (OnWire (Reset e cause packet lost)) t → remaining t < remaining s }
+    ensures takes { (shape : Shape) (events : List DiskEvent) (s : LaneState) (e : End)
+        (packet : List ℕ) (opens : Bool) (t : LaneState)
+        → IsShape shape → Run LaneStep (fresh shape) events s → s.wire.forged ≡ false
+        → LaneStep s (OnWire (Took e packet opens)) t → remaining t < remaining s }
+    ensures many { (shape : Shape) (events : List DiskEvent) (s : LaneState) (more : List DiskEvent) (t : LaneState)
+        → IsShape shape → Run LaneStep (fresh shape) events s → s.wire.forged ≡ false
+        → Run LaneStep s more t → AllDo more → remaining t + length more ≤ remaining s }
 {}
 
 /// Along every run of a lane, also where somebody forges packets and memory: where an end's session is open, the end
@@ -198,9 +212,9 @@ pub fn open_sessions_rest_on_what_was_heard()
         → OpenRests Responder s.server.shake (heard (talk_behind events).server) }
 {}
 
-/// Along every run of a lane, also where somebody forges packets and memory: each message that an end said since it last
-/// began is as its handshake has it. The client's have its sid, offer its version and register its ring; the server's
-/// agree to the minor that its session holds, and give the client's ring the number by which it knows it.
+/// Along every run of a lane, also where somebody forges packets and memory: each message that an end said since it
+/// last began is as its handshake has it. The client's have its sid, offer its version and register its ring; the
+/// server's agree to the minor that its session holds, and give the client's ring the number by which it knows it.
 pub fn ends_say_what_their_handshakes_hold()
     ensures client { (shape : Shape) (events : List DiskEvent) (s : LaneState)
         → IsShape shape → Run LaneStep (fresh shape) events s
@@ -210,8 +224,8 @@ pub fn ends_say_what_their_handshakes_hold()
         → SaysEach Responder s.server.shake.phase s.server.shake.offer s.server.shake.draft (said (talk_behind events).server) }
 {}
 
-/// On a lane that nobody forged, each message that an end that is up has heard since it last began is as the other end's
-/// handshake has it now, whatever was lost, reset, stopped or restarted on the way there.
+/// On a lane that nobody forged, each message that an end that is up has heard since it last began is as the other
+/// end's handshake has it now, whatever was lost, reset, stopped or restarted on the way there.
 pub fn what_is_heard_is_as_the_other_end_has_it()
     ensures client { (shape : Shape) (events : List DiskEvent) (s : LaneState)
         → IsShape shape → Run LaneStep (fresh shape) events s
@@ -223,12 +237,78 @@ pub fn what_is_heard_is_as_the_other_end_has_it()
         → SaysEach Initiator s.client.shake.phase s.client.shake.offer s.client.shake.draft (heard (talk_behind events).server) }
 {}
 
-/// On a lane that nobody forged, where both sessions are open and the server's end is up: both have one sid, and the
-/// server knows the client's ring by it.
-pub fn open_sessions_have_one_sid()
+/// On a lane that nobody forged, whatever was lost, reset, stopped or restarted on the way there: where both sessions
+/// are open both ends are up, and the sessions are one. They have one sid and one minor; the server knows the client's
+/// ring by the sid, which is the number that the client has for it; and that ring has the slots and the cookies that
+/// the client offers.
+pub fn open_sessions_are_one()
+    ensures up { (shape : Shape) (events : List DiskEvent) (s : LaneState)
+        → IsShape shape → Run LaneStep (fresh shape) events s
+        → s.wire.forged ≡ false → is_some s.client.session ≡ true → is_some s.server.session ≡ true
+        → IsUp A s.wire.wire × IsUp B s.wire.wire }
+    ensures one { (shape : Shape) (events : List DiskEvent) (s : LaneState)
+        → IsShape shape → Run LaneStep (fresh shape) events s
+        → s.wire.forged ≡ false → is_some s.client.session ≡ true → is_some s.server.session ≡ true
+        → AreOneSession s.client.shake s.server.shake }
+    ensures offer { (shape : Shape) (events : List DiskEvent) (s : LaneState)
+        → IsShape shape → Run LaneStep (fresh shape) events s
+        → s.client.shake.offer ≡ client_offer s.client.blocks s.client.slots }
+{}
+
+/// What the log of a run counts of the two sessions is what the ends count, also where somebody forges packets and
+/// memory: each range that an end says or hears whole counts its slots, and a server's counts are those of the log
+/// modulo 2^64. Where nobody forged and the server's end is up with its session open, the client's session is open too,
+/// of the same ring, and the counts stand in their order: what is done was finished, what was fetched was asked for,
+/// and what was asked for was published, less than 2^64 in all.
+pub fn sessions_count_alike()
+    ensures client { (shape : Shape) (events : List DiskEvent) (s : LaneState)
+        → IsShape shape → Run LaneStep (fresh shape) events s
+        → ClientAgrees s.client.session (log_of after (nothing_yet shape) events).work.done
+        (log_of after (nothing_yet shape) events).work.client }
+    ensures server { (shape : Shape) (events : List DiskEvent) (s : LaneState)
+        → IsShape shape → Run LaneStep (fresh shape) events s
+        → ServerAgrees s.server.session s.server.work (log_of after (nothing_yet shape) events).work.server }
+    ensures agree { (shape : Shape) → IsShape shape → AlwaysAgree shape }
+{}
+
+/// On a lane that nobody forged: a completion is of the first request that isn't done, and carries the status with
+/// which the server ended the descriptor in its slot.
+pub fn a_completion_carries_the_servers_status()
+    ensures { (shape : Shape) (events : List DiskEvent) (s t : LaneState) (id operation status : ℕ) (bytes : List ℕ)
+        → IsShape shape → Run LaneStep (fresh shape) events s
+        → LaneStep s (Works (Done id operation status bytes)) t
+        → (log_of after (nothing_yet shape) events).wire.forged ≡ false
+        → (k : ClientCounts) × CompletesSlot s (log_of after (nothing_yet shape) events) id status k }
+{}
+
+/// On a lane that nobody forged: each descriptor that the server fetches is that of the request with the next number of
+/// the client's session.
+pub fn a_server_fetches_the_next_request()
+    ensures { (shape : Shape) (events : List DiskEvent) (s t : LaneState) (slot : ℕ) (bytes : List ℕ)
+        → IsShape shape → Run LaneStep (fresh shape) events s → LaneStep s (Works (Desc slot bytes)) t
+        → (log_of after (nothing_yet shape) events).wire.forged ≡ false
+        → Unforged (log_of after (nothing_yet shape) events) (Works (Desc slot bytes)) }
+{}
+
+/// At each moment of a lane the table grants each page at its own index. On one that nobody forged, the bytes of each
+/// slot of the ring are what the log says of the slot: zeros before the first session, FREE, or the descriptor of a
+/// request, READY, ACCEPTED, or DONE with its status; each number in a slot was published in the open session and isn't
+/// done, and stands in the slot of its number; and the descriptor in work stands ACCEPTED.
+pub fn the_ring_is_as_its_log_says()
     ensures { (shape : Shape) (events : List DiskEvent) (s : LaneState)
         → IsShape shape → Run LaneStep (fresh shape) events s
-        → s.wire.forged ≡ false → IsUp B s.wire.wire
-        → is_some s.client.session ≡ true → is_some s.server.session ≡ true
-        → HaveOneSid s.client.shake s.server.shake }
+        → RingStands s (log_of after (nothing_yet shape) events) }
+{}
+
+/// The slots of the ring in order, on a lane that nobody forged, where the client's session is open: around the ring
+/// from the first request that isn't done, the slots of those that the server finished are DONE with their statuses; at
+/// most one is ACCEPTED; the published ones that it hasn't fetched are READY; all others are FREE. Each has the bytes
+/// of its request's descriptor. The counts are those of the server's session where it has one; where it has none and
+/// the client's end is up, nothing is finished or fetched; and of a session that is over they are as they were.
+pub fn slots_stand_in_order()
+    ensures { (shape : Shape) (events : List DiskEvent) (s : LaneState) (k : ClientCounts)
+        → IsShape shape → Run LaneStep (fresh shape) events s
+        → (log_of after (nothing_yet shape) events).wire.forged ≡ false
+        → (log_of after (nothing_yet shape) events).work.client ≡ Some k
+        → RingInOrder s (log_of after (nothing_yet shape) events) k }
 {}

@@ -1,3 +1,4 @@
+use Rattle.lane_invariant.proofs.FallsInTurn.{many_fall, took_falls}
 use Rattle.lane_invariant.proofs.RemainingBounds.{fresh_remains}
 use Rattle.lane_invariant.proofs.RemainingRuns.{resets_fall, resets_remain, steps_fall}
 use Rattle.lane_invariant.proofs.laws.what_remains_falls_by_what_an_end_does.Goals as goal
@@ -13,3 +14,9 @@ returns-clause-resets c = resets_remain
 
 pub returns-clause-again : goal.returns-clause-again
 returns-clause-again c = resets_fall
+
+pub returns-clause-takes : goal.returns-clause-takes
+returns-clause-takes c = took_falls
+
+pub returns-clause-many : goal.returns-clause-many
+returns-clause-many c = many_fall
