@@ -1,0 +1,18 @@
+-- The laws of the wire on an event of a lane, which speak of its log.
+use Rattle.disk_log.specs.DiskLog.{DiskLog}
+use Rattle.disk_log.specs.May.{OfWire}
+use Rattle.disk_steps.specs.DiskEvent.{DiskEvent}
+use Rattle.lane_law.specs.ResetSays.{WireResetAt}
+use Rattle.lane_law.specs.WireAt.{WireGapAt, WireSaidAt}
+
+-- what resets an end says why
+abbrev pub ResetAt : DiskLog → DiskEvent → Type 0
+ResetAt l event = OfWire (WireResetAt l.talk) event
+
+-- a gap names the number that was to come and the one that came
+abbrev pub GapAt : DiskLog → DiskEvent → Type 0
+GapAt l event = OfWire (WireGapAt l.talk) event
+
+-- what is said is cut and numbered as the log has it
+abbrev pub SaidAt : DiskLog → DiskEvent → Type 0
+SaidAt l event = OfWire (WireSaidAt l.talk) event
