@@ -1,0 +1,14 @@
+pub mod Requests
+pub mod Rules
+pub mod Linking
+pub mod Shaking
+pub mod Repetition
+pub mod Cookies
+pub mod Standing
+pub mod Unmoved
+pub mod HeardFails
+pub mod HeldPuts
+pub mod KeptPuts
+pub mod KeptTakes
+pub mod Keeping
+pub mod LaneSteps

@@ -1,0 +1,5 @@
+pub mod Standing
+pub mod Calls
+pub mod Hearing
+pub mod Putting
+pub mod OnLane

@@ -1,0 +1,137 @@
+// The descriptor of a request.
+
+ghost use Rattle.std.specs.Prelude.{◌≡◌, ◌+◌, ◌*◌, ◌<◌, ◌≤◌};
+ghost use Rattle.vdisk_msg.specs.Requested.{block_of, buffer_cookies, buffer_place, cookie_count, descriptor_of, page_cookie, size_of};
+ghost use Rattle.vdisk_msg.specs.Requests.{given_count, operation_of};
+
+use crate::offering::{PAGE, ring_pages};
+use dring::Ring;
+use map_table::Cookie;
+use vdisk_msg::{DiskDesc, Request};
+
+/// The states of a descriptor (`struct vio_dring_hdr` of Linux's vio.h).
+const VIO_DESC_READY: u8 = 2;
+
+pub(crate) const VIO_DESC_DONE: u8 = 4;
+
+/// An acknowledgement is asked for.
+const VIO_ACK_ENABLE: u8 = 1;
+
+/// The operations (`struct vio_disk_desc` of Linux's vio.h).
+const VD_OP_BREAD: u8 = 1;
+
+const VD_OP_BWRITE: u8 = 2;
+
+const VD_OP_FLUSH: u8 = 3;
+
+/// The whole disk.
+const WHOLE_DISK: u8 = 0xff;
+
+/// The bytes of a block.
+pub(crate) const BLOCK: u64 = 512;
+
+/// The pages of a slot's buffer.
+const BUFFER_PAGES: u64 = 4;
+
+/// What a request asks of the disk.
+pub(crate) fn operation_of(request: &Request) -> u8
+    ensures { result ≡ operation_of request.now }
+{
+    match request {
+        Request::Read { .. } => VD_OP_BREAD,
+        Request::Write { .. } => VD_OP_BWRITE,
+        Request::Flush => VD_OP_FLUSH,
+    }
+}
+
+/// Its first block.
+fn block_of(request: &Request) -> u64
+    ensures { result ≡ block_of request.now }
+{
+    match request {
+        Request::Read { block, .. } | Request::Write { block, .. } => *block,
+        Request::Flush => 0,
+    }
+}
+
+/// The bytes that it moves.
+fn size_of(request: &Request) -> u64
+    requires { size_of request.now ≤ 32768 }
+    ensures { result ≡ size_of request.now }
+{
+    match request {
+        Request::Read { count, .. } | Request::Write { count, .. } => BLOCK * *count,
+        Request::Flush => 0,
+    }
+}
+
+/// The ring of so many slots, at the front of the memory.
+pub(crate) fn ring_of(slots: u32) -> Ring<128>
+    ensures { result.slots ≡ slots }
+{
+    Ring::new(slots)
+}
+
+/// Where a slot's buffer begins, after the pages of a ring of so many slots.
+pub(crate) fn buffer_place(slots: u32, slot: u32) -> u64
+    requires few { slots ≤ 256 }
+    requires slot { slot < slots }
+    ensures { result ≡ buffer_place slots slot }
+{
+    PAGE * (ring_pages(slots) as u64 + BUFFER_PAGES * slot as u64)
+}
+
+/// The descriptor of the request with this id, in a slot of a ring of so many: READY, with the slot's buffer as far as
+/// it needs it.
+#[tactic(auto, unfolding(vdisk_msg::specs::Requested::descriptor_of))]
+pub(crate) fn descriptor_of(id: u64, request: &Request, slot: u32, slots: u32) -> DiskDesc
+    requires few { slots ≤ 256 }
+    requires slot { slot < slots }
+    requires size { size_of request.now ≤ 32768 }
+    ensures { result ≡ descriptor_of id request.now slot slots }
+{
+    let size = size_of(request);
+    DiskDesc {
+        state: VIO_DESC_READY,
+        ack: VIO_ACK_ENABLE,
+        id,
+        operation: operation_of(request),
+        slice: WHOLE_DISK,
+        status: 0,
+        offset: block_of(request),
+        size,
+        count: size.div_ceil(PAGE) as u32,
+        cookies: buffer_cookies(buffer_place(slots, slot), size),
+    }
+}
+
+/// One cookie for each page of a buffer, the last with the rest of the size.
+#[tactic(auto, unfolding(vdisk_msg::specs::Requested::buffer_cookies))]
+fn buffer_cookies(place: u64, size: u64) -> [Cookie; 5]
+    requires place { place ≤ 16777216 }
+    requires size { size ≤ 32768 }
+    ensures { result ≡ buffer_cookies place size }
+{
+    [
+        page_cookie(place, size, 0),
+        page_cookie(place, size, 1),
+        page_cookie(place, size, 2),
+        page_cookie(place, size, 3),
+        Cookie::NONE,
+    ]
+}
+
+fn page_cookie(place: u64, size: u64, page: u64) -> Cookie
+    requires place { place ≤ 16777216 }
+    requires page { page ≤ 3 }
+    ensures { result ≡ page_cookie place size page }
+{
+    let offset = PAGE * page;
+    if offset >= size {
+        return Cookie::NONE;
+    }
+    Cookie {
+        address: place + offset,
+        size: PAGE.min(size - offset),
+    }
+}

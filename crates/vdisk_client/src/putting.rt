@@ -1,0 +1,283 @@
+// What is put: the rest of a message, a message that the handshake owes, or the INFO that announces what was published.
+
+ghost use Rattle.std.specs.Prelude.{◌≡◌, ◌≢◌, ◌-◌, ◌<◌, [], length, true, false, Some, IfNone, IfSome, is_some, slice_get};
+ghost use Rattle.dring.specs.Slots.{free_slots};
+ghost use Rattle.ldc_link.specs.LinkState.{is_up};
+ghost use Rattle.ldc_link.specs.Putting.{owes};
+ghost use Rattle.ldc_queue.specs.ChannelView.{ChannelView};
+ghost use Rattle.ldc_queue.specs.declared.end.ChannelState.TheVariants.{Up};
+ghost use Rattle.vio_handshake.specs.declared.handshake.Phase.TheVariants.{Open};
+ghost use Rattle.vio_bytes.specs.Place.{put_at};
+ghost use Rattle.vio_tag.specs.Form.{IsWellFormed};
+
+use crate::answers::ClientOut;
+use crate::descriptor::ring_of;
+use crate::end::ClientEnd;
+use crate::filling::put_request;
+use crate::session::OpenSession;
+use dom_memory::Memory;
+use ldc_link::SendOut;
+use ldc_packet::Subtype;
+use ldc_queue::{Channel, End};
+use vio_tag::{Message, MsgBody, encode};
+
+/// The ring goes on to be worked (`VIO_DRING_ACTIVE` of Linux's vio.h).
+const VIO_DRING_ACTIVE: u8 = 1;
+
+impl ClientEnd {
+    ghost use Rattle.disk_steps.specs.ClientPutting.{announcement, holding, is_announcing};
+    ghost use Rattle.disk_steps.specs.ClientRule.{Announces, Says, in_session, publishes, puts_first};
+    ghost use Rattle.disk_steps.specs.ClientState.{first_id, opened_session};
+    ghost use Rattle.disk_steps.specs.EndPuts.{EndsShake, ending, put_opens};
+    ghost use Rattle.vdisk_client.specs.Calls.{Steps, rule_of};
+    ghost use Rattle.vdisk_client.specs.Putting.{CanCount, HoldsOwn, PutsHeld, cleared_if, kind_after, noted};
+    ghost use Rattle.vdisk_client.specs.Standing.{HoldsRing, RequestsStand, Stands};
+
+    /// Puts the packet that the link owes, or else a message that the handshake owes, or else goes on in session.
+    pub(crate) fn put_first(
+        &mut self,
+        owed: &Option<Message>,
+        channel: &mut Channel,
+        memory: &mut Memory,
+    ) -> ClientOut
+        requires owed { owed.now ≡ self.old.shake.owed }
+        requires up { channel.old.wire.end_a ≡ Up }
+        requires rule { rule_of self.old channel.old ≡ puts_first self.old }
+        requires stands { Stands self.old }
+        requires room { HoldsRing self.old.slots memory.old }
+        ensures step { Steps self.old channel.old memory.old result self.new channel.new memory.new }
+        ensures same_length { length memory.new ≡ length memory.old }
+    {
+        if self.link.owes() {
+            return self.put(channel, memory);
+        }
+        match owed {
+            Some(message) => self.say(message, channel, memory),
+            None => self.go_on(channel, memory),
+        }
+    }
+
+    /// Offers a message that the handshake owes, and puts its first packet.
+    fn say(&mut self, message: &Message, channel: &mut Channel, memory: &mut Memory) -> ClientOut
+        requires up { channel.old.wire.end_a ≡ Up }
+        requires rule { rule_of self.old channel.old ≡ Says message.now }
+        requires owed { self.old.shake.owed ≡ Some message.now }
+        requires nothing { owes self.old.link ≡ false }
+        requires stands { Stands self.old }
+        requires room { HoldsRing self.old.slots memory.old }
+        ensures step { Steps self.old channel.old memory.old result self.new channel.new memory.new }
+        ensures same_length { length memory.new ≡ length memory.old }
+    {
+        self.offer(message);
+        self.put(channel, memory)
+    }
+
+    /// In session: what is published is announced, and then the next pending request is published.
+    fn go_on(&mut self, channel: &mut Channel, memory: &mut Memory) -> ClientOut
+        requires up { channel.old.wire.end_a ≡ Up }
+        requires rule { rule_of self.old channel.old ≡ in_session self.old self.old.session }
+        requires nothing { owes self.old.link ≡ false }
+        requires stands { Stands self.old }
+        requires room { HoldsRing self.old.slots memory.old }
+        ensures step { Steps self.old channel.old memory.old result self.new channel.new memory.new }
+        ensures same_length { length memory.new ≡ length memory.old }
+    {
+        let session = match self.session {
+            Some(session) => session,
+            None => return ClientOut::Idle,
+        };
+        if session.has_unannounced() {
+            return self.announce(session, channel, memory);
+        }
+        self.publish_next(session, memory)
+    }
+
+    /// Offers the INFO that announces all that is published, and puts it.
+    fn announce(
+        &mut self,
+        session: OpenSession,
+        channel: &mut Channel,
+        memory: &mut Memory,
+    ) -> ClientOut
+        requires up { channel.old.wire.end_a ≡ Up }
+        requires rule { rule_of self.old channel.old ≡ Announces session }
+        requires open { self.old.session ≡ Some session }
+        requires some { session.announced < session.published }
+        requires nothing { owes self.old.link ≡ false }
+        requires stands { Stands self.old }
+        requires room { HoldsRing self.old.slots memory.old }
+        ensures step { Steps self.old channel.old memory.old result self.new channel.new memory.new }
+        ensures same_length { length memory.new ≡ length memory.old }
+    {
+        let message = self.announcement(&session);
+        self.offer(&message);
+        self.session = Some(session.with_info());
+        self.put(channel, memory)
+    }
+
+    /// The INFO of the slots from the first that isn't announced to the last that is published.
+    fn announcement(&self, session: &OpenSession) -> Message
+        requires slots { self.now.slots ≢ 0 }
+        requires open { self.now.shake.phase ≡ Open }
+        requires some { session.now.announced < session.now.published }
+        ensures { result ≡ announcement self.now session.now }
+    {
+        let agreed = match self.shake.session() {
+            Some(agreed) => agreed,
+            None => unreachable!(),
+        };
+        Message {
+            subtype: Subtype::Info,
+            sid: agreed.sid,
+            body: MsgBody::DringData {
+                seq: session.next_info(),
+                ident: agreed.ident_own,
+                start: session.announced_slot(self.slots),
+                end: session.last_published_slot(self.slots),
+                state: VIO_DRING_ACTIVE,
+            },
+        }
+    }
+
+    /// The link holds this message.
+    fn offer(&mut self, message: &Message)
+        requires form { IsWellFormed message.now }
+        requires up { is_up self.old.link ≡ true }
+        requires free { self.old.link.to_send ≡ [] }
+        ensures holds { self.new ≡ holding message.now self.old }
+        ensures owes { owes self.new.link ≡ true }
+    {
+        let mut bytes = [0; 256];
+        let len = encode(message, &mut bytes);
+        let _offered = self.link.offer(&bytes[..len]);
+    }
+
+    /// Puts the packet that the link owes.
+    fn put(&mut self, channel: &mut Channel, memory: &mut Memory) -> ClientOut
+        requires up { channel.old.wire.end_a ≡ Up }
+        requires owes { owes self.old.link ≡ true }
+        requires own { HoldsOwn self.old }
+        requires requests { RequestsStand self.old }
+        requires room { HoldsRing self.old.slots memory.old }
+        ensures put { PutsHeld self.old channel.old memory.old result self.new channel.new memory.new }
+        ensures same_length { length memory.new ≡ length memory.old }
+    {
+        let was_up = self.link.is_up();
+        match self.link.send(channel, End::A) {
+            SendOut::Sent(packet) => {
+                let opens = self.note_put(was_up, memory);
+                ClientOut::Sent { packet, opens }
+            }
+            SendOut::Blocked => ClientOut::Blocked,
+            SendOut::Nothing => unreachable!(),
+        }
+    }
+
+    /// A packet was put, of a link that was up or wasn't: it came up by that, or the message went on or ended. Tells
+    /// whether the session opened.
+    fn note_put(&mut self, was_up: bool, memory: &mut Memory) -> bool
+        requires owed { was_up ≡ true → is_announcing self.old.session ≡ false
+            → is_some self.old.shake.owed ≡ true }
+        requires infos { CanCount self.old.session }
+        requires requests { RequestsStand self.old }
+        requires room { HoldsRing self.old.slots memory.old }
+        ensures opens { result
+            ≡ put_opens (kind_after was_up self.old.link (is_announcing self.old.session)) self.old.shake }
+        ensures state { self.new ≡ noted (kind_after was_up self.old.link (is_announcing self.old.session)) self.old }
+        ensures memory { memory.new ≡ cleared_if result self.old.slots memory.old }
+        ensures same_length { length memory.new ≡ length memory.old }
+    {
+        if !self.link.is_up() || (was_up && self.link.owes()) {
+            return false;
+        }
+        if was_up {
+            return self.end_message(memory);
+        }
+        self.shake.link_up();
+        false
+    }
+
+    /// The message that the link held was put whole: the client's own INFO, or what the handshake owed.
+    fn end_message(&mut self, memory: &mut Memory) -> bool
+        requires owed { is_announcing self.old.session ≡ false → is_some self.old.shake.owed ≡ true }
+        requires infos { CanCount self.old.session }
+        requires requests { RequestsStand self.old }
+        requires room { HoldsRing self.old.slots memory.old }
+        ensures opens { result ≡ put_opens (ending true (is_announcing self.old.session)) self.old.shake }
+        ensures state { self.new ≡ noted (ending true (is_announcing self.old.session)) self.old }
+        ensures memory { memory.new ≡ cleared_if result self.old.slots memory.old }
+        ensures same_length { length memory.new ≡ length memory.old }
+    {
+        match self.announcing() {
+            Some(session) => {
+                self.session = Some(session.announced_all());
+                false
+            }
+            None => self.end_owed(memory),
+        }
+    }
+
+    /// The session, where the link holds an INFO of it.
+    fn announcing(&self) -> Option<OpenSession>
+        ensures some { IfSome result
+            (λ session. (self.now.session ≡ Some session) × (session.announcing ≡ true)) }
+        ensures none { IfNone result (is_announcing self.now.session ≡ false) }
+    {
+        match self.session {
+            Some(session) if session.is_announcing() => Some(session),
+            _ => None,
+        }
+    }
+
+    /// What the handshake owed was put whole. The session may open by that.
+    fn end_owed(&mut self, memory: &mut Memory) -> bool
+        requires owed { is_some self.old.shake.owed ≡ true }
+        requires requests { RequestsStand self.old }
+        requires room { HoldsRing self.old.slots memory.old }
+        ensures opens { result ≡ put_opens EndsShake self.old.shake }
+        ensures state { self.new ≡ noted EndsShake self.old }
+        ensures memory { memory.new ≡ cleared_if result self.old.slots memory.old }
+        ensures same_length { length memory.new ≡ length memory.old }
+    {
+        let opens = self.shake.sent();
+        if opens {
+            self.open(memory);
+        }
+        opens
+    }
+
+    /// The session opens: the ring is cleared, and nothing is published.
+    fn open(&mut self, memory: &mut Memory)
+        requires requests { RequestsStand self.old }
+        requires room { HoldsRing self.old.slots memory.old }
+        ensures state { self.new ≡ record self.old { session = Some (opened_session (first_id self.old)) } }
+        ensures memory { memory.new ≡ put_at 0 (free_slots 128 self.old.slots) memory.old }
+        ensures same_length { length memory.new ≡ length memory.old }
+    {
+        self.session = Some(OpenSession::new(self.first_id()));
+        ring_of(self.slots).clear(memory);
+    }
+
+    /// Publishes the first pending request that isn't published in this session, if any.
+    fn publish_next(&mut self, session: OpenSession, memory: &mut Memory) -> ClientOut
+        requires open { self.old.session ≡ Some session }
+        requires stands { Stands self.old }
+        requires room { HoldsRing self.old.slots memory.old }
+        ensures step { (channel : ChannelView)
+            → rule_of self.old channel
+            ≡ publishes session (slice_get self.old.pending (session.published - session.completed))
+            → Steps self.old channel memory.old result self.new channel memory.new }
+        ensures same_length { length memory.new ≡ length memory.old }
+    {
+        let request = match self.pending.get(session.published_pending() as usize) {
+            Some(request) => request,
+            None => return ClientOut::Idle,
+        };
+        let id = session.next_id();
+        let slot = session.published_slot(self.slots);
+        put_request(memory, self.slots, slot, id, request);
+        self.ever_published = self.ever_published.max(id + 1);
+        self.session = Some(session.published_one());
+        ClientOut::Published { id }
+    }
+}
