@@ -1,0 +1,15 @@
+pub mod HearSteps
+pub mod LaneSteps
+pub mod LinkSteps
+pub mod PieceSteps
+pub mod PutSteps
+pub mod RuleFacts
+pub mod RuleOrder
+pub mod ShakeSteps
+pub mod SlotSteps
+pub mod StandKept
+pub mod StandPuts
+pub mod StandStep
+pub mod StandSteps
+pub mod StoreSteps
+pub mod WorkKept

@@ -1,0 +1,99 @@
+-- The answer of a step as an event of the disk's lane, and what the step does to the channel and to the store.
+use Rattle.std.specs.Prelude.{◌≡◌, ℕ, ◌+◌, ◌≤◌, Bool, true, false, List, [], Option, ⊤}
+use Rattle.cookie_copy.specs.Faults.{both_up}
+use Rattle.ldc_queue.specs.ChannelView.{ChannelView, channel_with, channel_without_first, configured_channel}
+use Rattle.ldc_queue.specs.declared.end.End.TheVariants.{A, B}
+use Rattle.map_table.specs.declared.table.Entry.{Entry}
+use Rattle.vio_io.specs.Causes.{Rose, next_count}
+use Rattle.lane_law.specs.WireEvent as wire
+use Rattle.disk_steps.specs.DiskEvent.{Desc, DiskEvent, Finished, Moved, OnWire, Stored, Works}
+use Rattle.disk_steps.specs.Seeing.{Seen, seen}
+use Rattle.disk_steps.specs.Served.{StoreDoes}
+use Rattle.disk_steps.specs.ServerState.{ServerState}
+use Rattle.disk_steps.specs.ServerStep.{ServerStep}
+use Rattle.disk_steps.specs.ServerWork.{Reach}
+use Rattle.vdisk_server.specs.declared.answers.ServerOut.{ServerOut}
+use Rattle.vdisk_server.specs.declared.answers.ServerOut.TheVariants as out
+
+-- a server loses nothing but its own work, which its client asks for again
+abbrev pub server_event : ServerOut → DiskEvent
+server_event out.Idle = OnWire (wire.Idle B)
+server_event out.Blocked = OnWire (wire.Blocked B)
+server_event out.Joined = OnWire (wire.Joined B 0)
+server_event (out.Took packet opens) = OnWire (wire.Took B packet opens)
+server_event (out.Sent packet opens) = OnWire (wire.Sent B packet opens)
+server_event (out.Desc slot bytes) = Works (Desc slot bytes)
+server_event (out.Moved unit fault) = Works (Moved unit fault)
+server_event (out.Stored operation block count failed) = Works (Stored operation block count failed)
+server_event (out.Finished slot status) = Works (Finished slot status)
+server_event (out.Reset cause packet) = OnWire (wire.Reset B cause packet 0)
+
+-- The channel after a step. A packet for which the end resets itself has left a queue that is emptied.
+abbrev pub channel_after : ServerOut → ChannelView → ChannelView
+channel_after out.Joined c = configured_channel B c
+channel_after (out.Reset cause packet) c = configured_channel B c
+channel_after (out.Took packet opens) c = channel_without_first B c
+channel_after (out.Sent packet opens) c = channel_with A packet c
+channel_after _ c = c
+
+-- what the server sees of the channel, and what it reaches by it
+abbrev pub sees : ChannelView → Seen
+sees c = seen B c.entries c.wire
+
+abbrev pub reach_over : ChannelView → List (Option Entry) → List ℕ → Reach
+reach_over c table memory = record { both = both_up c.wire; table = table; memory = memory }
+
+-- what became of the bytes that the store tells, where it gave these
+abbrev pub ToldAfter : ServerState → ServerOut → List ℕ → Option (List ℕ) → Option (List ℕ) → Type 0
+ToldAfter s (out.Stored operation block count failed) gave told new = StoreDoes s.work s block failed gave told new
+ToldAfter s _ gave told new = new ≡ told
+
+-- ONE STEP OF THE SERVER, with what its store gave
+pub record Serves (s : ServerState) (c : ChannelView) (table : List (Option Entry)) (memory : List ℕ) (told : Option (List ℕ)) (answer : ServerOut) (t : ServerState) (new_memory : List ℕ) (new_told : Option (List ℕ)) : Type 0 where
+  pub gave : List ℕ
+  pub step : ServerStep s (sees c) (reach_over c table memory) gave (server_event answer) t new_memory
+  pub store : ToldAfter s answer gave told new_told
+
+-- the store is called for a unit and for a flush alone: in all other steps it stays as it is
+abbrev pub KeepsStore : {D : Type 0} → ServerOut → D → D → Type 0
+KeepsStore (out.Stored operation block count failed) old new = ⊤
+KeepsStore _ old new = new ≡ old
+
+-- one call was made, and it failed exactly where this says so
+abbrev pub FaultsAfter : Bool → ℕ → ℕ → Type 0
+FaultsAfter true old new = Rose old new × (new ≡ next_count old)
+FaultsAfter false old new = new ≡ old
+
+pub record CalledOnce (failed : Bool) (calls new_calls faults new_faults : ℕ) : Type 0 where
+  pub calls_are : new_calls ≡ next_count calls
+  pub faults_are : FaultsAfter failed faults new_faults
+
+abbrev pub Calls : ServerOut → ℕ → ℕ → ℕ → ℕ → Type 0
+Calls (out.Stored operation block count failed) calls new_calls faults new_faults = CalledOnce failed calls new_calls faults new_faults
+Calls _ calls new_calls faults new_faults = (new_calls ≡ calls) × (new_faults ≡ faults)
+
+-- what is read or written lies in a disk of so many blocks
+abbrev pub WithinDisk : ℕ → ServerOut → Type 0
+WithinDisk blocks (out.Stored operation block count failed) = block + count ≤ blocks
+WithinDisk blocks _ = ⊤
+
+-- the store isn't called
+abbrev pub LeavesStore : ServerOut → Type 0
+LeavesStore (out.Stored operation block count failed) = ⊥
+LeavesStore _ = ⊤
+
+-- a step that reaches neither memory nor store
+pub record StepsAlone (s : ServerState) (c : ChannelView) (answer : ServerOut) (t : ServerState) : Type 0 where
+  pub leaves : LeavesStore answer
+  pub step : (reach : Reach) → ServerStep s (sees c) reach [] (server_event answer) t reach.memory
+
+-- a step that reaches the client's memory and no store
+pub record StepsIn (s : ServerState) (c : ChannelView) (table : List (Option Entry)) (memory : List ℕ) (answer : ServerOut) (t : ServerState) (new : List ℕ) : Type 0 where
+  pub leaves : LeavesStore answer
+  pub step : ServerStep s (sees c) (reach_over c table memory) [] (server_event answer) t new
+
+-- the disk stays where it is, and as it is
+pub record SameDisk (s t : ServerState) : Type 0 where
+  pub first : t.first ≡ s.first
+  pub blocks : t.blocks ≡ s.blocks
+  pub slots : t.slots ≡ s.slots

@@ -1,0 +1,8 @@
+pub mod Answering
+pub mod Fields
+pub mod InLane
+pub mod Pieces
+pub mod Putting
+pub mod Hearing
+pub mod Rules
+pub mod Standing

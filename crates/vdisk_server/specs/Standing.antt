@@ -1,0 +1,120 @@
+-- What always holds of a server by itself.
+use Rattle.std.specs.Prelude.{◌≡◌, ◌≢◌, ℕ, ◌+◌, ◌*◌, ◌%◌, ◌<◌, ◌≤◌, true, false, [], length, Option, Some, None, ⊤}
+use Rattle.ldc_link.specs.declared.phase.LinkPhase.{LinkPhase}
+use Rattle.ldc_link.specs.declared.phase.LinkPhase.TheVariants as link
+use Rattle.ldc_link.specs.declared.phase.Role.TheVariants.{Responder}
+use Rattle.ldc_link.specs.LinkState.{LinkState, is_up}
+use Rattle.vdisk_msg.specs.declared.desc.DiskDesc.{DiskDesc}
+use Rattle.vio_handshake.specs.declared.handshake.Handshake.{Handshake}
+use Rattle.vio_handshake.specs.declared.handshake.Phase.{Phase}
+use Rattle.vio_handshake.specs.declared.handshake.Phase.TheVariants as shake
+use Rattle.vio_handshake.specs.declared.session.Session.{Session}
+use Rattle.vio_handshake.specs.State.{OwesWell}
+use Rattle.disk_steps.specs.Offering.{server_offer}
+use Rattle.disk_steps.specs.ServerState.{Ends, Flushes, Gathers, Gives, Progress, Reads, ServerSession, ServerState, SlotRange, Work, Writes}
+use Rattle.disk_steps.specs.ServerWork.{desc_of, length_of}
+
+-- it is the responder of its link and of its handshake
+abbrev pub Answers : LinkPhase → Type 0
+Answers link.OwesVersInfo = ⊥
+Answers link.AwaitsVersAck = ⊥
+Answers link.OwesRts = ⊥
+Answers link.AwaitsRtr = ⊥
+Answers link.OwesRdx = ⊥
+Answers _ = ⊤
+
+pub record LinkStands (k : LinkState) : Type 0 where
+  pub role : k.role ≡ Responder
+  pub phase : Answers k.phase
+  -- a message that became whole is looked at in the same step
+  pub seen : k.whole ≡ None
+
+-- What a handshake knows by its phase: the number of its session, and then the client's ring, which is as this end expects it.
+pub record KnowsSid (known : Option ℕ) (agreed : Session) : Type 0 where
+  pub sid : known ≡ Some agreed.sid
+
+pub record KnowsRing (known : Option ℕ) (agreed : Session) (expected : ℕ) : Type 0 where
+  pub sid : known ≡ Some agreed.sid
+  pub slots : agreed.peer_slots ≡ expected
+  pub some : 1 ≤ agreed.peer_count
+  pub most : agreed.peer_count ≤ 14
+
+abbrev pub Knows : Phase → Option ℕ → Session → ℕ → Type 0
+Knows shake.Down known agreed expected = ⊤
+Knows shake.Version known agreed expected = ⊤
+Knows shake.Attributes known agreed expected = KnowsSid known agreed
+Knows shake.PeerRing known agreed expected = KnowsSid known agreed
+Knows _ known agreed expected = KnowsRing known agreed expected
+
+pub record ShakeStands (blocks slots : ℕ) (h : Handshake) : Type 0 where
+  pub role : h.role ≡ Responder
+  pub offer : h.offer ≡ server_offer blocks slots
+  pub form : OwesWell h
+  pub knows : Knows h.phase h.sid h.draft h.offer.peer_slots
+
+-- something is owed, a message is left to be sent, or a session is open only where the link is up; its handshake began with the link
+pub record IsQuiet (s : ServerState) : Type 0 where
+  pub phase : s.shake.phase ≡ shake.Down
+  pub owed : s.shake.owed ≡ None
+  pub to_send : s.link.to_send ≡ []
+  pub session : s.session ≡ None
+
+pub record Began (s : ServerState) : Type 0 where
+  pub down : is_up s.link ≡ false → IsQuiet s
+  pub up : is_up s.link ≡ true → s.shake.phase ≢ shake.Down
+
+-- a session is open only where the handshake's is
+abbrev pub IsOpen : Option ServerSession → Phase → Type 0
+IsOpen None phase = ⊤
+IsOpen (Some session) phase = phase ≡ shake.Open
+
+-- a unit of a descriptor that was found sound: whole blocks, within the disk, in at most five cookies
+pub record IsUnit (blocks unit : ℕ) (desc : DiskDesc) : Type 0 where
+  pub whole : desc.size % 512 ≡ 0
+  pub most : desc.size ≤ 32768
+  pub unit_in : 8192 * unit < desc.size
+  pub within : 512 * desc.offset + desc.size ≤ 512 * blocks
+  pub cookies : desc.count ≤ 5
+
+-- a unit in work is one of its descriptor, and the bytes between its two pieces are as many as it has
+abbrev pub WorksRightly : ℕ → Progress → Work → Type 0
+WorksRightly blocks (Reads unit) work = IsUnit blocks unit (desc_of work)
+WorksRightly blocks (Gives unit bytes) work = IsUnit blocks unit (desc_of work) × (length bytes ≡ length_of work unit)
+WorksRightly blocks (Gathers unit) work = IsUnit blocks unit (desc_of work)
+WorksRightly blocks (Writes unit bytes) work = IsUnit blocks unit (desc_of work) × (length bytes ≡ length_of work unit)
+WorksRightly blocks Flushes work = ⊤
+WorksRightly blocks (Ends status) work = ⊤
+
+-- a descriptor is in work only for a range that isn't finished, and while nothing is owed or to be sent
+abbrev pub IsUnfinished : Option SlotRange → ServerSession → Type 0
+IsUnfinished None session = ⊥
+IsUnfinished (Some range) session = session.finished ≢ session.asked
+
+abbrev pub HasRange : Option ServerSession → Type 0
+HasRange None = ⊥
+HasRange (Some session) = IsUnfinished session.range session
+
+pub record WorkStands (s : ServerState) (work : Work) : Type 0 where
+  pub range : HasRange s.session
+  pub owed : s.shake.owed ≡ None
+  pub to_send : s.link.to_send ≡ []
+  pub rightly : WorksRightly s.blocks work.progress work
+
+abbrev pub WorkIn : ServerState → Option Work → Type 0
+WorkIn s None = ⊤
+WorkIn s (Some work) = WorkStands s work
+
+-- a disk of 1 to 65,536 blocks, and a ring of 2 to 256 slots
+pub record IsDisk (blocks slots : ℕ) : Type 0 where
+  pub some_blocks : 1 ≤ blocks
+  pub most_blocks : blocks ≤ 65536
+  pub some_slots : 2 ≤ slots
+  pub most_slots : slots ≤ 256
+
+pub record Stands (s : ServerState) : Type 0 where
+  pub disk : IsDisk s.blocks s.slots
+  pub link : LinkStands s.link
+  pub shake : ShakeStands s.blocks s.slots s.shake
+  pub began : Began s
+  pub session : IsOpen s.session s.shake.phase
+  pub work : WorkIn s s.work

@@ -1,0 +1,215 @@
+// What a server holds of its lane.
+
+ghost use Rattle.std.specs.Prelude.{◌≡◌, None, IfOk, option_map};
+ghost use Rattle.ldc_link.specs.declared.phase.Role.TheVariants.{Responder};
+ghost use Rattle.ldc_queue.specs.ChannelView.{configured_channel};
+ghost use Rattle.ldc_queue.specs.declared.end.End.TheVariants.{B};
+ghost use Rattle.vio_handshake.specs.declared.handshake.Phase.TheVariants.{Open};
+ghost use Rattle.vio_tag.specs.Form.{IsWellFormed};
+ghost use Rattle.disk_steps.specs.Offering.{disk_of, server_offer};
+ghost use Rattle.disk_steps.specs.ServerState.{fresh_server, joined_server, peer_ring, restarted_server};
+ghost use Rattle.vdisk_server.specs.Answering.{channel_after};
+ghost use Rattle.vdisk_server.specs.Fields.{ring_session, state_of};
+ghost use Rattle.vdisk_server.specs.Rules.{in_hand, owed_message, session_owes};
+ghost use Rattle.vdisk_server.specs.Standing.{IsOpen};
+
+use crate::answers::ServerOut;
+use crate::fetching::SLOT;
+use crate::session::RingSession;
+use crate::unit::UnitBuffer;
+use crate::work::Work;
+use dring::PeerRing;
+use flat_store::Region;
+use ldc_link::{Link, Role};
+use ldc_packet::Subtype;
+use ldc_queue::{Channel, End};
+use map_table::Cookie;
+use std::alloc::Global;
+use vio_bytes::NoMemory;
+use vio_handshake::{Handshake, Offer, Session};
+use vio_tag::{Cause, DiskAttr, Message, MsgBody, put_disk_attr};
+
+/// Of a disk's server, by the class of its end in VER_INFO.
+const VDEV_DISK_SERVER: u8 = 4;
+
+/// What a server offers: version 1.1, its number of blocks, and no ring of its own.
+fn offer(blocks: u64, slots: u32) -> Offer
+    ensures { result ≡ server_offer blocks slots }
+{
+    Offer {
+        minor: 1,
+        class: VDEV_DISK_SERVER,
+        attr: put_disk_attr(&disk_of(blocks)),
+        slots: 0,
+        slot_size: SLOT as u32,
+        count: 0,
+        cookies: [Cookie::NONE; 14],
+        both_rings: false,
+        peer_slots: slots,
+    }
+}
+
+/// The disk that is offered, by its number of blocks.
+fn disk_of(blocks: u64) -> DiskAttr
+    ensures { result ≡ disk_of blocks }
+{
+    DiskAttr {
+        mode: 0,
+        kind: 0,
+        media: 0,
+        block_size: 0,
+        operations: 0,
+        blocks,
+        max_transfer: 0,
+        physical: 0,
+    }
+}
+
+/// The link and the handshake of the end, the session that is open, and the descriptor in work.
+#[derive(Drop)]
+pub(crate) struct ServerEnd {
+    pub link: Link,
+    pub shake: Handshake,
+    pub region: Region,
+    /// The slots of the ring that it expects of its client.
+    pub slots: u32,
+    pub session: Option<RingSession>,
+    pub work: Option<Work>,
+    /// The bytes of a unit between its two pieces.
+    pub unit: UnitBuffer,
+}
+
+impl ServerEnd {
+    pub fn new(alloc: Global, region: Region, slots: u32) -> Result<ServerEnd, NoMemory>
+        ensures { IfOk result (λ e. state_of e ≡ fresh_server region.first region.blocks slots) }
+    {
+        Ok(ServerEnd {
+            link: Link::new(Role::Responder),
+            shake: Handshake::new(Role::Responder, &offer(region.blocks, slots)),
+            region,
+            slots,
+            session: None,
+            work: None,
+            unit: UnitBuffer::new(alloc)?,
+        })
+    }
+
+    /// Makes all its values new.
+    pub fn forget(&mut self)
+        requires link { self.old.link.role ≡ Responder }
+        requires shake { self.old.shake.role ≡ Responder }
+        requires offer { self.old.shake.offer ≡ server_offer self.old.region.blocks self.old.slots }
+        ensures { state_of self.new ≡ restarted_server (state_of self.old) }
+    {
+        self.link.forget();
+        self.shake.forget();
+        self.drop_session();
+    }
+
+    /// Configures the end and begins anew: the session and all half-done work go.
+    pub fn begin_anew(&mut self, channel: &mut Channel)
+        ensures state { state_of self.new ≡ joined_server (state_of self.old) }
+        ensures channel { channel.new ≡ configured_channel B channel.old }
+    {
+        self.link.join(channel, End::B);
+        self.shake.drop_session();
+        self.drop_session();
+    }
+
+    // The session ends, with the descriptor in work.
+    fn drop_session(&mut self)
+        ensures { state_of self.new ≡ record (state_of self.old) { session = None; work = None } }
+    {
+        self.session = None;
+        self.work = None;
+    }
+
+    /// Begins anew for a cause.
+    pub fn reset_for(
+        &mut self,
+        channel: &mut Channel,
+        cause: Cause,
+        packet: Option<[u8; 64]>,
+    ) -> ServerOut
+        ensures answer { result ≡ ServerOut.Reset cause packet }
+        ensures state { state_of self.new ≡ joined_server (state_of self.old) }
+        ensures channel { channel.new ≡ configured_channel B channel.old }
+    {
+        self.begin_anew(channel);
+        ServerOut::Reset { cause, packet }
+    }
+
+    /// What the handshake agreed on, while the session is open.
+    pub fn agreed(&self) -> Session
+        requires { self.now.shake.phase ≡ Open }
+        ensures { result ≡ self.now.shake.draft }
+    {
+        match self.shake.session() {
+            Some(session) => session,
+            None => unreachable!(),
+        }
+    }
+
+    /// The client's ring.
+    pub fn peer_ring(&self) -> PeerRing
+        requires { self.now.shake.phase ≡ Open }
+        ensures { result ≡ peer_ring (state_of self.now) }
+    {
+        let Session {
+            peer_slots,
+            peer_count,
+            peer_cookies,
+            ..
+        } = self.agreed();
+        PeerRing {
+            slots: peer_slots,
+            count: peer_count,
+            cookies: peer_cookies,
+        }
+    }
+
+    /// The message that is to be offered next: the handshake's, or the answer to a range that is finished.
+    pub fn owed_message(&self) -> Option<Message>
+        requires { IsOpen (state_of self.now).session self.now.shake.phase }
+        ensures { result ≡ owed_message (state_of self.now) }
+    {
+        match self.shake.next() {
+            Some(message) => Some(message),
+            None => self.owed_answer(),
+        }
+    }
+
+    /// The INFO's fields, acknowledged, once each descriptor of its range is finished.
+    fn owed_answer(&self) -> Option<Message>
+        requires { IsOpen (state_of self.now).session self.now.shake.phase }
+        ensures { result ≡ session_owes (state_of self.now) (state_of self.now).session }
+    {
+        let session = self.session?;
+        let range = session.range?;
+        if session.finished != session.asked {
+            return None;
+        }
+        let agreed = self.agreed();
+        Some(Message {
+            subtype: Subtype::Ack,
+            sid: agreed.sid,
+            body: MsgBody::DringData {
+                seq: range.seq,
+                ident: agreed.ident_peer,
+                start: range.start,
+                end: range.end,
+                state: range.state,
+            },
+        })
+    }
+
+    /// The session whose range isn't answered yet.
+    pub fn in_hand(&self) -> Option<RingSession>
+        ensures { option_map ring_session result ≡ in_hand (state_of self.now).session }
+    {
+        match self.session {
+            Some(session) if session.range.is_some() => Some(session),
+            _ => None,
+        }
+    }
+}

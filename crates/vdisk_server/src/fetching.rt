@@ -1,0 +1,128 @@
+// A descriptor is fetched.
+
+ghost use Rattle.std.specs.Prelude.{◌≡◌, ◌≤◌, ◌%◌, ◌<◌, length, None, Some};
+ghost use Rattle.cookie_copy.specs.Faults.{PagesWithin};
+ghost use Rattle.vio_handshake.specs.declared.handshake.Phase.TheVariants.{Open};
+ghost use Rattle.vdisk_msg.specs.Descriptor.{disk_desc_of};
+ghost use Rattle.vdisk_msg.specs.Requested.{header};
+ghost use Rattle.disk_steps.specs.ServerRule.{Fetches, server_rule};
+ghost use Rattle.disk_steps.specs.ServerWork.{cause_of, copy_number, slot_at};
+ghost use Rattle.vdisk_server.specs.Answering.{SameDisk, StepsIn, channel_after, reach_over, sees};
+ghost use Rattle.vdisk_server.specs.Fields.{ring_session, state_of};
+ghost use Rattle.vdisk_server.specs.Pieces.{FetchedOr};
+
+use crate::answers::ServerOut;
+use crate::descriptor::Descriptor;
+use crate::end::ServerEnd;
+use crate::session::RingSession;
+use crate::work::Work;
+use cookie_copy::CopyFault;
+use dom_memory::Memory;
+use dring::{RingFault, fetch, mark, slot_of};
+use ldc_queue::{Channel, End};
+use map_table::MapTable;
+use vio_bytes::put_u8;
+use vio_tag::Cause;
+
+/// The bytes of a descriptor's slot.
+pub(crate) const SLOT: usize = 128;
+
+/// The state of a descriptor that the server works on (`struct vio_dring_hdr` of Linux's vio.h).
+const VIO_DESC_ACCEPTED: u8 = 3;
+
+impl ServerEnd {
+    /// The next descriptor of the range is fetched and marked ACCEPTED.
+    pub fn fetch(
+        &mut self,
+        session: RingSession,
+        channel: &mut Channel,
+        table: &MapTable,
+        memory: &mut Memory,
+    ) -> ServerOut
+        requires open { self.old.shake.phase ≡ Open }
+        requires some { 0 < self.old.shake.draft.peer_slots }
+        requires few { self.old.shake.draft.peer_slots ≤ 256 }
+        requires cookies { self.old.shake.draft.peer_count ≤ 14 }
+        requires rule { server_rule (state_of self.old) (sees channel.old) ≡ Fetches (ring_session session) }
+        requires pages { PagesWithin table.now (length memory.old) }
+        ensures step { StepsIn (state_of self.old) channel.old table.now memory.old result (state_of self.new) memory.new }
+        ensures channel { channel.new ≡ channel_after result channel.old }
+        ensures same_length { length memory.new ≡ length memory.old }
+        ensures disk { SameDisk (state_of self.old) (state_of self.new) }
+    {
+        let slot = slot_of(session.fetched, 0, self.agreed().peer_slots);
+        match self.fetch_ready(slot, channel, table, memory) {
+            Ok(descriptor) => {
+                let bytes = *descriptor.bytes();
+                self.session = Some(RingSession {
+                    fetched: session.fetched.wrapping_add(1),
+                    ..session
+                });
+                self.work = Some(Work::begin(descriptor, self.region.blocks));
+                ServerOut::Desc { slot, bytes }
+            }
+            Err(cause) => self.reset_for(channel, cause, None),
+        }
+    }
+
+    // A descriptor that is READY, marked ACCEPTED.
+    fn fetch_ready(
+        &self,
+        slot: u32,
+        channel: &Channel,
+        table: &MapTable,
+        memory: &mut Memory,
+    ) -> Result<Descriptor, Cause>
+        requires open { self.now.shake.phase ≡ Open }
+        requires slot { slot < self.now.shake.draft.peer_slots }
+        requires few { self.now.shake.draft.peer_slots ≤ 256 }
+        requires cookies { self.now.shake.draft.peer_count ≤ 14 }
+        requires pages { PagesWithin table.now (length memory.old) }
+        ensures fetched { FetchedOr result (state_of self.now) (reach_over channel.now table.now memory.old) slot memory.new }
+        ensures same_length { length memory.new ≡ length memory.old }
+    {
+        let ring = self.peer_ring();
+        let descriptor = match fetch::<SLOT>(channel, End::B, table, memory, &ring, slot) {
+            Ok(bytes) => Descriptor::new(bytes),
+            Err(fault) => return Err(cause_of(slot, fault)),
+        };
+        let header = header_of(VIO_DESC_ACCEPTED, &descriptor);
+        match mark::<SLOT>(channel, End::B, table, memory, &ring, slot, header) {
+            Ok(()) => Ok(descriptor),
+            Err(fault) => Err(Cause::Copy(copy_number(fault))),
+        }
+    }
+}
+
+/// The header of a state, with the ack as it was fetched.
+pub(crate) fn header_of(state: u8, descriptor: &Descriptor) -> [u8; 8]
+    ensures { result ≡ header state (disk_desc_of descriptor.now).ack }
+{
+    let mut header = [0; 8];
+    put_u8(&mut header, 0, state);
+    put_u8(&mut header, 1, descriptor.desc().ack);
+    header
+}
+
+fn cause_of(slot: u32, fault: RingFault) -> Cause
+    ensures { result ≡ cause_of slot fault }
+{
+    match fault {
+        RingFault::Copy(fault) => Cause::Copy(copy_number(fault)),
+        RingFault::NotReady(state) => Cause::NotReady { slot, state },
+    }
+}
+
+/// The number of a copy's fault in the cause of a reset.
+pub(crate) fn copy_number(fault: CopyFault) -> u8
+    ensures { result ≡ copy_number fault }
+{
+    match fault {
+        CopyFault::Channel => 1,
+        CopyFault::BadAlign => 2,
+        CopyFault::Short => 3,
+        CopyFault::BadPage => 4,
+        CopyFault::NoMap => 5,
+        CopyFault::NoAccess => 6,
+    }
+}

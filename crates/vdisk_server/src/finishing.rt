@@ -1,0 +1,120 @@
+// A descriptor gets its status.
+
+ghost use Rattle.std.specs.Prelude.{◌≡◌, ◌≤◌, ◌%◌, ◌<◌, length, None, Some};
+ghost use Rattle.cookie_copy.specs.Faults.{PagesWithin};
+ghost use Rattle.vio_handshake.specs.declared.handshake.Phase.TheVariants.{Open};
+ghost use Rattle.vdisk_msg.specs.Requested.{status_word};
+ghost use Rattle.disk_steps.specs.ServerRule.{server_rule, serves};
+ghost use Rattle.vdisk_server.specs.Answering.{SameDisk, StepsIn, channel_after, reach_over, sees};
+ghost use Rattle.vdisk_server.specs.Fields.{ring_session, state_of};
+ghost use Rattle.vdisk_server.specs.Pieces.{EndedFor, IsEnding};
+
+use crate::answers::ServerOut;
+use crate::descriptor::Descriptor;
+use crate::end::ServerEnd;
+use crate::fetching::{SLOT, copy_number, header_of};
+use crate::session::RingSession;
+use dom_memory::Memory;
+use dring::{mark, put_word, slot_of};
+use ldc_queue::{Channel, End};
+use map_table::MapTable;
+use vio_bytes::put_u32;
+use vio_tag::Cause;
+
+/// The state of a descriptor that is done (`struct vio_dring_hdr` of Linux's vio.h).
+const VIO_DESC_DONE: u8 = 4;
+
+/// The word of a descriptor whose last four bytes are the status.
+const STATUS_WORD: u32 = 16;
+
+impl ServerEnd {
+    /// The descriptor in work gets its status, and is DONE.
+    pub fn finish(
+        &mut self,
+        session: RingSession,
+        status: u32,
+        channel: &mut Channel,
+        table: &MapTable,
+        memory: &mut Memory,
+    ) -> ServerOut
+        requires open { self.old.shake.phase ≡ Open }
+        requires some { 0 < self.old.shake.draft.peer_slots }
+        requires few { self.old.shake.draft.peer_slots ≤ 256 }
+        requires cookies { self.old.shake.draft.peer_count ≤ 14 }
+        requires rule { server_rule (state_of self.old) (sees channel.old) ≡ serves (ring_session session) (state_of self.old).work }
+        requires ends { IsEnding (state_of self.old).work status }
+        requires pages { PagesWithin table.now (length memory.old) }
+        ensures step { StepsIn (state_of self.old) channel.old table.now memory.old result (state_of self.new) memory.new }
+        ensures channel { channel.new ≡ channel_after result channel.old }
+        ensures same_length { length memory.new ≡ length memory.old }
+        ensures disk { SameDisk (state_of self.old) (state_of self.new) }
+    {
+        let slot = slot_of(session.finished, 0, self.agreed().peer_slots);
+        match self.end_slot(slot, status, channel, table, memory) {
+            Ok(()) => {
+                self.session = Some(RingSession {
+                    finished: session.finished.wrapping_add(1),
+                    ..session
+                });
+                self.work = None;
+                ServerOut::Finished { slot, status }
+            }
+            Err(cause) => self.reset_for(channel, cause, None),
+        }
+    }
+
+    // The status is written, and then the header with DONE.
+    fn end_slot(
+        &self,
+        slot: u32,
+        status: u32,
+        channel: &Channel,
+        table: &MapTable,
+        memory: &mut Memory,
+    ) -> Result<(), Cause>
+        requires open { self.now.shake.phase ≡ Open }
+        requires slot { slot < self.now.shake.draft.peer_slots }
+        requires few { self.now.shake.draft.peer_slots ≤ 256 }
+        requires cookies { self.now.shake.draft.peer_count ≤ 14 }
+        requires ends { IsEnding (state_of self.now).work status }
+        requires pages { PagesWithin table.now (length memory.old) }
+        ensures ended { EndedFor (state_of self.now).work result (state_of self.now) (reach_over channel.now table.now memory.old) slot status memory.new }
+        ensures same_length { length memory.new ≡ length memory.old }
+    {
+        let descriptor = match &self.work {
+            Some(work) => &work.descriptor,
+            None => unreachable!(),
+        };
+        let ring = self.peer_ring();
+        let word = status_word(descriptor, status);
+        match put_word::<SLOT>(
+            channel,
+            End::B,
+            table,
+            memory,
+            &ring,
+            slot,
+            STATUS_WORD,
+            word,
+        ) {
+            Ok(()) => {}
+            Err(fault) => return Err(Cause::Copy(copy_number(fault))),
+        }
+        let header = header_of(VIO_DESC_DONE, descriptor);
+        match mark::<SLOT>(channel, End::B, table, memory, &ring, slot, header) {
+            Ok(()) => Ok(()),
+            Err(fault) => Err(Cause::Copy(copy_number(fault))),
+        }
+    }
+}
+
+/// The bytes of the status word as they were fetched, with the status at their end.
+fn status_word(descriptor: &Descriptor, status: u32) -> [u8; 8]
+    ensures { result ≡ status_word descriptor.now status }
+{
+    let at = STATUS_WORD as usize;
+    let mut word = [0; 8];
+    word.copy_from_slice(&descriptor.bytes()[at..at + 8]);
+    put_u32(&mut word, 4, status);
+    word
+}

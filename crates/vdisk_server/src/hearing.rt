@@ -1,0 +1,178 @@
+// What a server makes of a message that became whole.
+
+ghost use Rattle.std.specs.Prelude.{◌≡◌, ◌≢◌, ◌%◌, ◌<◌, ◌≤◌, false, None, Some, MatchResult, OnErr};
+ghost use Rattle.ldc_link.specs.LinkState.{cleared};
+ghost use Rattle.ldc_link.specs.declared.phase.Role.TheVariants.{Responder};
+ghost use Rattle.vio_handshake.specs.Rules.{shake_take};
+ghost use Rattle.vio_handshake.specs.declared.handshake.Phase.TheVariants.{Down, Open};
+ghost use Rattle.disk_steps.specs.ServerTaking.{GoesOn, HearsWhole, Resets, asked, by_handshake, hears_message, takes_info};
+ghost use Rattle.disk_steps.specs.ServerState.{joined_server};
+ghost use Rattle.vdisk_server.specs.Answering.{SameDisk};
+ghost use Rattle.vdisk_server.specs.Fields.{ring_session, slot_range, state_of};
+ghost use Rattle.vdisk_server.specs.Hearing.{CanHear, CanHearWhole, DecodesWhole, risen, took};
+ghost use Rattle.vdisk_server.specs.Standing.{Stands};
+
+use crate::end::ServerEnd;
+use crate::session::{RingSession, SlotRange};
+use ldc_packet::Subtype;
+use vio_handshake::HsOut;
+use vio_tag::{Cause, Message, MsgBody, TagFault, decode};
+
+impl ServerEnd {
+    /// A packet was taken: the handshake begins where the link came up by it, and a message that became whole is heard. Tells whether
+    /// the session opened by it, or why the end is to be reset.
+    pub fn hear(&mut self, was_up: bool) -> Result<bool, Cause>
+        requires role { self.old.shake.role ≡ Responder }
+        requires hears { CanHearWhole self.old.link.whole (risen was_up (state_of self.old)) }
+        ensures heard { HearsWhole (risen was_up (state_of self.old)) self.old.link.whole (took result (state_of self.new)) }
+        ensures kept { OnErr result (joined_server (state_of self.new) ≡ joined_server (state_of self.old)) }
+        ensures disk { SameDisk (state_of self.old) (state_of self.new) }
+    {
+        self.rise(was_up);
+        match self.whole_message() {
+            Some(Ok(message)) => self.hear_message(&message),
+            Some(Err(fault)) => Err(Cause::Tag(fault)),
+            None => Ok(false),
+        }
+    }
+
+    fn rise(&mut self, was_up: bool)
+        ensures { state_of self.new ≡ risen was_up (state_of self.old) }
+    {
+        if self.link.is_up() && !was_up {
+            self.shake.link_up();
+        }
+    }
+
+    // The message that is whole, which goes.
+    fn whole_message(&mut self) -> Option<Result<Message, TagFault>>
+        ensures decoded { DecodesWhole self.old.link.whole result }
+        ensures state { state_of self.new ≡ record (state_of self.old) { link = cleared self.old.link } }
+    {
+        let decoded = match self.link.message() {
+            Some(bytes) => Some(decode(bytes)),
+            None => None,
+        };
+        self.link.clear_message();
+        decoded
+    }
+
+    // In session an INFO of a range is the server's own, and all else is the handshake's.
+    fn hear_message(&mut self, message: &Message) -> Result<bool, Cause>
+        requires { CanHear (state_of self.old) }
+        ensures heard { took result (state_of self.new) ≡ hears_message (state_of self.old) (state_of self.old).session message.now }
+        ensures kept { OnErr result (state_of self.new ≡ state_of self.old) }
+        ensures disk { SameDisk (state_of self.old) (state_of self.new) }
+    {
+        let Some(session) = self.session else {
+            return self.take_handshake(message);
+        };
+        match (message.subtype, message.body) {
+            (
+                Subtype::Info,
+                MsgBody::DringData {
+                    seq,
+                    ident,
+                    start,
+                    end,
+                    state,
+                },
+            ) => {
+                self.check_sid(message.sid)?;
+                let range = SlotRange {
+                    seq,
+                    start,
+                    end,
+                    state,
+                };
+                self.take_info(session, ident, range)
+            }
+            _ => self.take_handshake(message),
+        }
+    }
+
+    fn take_handshake(&mut self, message: &Message) -> Result<bool, Cause>
+        requires began { self.old.shake.phase ≢ Down }
+        requires free { self.old.shake.owed ≡ None }
+        ensures heard { took result (state_of self.new) ≡ by_handshake (state_of self.old) (shake_take self.old.shake message.now) }
+        ensures kept { OnErr result (state_of self.new ≡ state_of self.old) }
+        ensures disk { SameDisk (state_of self.old) (state_of self.new) }
+    {
+        match self.shake.take(message) {
+            HsOut::Nothing => Ok(false),
+            HsOut::Opens => {
+                self.session = Some(RingSession::OPENED);
+                Ok(true)
+            }
+            HsOut::Fault(cause) => Err(cause),
+        }
+    }
+
+    // Each message of a session has its number.
+    fn check_sid(&self, found: u32) -> Result<(), Cause>
+        requires open { self.now.shake.phase ≡ Open }
+        ensures { MatchResult result (λ _. self.now.shake.draft.sid ≡ found) (λ cause. (self.now.shake.draft.sid ≢ found) × (cause ≡ Cause.Sid self.now.shake.draft.sid found)) }
+    {
+        let expected = self.agreed().sid;
+        if expected != found {
+            return Err(Cause::Sid { expected, found });
+        }
+        Ok(())
+    }
+
+    // An INFO names the client's ring, has the next number, begins at the server's place, and ends within the ring.
+    fn take_info(
+        &mut self,
+        session: RingSession,
+        ident: u64,
+        range: SlotRange,
+    ) -> Result<bool, Cause>
+        requires open { self.old.shake.phase ≡ Open }
+        requires some { 0 < self.old.shake.draft.peer_slots }
+        requires session { self.old.session ≡ Some session }
+        ensures heard { took result (state_of self.new) ≡ takes_info (state_of self.old) (ring_session session) ident (slot_range range) }
+        ensures kept { OnErr result (state_of self.new ≡ state_of self.old) }
+        ensures disk { SameDisk (state_of self.old) (state_of self.new) }
+    {
+        let slots = self.agreed().peer_slots;
+        self.check_info(session, ident, range)?;
+        self.session = Some(RingSession {
+            asked: session.asked.wrapping_add(range.count(slots)),
+            seq: session.seq.wrapping_add(1),
+            range: Some(range),
+            ..session
+        });
+        Ok(false)
+    }
+
+    fn check_info(&self, session: RingSession, ident: u64, range: SlotRange) -> Result<(), Cause>
+        requires open { self.now.shake.phase ≡ Open }
+        requires some { 0 < self.now.shake.draft.peer_slots }
+        ensures { MatchResult result (λ _. takes_info (state_of self.now) (ring_session session) ident (slot_range range) ≡ GoesOn (asked (state_of self.now) (ring_session session) (slot_range range)) false) (λ cause. takes_info (state_of self.now) (ring_session session) ident (slot_range range) ≡ Resets cause) }
+    {
+        let agreed = self.agreed();
+        if agreed.ident_peer != ident {
+            return Err(Cause::Ident {
+                expected: agreed.ident_peer,
+                found: ident,
+            });
+        }
+        if session.seq != range.seq {
+            return Err(Cause::Seq {
+                expected: session.seq,
+                found: range.seq,
+            });
+        }
+        let place = (session.asked % agreed.peer_slots as u64) as u32;
+        if place != range.start {
+            return Err(Cause::Slot {
+                expected: place,
+                found: range.start,
+            });
+        }
+        if range.end >= agreed.peer_slots {
+            return Err(Cause::RangeEnd { found: range.end });
+        }
+        Ok(())
+    }
+}

@@ -1,0 +1,228 @@
+// The rules of a step, in their order: the first that applies is the step.
+
+ghost use Rattle.std.specs.Prelude.{◌≡◌, ◌+◌, ◌*◌, ◌≤◌, [], length, None, Some, true, false};
+ghost use Rattle.cookie_copy.specs.Faults.{PagesWithin, is_up as is_configured};
+ghost use Rattle.ldc_link.specs.LinkState.{is_up, offered};
+ghost use Rattle.ldc_link.specs.Putting.{owes};
+ghost use Rattle.ldc_queue.specs.Wire.{state_of as state_in};
+ghost use Rattle.ldc_queue.specs.declared.end.ChannelState.TheVariants.{Up};
+ghost use Rattle.ldc_queue.specs.declared.end.End.TheVariants.{B};
+ghost use Rattle.vio_tag.specs.Form.{IsWellFormed};
+ghost use Rattle.vio_tag.specs.Spelling.{canonical};
+ghost use Rattle.disk_steps.specs.ServerPutting.{answered};
+ghost use Rattle.disk_steps.specs.ServerRule.{Joins, server_rule, serves, takes_first};
+ghost use Rattle.vdisk_server.specs.Answering.{Calls, KeepsStore, SameDisk, Serves, StepsAlone, WithinDisk, channel_after, sees};
+ghost use Rattle.vdisk_server.specs.Fields.{ring_session, state_of};
+ghost use Rattle.vdisk_server.specs.Putting.{PutsNext, PutsRightly, noted};
+ghost use Rattle.vdisk_server.specs.Standing.{Stands};
+
+use crate::answers::ServerOut;
+use crate::end::ServerEnd;
+use crate::session::RingSession;
+use crate::work::Progress;
+use dom_memory::Memory;
+use ldc_link::{SendOut, TakeOut};
+use ldc_queue::{Channel, ChannelState, End};
+use map_table::MapTable;
+use vio_io::Store;
+use vio_tag::{Message, encode};
+
+impl ServerEnd {
+    /// One step.
+    pub fn step<D: Store>(
+        &mut self,
+        channel: &mut Channel,
+        table: &MapTable,
+        memory: &mut Memory,
+        store: &mut D,
+    ) -> ServerOut
+        requires stands { Stands (state_of self.old) }
+        requires region { 512 * (self.old.region.first + self.old.region.blocks) ≤ D.size store.old }
+        requires pages { PagesWithin table.now (length memory.old) }
+        ensures step { Serves (state_of self.old) channel.old table.now memory.old (D.content store.old) result (state_of self.new) memory.new (D.content store.new) }
+        ensures channel { channel.new ≡ channel_after result channel.old }
+        ensures same_length { length memory.new ≡ length memory.old }
+        ensures store { KeepsStore result store.old store.new }
+        ensures calls { Calls result (D.calls store.old) (D.calls store.new) (D.faults store.old) (D.faults store.new) }
+        ensures size { D.size store.new ≡ D.size store.old }
+        ensures within { WithinDisk self.old.region.blocks result }
+        ensures disk { SameDisk (state_of self.old) (state_of self.new) }
+    {
+        if !is_up(channel) {
+            return self.join(channel);
+        }
+        if self.link.owes() {
+            return self.put(channel);
+        }
+        if let Some(message) = self.owed_message() {
+            return self.say(&message, channel);
+        }
+        if let Some(session) = self.in_hand() {
+            return self.serve(session, channel, table, memory, store);
+        }
+        self.take(channel)
+    }
+
+    // The end isn't up: it begins anew.
+    fn join(&mut self, channel: &mut Channel) -> ServerOut
+        requires { server_rule (state_of self.old) (sees channel.old) ≡ Joins }
+        ensures step { StepsAlone (state_of self.old) channel.old result (state_of self.new) }
+        ensures channel { channel.new ≡ channel_after result channel.old }
+        ensures disk { SameDisk (state_of self.old) (state_of self.new) }
+    {
+        self.begin_anew(channel);
+        ServerOut::Joined
+    }
+}
+
+/// Whether the server's end is configured.
+fn is_up(channel: &Channel) -> bool
+    ensures { result ≡ is_configured (state_in B channel.now.wire) }
+{
+    matches!(channel.state(End::B), ChannelState::Up)
+}
+
+// What is put.
+impl ServerEnd {
+    // The link owes a packet: it is put, and where it ends a message, what follows is noted.
+    fn put(&mut self, channel: &mut Channel) -> ServerOut
+        requires up { state_in B channel.old.wire ≡ Up }
+        requires owes { owes self.old.link ≡ true }
+        requires answers { PutsRightly (state_of self.old) }
+        ensures put { PutsNext (state_of self.old) channel.old result (state_of self.new) }
+        ensures channel { channel.new ≡ channel_after result channel.old }
+        ensures disk { SameDisk (state_of self.old) (state_of self.new) }
+    {
+        let in_message = self.link.is_up();
+        match self.link.send(channel, End::B) {
+            SendOut::Sent(packet) => {
+                self.note_put(in_message);
+                ServerOut::Sent {
+                    packet,
+                    opens: false,
+                }
+            }
+            SendOut::Blocked => ServerOut::Blocked,
+            SendOut::Nothing => unreachable!(),
+        }
+    }
+
+    // A packet was put. After the last one of a message it was a message of the handshake, where that owes one, or else the answer
+    // to a range.
+    fn note_put(&mut self, in_message: bool)
+        ensures { state_of self.new ≡ noted in_message (state_of self.old) }
+    {
+        if !in_message || self.link.owes() {
+            return;
+        }
+        if self.shake.next().is_some() {
+            let _opens = self.shake.sent();
+        } else {
+            self.note_answered();
+        }
+    }
+
+    fn note_answered(&mut self)
+        ensures { state_of self.new ≡ record (state_of self.old) { session = answered (state_of self.old).session } }
+    {
+        if let Some(session) = &mut self.session {
+            session.answered = session.asked;
+            session.range = None;
+        }
+    }
+
+    // A message is owed: it is offered, and its first packet is put.
+    fn say(&mut self, message: &Message, channel: &mut Channel) -> ServerOut
+        requires up { state_in B channel.old.wire ≡ Up }
+        requires form { IsWellFormed message.now }
+        requires link { is_up self.old.link ≡ true }
+        requires free { self.old.link.to_send ≡ [] }
+        requires answers { PutsRightly (state_of self.old) }
+        ensures put { PutsNext (record (state_of self.old) { link = offered (canonical message.now) self.old.link }) channel.old result (state_of self.new) }
+        ensures channel { channel.new ≡ channel_after result channel.old }
+        ensures disk { SameDisk (state_of self.old) (state_of self.new) }
+    {
+        let mut bytes = [0; 256];
+        let length = encode(message, &mut bytes);
+        let _offered = self.link.offer(&bytes[..length]);
+        self.put(channel)
+    }
+}
+
+// What is worked.
+impl ServerEnd {
+    // A range is in work: its next descriptor is fetched, or the next piece of the one in work is done.
+    fn serve<D: Store>(
+        &mut self,
+        session: RingSession,
+        channel: &mut Channel,
+        table: &MapTable,
+        memory: &mut Memory,
+        store: &mut D,
+    ) -> ServerOut
+        requires stands { Stands (state_of self.old) }
+        requires session { (state_of self.old).session ≡ Some (ring_session session) }
+        requires rule { server_rule (state_of self.old) (sees channel.old) ≡ serves (ring_session session) (state_of self.old).work }
+        requires region { 512 * (self.old.region.first + self.old.region.blocks) ≤ D.size store.old }
+        requires pages { PagesWithin table.now (length memory.old) }
+        ensures step { Serves (state_of self.old) channel.old table.now memory.old (D.content store.old) result (state_of self.new) memory.new (D.content store.new) }
+        ensures channel { channel.new ≡ channel_after result channel.old }
+        ensures same_length { length memory.new ≡ length memory.old }
+        ensures store { KeepsStore result store.old store.new }
+        ensures calls { Calls result (D.calls store.old) (D.calls store.new) (D.faults store.old) (D.faults store.new) }
+        ensures size { D.size store.new ≡ D.size store.old }
+        ensures within { WithinDisk self.old.region.blocks result }
+        ensures disk { SameDisk (state_of self.old) (state_of self.new) }
+    {
+        let Some(work) = &mut self.work else {
+            return self.fetch(session, channel, table, memory);
+        };
+        match work.progress {
+            Progress::Reads { unit } => work.read_unit(unit, self.region, &mut self.unit, store),
+            Progress::Writes { unit } => work.write_unit(unit, self.region, &self.unit, store),
+            Progress::Flushes => work.flush(store),
+            Progress::Gives { unit } => work.give_unit(
+                unit,
+                self.region.blocks,
+                &self.unit,
+                channel,
+                table,
+                memory,
+            ),
+            Progress::Gathers { unit } => work.gather_unit(
+                unit,
+                self.region.blocks,
+                &mut self.unit,
+                channel,
+                table,
+                memory,
+            ),
+            Progress::Ends { status } => self.finish(session, status, channel, table, memory),
+        }
+    }
+}
+
+// What is taken.
+impl ServerEnd {
+    // Nothing else is to be done: the packet that has waited longest is taken, if any.
+    fn take(&mut self, channel: &mut Channel) -> ServerOut
+        requires stands { Stands (state_of self.old) }
+        requires rule { server_rule (state_of self.old) (sees channel.old) ≡ takes_first (sees channel.old).first }
+        requires up { state_in B channel.old.wire ≡ Up }
+        requires free { owes self.old.link ≡ false }
+        requires nothing_owed { self.old.shake.owed ≡ None }
+        ensures step { StepsAlone (state_of self.old) channel.old result (state_of self.new) }
+        ensures channel { channel.new ≡ channel_after result channel.old }
+        ensures disk { SameDisk (state_of self.old) (state_of self.new) }
+    {
+        let was_up = self.link.is_up();
+        match self.link.take(channel, End::B) {
+            TakeOut::Nothing => ServerOut::Idle,
+            TakeOut::Took(packet) => match self.hear(was_up) {
+                Ok(opens) => ServerOut::Took { packet, opens },
+                Err(cause) => self.reset_for(channel, cause, Some(packet)),
+            },
+            TakeOut::Fault { packet, cause } => self.reset_for(channel, cause, Some(packet)),
+        }
+    }
+}
