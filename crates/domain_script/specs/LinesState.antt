@@ -7,6 +7,7 @@ use Rattle.domain_script.specs.declared.lines.LinesStop.{LinesStop}
 use Rattle.domain_script.specs.declared.lines.LinesStop.TheVariants.{Going, Ended, TooLong, TooMany}
 use Rattle.domain_script.specs.Pieces.{HasNoFeed}
 use Rattle.domain_script.specs.ScriptLines.{TakesLine, BeginsWithLonger}
+use Rattle.domain_script.specs.Limits.{most_line_bytes, most_lines}
 
 pub record LinesState : Type 0 where
   -- bytes taken from the source and not yet given in a line
@@ -25,9 +26,9 @@ to_come lines left = prepend_known lines.held left
 -- the next line was given
 pub record GivesLine (rest left : Option (List ℕ)) (before after : LinesState) : Type 0 where
   pub told : TakesLine rest left after.line
-  pub short : length after.line ≤ 3100
+  pub short : length after.line ≤ most_line_bytes
   pub count : after.number ≡ before.number + 1
-  pub few : after.number ≤ 20000
+  pub few : after.number ≤ most_lines
   pub going : after.stop ≡ Going
 
 -- no line was given, and all that was taken is kept
@@ -44,8 +45,8 @@ Reads rest left before (Ok true) after = GivesLine rest left before after
 Reads rest left before (Ok false) after = GivesNone rest left before after Ended × IsAtEnd rest
 Reads rest left before (Err Source) after = GivesNone rest left before after Going × HasNoFeed after.held
 Reads rest left before (Err Memory) after = GivesNone rest left before after Going
-Reads rest left before (Err Long) after = GivesNone rest left before after TooLong × (before.number < 20000) × IfSome rest (BeginsWithLonger 3100)
-Reads rest left before (Err Many) after = GivesNone rest left before after TooMany × (before.number ≡ 20000) × IfSome rest (λ bytes. bytes ≢ [])
+Reads rest left before (Err Long) after = GivesNone rest left before after TooLong × (before.number < most_lines) × IfSome rest (BeginsWithLonger most_line_bytes)
+Reads rest left before (Err Many) after = GivesNone rest left before after TooMany × (before.number ≡ most_lines) × IfSome rest (λ bytes. bytes ≢ [])
 
 -- an answer of a reader: where it stopped before, the same again
 abbrev pub AdvancesFrom : LinesStop → Option (List ℕ) → Option (List ℕ) → LinesState → Result Bool LinesFault → LinesState → Type 0

@@ -4,6 +4,7 @@ use Rattle.domain_script.specs.declared.lines.LinesStop.TheVariants.{Going}
 use Rattle.domain_script.specs.declared.lines.Lines.TheInside.{Inside}
 use Rattle.domain_script.specs.LinesState.{LinesState}
 use Rattle.domain_script.specs.Pieces.{HasNoFeed}
+use Rattle.domain_script.specs.Limits.{most_line_bytes, most_lines}
 
 -- the line stands for itself once it was given, and before for bytes that are held
 abbrev pub reader_state : Inside → LinesState
@@ -15,10 +16,10 @@ reader_state reader = record {
 }
 
 pub record IsReader (reader : Inside) : Type 0 where
-  pub short : length reader.line.items ≤ 3100
+  pub short : length reader.line.items ≤ most_line_bytes
   pub no_feed : HasNoFeed reader.line.items
-  pub few : reader.number ≤ 20000
+  pub few : reader.number ≤ most_lines
   -- after the last line that there may be, no line is begun
-  pub all : reader.number ≡ 20000 → reader.given ≡ false → reader.line.items ≡ []
+  pub all : reader.number ≡ most_lines → reader.given ≡ false → reader.line.items ≡ []
   -- a reader that stopped has given no line
   pub stopped : reader.given ≡ true → reader.stop ≡ Going

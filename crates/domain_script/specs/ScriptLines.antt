@@ -1,5 +1,6 @@
 -- The lines of a script: the pieces between line feeds. A last piece that is empty is no line.
 use Rattle.std.specs.Prelude.{◌≡◌, ℕ, ◌<◌, ◌≤◌, ◌⊎◌, ◌==◌, if◌then◌else◌, List, [], ◌∷◌, ◌++◌, length, Option, Some, None, ⊤}
+use Rattle.domain_script.specs.Limits.{most_line_bytes, most_lines}
 
 -- the lines with this byte in front of the first
 abbrev pub with_front : ℕ → List (List ℕ) → List (List ℕ)
@@ -32,13 +33,13 @@ TakesLine bytes left line = TakesLines bytes left (line ∷ [])
 -- no line is longer than a line may be
 abbrev pub AreShort : List (List ℕ) → Type 0
 AreShort [] = Unit {0}
-AreShort (line ∷ lines) = (length line ≤ 3100) × AreShort lines
+AreShort (line ∷ lines) = (length line ≤ most_line_bytes) × AreShort lines
 
 -- these lines were taken from the front of what was to come, and none of them is past a limit
 pub record LinesTaken (start left : Option (List ℕ)) (texts : List (List ℕ)) : Type 0 where
   pub taken : TakesLines start left texts
   pub short : AreShort texts
-  pub few : length texts ≤ 20000
+  pub few : length texts ≤ most_lines
 
 -- the first line has more bytes than this
 pub record BeginsWithLonger (most : ℕ) (bytes : List ℕ) : Type 0 where

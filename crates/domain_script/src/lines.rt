@@ -1,5 +1,6 @@
 ghost use Rattle.std.specs.Prelude.{◌≡◌, ◌≢◌, ℕ, ◌<◌, [], true, IfOk};
 ghost use Rattle.vio_io.specs.Causes.{Rose};
+ghost use Rattle.domain_script.specs.Limits.{most_lines};
 
 use crate::piece::Piece;
 use crate::reading::{MOST_BYTES, read_line};
@@ -170,7 +171,7 @@ impl Lines {
     fn read_next<S: Source>(&mut self, source: &mut S) -> Result<bool, LinesFault>
         requires going { self.old.stop ≡ LinesStop.Going }
         requires forgotten { self.old.line ≡ [] }
-        requires few { self.old.number < 20000 }
+        requires few { self.old.number < most_lines }
         ensures reads { Reads (to_come self.old (S.left source.old)) (to_come self.new (S.left source.new)) self.old result self.new }
         ensures unfailed { result ≢ Err LinesFault.Source → S.faults source.new ≡ S.faults source.old }
         ensures count { S.faults source.old ≤ S.faults source.new }
@@ -199,7 +200,7 @@ impl Lines {
     fn read_behind_last<S: Source>(&mut self, source: &mut S) -> Result<bool, LinesFault>
         requires going { self.old.stop ≡ LinesStop.Going }
         requires forgotten { self.old.line ≡ [] }
-        requires all { self.old.number ≡ 20000 }
+        requires all { self.old.number ≡ most_lines }
         ensures reads { Reads (to_come self.old (S.left source.old)) (to_come self.new (S.left source.new)) self.old result self.new }
         ensures unfailed { result ≢ Err LinesFault.Source → S.faults source.new ≡ S.faults source.old }
         ensures count { S.faults source.old ≤ S.faults source.new }

@@ -2,6 +2,7 @@ ghost use Rattle.std.specs.Prelude.{◌≡◌, ◌≢◌, ℕ, ◌≤◌, ◌++�
 ghost use Rattle.std.specs.Io.KnownBytes.{prepend_known};
 ghost use Rattle.vio_io.specs.Causes.{Rose};
 ghost use Rattle.domain_script.specs.Pieces.{Extends, HasNoFeed, MovesPart, ReadsLine};
+ghost use Rattle.domain_script.specs.Limits.{most_line_bytes};
 
 use crate::lines::LinesFault;
 use crate::piece::Piece;
@@ -13,7 +14,7 @@ pub const MOST_BYTES: usize = 3100;
 
 /// Adds bytes to a line, unless it had more than 3,100 then.
 fn extend(line: &mut Vec<u8>, more: &[u8]) -> Result<(), LinesFault>
-    requires { length line.old.items ≤ 3100 }
+    requires { length line.old.items ≤ most_line_bytes }
     ensures { Extends line.old.items more.now result line.new.items }
 {
     if more.len() > MOST_BYTES - line.len() {
@@ -26,7 +27,7 @@ fn extend(line: &mut Vec<u8>, more: &[u8]) -> Result<(), LinesFault>
 /// Moves the bytes before the first line feed from a piece to a line, and takes the line feed away. False where the
 /// piece has none and was moved whole.
 fn take_part(piece: &mut Piece, line: &mut Vec<u8>) -> Result<bool, LinesFault>
-    requires short { length line.old.items ≤ 3100 }
+    requires short { length line.old.items ≤ most_line_bytes }
     requires no_feed { HasNoFeed line.old.items }
     ensures { MovesPart piece.old line.old.items result piece.new line.new.items }
 {
@@ -51,10 +52,10 @@ pub fn read_line<S: Source>(
     line: &mut Vec<u8>,
     source: &mut S,
 ) -> Result<bool, LinesFault>
-    requires short { length line.old.items ≤ 3100 }
+    requires short { length line.old.items ≤ most_line_bytes }
     requires no_feed { HasNoFeed line.old.items }
     ensures reads { ReadsLine (prepend_known (line.old.items ++ piece.old) (S.left source.old)) result line.new.items piece.new (S.left source.new) }
-    ensures short { length line.new.items ≤ 3100 }
+    ensures short { length line.new.items ≤ most_line_bytes }
     ensures no_feed { HasNoFeed line.new.items }
     ensures unfailed { result ≢ Err LinesFault.Source → S.faults source.new ≡ S.faults source.old }
     ensures count { S.faults source.old ≤ S.faults source.new }

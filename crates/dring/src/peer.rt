@@ -7,7 +7,7 @@ ghost use Rattle.cookie_copy.specs.declared.fault.Access.TheVariants.{Read, Writ
 ghost use Rattle.dring.specs.Slots.{IsSlotSize, ready_state};
 ghost use Rattle.dring.specs.Reaching.{IsSlotOf, RefusesFetch, ring_cookies};
 
-use crate::ring::place;
+use crate::ring::{VIO_DESC_READY, place};
 use cookie_copy::{CopyFault, copy_in, copy_out};
 use dom_memory::Memory;
 use ldc_queue::{Channel, End};
@@ -30,9 +30,6 @@ pub enum RingFault {
     /// The descriptor has this state, which isn't READY.
     NotReady(u8),
 }
-
-/// The state of a descriptor that the other end may take (`struct vio_dring_hdr` of Linux's vio.h).
-const VIO_DESC_READY: u8 = 2;
 
 /// The slot of a descriptor by its number, where the number `base` stands in slot 0.
 pub fn slot_of(id: u64, base: u64, slots: u32) -> u32

@@ -14,7 +14,16 @@ pub struct Ring<const SLOT: usize> {
 }
 
 /// The state of a descriptor that its producer may write (`struct vio_dring_hdr` of Linux's vio.h).
-pub(crate) const VIO_DESC_FREE: u8 = 1;
+pub const VIO_DESC_FREE: u8 = 1;
+
+/// That of one that the other end may take.
+pub const VIO_DESC_READY: u8 = 2;
+
+/// That of one that the other end took.
+pub const VIO_DESC_ACCEPTED: u8 = 3;
+
+/// That of one that the other end is done with.
+pub const VIO_DESC_DONE: u8 = 4;
 
 impl<const SLOT: usize> Ring<SLOT> {
     /// A ring of so many slots. Nothing is written.

@@ -9,26 +9,27 @@ use Rattle.ldom_journal.specs.declared.status.Status.{Status}
 use Rattle.ldom_journal.specs.declared.status.Status.TheVariants as status
 use Rattle.ldom_journal.specs.LinesEnd.{IsPast}
 use Rattle.ldom_dump.specs.Decoded.{SpellsBytes}
+use Rattle.domain_script.specs.Limits.{most_line_bytes, most_lines}
 
 -- the next line spells these 64 bytes
 pub record ReadsBytes (rest left : Option (List ℕ)) (bytes : List ℕ) : Type 0 where
   pub line : List ℕ
   pub taken : TakesLine rest left line
-  pub short : length line ≤ 3100
+  pub short : length line ≤ most_line_bytes
   pub digits : SpellsBytes line bytes
 
 -- the next line isn't 128 lower-case hexadecimal digits
 pub record IsNoDigits (rest left : Option (List ℕ)) (fault : LineFault) : Type 0 where
   pub line : List ℕ
   pub taken : TakesLine rest left line
-  pub short : length line ≤ 3100
+  pub short : length line ≤ most_line_bytes
   pub nothing : (bytes : List ℕ) → SpellsBytes line bytes → ⊥
   pub hex : fault ≡ Hex
 
 -- Why no further line is decoded after so many: `rest` is to come after them, and then `held` and what the source has
 -- left. Where the source failed, no whole line is held; where the sink did, one more line was read.
 abbrev pub StopsAt : Status → Option (List ℕ) → List ℕ → Option (List ℕ) → ℕ → Type 0
-StopsAt (status.Script at fault) rest held now count = (at ≡ count + 1) × (at ≤ 20000) × IsNoDigits rest (prepend_known held now) fault
+StopsAt (status.Script at fault) rest held now count = (at ≡ count + 1) × (at ≤ most_lines) × IsNoDigits rest (prepend_known held now) fault
 StopsAt (status.Limit at kind) rest held now count = (at ≡ count + 1) × IsPast kind rest count × Keeps rest (prepend_known held now)
 StopsAt status.Done rest held now count = IsAtEnd rest × Keeps rest (prepend_known held now)
 StopsAt status.SourceFault rest held now count = HasNoFeed held × Keeps rest (prepend_known held now)

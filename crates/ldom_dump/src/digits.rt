@@ -7,6 +7,7 @@ ghost use Rattle.ldom_dump.specs.Decoded.{SpellsBytes};
 ghost use Rattle.ldom_journal.specs.Failing.{Fails};
 ghost use Rattle.ldom_journal.specs.Stops.{stop_status};
 ghost use Rattle.ldom_dump.specs.Reading.{ReadsBytes, StopsAt};
+ghost use Rattle.domain_script.specs.Limits.{most_lines};
 
 use domain_script::{Lines, decode_lower};
 use ldom_journal::{LineFault, Stop, next_line};
@@ -31,18 +32,18 @@ pub fn bytes_of(line: &[u8]) -> Option<[u8; 64]>
 /// The bytes of the next line; else why there are none.
 pub fn read_bytes<S: Source>(lines: &mut Lines, source: &mut S) -> Result<[u8; 64], Stop>
     requires going { lines.old.stop ≡ Going }
-    requires few { lines.old.number ≤ 20000 }
+    requires few { lines.old.number ≤ most_lines }
 
     ensures bytes { IfOk result (ReadsBytes (to_come lines.old (S.left source.old))
         (to_come lines.new (S.left source.new))) }
-    ensures next { IfOk result (λ _. (lines.new.number ≡ lines.old.number + 1) × (lines.new.number ≤ 20000)
+    ensures next { IfOk result (λ _. (lines.new.number ≡ lines.old.number + 1) × (lines.new.number ≤ most_lines)
         × (lines.new.stop ≡ Going)) }
 
     ensures stop { IfErr result (λ stop. StopsAt (stop_status stop lines.new.number)
         (to_come lines.old (S.left source.old)) lines.new.held (S.left source.new) lines.old.number) }
     ensures lines { IfErr result (λ stop. lines.new.number ≡ counted_lines (stop_status stop lines.new.number)
         lines.old.number) }
-    ensures most { lines.new.number ≤ 20000 }
+    ensures most { lines.new.number ≤ most_lines }
     ensures source { Fails (result ≡ Err Stop.Source) (S.faults source.old) (S.faults source.new) }
 {
     next_line(lines, source)?;

@@ -7,11 +7,12 @@ use Rattle.ldom_journal.specs.declared.status.LimitKind.{LimitKind}
 use Rattle.ldom_journal.specs.declared.status.LimitKind.TheVariants.{Lines, Bytes}
 use Rattle.ldom_journal.specs.declared.status.Status.{Status}
 use Rattle.ldom_journal.specs.declared.status.Status.TheVariants as status
+use Rattle.domain_script.specs.Limits.{most_line_bytes, most_lines}
 
 -- the limit that the next line doesn't keep: too many lines, or too many bytes
 abbrev pub IsPast : LimitKind → Option (List ℕ) → ℕ → Type 0
-IsPast Lines rest count = (count ≡ 20000) × IfSome rest (λ bytes. bytes ≢ [])
-IsPast Bytes rest count = (count < 20000) × IfSome rest (BeginsWithLonger 3100)
+IsPast Lines rest count = (count ≡ most_lines) × IfSome rest (λ bytes. bytes ≢ [])
+IsPast Bytes rest count = (count < most_lines) × IfSome rest (BeginsWithLonger most_line_bytes)
 
 -- how many lines the report counts: those that were taken up, and one that has a fault
 abbrev pub counted_lines : Status → ℕ → ℕ

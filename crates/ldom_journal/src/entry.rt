@@ -1,15 +1,6 @@
 use crate::{Bytes, KeptRequest};
 use domain_script::Lane;
 
-/// Reads blocks: `VD_OP_BREAD` of Linux's `vio.h`.
-pub const VD_OP_BREAD: u8 = 1;
-
-/// Writes blocks: `VD_OP_BWRITE`.
-pub const VD_OP_BWRITE: u8 = 2;
-
-/// What was written before is to last: `VD_OP_FLUSH`.
-pub const VD_OP_FLUSH: u8 = 3;
-
 /// Whom an entry is about.
 #[derive(Clone, Copy, Debug, PartialEq, Eq)]
 pub enum Who {

@@ -8,6 +8,7 @@ ghost use Rattle.ldom_journal.specs.LinesEnd.{counted_lines};
 ghost use Rattle.ldom_journal.specs.Stops.{stop_status};
 ghost use Rattle.ldom_journal.specs.Failing.{Fails};
 ghost use Rattle.replay_law.specs.Reading.{ReadsEvent, StopsAt};
+ghost use Rattle.domain_script.specs.Limits.{most_lines};
 
 use crate::run::Run;
 use domain_script::{Event, Lines, Names, parse_into};
@@ -42,14 +43,14 @@ impl Reader {
     /// Reads the event of the next line, which is noted in the names; else says why no line was taken up.
     pub fn read_event<S: Source>(&mut self, source: &mut S, event: &mut Event) -> Result<(), Stop>
         requires going { self.old.lines.stop ≡ Going }
-        requires few { self.old.lines.number ≤ 20000 }
+        requires few { self.old.lines.number ≤ most_lines }
 
         ensures event { OnOk result (ReadsEvent (to_come self.old.lines (S.left source.old))
             (to_come self.new.lines (S.left source.new)) self.old.names event.new self.new.names) }
         ensures declared { OnOk result (IsDeclared self.new.names event.new) }
         ensures next { OnOk result ((self.new.lines.number ≡ self.old.lines.number + 1)
-            × (self.new.lines.number ≤ 20000) × (self.new.lines.stop ≡ Going)) }
-        ensures most { self.new.lines.number ≤ 20000 }
+            × (self.new.lines.number ≤ most_lines) × (self.new.lines.stop ≡ Going)) }
+        ensures most { self.new.lines.number ≤ most_lines }
         ensures journal { self.new.journal ≡ self.old.journal }
 
         ensures stop { IfErr result (λ stop. StopsAt (stop_status stop self.new.lines.number)
@@ -71,7 +72,7 @@ impl Reader {
 
     /// How a run ends whose lines stop so.
     pub fn status(&self, stop: Stop) -> Status
-        requires { self.now.lines.number ≤ 20000 }
+        requires { self.now.lines.number ≤ most_lines }
         ensures { result ≡ stop_status stop self.now.lines.number }
     {
         stop.status(self.lines.number())

@@ -13,15 +13,16 @@ ghost use Rattle.replay_law.specs.Attached.{AreOpening};
 ghost use Rattle.replay_law.specs.Opening.{Opened, Opens, OpensAndStops};
 ghost use Rattle.replay_law.specs.Replayed.{Replayed, attach_status, ended_status, start_of};
 ghost use Rattle.replay_law.specs.Sized.{SizeIs};
-ghost use Rattle.replay_law.specs.Worlds.{accepted_in, blocks_of};
+ghost use Rattle.replay_law.specs.Worlds.{accepted_in, bytes_needed};
 ghost use Rattle.domain_script.specs.ScriptEvents.{no_names};
+ghost use Rattle.domain_script.specs.Limits.{most_lines};
 
 use crate::reading::Reader;
 use crate::world::{World, blocks_declared};
 use domain_script::{Event, Names};
 use ldom_journal::{Journal, Status, Stop};
-use plain_disk::BLOCK;
 use std::alloc::Global;
+use vdisk_msg::BLOCK;
 use vio_bytes::NoMemory;
 use vio_io::{AttachFault, Host, Source, Store};
 
@@ -37,7 +38,7 @@ fn read_opening<S: Source>(reader: &mut Reader, source: &mut S) -> Result<Event,
     ensures declared { IfOk result (IsDeclared reader.new.names) }
     ensures going { OnOk result (reader.new.lines.stop ≡ Going) }
     ensures ended { OnOk result (reader.new.names.ended ≡ true) }
-    ensures most { reader.new.lines.number ≤ 20000 }
+    ensures most { reader.new.lines.number ≤ most_lines }
     ensures journal { reader.new.journal ≡ reader.old.journal }
 
     ensures stops { IfErr result (λ stop. OpensAndStops (to_come reader.old.lines (S.left source.old))
@@ -68,7 +69,7 @@ fn is_opening(event: &Event) -> bool
 // why.
 fn run_lines<S: Source, D: Store>(reader: &mut Reader, source: &mut S, world: &mut World<D>) -> Stop
     requires going { reader.old.lines.stop ≡ Going }
-    requires few { reader.old.lines.number ≤ 20000 }
+    requires few { reader.old.lines.number ≤ most_lines }
     requires ended { reader.old.names.ended ≡ true }
     requires many { length world.old.disks ≡ length reader.old.names.disks }
     requires agrees { accepted_count reader.old.journal.entries ≡ accepted_in world.old.disks }
@@ -77,7 +78,7 @@ fn run_lines<S: Source, D: Store>(reader: &mut Reader, source: &mut S, world: &m
         reader.old.journal.entries world.old reader.old.lines.number
         (stop_status result reader.new.lines.number) reader.new.names reader.new.journal.entries world.new
         reader.new.lines.number }
-    ensures most { reader.new.lines.number ≤ 20000 }
+    ensures most { reader.new.lines.number ≤ most_lines }
     ensures source { Fails (result ≡ Stop.Source) (S.faults source.old) (S.faults source.new) }
 {
     let mut event = Event::Blank;
@@ -114,8 +115,8 @@ pub fn run_script<H: Host, S: Source>(
 ) -> Run<H::Disk>
     ensures replayed { Replayed H.Disk.content H.Disk.faults (S.left source.old) (S.left source.new)
         (H.gives host.old name.now) result.status result.lines result.names result.journal.entries result.image }
-    ensures sized { SizeIs H.Disk.size result.status (512 * blocks_of result.names.disks)
-        (H.gives host.old name.now (512 * blocks_of result.names.disks)) result.image }
+    ensures sized { SizeIs H.Disk.size result.status (bytes_needed result.names.disks)
+        (H.gives host.old name.now (bytes_needed result.names.disks)) result.image }
     ensures source { Fails (result.status ≡ Status.SourceFault) (S.faults source.old) (S.faults source.new) }
     ensures host { Fails (result.status ≡ Status.HostFault) (H.faults host.old) (H.faults host.new) }
     ensures image { Gave (H.given host.old) (H.given host.new) result.image }
@@ -154,7 +155,7 @@ fn attach<H: Host, S: Source>(
     first: Option<Event>,
 ) -> Run<H::Disk>
     requires going { IsSome first → (reader.lines.stop ≡ Going) × (reader.names.ended ≡ true) }
-    requires few { reader.lines.number ≤ 20000 }
+    requires few { reader.lines.number ≤ most_lines }
     requires one { length reader.names.disks ≤ 1 }
     requires declared { IfSome first (IsDeclared reader.names) }
     requires journal { reader.journal.entries ≡ [] }
@@ -164,8 +165,8 @@ fn attach<H: Host, S: Source>(
         result.lines result.names result.journal.entries result.image }
     ensures sized { (start : Option (List ℕ))
         → Opened start reader.lines.held (S.left source.old) first reader.names reader.lines.number
-        → SizeIs H.Disk.size result.status (512 * blocks_of result.names.disks)
-        (H.gives host.old name.now (512 * blocks_of result.names.disks)) result.image }
+        → SizeIs H.Disk.size result.status (bytes_needed result.names.disks)
+        (H.gives host.old name.now (bytes_needed result.names.disks)) result.image }
     ensures source { Fails (result.status ≡ Status.SourceFault) (S.faults source.old) (S.faults source.new) }
     ensures host { Fails (result.status ≡ Status.HostFault) (H.faults host.old) (H.faults host.new) }
     ensures image { Gave (H.given host.old) (H.given host.new) result.image }
@@ -185,20 +186,20 @@ fn run_over<D: Store, S: Source>(
     first: Option<Event>,
 ) -> Run<D>
     requires going { IsSome first → (reader.lines.stop ≡ Going) × (reader.names.ended ≡ true) }
-    requires few { reader.lines.number ≤ 20000 }
+    requires few { reader.lines.number ≤ most_lines }
     requires one { length reader.names.disks ≤ 1 }
     requires declared { IfSome first (IsDeclared reader.names) }
     requires journal { reader.journal.entries ≡ [] }
     ensures replayed { (start : Option (List ℕ)) (gives : ℕ → Option (List ℕ))
         → Opened start reader.lines.held (S.left source.old) first reader.names reader.lines.number
-        → D.content image ≡ gives (512 * blocks_of reader.names.disks) → D.faults image ≡ 0
+        → D.content image ≡ gives (bytes_needed reader.names.disks) → D.faults image ≡ 0
         → Replayed D.content D.faults start (S.left source.new) gives result.status result.lines result.names
         result.journal.entries result.image }
     ensures sized { (start : Option (List ℕ)) (gives : ℕ → Option (List ℕ))
         → Opened start reader.lines.held (S.left source.old) first reader.names reader.lines.number
-        → D.content image ≡ gives (512 * blocks_of reader.names.disks) → D.faults image ≡ 0
-        → SizeIs D.size result.status (512 * blocks_of result.names.disks)
-        (gives (512 * blocks_of result.names.disks)) result.image }
+        → D.content image ≡ gives (bytes_needed reader.names.disks) → D.faults image ≡ 0
+        → SizeIs D.size result.status (bytes_needed result.names.disks)
+        (gives (bytes_needed result.names.disks)) result.image }
     ensures source { Fails (result.status ≡ Status.SourceFault) (S.faults source.old) (S.faults source.new) }
     ensures host_fault { result.status ≢ Status.HostFault }
     ensures image { IsSome result.image }
@@ -222,7 +223,7 @@ fn run_world<S: Source, D: Store>(
     first: Option<Event>,
 ) -> Run<D>
     requires going { IsSome first → (reader.lines.stop ≡ Going) × (reader.names.ended ≡ true) }
-    requires few { reader.lines.number ≤ 20000 }
+    requires few { reader.lines.number ≤ most_lines }
     requires many { length world.disks ≡ length reader.names.disks }
     requires declared { IfSome first (IsDeclared reader.names) }
     requires journal { reader.journal.entries ≡ [] }
@@ -235,10 +236,10 @@ fn run_world<S: Source, D: Store>(
     ensures sized { (start : Option (List ℕ)) (gives : ℕ → Option (List ℕ))
         → Opened start reader.lines.held (S.left source.old) first reader.names reader.lines.number
         → world ≡ start_of reader.names gives
-        → IfSome (gives (512 * blocks_of reader.names.disks))
-        (λ bytes. 512 * blocks_of reader.names.disks ≤ length bytes)
-        → SizeIs D.size result.status (512 * blocks_of result.names.disks)
-        (gives (512 * blocks_of result.names.disks)) result.image }
+        → IfSome (gives (bytes_needed reader.names.disks))
+        (λ bytes. bytes_needed reader.names.disks ≤ length bytes)
+        → SizeIs D.size result.status (bytes_needed result.names.disks)
+        (gives (bytes_needed result.names.disks)) result.image }
     ensures source { Fails (result.status ≡ Status.SourceFault) (S.faults source.old) (S.faults source.new) }
     ensures host_fault { result.status ≢ Status.HostFault }
     ensures image { IsSome result.image }
@@ -266,7 +267,7 @@ fn run_first<S: Source, D: Store>(
     world: &mut World<D>,
 ) -> Stop
     requires going { IsSome first → (reader.old.lines.stop ≡ Going) × (reader.old.names.ended ≡ true) }
-    requires few { reader.old.lines.number ≤ 20000 }
+    requires few { reader.old.lines.number ≤ most_lines }
     requires many { length world.old.disks ≡ length reader.old.names.disks }
     requires declared { IfSome first (IsDeclared reader.old.names) }
     requires journal { reader.old.journal.entries ≡ [] }
@@ -275,7 +276,7 @@ fn run_first<S: Source, D: Store>(
         → Opened start reader.old.lines.held (S.left source.old) first reader.old.names reader.old.lines.number
         → RunsAll start (S.left source.new) reader.old.names world.old (stop_status result reader.new.lines.number)
         reader.new.names reader.new.journal.entries world.new reader.new.lines.number }
-    ensures most { reader.new.lines.number ≤ 20000 }
+    ensures most { reader.new.lines.number ≤ most_lines }
     ensures source { Fails (result ≡ Stop.Source) (S.faults source.old) (S.faults source.new) }
 {
     let event = match first {

@@ -23,7 +23,7 @@ ghost use Rattle.replay_law.specs.Outcomes.{Reports, RunsScript};
 ghost use Rattle.replay_law.specs.Quiet.{IsQuietScript};
 ghost use Rattle.domain_script.specs.ScriptEvents.{AllSpell, no_names};
 ghost use Rattle.replay_law.specs.Whole.{RunsPlainly, RunsWhole};
-ghost use Rattle.replay_law.specs.Worlds.{blocks_of};
+ghost use Rattle.replay_law.specs.Worlds.{bytes_needed};
 ghost use Rattle.ldom_words.specs.Words.{AsksDump, AsksRun};
 
 use crate::run::{Run, run_script};
@@ -91,14 +91,14 @@ pub fn replay<H: Host, S: Source, K: Sink>(
         → NoneFailed (counts (S.faults script.old) (H.faults host.old) (K.faults out.old))
         (counts (S.faults script.new) (H.faults host.new) (K.faults out.new))
         → IfSome result.image (λ disk. H.Disk.faults disk ≡ 0)
-        → (image ≢ codes "-" → IfSome result.image (λ disk. 512 * blocks_of clean.names.disks ≤ H.Disk.size disk))
+        → (image ≢ codes "-" → IfSome result.image (λ disk. bytes_needed clean.names.disks ≤ H.Disk.size disk))
         → (result.status ≡ Status.Done) ⊎ (result.status ≡ Status.NoMemory) }
 
     // So over a source, a host and a disk whose types never fail, where the sink doesn't either.
     ensures infallible { (image : List ℕ) → AsksRun (map string_bytes words.now) image
         → (bytes : List ℕ) → S.left script.old ≡ Some bytes → (clean : IsCleanScript bytes)
         → NeverFails S.faults → NeverFails H.faults → NeverFails H.Disk.faults
-        → (image ≢ codes "-" → IfSome result.image (λ disk. 512 * blocks_of clean.names.disks ≤ H.Disk.size disk))
+        → (image ≢ codes "-" → IfSome result.image (λ disk. bytes_needed clean.names.disks ≤ H.Disk.size disk))
         → result.status ≢ Status.SinkFault → (result.status ≡ Status.Done) ⊎ (result.status ≡ Status.NoMemory) }
 
     // Each completion has status 0, or 5 where the image failed: no more of these than the image counts.

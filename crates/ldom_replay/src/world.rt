@@ -5,7 +5,7 @@ ghost use Rattle.disk_law.specs.ListState.{next_id};
 ghost use Rattle.ldom_journal.specs.Report.{accepted_count};
 ghost use Rattle.plain_disk.specs.PlainDiskState.{image_of};
 ghost use Rattle.ldom_replay.specs.Refusals.{refusal_of};
-ghost use Rattle.replay_law.specs.Worlds.{AddsDone, WorldState, accepted_in, blocks_in, blocks_of, disk_in};
+ghost use Rattle.replay_law.specs.Worlds.{AddsDone, WorldState, accepted_in, blocks_in, blocks_of, bytes_needed, disk_in};
 ghost use Rattle.replay_law.specs.Worlds.{fresh_world, one_disk};
 ghost use Rattle.replay_law.specs.Parts.{Answers, Fits, FitsSoFar, IsForDisk, refused_entry};
 
@@ -47,7 +47,7 @@ impl<D: Store> World<D> {
     /// given back.
     pub fn new(alloc: Global, names: &Names, image: D) -> Result<Self, (NoMemory, D)>
         requires few { length names.now.disks ≤ 1 }
-        requires image { 512 * blocks_of names.now.disks ≤ D.size image }
+        requires image { bytes_needed names.now.disks ≤ D.size image }
         ensures made { IfOk result (λ w. w ≡ fresh_world names.now.disks (image_of (D.content image) (D.faults image))) }
         ensures given_back { IfErr result (λ e. e.1 ≡ image) }
     {

@@ -6,11 +6,11 @@ ghost use Rattle.vdisk_msg.specs.Fills.{IsRequest};
 ghost use Rattle.disk_law.specs.ListState.{fresh, next_id};
 ghost use Rattle.disk_law.specs.ListStep.{Accepted, Done, DiskStep, ListStep};
 
-use crate::serve::{BLOCK, MOST_BYTES, PATTERN_ROOM, serve};
+use crate::serve::{PATTERN_ROOM, serve};
 use circular_buffer::HeapCircularBuffer;
 use std::alloc::Global;
 use std::marker::Model;
-use vdisk_msg::Request;
+use vdisk_msg::{BLOCK, MOST_BLOCKS, MOST_BYTES, Request, VD_OP_BREAD, VD_OP_BWRITE, VD_OP_FLUSH};
 use vio_io::{Failed, NoMemory, Store};
 
 /// Why a request wasn't taken up.
@@ -203,9 +203,6 @@ impl PlainDisk {
 /// The status of a request that a fault of the image cut off: Linux's `EIO`.
 const EIO: u32 = 5;
 
-/// The most blocks that a read or a write may name.
-const MOST_COUNT: u64 = 64;
-
 type Rooms = (HeapCircularBuffer<Request>, Vec<u8>, Vec<u8>);
 
 fn rooms(alloc: Global, ring: usize) -> Result<Rooms, NoMemory>
@@ -214,8 +211,8 @@ fn rooms(alloc: Global, ring: usize) -> Result<Rooms, NoMemory>
     ensures pattern { IfOk result (λ r. length r.2.items ≡ 18432) }
 {
     let pending = HeapCircularBuffer::with_capacity(alloc, ring)?;
-    let mut buffer = Vec::with_capacity(alloc, MOST_BYTES)?;
-    buffer.resize(MOST_BYTES, 0)?;
+    let mut buffer = Vec::with_capacity(alloc, MOST_BYTES as usize)?;
+    buffer.resize(MOST_BYTES as usize, 0)?;
     let mut pattern = Vec::with_capacity(alloc, PATTERN_ROOM)?;
     pattern.resize(PATTERN_ROOM, 0)?;
     Ok((pending, buffer, pattern))
@@ -225,9 +222,9 @@ fn operation_code(request: &Request) -> u8
     ensures { result ≡ operation_of request.now }
 {
     match request {
-        Request::Read { .. } => 1,
-        Request::Write { .. } => 2,
-        Request::Flush => 3,
+        Request::Read { .. } => VD_OP_BREAD,
+        Request::Write { .. } => VD_OP_BWRITE,
+        Request::Flush => VD_OP_FLUSH,
     }
 }
 
@@ -244,7 +241,7 @@ fn check_blocks(blocks: u64, request: &Request) -> Result<(), IssueFault>
         Request::Write { block, count, .. } => (*block, *count),
         Request::Flush => return Ok(()),
     };
-    if count == 0 || count > MOST_COUNT {
+    if count == 0 || count > MOST_BLOCKS {
         return Err(IssueFault::Count);
     }
     if count > blocks || block > blocks - count {

@@ -8,7 +8,6 @@ mod serve;
 mod transfer;
 
 pub use disk::{Completion, IssueFault, PlainDisk};
-pub use serve::BLOCK;
 
 #[cfg(test)]
 mod tests;

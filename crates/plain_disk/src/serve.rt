@@ -8,14 +8,8 @@ ghost use Rattle.disk_law.specs.ListStep.{CutOff, StopsWriting, Succeeds};
 ghost use Rattle.plain_disk.specs.Calls.{OneFault, StopsCalling, calls_of, units};
 
 use crate::transfer::{UNIT, lay_pattern, read_blocks, write_blocks};
-use vdisk_msg::{Fill, Request};
+use vdisk_msg::{BLOCK, Fill, Request};
 use vio_io::{Failed, Store};
-
-/// The bytes of a block.
-pub const BLOCK: u64 = 512;
-
-/// The most bytes that a request gives: 64 blocks.
-pub const MOST_BYTES: usize = 32_768;
 
 /// Room to lay a word of up to 1,024 bytes for a unit, and once more.
 pub const PATTERN_ROOM: usize = 18_432;

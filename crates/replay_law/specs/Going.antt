@@ -14,6 +14,7 @@ use Rattle.domain_script.specs.ScriptLines.{AreShort, TakesLines}
 use Rattle.domain_script.specs.ScriptEvents.{AllSpell}
 use Rattle.replay_law.specs.Script.{FitsScript, FitsCutOff}
 use Rattle.replay_law.specs.Worlds.{WorldState}
+use Rattle.domain_script.specs.Limits.{most_lines}
 
 -- what the journal got by how it ended: after want of memory the last line's part may be cut off
 abbrev pub GrewTo : Ending → WorldState → List Event → List Entry → WorldState → Type 0
@@ -28,7 +29,7 @@ pub record ReadsOn (start left : Option (List ℕ)) (before : NamesState) (numbe
   pub texts : List (List ℕ)
   pub taken : TakesLines start left texts
   pub short : AreShort texts
-  pub few : number + length texts ≤ 20000
+  pub few : number + length texts ≤ most_lines
   pub spell : AllSpell texts before events after
 
 -- they were read and run, and then no further one was taken up

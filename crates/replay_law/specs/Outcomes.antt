@@ -12,7 +12,7 @@ use Rattle.replay_law.specs.Admitting.{AdmitsRequests}
 use Rattle.replay_law.specs.Outside.{IsOutsideDisks, KeepsTold}
 use Rattle.replay_law.specs.Replayed.{Replayed}
 use Rattle.replay_law.specs.Sized.{SizeIs}
-use Rattle.replay_law.specs.Worlds.{blocks_of}
+use Rattle.replay_law.specs.Worlds.{bytes_needed}
 
 -- The whole text was written and the status is the run's, or the sink failed after some front of the text.
 abbrev pub Reports : Status → Status → Option (List ℕ) → Option (List ℕ) → List ℕ → Type 0
@@ -28,6 +28,6 @@ pub record RunsScript {D : Type 0} (content : D → Option (List ℕ)) (faults s
   pub names : NamesState
   pub replayed : Replayed content faults script now gives ran lines names journal image
   pub admits : AdmitsRequests ran names.disks replayed.events journal
-  pub sized : SizeIs size ran (512 * blocks_of names.disks) (gives (512 * blocks_of names.disks)) image
-  pub others : IfSome image (λ disk. KeepsTold (gives (512 * blocks_of names.disks)) (IsOutsideDisks names.disks journal) (content disk))
+  pub sized : SizeIs size ran (bytes_needed names.disks) (gives (bytes_needed names.disks)) image
+  pub others : IfSome image (λ disk. KeepsTold (gives (bytes_needed names.disks)) (IsOutsideDisks names.disks journal) (content disk))
   pub reports : Reports ran status old new (report mode.Run names.disks lines journal ran)

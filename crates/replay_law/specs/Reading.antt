@@ -11,12 +11,13 @@ use Rattle.domain_script.specs.Spells.{Spells}
 use Rattle.ldom_journal.specs.LinesEnd.{IsPast}
 use Rattle.ldom_journal.specs.declared.status.Status.{Status}
 use Rattle.ldom_journal.specs.declared.status.Status.TheVariants as status
+use Rattle.domain_script.specs.Limits.{most_line_bytes, most_lines}
 
 -- the next line spells this event
 pub record ReadsEvent (rest left : Option (List ℕ)) (names : NamesState) (event : Event) (after : NamesState) : Type 0 where
   pub text : List ℕ
   pub taken : TakesLine rest left text
-  pub short : length text ≤ 3100
+  pub short : length text ≤ most_line_bytes
   pub spells : Spells text names event
   pub noted_is : after ≡ noted names event
 
@@ -24,14 +25,14 @@ pub record ReadsEvent (rest left : Option (List ℕ)) (names : NamesState) (even
 pub record IsFaulty (rest left : Option (List ℕ)) (names : NamesState) (fault : LineFault) : Type 0 where
   pub text : List ℕ
   pub taken : TakesLine rest left text
-  pub short : length text ≤ 3100
+  pub short : length text ≤ most_line_bytes
   pub nothing : (event : Event) → Spells text names event → ⊥
   pub word : fault ≡ Word
 
 -- Why no line is taken up after so many: `rest` is to come, which is now `held` and what the source has left.
 -- Where the source failed, no whole line is held.
 abbrev pub StopsAt : Status → Option (List ℕ) → List ℕ → Option (List ℕ) → NamesState → ℕ → Type 0
-StopsAt (status.Script at fault) rest held now names count = (at ≡ count + 1) × (at ≤ 20000) × IsFaulty rest (prepend_known held now) names fault
+StopsAt (status.Script at fault) rest held now names count = (at ≡ count + 1) × (at ≤ most_lines) × IsFaulty rest (prepend_known held now) names fault
 StopsAt (status.Limit at kind) rest held now names count = (at ≡ count + 1) × IsPast kind rest count × Keeps rest (prepend_known held now)
 StopsAt status.Done rest held now names count = IsAtEnd rest × Keeps rest (prepend_known held now)
 StopsAt status.StoreFault rest held now names count = IsAtEnd rest × Keeps rest (prepend_known held now)

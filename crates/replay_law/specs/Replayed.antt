@@ -12,7 +12,7 @@ use Rattle.replay_law.specs.Attached.{ImageStands}
 use Rattle.replay_law.specs.Endings.{Ending, MayBeCut, NotBegun, Whole, ending}
 use Rattle.replay_law.specs.Reading.{StopsAt}
 use Rattle.replay_law.specs.Script.{ReadSoFar, FitsScript, FitsCutOff}
-use Rattle.replay_law.specs.Worlds.{WorldState, blocks_of, fresh_world}
+use Rattle.replay_law.specs.Worlds.{WorldState, bytes_needed, fresh_world}
 
 -- These events were read, and then no further line was taken up; the report counts so many lines. The source has `now`
 -- left, and what was taken from it and is in no line is held.
@@ -52,7 +52,7 @@ ended_status other faulty = other
 
 -- the world as a run begins, over what attaching gives for so many bytes
 abbrev pub start_of : NamesState → (ℕ → Option (List ℕ)) → WorldState
-start_of names gives = fresh_world names.disks (record { told = gives (512 * blocks_of names.disks); faults = 0 })
+start_of names gives = fresh_world names.disks (record { told = gives (bytes_needed names.disks); faults = 0 })
 
 -- A run: its script was read up to where it stopped, its journal is one part for each line, and the image is what the
 -- journal makes of the one that was attached. The source has `now` left.

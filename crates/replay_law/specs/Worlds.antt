@@ -1,5 +1,5 @@
 -- A world: the disks of a script, by their numbers, and the one image that holds them.
-use Rattle.std.specs.Prelude.{◌≡◌, ℕ, ◌+◌, ◌<◌, zero, suc, List, [], ◌∷◌, ◌++◌, length}
+use Rattle.std.specs.Prelude.{◌≡◌, ℕ, ◌+◌, ◌*◌, ◌<◌, zero, suc, List, [], ◌∷◌, ◌++◌, length}
 use Rattle.domain_script.specs.declared.event.DiskDecl.{DiskDecl}
 use Rattle.ldom_journal.specs.declared.entry.Entry.{Entry}
 use Rattle.ldom_journal.specs.declared.entry.Entry.TheVariants as entry
@@ -33,6 +33,10 @@ put_disk (s ∷ disks) (suc x) t = s ∷ put_disk disks x t
 abbrev pub blocks_of : List DiskDecl → ℕ
 blocks_of [] = 0
 blocks_of (disk ∷ disks) = disk.blocks + blocks_of disks
+
+-- how many bytes they need
+abbrev pub bytes_needed : List DiskDecl → ℕ
+bytes_needed disks = 512 * blocks_of disks
 
 abbrev pub blocks_in : List ListState → ℕ
 blocks_in [] = 0

@@ -13,7 +13,7 @@ ghost use Rattle.replay_law.specs.Parts.{DisksRun, LineStep};
 ghost use Rattle.replay_law.specs.PlainRun.{plain_text, plain_content, plain_ids};
 ghost use Rattle.replay_law.specs.Quiet.{IsQuiet};
 ghost use Rattle.replay_law.specs.Script.{FitsCutOff, FitsScript};
-ghost use Rattle.replay_law.specs.Worlds.{WorldState, blocks_of, fresh_world};
+ghost use Rattle.replay_law.specs.Worlds.{WorldState, bytes_needed, fresh_world};
 
 /// A quiet script that its journal fits, over an image that tells its bytes and never failed, has the text, leaves the
 /// content and completes the ids that the plain run gives.
@@ -40,12 +40,12 @@ pub fn a_quiet_script_runs_plainly()
 pub fn bytes_outside_of_writes_stay()
     ensures script { (disks : List DiskDecl) (faults : ℕ) (content : List ℕ) (events : List Event)
         (journal : List Entry) (v : WorldState)
-        → 512 * blocks_of disks ≤ length content
+        → bytes_needed disks ≤ length content
         → FitsScript (fresh_world disks (record { told = Some content; faults = faults })) events journal v
         → KeepsOthers (IsOutsideDisks disks journal) content v.image.told }
     ensures cut_off { (disks : List DiskDecl) (faults : ℕ) (content : List ℕ) (events : List Event)
         (journal : List Entry) (v : WorldState)
-        → 512 * blocks_of disks ≤ length content
+        → bytes_needed disks ≤ length content
         → FitsCutOff (fresh_world disks (record { told = Some content; faults = faults })) events journal v
         → KeepsOthers (IsOutsideDisks disks journal) content v.image.told }
 {}

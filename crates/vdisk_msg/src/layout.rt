@@ -33,9 +33,14 @@ pub(crate) const REQ_ID: usize = 2;
 
 pub(crate) const OPERATION: usize = 3;
 
-pub(crate) const VD_OP_BREAD: u8 = 1;
+/// Reads blocks: `VD_OP_BREAD` of Linux's `vio.h`.
+pub const VD_OP_BREAD: u8 = 1;
 
-pub(crate) const VD_OP_BWRITE: u8 = 2;
+/// Writes blocks: `VD_OP_BWRITE`.
+pub const VD_OP_BWRITE: u8 = 2;
+
+/// What was written before is to last: `VD_OP_FLUSH`.
+pub const VD_OP_FLUSH: u8 = 3;
 
 pub(crate) const SLICE: usize = 4;
 
@@ -48,10 +53,13 @@ pub(crate) const OFFSET: usize = 6;
 pub(crate) const SIZE: usize = 7;
 
 /// The bytes of a block of the disk.
-pub(crate) const BLOCK: u64 = 512;
+pub const BLOCK: u64 = 512;
+
+/// The most blocks of one request.
+pub const MOST_BLOCKS: u64 = 64;
 
 /// The most bytes of one descriptor, 64 blocks.
-pub(crate) const MOST_BYTES: u64 = 32_768;
+pub const MOST_BYTES: u64 = 32_768;
 
 pub(crate) const NCOOKIES: usize = 8;
 

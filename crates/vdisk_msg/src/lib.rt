@@ -19,7 +19,9 @@ pub use decoding::decode;
 pub use desc::{DescFault, DiskDesc};
 pub use encoding::encode;
 pub use laws::descriptors_read_back;
-pub use layout::layouts_are_sound;
+pub use layout::{
+    BLOCK, MOST_BLOCKS, MOST_BYTES, VD_OP_BREAD, VD_OP_BWRITE, VD_OP_FLUSH, layouts_are_sound,
+};
 pub use request::{Fill, Request};
 
 #[cfg(test)]
