@@ -15,6 +15,7 @@ pub mod ServerPutting
 pub mod ServerWork
 pub mod ServerStep
 pub mod LaneState
+pub mod OnChannel
 pub mod LaneStep
 pub mod Served
 pub mod Reached

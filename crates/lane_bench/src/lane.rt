@@ -2,7 +2,7 @@
 
 ghost use Rattle.std.specs.Prelude.{◌≡◌, ◌<◌, ◌+◌, ◌*◌, ◌^◌, ◌-◌, ◌≤◌, ℕ, IfOk, length};
 ghost use Rattle.cookie_copy.specs.Faults.{PagesWithin};
-ghost use Rattle.vdisk_client.specs.Standing.{HoldsRing};
+ghost use Rattle.disk_requests.specs.Room.{HoldsRing};
 ghost use Rattle.vdisk_msg.specs.Fills.{IsRequest};
 
 use dom_memory::Memory;

@@ -12,14 +12,15 @@ use Rattle.disk_steps.specs.ClientState.{ClientState}
 use Rattle.disk_steps.specs.ClientStep.{ClientStep}
 use Rattle.disk_steps.specs.DiskEvent.{DiskEvent, Done, OnWire, Published, Works}
 use Rattle.disk_steps.specs.LaneState.{LaneState}
+use Rattle.disk_steps.specs.OnChannel.{IsChannelOf}
 use Rattle.disk_steps.specs.LaneStep.{ClientOnWire, LaneStep, ResetBy}
 use Rattle.disk_steps.specs.Seeing.{Seen, seen}
 use Rattle.vdisk_client.specs.Calls.{Steps, channel_after, client_event, sees}
-use Rattle.vdisk_client.specs.OnLane.{IsChannelOf, client_moved}
+use Rattle.vdisk_client.specs.OnLane.{client_moved}
 use Rattle.vdisk_client.specs.declared.answers.ClientOut.{ClientOut}
 use Rattle.vdisk_client.specs.declared.answers.ClientOut.TheVariants as out
 
-module _ (s : LaneState) (c d : ChannelView) (t : ClientState) (new : List ℕ) (is : IsChannelOf s c) where
+module _ (s : LaneState) (c d : ChannelView) (t : ClientState) (new : List ℕ) (is : IsChannelOf c s) where
   same_sight : sees c ≡ seen A s.shape.entries s.wire.wire
   same_sight = ap (λ (w : Wire). seen A c.entries w) is.wire ∙ ap (λ (n : ℕ). seen A n s.wire.wire) is.entries
 
@@ -48,7 +49,7 @@ module _ (s : LaneState) (c d : ChannelView) (t : ClientState) (new : List ℕ) 
   lane_steps (out.Done id operation status len) steps = record { step = on_lane (Works (Done id operation status t.last)) steps.step; is = refl }
   lane_steps (out.Reset cause packet) steps = resets_own cause packet steps.step
 
-  after : (answer : ClientOut) → IsChannelOf (client_moved s (client_event answer t.last) t new) (channel_after answer c)
+  after : (answer : ClientOut) → IsChannelOf (channel_after answer c) (client_moved s (client_event answer t.last) t new)
   after out.Idle = record { wire = is.wire; entries = is.entries }
   after out.Blocked = record { wire = is.wire; entries = is.entries }
   after out.Joined = record { wire = ap (configured A) is.wire; entries = is.entries }
@@ -58,5 +59,5 @@ module _ (s : LaneState) (c d : ChannelView) (t : ClientState) (new : List ℕ) 
   after (out.Done id operation status len) = record { wire = is.wire; entries = is.entries }
   after (out.Reset cause packet) = record { wire = ap (configured A) is.wire; entries = is.entries }
 
-  pub lane_channel : (answer : ClientOut) → Steps s.client c s.memory answer t d new → IsChannelOf (client_moved s (client_event answer t.last) t new) d
-  lane_channel answer steps = subst (IsChannelOf (client_moved s (client_event answer t.last) t new)) (sym steps.channel) (after answer)
+  pub lane_channel : (answer : ClientOut) → Steps s.client c s.memory answer t d new → IsChannelOf d (client_moved s (client_event answer t.last) t new)
+  lane_channel answer steps = subst (λ (v : ChannelView). IsChannelOf v (client_moved s (client_event answer t.last) t new)) (sym steps.channel) (after answer)

@@ -2,8 +2,6 @@ pub mod Requests
 pub mod Rules
 pub mod Linking
 pub mod Shaking
-pub mod Repetition
-pub mod Cookies
 pub mod Standing
 pub mod Unmoved
 pub mod HeardFails

@@ -1,16 +1,10 @@
 -- A client's step as a step of a disk's lane, over the lane's channel and memory.
-use Rattle.std.specs.Prelude.{◌≡◌, ℕ, List}
-use Rattle.ldc_queue.specs.ChannelView.{ChannelView}
+use Rattle.std.specs.Prelude.{ℕ, List}
 use Rattle.lane_law.specs.WireLog.{wire_moved}
 use Rattle.disk_steps.specs.ClientState.{ClientState}
 use Rattle.disk_steps.specs.DiskEvent.{Asks, DiskEvent, OnWire, Rests, Turns, Works}
 use Rattle.disk_steps.specs.LaneState.{LaneState}
 use Rattle.disk_steps.specs.LaneStep.{near_on_wire, near_worked}
-
--- the channel is the lane's
-pub record IsChannelOf (s : LaneState) (c : ChannelView) : Type 0 where
-  pub wire : c.wire ≡ s.wire.wire
-  pub entries : c.entries ≡ s.shape.entries
 
 -- the lane after an event of its client, which left the client and the memory so
 abbrev pub client_moved : LaneState → DiskEvent → ClientState → List ℕ → LaneState

@@ -6,7 +6,6 @@ use Rattle.ldc_link.specs.declared.phase.LinkPhase.TheVariants as phase
 use Rattle.ldc_link.specs.declared.phase.Role.TheVariants.{Initiator}
 use Rattle.ldc_link.specs.LinkState.{LinkState, is_up}
 use Rattle.vdisk_msg.specs.declared.request.Request.{Request}
-use Rattle.vdisk_msg.specs.Requested.{ring_pages}
 use Rattle.vdisk_msg.specs.Requests.{AreSound}
 use Rattle.vio_handshake.specs.declared.handshake.Handshake.{Handshake}
 use Rattle.vio_handshake.specs.declared.handshake.Phase.TheVariants.{Down, Open}
@@ -86,7 +85,3 @@ pub record Stands (s : ClientState) : Type 0 where
   pub talk : TalkStands s
   pub requests : RequestsStand s
   pub session : SessionStands (length s.pending) s.next_id s.session
-
--- the memory has the pages of a ring of so many slots, and the four pages of each slot
-abbrev pub HoldsRing : ℕ → List ℕ → Type 0
-HoldsRing slots memory = 8192 * (ring_pages slots + 4 * slots) ≤ length memory

@@ -34,7 +34,7 @@ impl Client {
     ghost use Rattle.disk_steps.specs.ClientState.{ever_published_count, fresh_client, is_finished, joined_client};
     ghost use Rattle.disk_steps.specs.ClientStep.{ClientAdmits};
     ghost use Rattle.vdisk_client.specs.Calls.{Steps, admitted, front_count};
-    ghost use Rattle.vdisk_client.specs.Standing.{HoldsRing};
+    ghost use Rattle.disk_requests.specs.Room.{HoldsRing};
 
     /// The client of a disk of so many blocks, up to 65,536, with a ring of so many slots, 2 to 256. Its one refusal
     /// is for want of memory.

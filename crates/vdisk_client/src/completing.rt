@@ -7,19 +7,21 @@ ghost use Rattle.vdisk_msg.specs.Requested.{buffer_of};
 ghost use Rattle.vdisk_msg.specs.Requests.{given_count};
 
 use crate::answers::ClientOut;
-use crate::descriptor::{BLOCK, VIO_DESC_DONE, buffer_place, operation_of, ring_of};
 use crate::end::ClientEnd;
 use crate::session::OpenSession;
+use disk_requests::{buffer_place, operation_of, ring_of};
 use dom_memory::Memory;
+use dring::VIO_DESC_DONE;
 use ldc_queue::Channel;
-use vdisk_msg::{Request, decode};
+use vdisk_msg::{BLOCK, Request, decode};
 use vio_tag::Cause;
 
 impl ClientEnd {
     ghost use Rattle.disk_steps.specs.ClientRule.{Completes};
     ghost use Rattle.disk_steps.specs.ClientStep.{completed_descriptor, completed_slot};
     ghost use Rattle.vdisk_client.specs.Calls.{Steps, rule_of};
-    ghost use Rattle.vdisk_client.specs.Standing.{CountsStand, HoldsRing, RequestsStand};
+    ghost use Rattle.disk_requests.specs.Room.{HoldsRing};
+    ghost use Rattle.vdisk_client.specs.Standing.{CountsStand, RequestsStand};
 
     /// Looks at the slot of the first request that isn't done. Where its state is DONE the request is done, and else
     /// the end resets.

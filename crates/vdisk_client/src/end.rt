@@ -9,24 +9,17 @@ ghost use Rattle.vdisk_msg.specs.Requests.{AreSound, BadCount, BadRange, defect}
 ghost use Rattle.vdisk_client.specs.declared.answers.ClientOut.TheVariants as out;
 
 use crate::answers::{ClientOut, IssueFault};
-use crate::descriptor::BLOCK;
-use crate::offering::client_offer;
 use crate::session::OpenSession;
 use circular_buffer::HeapCircularBuffer;
+use disk_requests::client_offer;
 use ldc_link::{Link, Role};
 use ldc_queue::{Channel, End};
 use std::alloc::Global;
 use std::marker::Model;
-use vdisk_msg::Request;
+use vdisk_msg::{BLOCK, MOST_BLOCKS, MOST_BYTES, Request};
 use vio_bytes::NoMemory;
 use vio_handshake::Handshake;
 use vio_tag::Cause;
-
-/// The most blocks of a request.
-const MOST_BLOCKS: u64 = 64;
-
-/// The most bytes of a request.
-const MOST_BYTES: usize = 32_768;
 
 /// The client's link and handshake, its requests, and the session that is open. Between its calls all is so that the
 /// next one may come, which `Client` keeps.
@@ -84,8 +77,8 @@ impl ClientEnd {
         ensures { IfOk result (λ client. client ≡ fresh_client blocks slots) }
     {
         let pending = HeapCircularBuffer::with_capacity(alloc, slots as usize)?;
-        let mut buffer = Vec::with_capacity(alloc, MOST_BYTES)?;
-        buffer.resize(MOST_BYTES, 0)?;
+        let mut buffer = Vec::with_capacity(alloc, MOST_BYTES as usize)?;
+        buffer.resize(MOST_BYTES as usize, 0)?;
         Ok(ClientEnd {
             link: Link::new(Role::Initiator),
             shake: Handshake::new(Role::Initiator, &client_offer(blocks, slots)),

@@ -5,17 +5,18 @@ ghost use Rattle.ldc_queue.specs.ChannelView.{ChannelView};
 ghost use Rattle.disk_steps.specs.ClientState.{ClientState};
 ghost use Rattle.disk_steps.specs.LaneState.{LaneState};
 ghost use Rattle.disk_steps.specs.LaneStep.{LaneStep};
+ghost use Rattle.disk_steps.specs.OnChannel.{IsChannelOf};
 ghost use Rattle.vdisk_client.specs.Calls.{Steps, client_event};
-ghost use Rattle.vdisk_client.specs.OnLane.{IsChannelOf, client_moved};
+ghost use Rattle.vdisk_client.specs.OnLane.{client_moved};
 ghost use Rattle.vdisk_client.specs.declared.answers.ClientOut.{ClientOut};
 
 /// A client's step on the channel and the memory of a disk's lane is one step of the lane, by its answer, and
 /// the channel is the lane's after it, as it was before.
 pub fn steps_are_the_lanes()
     ensures step { (s : LaneState) (c d : ChannelView) (answer : ClientOut) (t : ClientState) (new : List ℕ)
-        → IsChannelOf s c → Steps s.client c s.memory answer t d new
+        → IsChannelOf c s → Steps s.client c s.memory answer t d new
         → LaneStep s (client_event answer t.last) (client_moved s (client_event answer t.last) t new) }
     ensures channel { (s : LaneState) (c d : ChannelView) (answer : ClientOut) (t : ClientState) (new : List ℕ)
-        → IsChannelOf s c → Steps s.client c s.memory answer t d new
-        → IsChannelOf (client_moved s (client_event answer t.last) t new) d }
+        → IsChannelOf c s → Steps s.client c s.memory answer t d new
+        → IsChannelOf d (client_moved s (client_event answer t.last) t new) }
 {}

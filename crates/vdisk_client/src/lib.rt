@@ -7,12 +7,9 @@
 mod answers;
 mod client;
 mod completing;
-mod descriptor;
 mod end;
-mod filling;
 mod hearing;
 mod laws;
-mod offering;
 mod putting;
 mod session;
 mod stepping;

@@ -11,10 +11,9 @@ ghost use Rattle.vio_bytes.specs.Place.{put_at};
 ghost use Rattle.vio_tag.specs.Form.{IsWellFormed};
 
 use crate::answers::ClientOut;
-use crate::descriptor::ring_of;
 use crate::end::ClientEnd;
-use crate::filling::put_request;
 use crate::session::OpenSession;
+use disk_requests::{put_request, ring_of};
 use dom_memory::Memory;
 use ldc_link::SendOut;
 use ldc_packet::Subtype;
@@ -31,7 +30,8 @@ impl ClientEnd {
     ghost use Rattle.disk_steps.specs.EndPuts.{EndsShake, ending, put_opens};
     ghost use Rattle.vdisk_client.specs.Calls.{Steps, rule_of};
     ghost use Rattle.vdisk_client.specs.Putting.{CanCount, HoldsOwn, PutsHeld, cleared_if, kind_after, noted};
-    ghost use Rattle.vdisk_client.specs.Standing.{HoldsRing, RequestsStand, Stands};
+    ghost use Rattle.disk_requests.specs.Room.{HoldsRing};
+    ghost use Rattle.vdisk_client.specs.Standing.{RequestsStand, Stands};
 
     /// Puts the packet that the link owes, or else a message that the handshake owes, or else goes on in session.
     pub(crate) fn put_first(

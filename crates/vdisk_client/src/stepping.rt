@@ -11,7 +11,8 @@ use ldc_queue::{Channel, ChannelState, End};
 impl ClientEnd {
     ghost use Rattle.disk_steps.specs.ClientRule.{ClientRule, Completes, completes_first, is_urgent};
     ghost use Rattle.vdisk_client.specs.Calls.{Steps};
-    ghost use Rattle.vdisk_client.specs.Standing.{HoldsRing, Stands};
+    ghost use Rattle.disk_requests.specs.Room.{HoldsRing};
+    ghost use Rattle.vdisk_client.specs.Standing.{Stands};
 
     /// An end that isn't up joins; an acknowledged request is completed; what is urgent is put; a packet that waits is
     /// taken; and then the rest is put, announced and published.

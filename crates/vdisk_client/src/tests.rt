@@ -1,5 +1,5 @@
 ghost use Rattle.std.specs.Prelude.{◌≡◌, IfOk, length};
-ghost use Rattle.vdisk_client.specs.Standing.{HoldsRing};
+ghost use Rattle.disk_requests.specs.Room.{HoldsRing};
 
 use crate::*;
 use dom_memory::Memory;

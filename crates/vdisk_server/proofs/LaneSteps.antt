@@ -7,6 +7,7 @@ use Rattle.cookie_copy.specs.Faults.{both_up}
 use Rattle.lane_law.specs.WireEvent as wire
 use Rattle.disk_steps.specs.DiskEvent.{Desc, DiskEvent, Finished, Moved, OnWire, Stored, Worked, Works}
 use Rattle.disk_steps.specs.LaneState.{LaneState}
+use Rattle.disk_steps.specs.OnChannel.{IsChannelOf}
 use Rattle.disk_steps.specs.LaneStep.{ServerOnWire, ServerWorks, reach}
 use Rattle.disk_steps.specs.Seeing.{Seen, seen}
 use Rattle.disk_steps.specs.Served.{Served, ServedStep, StoreDid}
@@ -16,7 +17,7 @@ use Rattle.disk_steps.specs.ServerWork.{Reach}
 use Rattle.vdisk_server.specs.declared.answers.ServerOut.{ServerOut}
 use Rattle.vdisk_server.specs.declared.answers.ServerOut.TheVariants as out
 use Rattle.vdisk_server.specs.Answering.{Serves, ToldAfter, channel_after, reach_over, sees, server_event}
-use Rattle.vdisk_server.specs.InLane.{IsChannelOf, lane_after}
+use Rattle.vdisk_server.specs.InLane.{lane_after}
 
 -- as the lane sees the channel
 lane_seen : (s : LaneState) (c : ChannelView) → IsChannelOf c s → sees c ≡ seen B s.shape.entries s.wire.wire

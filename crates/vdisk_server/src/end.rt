@@ -6,7 +6,7 @@ ghost use Rattle.ldc_queue.specs.ChannelView.{configured_channel};
 ghost use Rattle.ldc_queue.specs.declared.end.End.TheVariants.{B};
 ghost use Rattle.vio_handshake.specs.declared.handshake.Phase.TheVariants.{Open};
 ghost use Rattle.vio_tag.specs.Form.{IsWellFormed};
-ghost use Rattle.disk_steps.specs.Offering.{disk_of, server_offer};
+ghost use Rattle.disk_steps.specs.Offering.{server_offer};
 ghost use Rattle.disk_steps.specs.ServerState.{fresh_server, joined_server, peer_ring, restarted_server};
 ghost use Rattle.vdisk_server.specs.Answering.{channel_after};
 ghost use Rattle.vdisk_server.specs.Fields.{ring_session, state_of};
@@ -18,6 +18,7 @@ use crate::fetching::SLOT;
 use crate::session::RingSession;
 use crate::unit::UnitBuffer;
 use crate::work::Work;
+use disk_requests::disk_bytes;
 use dring::PeerRing;
 use flat_store::Region;
 use ldc_link::{Link, Role};
@@ -27,7 +28,7 @@ use map_table::Cookie;
 use std::alloc::Global;
 use vio_bytes::NoMemory;
 use vio_handshake::{Handshake, Offer, Session};
-use vio_tag::{Cause, DiskAttr, Message, MsgBody, put_disk_attr};
+use vio_tag::{Cause, Message, MsgBody};
 
 /// Of a disk's server, by the class of its end in VER_INFO.
 const VDEV_DISK_SERVER: u8 = 4;
@@ -39,29 +40,13 @@ fn offer(blocks: u64, slots: u32) -> Offer
     Offer {
         minor: 1,
         class: VDEV_DISK_SERVER,
-        attr: put_disk_attr(&disk_of(blocks)),
+        attr: disk_bytes(blocks),
         slots: 0,
         slot_size: SLOT as u32,
         count: 0,
         cookies: [Cookie::NONE; 14],
         both_rings: false,
         peer_slots: slots,
-    }
-}
-
-/// The disk that is offered, by its number of blocks.
-fn disk_of(blocks: u64) -> DiskAttr
-    ensures { result ≡ disk_of blocks }
-{
-    DiskAttr {
-        mode: 0,
-        kind: 0,
-        media: 0,
-        block_size: 0,
-        operations: 0,
-        blocks,
-        max_transfer: 0,
-        physical: 0,
     }
 }
 

@@ -18,7 +18,7 @@ use crate::session::RingSession;
 use crate::work::Work;
 use cookie_copy::CopyFault;
 use dom_memory::Memory;
-use dring::{RingFault, fetch, mark, slot_of};
+use dring::{RingFault, VIO_DESC_ACCEPTED, fetch, mark, slot_of};
 use ldc_queue::{Channel, End};
 use map_table::MapTable;
 use vio_bytes::put_u8;
@@ -26,9 +26,6 @@ use vio_tag::Cause;
 
 /// The bytes of a descriptor's slot.
 pub(crate) const SLOT: usize = 128;
-
-/// The state of a descriptor that the server works on (`struct vio_dring_hdr` of Linux's vio.h).
-const VIO_DESC_ACCEPTED: u8 = 3;
 
 impl ServerEnd {
     /// The next descriptor of the range is fetched and marked ACCEPTED.

@@ -15,14 +15,11 @@ use crate::end::ServerEnd;
 use crate::fetching::{SLOT, copy_number, header_of};
 use crate::session::RingSession;
 use dom_memory::Memory;
-use dring::{mark, put_word, slot_of};
+use dring::{VIO_DESC_DONE, mark, put_word, slot_of};
 use ldc_queue::{Channel, End};
 use map_table::MapTable;
 use vio_bytes::put_u32;
 use vio_tag::Cause;
-
-/// The state of a descriptor that is done (`struct vio_dring_hdr` of Linux's vio.h).
-const VIO_DESC_DONE: u8 = 4;
 
 /// The word of a descriptor whose last four bytes are the status.
 const STATUS_WORD: u32 = 16;

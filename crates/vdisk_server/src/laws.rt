@@ -3,10 +3,11 @@
 ghost use Rattle.std.specs.Prelude.{◌≡◌, ℕ, List, Option, false};
 ghost use Rattle.ldc_queue.specs.ChannelView.{ChannelView};
 ghost use Rattle.disk_steps.specs.LaneState.{LaneState};
+ghost use Rattle.disk_steps.specs.OnChannel.{IsChannelOf};
 ghost use Rattle.disk_steps.specs.Served.{Served};
 ghost use Rattle.disk_steps.specs.ServerState.{ServerState};
 ghost use Rattle.vdisk_server.specs.Answering.{Serves, channel_after, server_event};
-ghost use Rattle.vdisk_server.specs.InLane.{IsChannelOf, lane_after};
+ghost use Rattle.vdisk_server.specs.InLane.{lane_after};
 ghost use Rattle.vdisk_server.specs.declared.answers.ServerOut.{ServerOut};
 
 /// A step of the server is one of its lane, with what the store gave: of a lane whose server runs, whose wire is what the channel

@@ -22,15 +22,8 @@ use dom_memory::Memory;
 use flat_store::Region;
 use ldc_queue::{Channel, End};
 use map_table::{Cookie, MapTable};
-use vdisk_msg::{DescFault, DiskDesc, check};
+use vdisk_msg::{BLOCK, DescFault, DiskDesc, VD_OP_BREAD, VD_OP_BWRITE, VD_OP_FLUSH, check};
 use vio_io::{Failed, Store};
-
-/// The operations of a descriptor (`struct vio_disk_desc` of Linux's vio.h).
-const VD_OP_BREAD: u8 = 1;
-
-const VD_OP_BWRITE: u8 = 2;
-
-const VD_OP_FLUSH: u8 = 3;
 
 /// The operations that this server takes, a bit for each.
 const OPERATIONS: u64 = 0x0e;
@@ -43,9 +36,6 @@ const EIO: u32 = 5;
 const EINVAL: u32 = 22;
 
 const ENOTSUP: u32 = 48;
-
-/// The bytes of a block.
-const BLOCK: u64 = 512;
 
 /// The blocks of a unit.
 const UNIT_BLOCKS: u64 = 16;

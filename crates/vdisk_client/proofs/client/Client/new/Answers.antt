@@ -1,6 +1,6 @@
 use Rattle.std.proofs.Common.{sym, subst}
 use Rattle.disk_steps.specs.ClientState.{ClientState}
-use Rattle.vdisk_client.proofs.Cookies.{own_form}
+use Rattle.disk_requests.proofs.Cookies.{own_form}
 use Rattle.vdisk_client.proofs.Standing.{fresh_stands}
 use Rattle.vdisk_client.specs.Standing.{Stands}
 use Rattle.vdisk_client.proofs.client.Client.new.Goals as goal

@@ -1,6 +1,6 @@
 use Rattle.std.proofs.Common.{◌≡◌, ◌-◌, ◌%◌, ◌<◌, ◌≤◌, length, take}
 use Rattle.vdisk_msg.specs.Requests.{repeated}
-use Rattle.vdisk_client.proofs.filling.lay_words.Given as goal
+use Rattle.disk_requests.proofs.filling.lay_words.Given as goal
 
 abbrev pub invariant-loop-at : goal.invariant-loop-at
 invariant-loop-at l = record {

@@ -5,36 +5,21 @@ ghost use Rattle.vdisk_msg.specs.Requested.{block_of, buffer_cookies, buffer_pla
 ghost use Rattle.vdisk_msg.specs.Requests.{given_count, operation_of};
 
 use crate::offering::{PAGE, ring_pages};
-use dring::Ring;
+use dring::{Ring, VIO_DESC_READY};
 use map_table::Cookie;
-use vdisk_msg::{DiskDesc, Request};
-
-/// The states of a descriptor (`struct vio_dring_hdr` of Linux's vio.h).
-const VIO_DESC_READY: u8 = 2;
-
-pub(crate) const VIO_DESC_DONE: u8 = 4;
+use vdisk_msg::{BLOCK, DiskDesc, Request, VD_OP_BREAD, VD_OP_BWRITE, VD_OP_FLUSH};
 
 /// An acknowledgement is asked for.
 const VIO_ACK_ENABLE: u8 = 1;
 
-/// The operations (`struct vio_disk_desc` of Linux's vio.h).
-const VD_OP_BREAD: u8 = 1;
-
-const VD_OP_BWRITE: u8 = 2;
-
-const VD_OP_FLUSH: u8 = 3;
-
 /// The whole disk.
 const WHOLE_DISK: u8 = 0xff;
-
-/// The bytes of a block.
-pub(crate) const BLOCK: u64 = 512;
 
 /// The pages of a slot's buffer.
 const BUFFER_PAGES: u64 = 4;
 
 /// What a request asks of the disk.
-pub(crate) fn operation_of(request: &Request) -> u8
+pub fn operation_of(request: &Request) -> u8
     ensures { result ≡ operation_of request.now }
 {
     match request {
@@ -66,14 +51,14 @@ fn size_of(request: &Request) -> u64
 }
 
 /// The ring of so many slots, at the front of the memory.
-pub(crate) fn ring_of(slots: u32) -> Ring<128>
+pub fn ring_of(slots: u32) -> Ring<128>
     ensures { result.slots ≡ slots }
 {
     Ring::new(slots)
 }
 
 /// Where a slot's buffer begins, after the pages of a ring of so many slots.
-pub(crate) fn buffer_place(slots: u32, slot: u32) -> u64
+pub fn buffer_place(slots: u32, slot: u32) -> u64
     requires few { slots ≤ 256 }
     requires slot { slot < slots }
     ensures { result ≡ buffer_place slots slot }

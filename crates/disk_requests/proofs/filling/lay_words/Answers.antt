@@ -1,8 +1,8 @@
 use Rattle.std.proofs.Common.{arith, take, ◌∙◌, length-append, length-drop}
 use Rattle.std.proofs.lemmas.List.{length-take-le}
 use Rattle.std.proofs.Math.Nat.{mod_self}
-use Rattle.vdisk_client.proofs.Repetition.{laid_first, laid_twice, whole_twice}
-use Rattle.vdisk_client.proofs.filling.lay_words.Goals as goal
+use Rattle.disk_requests.proofs.Repetition.{laid_first, laid_twice, whole_twice}
+use Rattle.disk_requests.proofs.filling.lay_words.Goals as goal
 
 pub loop-at-init : goal.loop-at-init
 loop-at-init c = record {

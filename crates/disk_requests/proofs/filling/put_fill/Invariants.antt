@@ -1,7 +1,7 @@
 use Rattle.std.proofs.Common.{◌≡◌, ◌-◌, ◌%◌, ◌<◌, ◌≤◌, length}
 use Rattle.vio_bytes.specs.Place.{put_at}
 use Rattle.vdisk_msg.specs.Requests.{repeated}
-use Rattle.vdisk_client.proofs.filling.put_fill.Given as goal
+use Rattle.disk_requests.proofs.filling.put_fill.Given as goal
 
 abbrev pub invariant-loop-at : goal.invariant-loop-at
 invariant-loop-at l = record {

@@ -1,4 +1,4 @@
-// What a client offers in the handshake of a session.
+// What the ends offer in the handshake of a session.
 
 ghost use Rattle.std.specs.Prelude.{◌≡◌, ◌+◌, ◌*◌, ◌/◌, ◌≤◌, nat_le, [], ◌∷◌, length};
 ghost use Rattle.vdisk_msg.specs.Requested.{ring_pages};
@@ -22,7 +22,7 @@ const MINOR: u16 = 1;
 const VDEV_DISK: u8 = 3;
 
 /// The client of a disk of so many blocks registers a ring of so many slots, and expects none.
-pub(crate) fn client_offer(blocks: u64, slots: u32) -> Offer
+pub fn client_offer(blocks: u64, slots: u32) -> Offer
     requires { slots ≤ 256 }
     ensures { result ≡ client_offer blocks slots }
 {
@@ -40,7 +40,8 @@ pub(crate) fn client_offer(blocks: u64, slots: u32) -> Offer
     }
 }
 
-fn disk_bytes(blocks: u64) -> [u8; 48]
+/// The attributes that an end names: its number of blocks, and nothing else.
+pub fn disk_bytes(blocks: u64) -> [u8; 48]
     ensures { result ≡ disk_attr_bytes (disk_of blocks) }
 {
     put_disk_attr(&DiskAttr {

@@ -1,7 +1,7 @@
 use Rattle.std.proofs.Common.{◌≡◌, ℕ, ◌%◌, ◌≤◌, arith, refl, ◌∙◌, ap}
 use Rattle.std.proofs.Math.Nat.{zero-mod}
-use Rattle.vdisk_client.proofs.Repetition.{filled_more, filled_none, whole_more, words_from}
-use Rattle.vdisk_client.proofs.filling.put_fill.Goals as goal
+use Rattle.disk_requests.proofs.Repetition.{filled_more, filled_none, whole_more, words_from}
+use Rattle.disk_requests.proofs.filling.put_fill.Goals as goal
 
 pub loop-at-init : goal.loop-at-init
 loop-at-init c = record {

@@ -6,15 +6,15 @@ ghost use Rattle.vdisk_msg.specs.Fills.{IsFill, IsRequest};
 ghost use Rattle.vdisk_msg.specs.Requested.{size_of};
 ghost use Rattle.vdisk_msg.specs.Requests.{repeated};
 ghost use Rattle.disk_steps.specs.ClientStep.{filled_buffer, published_memory};
-ghost use Rattle.vdisk_client.specs.Standing.{HoldsRing};
+ghost use Rattle.disk_requests.specs.Room.{HoldsRing};
 
-use crate::descriptor::{BLOCK, buffer_place, descriptor_of, ring_of};
+use crate::descriptor::{buffer_place, descriptor_of, ring_of};
 use dom_memory::Memory;
-use vdisk_msg::{Fill, Request, encode};
+use vdisk_msg::{BLOCK, Fill, Request, encode};
 
 /// Writes the request with this id into a slot of a ring of so many: a write's bytes into the slot's buffer, and the
 /// descriptor, READY.
-pub(crate) fn put_request(memory: &mut Memory, slots: u32, slot: u32, id: u64, request: &Request)
+pub fn put_request(memory: &mut Memory, slots: u32, slot: u32, id: u64, request: &Request)
     requires few { slots ≤ 256 }
     requires slot { slot < slots }
     requires size { size_of request.now ≤ 32768 }
