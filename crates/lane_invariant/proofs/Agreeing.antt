@@ -58,7 +58,7 @@ issued_few shape events s sound run =
     (record { all = fresh_all shape sound; few = omega arith }) run).1.few
 
 -- WHERE THE SERVER'S SESSION IS OPEN and its end is up, so is the client's
-server_open : (o : Option ServerSession) (w : Option Work) (q : Option ServerCounts) (d : ServerCounts) → q ≡ Some d → ServerAgrees o w q → is_some o ≡ true
+pub server_open : (o : Option ServerSession) (w : Option Work) (q : Option ServerCounts) (d : ServerCounts) → q ≡ Some d → ServerAgrees o w q → is_some o ≡ true
 server_open None w None d is agrees = absurd (cc is)
 server_open None w (Some c) d is agrees = absurd agrees
 server_open (Some s) w q d is agrees = refl
@@ -85,7 +85,7 @@ counts_of None done q now agrees = absurd (cc)
 counts_of (Some s) done None now agrees = absurd agrees
 counts_of (Some s) done (Some c) now agrees = record { session = s; counts = c; session_is = refl; counts_are = refl; agree = agrees }
 
-front_sum : (slots subtype : ℕ) (xs ys : List (List ℕ)) → IsFront xs ys → range_sum slots subtype xs ≤ range_sum slots subtype ys
+pub front_sum : (slots subtype : ℕ) (xs ys : List (List ℕ)) → IsFront xs ys → range_sum slots subtype xs ≤ range_sum slots subtype ys
 front_sum slots subtype xs ys front = subst (λ (zs : List (List ℕ)). range_sum slots subtype xs ≤ range_sum slots subtype zs) (sym front.1) (sum_front slots subtype xs front.0)
 
 front_ready : (xs ys : List (List ℕ)) → IsFront xs ys → ready_count xs ≤ ready_count ys
@@ -111,7 +111,7 @@ server_alive shape events s sound run clean up d is =
     heard_up s.wire.wire.end_a s (heard l.talk.server) refl (λ not. ap (λ (t : TalkLog). heard t.server) talk ∙ unheard_server shape events s sound run clean up not)
     (server.ready (server_open s.server.session s.server.work l.work.server d is server.agrees))
 
-one_ring : (shape : Shape) (events : List DiskEvent) (s : LaneState) → IsShape shape → Run LaneStep (fresh shape) events s → s.wire.forged ≡ false → IsUp B s.wire.wire
+pub one_ring : (shape : Shape) (events : List DiskEvent) (s : LaneState) → IsShape shape → Run LaneStep (fresh shape) events s → s.wire.forged ≡ false → IsUp B s.wire.wire
     → (d : ServerCounts) → (log_of after (nothing_yet shape) events).work.server ≡ Some d → OneRing s (log_of after (nothing_yet shape) events).work d
 one_ring shape events s sound run clean up d is =
     let l = log_of after (nothing_yet shape) events in
@@ -192,7 +192,7 @@ client_offers shape events s sound run =
     ∙ ap (client_offer s.client.blocks) (sym knows.counted.client.slots)
 
 -- what a server whose end is up has answered
-range_answered : (slots : ℕ) (range : Option SlotRange) (d : ServerCounts) → RangeStands slots range d → d.answered ≤ d.asked
+pub range_answered : (slots : ℕ) (range : Option SlotRange) (d : ServerCounts) → RangeStands slots range d → d.answered ≤ d.asked
 range_answered slots None d stands = omega (arith, stands)
 range_answered slots (Some range) d stands = omega (arith, stands.0)
 
@@ -219,7 +219,7 @@ server_counts_of None w q session is agrees = absurd (cc is)
 server_counts_of (Some s) w None session is agrees = absurd agrees
 server_counts_of (Some s) w (Some c) session is agrees = let same : session ≡ s = cc is in (c, refl, ap (λ (x : ServerSession). x.asked) same ∙ agrees.0.asked)
 
-client_some : (o : Option ClientSession) (done : ℕ) (q : Option ClientCounts) (k : ClientCounts) → q ≡ Some k → ClientAgrees o done q → is_some o ≡ true
+pub client_some : (o : Option ClientSession) (done : ℕ) (q : Option ClientCounts) (k : ClientCounts) → q ≡ Some k → ClientAgrees o done q → is_some o ≡ true
 client_some None done None k is agrees = absurd (cc is)
 client_some None done (Some c) k is agrees = absurd agrees
 client_some (Some s) done q k is agrees = refl

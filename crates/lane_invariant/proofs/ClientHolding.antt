@@ -32,7 +32,7 @@ info_long : (sid seq ident start end state : ℕ) → length (canonical (info si
 info_long sid seq ident start end state = omega (arith, length_canonical (info sid (DringData seq ident start end state)))
 
 -- an end that holds nothing holds no INFO
-not_own : (b : Bool) (xs : List ℕ) → (b ≡ true → 1 ≤ length xs) → xs ≡ [] → b ≡ false
+pub not_own : (b : Bool) (xs : List ℕ) → (b ≡ true → 1 ≤ length xs) → xs ≡ [] → b ≡ false
 not_own true xs own empty = absurd (omega (arith, own refl, ap length empty))
 not_own false xs own empty = refl
 

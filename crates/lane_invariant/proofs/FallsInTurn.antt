@@ -27,6 +27,7 @@ use Rattle.ldc_queue.specs.Talk.{Heard as Heard_, Turn}
 use Rattle.lane_invariant.proofs.PlaceOwed.{client_owed, server_owed}
 use Rattle.lane_invariant.proofs.RemainingTakes.{client_took_falls, server_took_falls}
 use Rattle.lane_invariant.proofs.Ruling.{client_may, server_may}
+use Rattle.lane_invariant.specs.RemainingTurn.{ClientInTurn, ServerInTurn}
 use Rattle.lane_invariant.specs.RuleFacts.{ClientMay, ServerMay}
 use Rattle.ldc_queue.specs.declared.end.End.TheVariants.{A, B}
 use Rattle.runs.specs.Lawful.{log_append, log_of}
@@ -58,9 +59,9 @@ placed_behind shape events s event t sound run step clean =
     let clean_more : (log_of after (nothing_yet shape) more).wire.forged ≡ false = ap (λ (w : WireLog). w.forged) (sym (run_knows shape more t sound then_run).all.stands.wire) ∙ clean in
     subst (λ (x : DiskLog). LanePlaced shape t x.talk) behind (run_placed shape more t sound then_run clean_more)
 
-pub client_falls : (shape : Shape) (events : List DiskEvent) (s : LaneState) (packet : List ℕ) (opens : Bool) (t : LaneState) → IsShape shape → Run LaneStep (fresh shape) events s → s.wire.forged ≡ false
-    → LaneStep s (OnWire (Took A packet opens)) t → remaining t < remaining s
-client_falls shape events s packet opens t sound run clean step =
+pub client_in_turn : (shape : Shape) (events : List DiskEvent) (s : LaneState) (packet : List ℕ) (opens : Bool) (t : LaneState) → IsShape shape → Run LaneStep (fresh shape) events s → s.wire.forged ≡ false
+    → LaneStep s (OnWire (Took A packet opens)) t → ClientInTurn s.client t.client
+client_in_turn shape events s packet opens t sound run clean step =
     let l = log_of after (nothing_yet shape) events in
     let at = seen A s.shape.entries s.wire.wire in
     let knows : Knows s l = run_knows shape events s sound run in
@@ -68,11 +69,17 @@ client_falls shape events s packet opens t sound run clean step =
     let placed = placed_behind shape events s (OnWire (Took A packet opens)) t sound run step (ap (λ (x : LaneState). x.wire.forged) step.is ∙ clean) in
     let took = client_took_what s.client l.talk.client packet t.client knows.all.talks.follows_a knows.rests.client.whole step.step.1 in
     let up : t.wire.wire.end_a ≡ Up = ap (λ (x : LaneState). x.wire.wire.end_a) step.is ∙ may.0 in
-    let falls = client_took_falls s packet opens t knows.all.talks.client.asking (record {
+    record {
       one_ring = ap (λ (o : Offer). o.both_rings) knows.counted.client.shake.offer_is;
       whole = knows.rests.client.whole;
       owed = client_owed shape placed.sid s.client t.client l.talk.client packet sound.most_slots placed.small (owes_nothing s.client at packet step.step.0) took (placed.client up);
-    }) step in
+    }
+
+pub client_falls : (shape : Shape) (events : List DiskEvent) (s : LaneState) (packet : List ℕ) (opens : Bool) (t : LaneState) → IsShape shape → Run LaneStep (fresh shape) events s → s.wire.forged ≡ false
+    → LaneStep s (OnWire (Took A packet opens)) t → remaining t < remaining s
+client_falls shape events s packet opens t sound run clean step =
+    let knows : Knows s (log_of after (nothing_yet shape) events) = run_knows shape events s sound run in
+    let falls = client_took_falls s packet opens t knows.all.talks.client.asking (client_in_turn shape events s packet opens t sound run clean step) step in
     omega (arith, falls)
 
 -- THE SERVER
@@ -141,9 +148,9 @@ by_took shape events s packet opens t sound run clean up step free (inr (inr ask
     asks_more s t l (after l event) l.talk.server packet opens asks refl refl refl (ap (λ (x : LaneState). x.client) step.1.is) (ap (λ (x : LaneState). x.wire.wire.end_a) step.1.is)
     (asked_within shape events s asks.session sound run clean up asks.session_is) (subst (λ (x : DiskLog). AskedWithin t x (behind_ask s.server asks.session asks.range)) behind now)
 
-pub server_falls : (shape : Shape) (events : List DiskEvent) (s : LaneState) (packet : List ℕ) (opens : Bool) (t : LaneState) → IsShape shape → Run LaneStep (fresh shape) events s → s.wire.forged ≡ false
-    → LaneStep s (OnWire (Took B packet opens)) t → remaining t < remaining s
-server_falls shape events s packet opens t sound run clean step =
+pub server_in_turn : (shape : Shape) (events : List DiskEvent) (s : LaneState) (packet : List ℕ) (opens : Bool) (t : LaneState) → IsShape shape → Run LaneStep (fresh shape) events s → s.wire.forged ≡ false
+    → LaneStep s (OnWire (Took B packet opens)) t → ServerInTurn (total_at s.wire.wire.end_a s.client) opens packet s.server t.server
+server_in_turn shape events s packet opens t sound run clean step =
     let l = log_of after (nothing_yet shape) events in
     let at = seen B s.shape.entries s.wire.wire in
     let knows : Knows s l = run_knows shape events s sound run in
@@ -152,7 +159,7 @@ server_falls shape events s packet opens t sound run clean step =
     let placed = placed_behind shape events s (OnWire (Took B packet opens)) t sound run step (ap (λ (x : LaneState). x.wire.forged) step.1.is ∙ clean) in
     let took = server_took_what s.server l.talk.server packet t.server opens knows.all.talks.follows_b knows.rests.server.whole step.1.step.1.1 in
     let up : t.wire.wire.end_b ≡ Up = ap (λ (x : LaneState). x.wire.wire.end_b) step.1.is ∙ may.0 in
-    let falls = server_took_falls s packet opens t (record {
+    record {
       role = knows.counted.server.shake.role_is;
       one_ring = ap (λ (o : Offer). o.both_rings) knows.counted.server.shake.offer_is;
       whole = knows.rests.server.whole;
@@ -163,7 +170,12 @@ server_falls shape events s packet opens t sound run clean step =
           let none = opens_new s.server t.server l.talk.server packet knows.rests.server (subst (λ (b : Bool). ServerTook s.server l.talk.server packet t.server b) is took) in
           (none, none_work s.server.session s.server.work l.work.server none knows.counted.server.agrees);
       asks = by_took shape events s packet opens t sound run clean may.0 step free took;
-    }) step in
+    }
+
+pub server_falls : (shape : Shape) (events : List DiskEvent) (s : LaneState) (packet : List ℕ) (opens : Bool) (t : LaneState) → IsShape shape → Run LaneStep (fresh shape) events s → s.wire.forged ≡ false
+    → LaneStep s (OnWire (Took B packet opens)) t → remaining t < remaining s
+server_falls shape events s packet opens t sound run clean step =
+    let falls = server_took_falls s packet opens t (server_in_turn shape events s packet opens t sound run clean step) step in
     omega (arith, falls)
 
 -- EACH STEP by which an end does something

@@ -84,7 +84,7 @@ fresh_talks shape sound = record {
   server = server_sound shape.first shape.blocks shape.slots;
   follows_a = joins_follow (fresh_link Initiator);
   follows_b = joins_follow (fresh_link Responder);
-  unforged = λ clean. record { lost_a = 0; lost_b = 0; conversation = fresh_conversation shape.first shape.blocks shape.slots };
+  unforged = λ clean. record { lost_a = 0; lost_b = 0; whole = λ clean_yet. (refl, refl); conversation = fresh_conversation shape.first shape.blocks shape.slots };
 }
 
 -- along every run

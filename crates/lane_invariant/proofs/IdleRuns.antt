@@ -21,13 +21,13 @@ with_server : LaneState → ServerState → List ℕ → LaneState
 with_server s v memory = record s { server = v; memory = memory }
 
 -- an idle step leaves the lane as it was
-client_same : (s : LaneState) (t : LaneState) → EndOnWire A s (Idle A) t → t ≡ s
+pub client_same : (s : LaneState) (t : LaneState) → EndOnWire A s (Idle A) t → t ≡ s
 unfolding with_client
 client_same s t step =
     let is : t ≡ with_client s t.client t.memory = step.is in
     is ∙ ap (λ (c : ClientState). with_client s c t.memory) step.step.1 ∙ ap (λ (m : List ℕ). with_client s s.client m) step.step.2
 
-server_same : (s : LaneState) (t : LaneState) → EndOnWire B s (Idle B) t → t ≡ s
+pub server_same : (s : LaneState) (t : LaneState) → EndOnWire B s (Idle B) t → t ≡ s
 unfolding with_server
 server_same s t step =
     let is : t ≡ with_server s t.server t.memory = step.1.is in

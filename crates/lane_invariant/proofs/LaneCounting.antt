@@ -331,7 +331,7 @@ fresh_counted shape = record {
     blocks = refl;
     shake = record { role_is = refl; offer_is = refl; owed = tt; ring = tt };
     holds = λ some. absurd (omega (arith, some));
-    order = record { asked = refl; answered = refl };
+    order = record { asked = refl; answered = refl; infos = refl };
     unit = tt;
     ready = λ now. absurd (cc);
     agrees = refl;

@@ -1,16 +1,17 @@
 -- Each thing that happens on a lane's channel keeps what its ends have talked, whatever it does to the rest of the lane.
-use Rattle.std.proofs.Common.{◌≡◌, ℕ, ◌+◌, ◌≤◌, Bool, true, Some, List, [], ◌∷◌, length, ap, arith}
+use Rattle.std.proofs.Common.{◌≡◌, ℕ, ◌+◌, ◌≤◌, Bool, true, false, Some, List, [], ◌∷◌, length, refl, ap, arith}
 use Rattle.std.specs.Prelude.{nat_lt, slice_get}
 use Rattle.std.proofs.lemmas.Bool.{ltb-true}
 use Rattle.ldc_link.proofs.Following.{takes_follow}
 use Rattle.ldc_link.proofs.FollowingPuts.{puts_follow}
 use Rattle.ldc_link.specs.declared.phase.Role.TheVariants.{Initiator, Responder}
 use Rattle.ldc_link.specs.LinkState.{fresh_link}
-use Rattle.ldc_queue.specs.declared.end.ChannelState.TheVariants.{Up}
+use Rattle.ldc_queue.specs.declared.end.ChannelState.{ChannelState}
+use Rattle.ldc_queue.specs.declared.end.ChannelState.TheVariants.{Down, Resetting, Up}
 use Rattle.ldc_queue.specs.Numbered.{numbered}
 use Rattle.ldc_queue.specs.QueueLog.{IsFirst, lost_behind, lost_past}
 use Rattle.lane_law.specs.TalkLog.{TalkLog, hears, says, silenced}
-use Rattle.lane_law.specs.WireLog.{WireLog, server_closed, wire_moved}
+use Rattle.lane_law.specs.WireLog.{WireLog, lossy_behind, server_closed, wire_moved}
 use Rattle.lane_law.specs.WireEvent.{Joined, Lost, Sent, Took}
 use Rattle.disk_steps.specs.ClientState.{ClientState}
 use Rattle.disk_steps.specs.ServerState.{ServerState}
@@ -30,6 +31,17 @@ first_waits packet (one ∷ waiting) is = let same : one ≡ packet = cc is in a
 room_left : (n entries : ℕ) → nat_lt (n + 1) entries ≡ true → entries ≤ 256 → n + 1 ≤ 256
 room_left n entries room few = omega (arith, ltb-true (n + 1) entries room, few)
 
+-- what was lost behind a packet that is taken, and behind an end that begins
+past_none : (packets : List (List ℕ)) (lost : ℕ) → lost ≡ 0 → lost_past packets lost ≡ 0
+past_none [] lost none = none
+past_none (packet ∷ packets) lost none = refl
+
+whole_behind : (e : ChannelState) (lossy : Bool) (lost_a lost_b : ℕ) → (lossy ≡ false → (lost_a ≡ 0) × (lost_b ≡ 0)) → lossy_behind e lossy ≡ false
+    → (lost_behind e lost_a ≡ 0) × (lost_behind e lost_b ≡ 0)
+whole_behind Up lossy lost_a lost_b whole full = (refl, refl)
+whole_behind Down lossy lost_a lost_b whole full = whole full
+whole_behind Resetting lossy lost_a lost_b whole full = whole full
+
 -- AN END GOES ON, and nothing passes
 pub talk_client : (n : ℕ) (w : WireLog) (c : ClientState) (v : ServerState) (talk : TalkLog) (t : ClientState) → Talks n w c v talk → ClientSound t
     → GoesOn (client_speaks c) (client_speaks t) → Talks n w t v talk
@@ -42,6 +54,7 @@ talk_client n w c v talk t talks sound goes = record {
   unforged = λ clean. let k = talks.unforged clean in record {
     lost_a = k.lost_a;
     lost_b = k.lost_b;
+    whole = k.whole;
     conversation = goes_a (queue_log w talk k.lost_a k.lost_b) (client_speaks c) (server_speaks v) (client_speaks t) goes k.conversation;
   };
 }
@@ -57,6 +70,7 @@ talk_server n w c v talk t talks sound goes = record {
   unforged = λ clean. let k = talks.unforged clean in record {
     lost_a = k.lost_a;
     lost_b = k.lost_b;
+    whole = k.whole;
     conversation = goes_b (queue_log w talk k.lost_a k.lost_b) (client_speaks c) (server_speaks v) (server_speaks t) goes k.conversation;
   };
 }
@@ -73,6 +87,7 @@ talk_begins_a n w c v talk t talks sound begins = record {
   unforged = λ clean. let k = talks.unforged clean in record {
     lost_a = lost_behind w.wire.end_a k.lost_a;
     lost_b = lost_behind w.wire.end_a k.lost_b;
+    whole = λ full. whole_behind w.wire.end_a w.lossy k.lost_a k.lost_b k.whole full;
     conversation = begins_a (queue_log w talk k.lost_a k.lost_b) (client_speaks c) (server_speaks v) (client_speaks t) begins k.conversation;
   };
 }
@@ -88,6 +103,7 @@ talk_begins_b n w c v talk t talks sound begins = record {
   unforged = λ clean. let k = talks.unforged clean in record {
     lost_a = lost_behind w.wire.end_b k.lost_a;
     lost_b = lost_behind w.wire.end_b k.lost_b;
+    whole = λ full. whole_behind w.wire.end_b w.lossy k.lost_a k.lost_b k.whole full;
     conversation = begins_b (queue_log w talk k.lost_a k.lost_b) (client_speaks c) (server_speaks v) (server_speaks t) begins k.conversation;
   };
 }
@@ -104,6 +120,7 @@ talk_closes n w c v talk t talks sound begins = record {
   unforged = λ clean. let k = talks.unforged clean in record {
     lost_a = 0;
     lost_b = 0;
+    whole = λ full. (refl, refl);
     conversation = closes_b (queue_log w talk k.lost_a k.lost_b) (client_speaks c) (server_speaks v) (server_speaks t) begins k.conversation;
   };
 }
@@ -121,6 +138,7 @@ talk_puts_a n w c v talk t packet opens talks up room sound puts = record {
   unforged = λ clean. let k = talks.unforged clean in record {
     lost_a = k.lost_a;
     lost_b = k.lost_b;
+    whole = k.whole;
     conversation = puts_a (queue_log w talk k.lost_a k.lost_b) (client_speaks c) (server_speaks v) (client_speaks t) packet up (room_left (length w.wire.to_b) n room talks.entries) puts k.conversation;
   };
 }
@@ -137,6 +155,7 @@ talk_puts_b n w c v talk t packet opens talks up room sound puts = record {
   unforged = λ clean. let k = talks.unforged clean in record {
     lost_a = k.lost_a;
     lost_b = k.lost_b;
+    whole = k.whole;
     conversation = puts_b (queue_log w talk k.lost_a k.lost_b) (client_speaks c) (server_speaks v) (server_speaks t) packet up (room_left (length w.wire.to_a) n room talks.entries) puts k.conversation;
   };
 }
@@ -154,6 +173,7 @@ talk_takes_a n w c v talk t packet opens talks up first sound takes = record {
   unforged = λ clean. let k = talks.unforged clean in record {
     lost_a = lost_past (numbered (packet ∷ [])) k.lost_a;
     lost_b = k.lost_b;
+    whole = λ full. (past_none (numbered (packet ∷ [])) k.lost_a (k.whole full).0, (k.whole full).1);
     conversation = takes_a (queue_log w talk k.lost_a k.lost_b) (client_speaks c) (server_speaks v) (client_speaks t) packet up (first_waits packet w.wire.to_a first) takes k.conversation;
   };
 }
@@ -170,6 +190,7 @@ talk_takes_b n w c v talk t packet opens talks up first sound takes = record {
   unforged = λ clean. let k = talks.unforged clean in record {
     lost_a = k.lost_a;
     lost_b = lost_past (numbered (packet ∷ [])) k.lost_b;
+    whole = λ full. ((k.whole full).0, past_none (numbered (packet ∷ [])) k.lost_b (k.whole full).1);
     conversation = takes_b (queue_log w talk k.lost_a k.lost_b) (client_speaks c) (server_speaks v) (server_speaks t) packet up (first_waits packet w.wire.to_b first) takes k.conversation;
   };
 }
@@ -186,6 +207,7 @@ talk_loses_a n w c v talk packet talks first = record {
   unforged = λ clean. let k = talks.unforged clean in record {
     lost_a = k.lost_a + length (numbered (packet ∷ []));
     lost_b = k.lost_b;
+    whole = λ full. absurd (cc full);
     conversation = loses_a (queue_log w talk k.lost_a k.lost_b) (client_speaks c) (server_speaks v) packet (first_waits packet w.wire.to_a first) k.conversation;
   };
 }
@@ -201,6 +223,7 @@ talk_loses_b n w c v talk packet talks first = record {
   unforged = λ clean. let k = talks.unforged clean in record {
     lost_a = k.lost_a;
     lost_b = k.lost_b + length (numbered (packet ∷ []));
+    whole = λ full. absurd (cc full);
     conversation = loses_b (queue_log w talk k.lost_a k.lost_b) (client_speaks c) (server_speaks v) packet (first_waits packet w.wire.to_b first) k.conversation;
   };
 }

@@ -78,10 +78,10 @@ server_heard shape s l packet opens t placed facts up_b up_a some =
       | inr not ↦ absurd (some_not (heard (Heard_ packet ∷ l.talk.server)) (facts.silent_b up_b not) some)
     ]
 
-counted_client : (shape : Shape) (s : LaneState) (l : DiskLog) → l.shape ≡ shape → Knows s l → ClientCounted shape s.client l.talk.client l.work.done l.work.client
+pub counted_client : (shape : Shape) (s : LaneState) (l : DiskLog) → l.shape ≡ shape → Knows s l → ClientCounted shape s.client l.talk.client l.work.done l.work.client
 counted_client shape s l is knows = subst (λ (x : Shape). ClientCounted x s.client l.talk.client l.work.done l.work.client) is knows.counted.client
 
-counted_server : (shape : Shape) (s : LaneState) (l : DiskLog) → l.shape ≡ shape → Knows s l → ServerCounted shape s.server l.talk.server l.work.server
+pub counted_server : (shape : Shape) (s : LaneState) (l : DiskLog) → l.shape ≡ shape → Knows s l → ServerCounted shape s.server l.talk.server l.work.server
 counted_server shape s l is knows = subst (λ (x : Shape). ServerCounted x s.server l.talk.server l.work.server) is knows.counted.server
 
 -- where it puts a packet, the sid may be a new one

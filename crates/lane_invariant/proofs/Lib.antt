@@ -6,6 +6,7 @@ pub mod CarriedRuns
 pub mod ClientCounting
 pub mod ClientHearing
 pub mod ClientHolding
+pub mod ClientInSession
 pub mod ClientPlacing
 pub mod ClientPutCounting
 pub mod ClientResting
@@ -15,6 +16,7 @@ pub mod ClientTaken
 pub mod ClientUttering
 pub mod ClientWorkCounting
 pub mod CountedRuns
+pub mod DataHeard
 pub mod EndHearing
 pub mod EndPlaced
 pub mod EndPutting
@@ -44,6 +46,7 @@ pub mod OneSid
 pub mod OpenRuns
 pub mod PartPut
 pub mod Passing
+pub mod NoOwnReset
 pub mod NoRefusal
 pub mod PlaceOwed
 pub mod PlacedSums
@@ -93,6 +96,7 @@ pub mod SaidFields
 pub mod ServerCounting
 pub mod ServerEndCounting
 pub mod ServerHearing
+pub mod ServerInSession
 pub mod ServerPlacing
 pub mod ServerPutCounting
 pub mod ServerResting
@@ -117,3 +121,13 @@ pub mod Talking
 pub mod UpRuns
 pub mod Uttering
 pub mod WholeHeard
+pub mod TickSteps
+pub mod FlightClient
+pub mod FlightServer
+pub mod FlightSums
+pub mod FlightRuns
+pub mod FlightAlong
+pub mod LifeBound
+pub mod LaneBound
+pub mod RemainingBlocked
+pub mod WorstLane

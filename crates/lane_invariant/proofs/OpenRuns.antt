@@ -69,7 +69,7 @@ behind_open EndsShake c = opened_if_open (put_opens EndsShake c.shake) c
 held_is : (one other : ClientState) → Some one ≡ Some other → one ≡ other
 held_is one other is = cc is
 
-held_open : (c : ClientState) (at : Seen) (rule : ClientRule) (held : ClientState) → ClientMay c at rule → client_holds rule c ≡ Some held → is_some held.session ≡ is_some c.session
+pub held_open : (c : ClientState) (at : Seen) (rule : ClientRule) (held : ClientState) → ClientMay c at rule → client_holds rule c ≡ Some held → is_some held.session ≡ is_some c.session
 held_open c at Puts held may is = ap (λ (x : ClientState). is_some x.session) (sym (held_is c held is))
 held_open c at (Says message) held may is = ap (λ (x : ClientState). is_some x.session) (sym (held_is (holding message c) held is))
 held_open c at (Announces session) held may is =

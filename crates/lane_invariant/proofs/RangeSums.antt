@@ -57,3 +57,22 @@ pub count_said : (subtype : ℕ) (packet : List ℕ) (turns : List Turn)
     → range_count subtype (said (Said packet ∷ turns)) ≡ range_count subtype (said turns) + one_in (range_ended subtype (half_said turns) packet)
 count_said subtype packet turns =
     by_end one_in (range_count subtype) subtype (is_part packet) (fragment_at packet) (half_said turns) (said turns) refl (count_more subtype)
+
+pub count_heard : (subtype : ℕ) (packet : List ℕ) (turns : List Turn)
+    → range_count subtype (heard (Heard_ packet ∷ turns)) ≡ range_count subtype (heard turns) + one_in (range_ended subtype (half_heard turns) packet)
+count_heard subtype packet turns =
+    by_end one_in (range_count subtype) subtype (is_part packet) (fragment_at packet) (half_heard turns) (heard turns) refl (count_more subtype)
+
+-- each range has a slot, so that of more messages no more are ranges than the slots that they add
+one_each : (slots : ℕ) (range : Option (List ℕ)) → one_in range ≤ length_in slots range
+one_each slots None = omega arith
+one_each slots (Some message) = omega arith
+
+pub counts_fewer : (slots subtype : ℕ) (messages : List (List ℕ)) → range_count subtype messages ≤ range_sum slots subtype messages
+counts_fewer slots subtype [] = omega arith
+counts_fewer slots subtype (one ∷ messages) = omega (arith, counts_fewer slots subtype messages, one_each slots (range_in subtype (Some one)))
+
+pub counts_front : (slots subtype : ℕ) (messages rest : List (List ℕ))
+    → range_count subtype (messages ++ rest) + range_sum slots subtype messages ≤ range_sum slots subtype (messages ++ rest) + range_count subtype messages
+counts_front slots subtype [] rest = omega (arith, counts_fewer slots subtype rest)
+counts_front slots subtype (one ∷ messages) rest = omega (arith, counts_front slots subtype messages rest)

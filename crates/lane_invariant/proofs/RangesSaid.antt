@@ -135,6 +135,11 @@ heard_range slots k bytes m seq ident start end state spells kind body =
     ap (length_in slots) (range_is k bytes envelope (spells.subtype ∙ kind))
     ∙ ap (λ (n : ℕ). range_length slots n (end_of bytes)) (sym fields.2) ∙ ap (λ (n : ℕ). range_length slots start n) (sym fields.3)
 
+pub heard_one : (k : ℕ) (bytes : List ℕ) (m : Message) (seq ident start end state : ℕ) → SpellsMessage bytes m → subtype_code m.subtype ≡ k
+    → m.body ≡ DringData seq ident start end state → one_in (range_in k (Some bytes)) ≡ 1
+heard_one k bytes m seq ident start end state spells kind body =
+    ap one_in (range_is k bytes (spells.envelope ∙ ap envelope_code body) (spells.subtype ∙ kind))
+
 -- and as it is said: the fields of its slots are read back, whatever the others are
 simple : Subtype → ℕ → ℕ → Message
 simple s start end = record { subtype = s; sid = 0; body = DringData 0 0 start end 0 }

@@ -1,5 +1,5 @@
 -- The steps of a client that takes no packet: what remains falls.
-use Rattle.std.proofs.Common.{◌≡◌, ℕ, ◌+◌, ◌-◌, ◌*◌, ◌≤◌, ◌<◌, Bool, true, false, Option, Some, None, List, [], ◌∷◌, length, drop, refl, sym, ap, subst, arith, length-drop}
+use Rattle.std.proofs.Common.{◌≡◌, ℕ, ◌+◌, ◌-◌, ◌*◌, ◌≤◌, ◌<◌, Bool, true, Option, Some, None, List, [], ◌∷◌, length, drop, refl, sym, ap, subst, arith, length-drop}
 use Rattle.std.specs.Prelude.{zero, suc, slice_get}
 use Rattle.ldc_link.specs.Calls.{Puts as PutsPacket}
 use Rattle.ldc_link.specs.LinkState.{LinkState}
@@ -12,7 +12,7 @@ use Rattle.disk_steps.specs.ClientRule.{Announces, ClientRule, Completes, Joins,
 use Rattle.disk_steps.specs.ClientState.{ClientSession, ClientState}
 use Rattle.disk_steps.specs.ClientStep.{ClientCompletes, ClientPublishes, ClientSends}
 use Rattle.disk_steps.specs.Seeing.{Seen}
-use Rattle.lane_invariant.proofs.ClientHolding.{client_held}
+use Rattle.lane_invariant.proofs.ClientHolding.{client_held, not_own}
 use Rattle.lane_invariant.proofs.RemainingClientPuts.{ClientLowers, announces_lowers, client_put_lowers, says_lowers}
 use Rattle.lane_invariant.proofs.RemainingSums.{quiet_put}
 use Rattle.lane_invariant.proofs.Ruling.{client_may}
@@ -27,10 +27,6 @@ both_lower s h t by first next = record {
   pending = omega (arith, first.pending, next.pending);
   lowers = λ asked. omega (arith, first.lowers asked, next.lowers asked);
 }
-
-not_own : (b : Bool) (xs : List ℕ) → (b ≡ true → 1 ≤ length xs) → xs ≡ [] → b ≡ false
-not_own true xs own empty = absurd (omega (arith, own refl, ap length empty))
-not_own false xs own empty = refl
 
 held_is : (one other : ClientState) → Some one ≡ Some other → one ≡ other
 held_is one other is = cc is

@@ -48,7 +48,7 @@ at_server s = seen B s.shape.entries s.wire.wire
 pub client_falls : (e : ChannelState) (asked : ℕ) (c t : ClientState) (by : ℕ) → e ≡ Up → ClientLowers by c t → client_left e asked t + by ≤ client_left e asked c
 client_falls e asked c t by up lower = subst (λ (x : ChannelState). client_left x asked t + by ≤ client_left x asked c) (sym up) (lower.lowers asked)
 
-server_falls : (e : ChannelState) (v u : ServerState) (by : ℕ) → e ≡ Up → ServerLowers by v u → server_left e u + by ≤ server_left e v
+pub server_falls : (e : ChannelState) (v u : ServerState) (by : ℕ) → e ≡ Up → ServerLowers by v u → server_left e u + by ≤ server_left e v
 server_falls e v u by up lower = subst (λ (x : ChannelState). server_left x u + by ≤ server_left x v) (sym up) lower.lowers
 
 pub asked_same : (e : ChannelState) (v u : ServerState) → asked_in u.session ≡ asked_in v.session → asked_by e u ≡ asked_by e v
@@ -165,7 +165,7 @@ opens_at Responder = refl
 opens_closed : (role : Role) (ph : Phase) → ph ≡ hand.Open → opens_by_put role ph ≡ false
 opens_closed role ph is = ap (opens_by_put role) is ∙ opens_at role
 
-closed_in : (c : ClientState) (open_one : Option ClientSession) → c.session ≡ open_one → OpensLast c.shake.phase c.link.phase open_one → opens_by_put c.shake.role c.shake.phase ≡ true → c.session ≡ None
+pub closed_in : (c : ClientState) (open_one : Option ClientSession) → c.session ≡ open_one → OpensLast c.shake.phase c.link.phase open_one → opens_by_put c.shake.role c.shake.phase ≡ true → c.session ≡ None
 closed_in c None is opened opens = is
 closed_in c (Some session) is opened opens = let never = opens_closed c.shake.role c.shake.phase opened.0 in absurd (cc)
 

@@ -36,10 +36,10 @@ pub record ServerLowers (by : ℕ) (s t : ServerState) : Type 0 where
   pub lowers : server_left Up t + by ≤ server_left Up s
 
 -- HOLDING a message
-abbrev holding : Message → ServerState → ServerState
+abbrev pub holding : Message → ServerState → ServerState
 holding message s = record s { link = offered (canonical message) s.link }
 
-says_lowers : (s : ServerState) (message : Message) → ServerSays s message → s.link.to_send ≡ [] → ServerLowers 0 s (holding message s)
+pub says_lowers : (s : ServerState) (message : Message) → ServerSays s message → s.link.to_send ≡ [] → ServerLowers 0 s (holding message s)
 says_lowers s message (inl owed) empty =
     let before : answers_held s.link.to_send s.shake.owed (range_left s.session) ≡ parts_owed s.shake.owed + range_left s.session =
     answers_empty s.link.to_send s.shake.owed (range_left s.session) empty in
@@ -131,7 +131,7 @@ answered_asked Goes session = refl
 answered_asked ComesUp session = refl
 answered_asked EndsShake session = refl
 
-answered_serving : (kind : PutKind) (work : Option Work) (session : Option ServerSession) → serving_left work (session_behind kind session) ≡ serving_left work session
+pub answered_serving : (kind : PutKind) (work : Option Work) (session : Option ServerSession) → serving_left work (session_behind kind session) ≡ serving_left work session
 answered_serving EndsOwn work None = refl
 answered_serving EndsOwn work (Some s) = refl
 answered_serving Goes work session = refl

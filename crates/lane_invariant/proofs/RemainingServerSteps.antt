@@ -100,7 +100,7 @@ gathers_less : (b : Bool) (size unit : ℕ) → nat_lt (unit + 1) (unit_count si
 gathers_less true size unit is = omega (arith, ltb-true (unit + 1) (unit_count size) is)
 gathers_less false size unit is = omega arith
 
-abbrev Less : Work → Progress → Progress → Type 0
+abbrev pub Less : Work → Progress → Progress → Type 0
 Less work next progress = pieces_left (unit_count (desc_of work).size) next + 1 ≤ pieces_left (unit_count (desc_of work).size) progress
 
 given_less : (why : Option CopyFault) (work : Work) (unit : ℕ) (bytes : List ℕ) → Less work (given why work unit) (Gives unit bytes)
@@ -111,7 +111,7 @@ gathered_less : (why : Option CopyFault) (work : Work) (reach : Reach) (unit : �
 gathered_less None work reach unit = omega arith
 gathered_less (Some why) work reach unit = omega arith
 
-moves_less : (progress : Progress) (work : Work) (reach : Reach) (unit : ℕ) (why : Option CopyFault) (next : Progress) (new : List ℕ)
+pub moves_less : (progress : Progress) (work : Work) (reach : Reach) (unit : ℕ) (why : Option CopyFault) (next : Progress) (new : List ℕ)
     → MovesIn progress work reach unit why next new → Less work next progress
 moves_less (Gives u bytes) work reach unit why next new moves = subst (λ (x : Progress). Less work x (Gives u bytes)) (sym moves.2) (given_less why work u bytes)
 moves_less (Gathers u) work reach unit why next new moves = subst (λ (x : Progress). Less work x (Gathers u)) (sym moves.2) (gathered_less why work reach u)
@@ -121,7 +121,7 @@ or_ends_less : (failed : Bool) (work : Work) (next progress : Progress) → Less
 or_ends_less true work next progress less fails = fails
 or_ends_less false work next progress less fails = less
 
-stores_less : (progress : Progress) (work : Work) (operation block count : ℕ) (failed : Bool) (gave : List ℕ) (next : Progress)
+pub stores_less : (progress : Progress) (work : Work) (operation block count : ℕ) (failed : Bool) (gave : List ℕ) (next : Progress)
     → StoresIn progress work operation block count failed gave next → Less work next progress
 stores_less (Reads u) work operation block count failed gave next stores =
     subst (λ (x : Progress). Less work x (Reads u)) (sym stores.2) (or_ends_less failed work (Gives u gave) (Reads u) (omega arith) (omega arith))
@@ -191,7 +191,7 @@ few_checked (Some why) desc blocks is = omega arith
 few_checked None desc blocks is =
     few_of (desc.operation == 1) (desc.operation == 2) (unit_count desc.size) (λ moves. few_units desc.size (sound_size desc blocks moves is))
 
-few_pieces : (desc : DiskDesc) (blocks : ℕ) → pieces_left (unit_count desc.size) (first_progress blocks desc) ≤ 8
+pub few_pieces : (desc : DiskDesc) (blocks : ℕ) → pieces_left (unit_count desc.size) (first_progress blocks desc) ≤ 8
 few_pieces desc blocks = few_checked (first_defect desc blocks 0x0e) desc blocks refl
 
 -- WHERE THE COUNTS fit into 8 bytes

@@ -28,7 +28,7 @@ use Rattle.lane_invariant.specs.RuleFacts.{ClientMay, ServerMay}
 use Rattle.lane_invariant.specs.Conversation.{IsAsking}
 
 -- a packet that waits is one more
-first_gone : (packet : List ℕ) (packets : List (List ℕ)) → slice_get packets 0 ≡ Some packet → length (drop 1 packets) + 1 ≡ length packets
+pub first_gone : (packet : List ℕ) (packets : List (List ℕ)) → slice_get packets 0 ≡ Some packet → length (drop 1 packets) + 1 ≡ length packets
 first_gone packet [] is = absurd (cc)
 first_gone packet (one ∷ packets) is = omega (arith, length-drop 1 (one ∷ packets))
 

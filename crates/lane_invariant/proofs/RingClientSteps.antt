@@ -41,7 +41,7 @@ work_other r ring None k e other stands = tt
 work_other r ring (Some d) k e other stands = λ one. work_beside r ring d k e (other d (stands one)) stands one
 
 -- THE NEXT REQUEST to publish
-got_at : (xs : List Request) (n m : ℕ) → slice_get (drop n xs) m ≡ slice_get xs (n + m)
+pub got_at : (xs : List Request) (n m : ℕ) → slice_get (drop n xs) m ≡ slice_get xs (n + m)
 got_at xs zero m = let same : m ≡ 0 + m = omega arith in ap (slice_get xs) same
 got_at [] (suc n) m = refl
 got_at (x ∷ xs) (suc n) m = let same : suc (n + m) ≡ suc n + m = omega arith in got_at xs n m ∙ ap (slice_get (x ∷ xs)) same

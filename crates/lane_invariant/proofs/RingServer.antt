@@ -48,7 +48,7 @@ header_long state bytes = omega arith
 word_is_long : (desc : DiskDesc) (status : ℕ) → length (status_word (canonical (record desc { state = 2; status = 0 })) status) ≡ 8
 word_is_long desc status = omega arith
 
-status_is_long : (r : RingOf) (slot id status : ℕ) (fetched : List ℕ) → (holds : HoldsIssued r slot id 2 0 fetched) → length (status_word fetched status) ≡ 8
+pub status_is_long : (r : RingOf) (slot id status : ℕ) (fetched : List ℕ) → (holds : HoldsIssued r slot id 2 0 fetched) → length (status_word fetched status) ≡ 8
 status_is_long r slot id status fetched holds =
     ap (λ (bytes : List ℕ). length (status_word bytes status)) holds.bytes_are ∙ word_is_long (descriptor_of id holds.request slot r.slots) status
 

@@ -157,7 +157,7 @@ reset_same ByRestart B s l cause packet lost t known step = ap (λ (x : LaneStat
 reset_same ByTick A s l cause packet lost t known step = ap (λ (x : LaneState). x.memory) step.1.2
 reset_same ByTick B s l cause packet lost t known step = absurd step
 
-wire_same : (s : LaneState) (l : DiskLog) (event : WireEvent) (t : LaneState) → OpensNot event → Known s l → WireStep s event t → (after l (OnWire event)).wire.forged ≡ false
+pub wire_same : (s : LaneState) (l : DiskLog) (event : WireEvent) (t : LaneState) → OpensNot event → Known s l → WireStep s event t → (after l (OnWire event)).wire.forged ≡ false
     → t.memory ≡ s.memory
 wire_same s l (Joined e lost) t not known step unforged = end_same e s l (Joined e lost) t not known step
 wire_same s l (Took e packet opens) t not known step unforged = end_same e s l (Took e packet opens) t not known step

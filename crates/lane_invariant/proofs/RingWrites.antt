@@ -97,11 +97,11 @@ ring_word_answered s r pages slots slot at both identity cookies below within ev
     (even_aligned slot at (own_cookies slots) even b.aligned)
 
 -- THROUGH A BUFFER'S COOKIES a unit is written behind the ring
-record IntoBuffer (r : Reach) (place size u : ℕ) (bytes : List ℕ) (cookies : List Cookie) : Type 0 where
-  written : moved_out r.table r.memory cookies (8192 * u) bytes ≡ put_at (place + 8192 * u) bytes r.memory
-  within : 8192 * u + length bytes ≤ size
+pub record IntoBuffer (r : Reach) (place size u : ℕ) (bytes : List ℕ) (cookies : List Cookie) : Type 0 where
+  pub written : moved_out r.table r.memory cookies (8192 * u) bytes ≡ put_at (place + 8192 * u) bytes r.memory
+  pub within : 8192 * u + length bytes ≤ size
 
-into_buffer : (r : Reach) (pages place size u : ℕ) (bytes : List ℕ) (cookies : List Cookie) → IsIdentity r.table pages → size ≤ 32768 → place + size ≤ length r.memory
+pub into_buffer : (r : Reach) (pages place size u : ℕ) (bytes : List ℕ) (cookies : List Cookie) → IsIdentity r.table pages → size ≤ 32768 → place + size ≤ length r.memory
     → cookies ≡ take (cookie_count size) (buffer_cookies place size) → first_copy_fault r.both access.Write r.table cookies (8192 * u) (length bytes) ≡ None
     → IntoBuffer r place size u bytes cookies
 into_buffer r pages place size u bytes cookies identity few room is none =

@@ -15,21 +15,23 @@ use Rattle.vio_handshake.specs.State.{shake_up}
 use Rattle.lane_law.specs.Sayings.{half_heard, half_said, heard, said}
 use Rattle.disk_log.specs.Agreement.{ServerAgrees, ServerCountsAgree, WorkAgrees}
 use Rattle.disk_log.specs.Messages.{range_ended, range_in}
-use Rattle.disk_log.specs.WorkLog.{ServerCounts, change_server, length_in, opened_counts}
+use Rattle.disk_log.specs.WorkLog.{ServerCounts, change_server, length_in, one_in, opened_counts}
 use Rattle.disk_steps.specs.EndPuts.{shake_risen}
 use Rattle.disk_steps.specs.LaneState.{Shape}
 use Rattle.disk_steps.specs.Offering.{server_offer}
 use Rattle.disk_steps.specs.Ranges.{range_length, wrapped}
 use Rattle.disk_steps.specs.ServerState.{ServerSession, ServerState, SlotRange, Work, joined_server, restarted_server}
-use Rattle.lane_invariant.proofs.ClientTaken.{ShakesTo}
+use Rattle.lane_invariant.proofs.ClientTaken.{HearsMessage, ShakesTo}
 use Rattle.lane_invariant.proofs.EndUttering.{up_empty}
 use Rattle.lane_invariant.proofs.Fitting.{TakesFit, joined_fits, take_fits, up_fits}
-use Rattle.lane_invariant.proofs.RangeSums.{ready_more, sum_heard, sum_more}
-use Rattle.lane_invariant.proofs.RangesSaid.{IsNoData, heard_no_range, heard_range, ready_heard}
+use Rattle.lane_invariant.proofs.RangeSums.{count_more, ready_more, sum_heard, sum_more}
+use Rattle.lane_invariant.proofs.RangesSaid.{IsNoData, heard_no_range, heard_one, heard_range, ready_heard}
 use Rattle.lane_invariant.proofs.RulesFree.{TakesFree}
 use Rattle.lane_invariant.proofs.ServerTaken.{ServerAsked, ServerHearsPart, ServerShakes, ServerTook, still}
 use Rattle.lane_invariant.proofs.ShakingOpen.{no_data, opens_not_open, opens_ready}
-use Rattle.lane_invariant.specs.Counted.{HoldsEither, NothingAsked, RangeStands, ServerCounted, ServerHolds, ServerOrder, is_ready, one_where, range_sum, ready_count}
+use Rattle.lane_invariant.specs.Budget.{one_range}
+use Rattle.lane_invariant.specs.Counted.{HoldsEither, NothingAsked, RangeStands, ServerCounted, ServerHolds, ServerOrder, is_ready, one_where, range_count, range_sum, ready_count}
+use Rattle.vio_tag.specs.declared.message.Message.{Message}
 use Rattle.lane_invariant.specs.LaneRests.{ServerRests, ServerUtters}
 use Rattle.lane_invariant.specs.ShakeFits.{Fits, RingFits}
 
@@ -40,7 +42,7 @@ server_begins_counting shape v turns d counted = record {
   blocks = counted.blocks;
   shake = joined_fits Responder (server_offer shape.blocks shape.slots) v.shake counted.shake;
   holds = λ some. absurd (omega (arith, some));
-  order = record { asked = refl; answered = refl };
+  order = record { asked = refl; answered = refl; infos = refl };
   unit = tt;
   ready = λ now. absurd (cc);
   agrees = refl;
@@ -57,7 +59,7 @@ server_restarts_counting shape v turns d counted = record {
     ring = tt;
   };
   holds = λ some. absurd (omega (arith, some));
-  order = record { asked = refl; answered = refl };
+  order = record { asked = refl; answered = refl; infos = refl };
   unit = tt;
   ready = λ now. absurd (cc);
   agrees = refl;
@@ -73,11 +75,12 @@ range_same slots n None c none stands = omega (arith, none, stands)
 range_same slots n (Some range) c none stands = (omega (arith, none, stands.0), stands.1, stands.2, stands.3)
 
 order_same : (shape : Shape) (o : Option ServerSession) (d : Option ServerCounts) (turns : List Turn) (packet : List ℕ)
-    → range_sum shape.slots 1 (heard (Heard_ packet ∷ turns)) ≡ range_sum shape.slots 1 (heard turns) → ServerOrder shape.slots o d turns
+    → range_sum shape.slots 1 (heard (Heard_ packet ∷ turns)) ≡ range_sum shape.slots 1 (heard turns)
+    → range_count 1 (heard (Heard_ packet ∷ turns)) ≡ range_count 1 (heard turns) → ServerOrder shape.slots o d turns
     → ServerOrder shape.slots o (asks_more shape turns packet d) (Heard_ packet ∷ turns)
-order_same shape None d turns packet same order = record { asked = same ∙ order.asked; answered = order.answered }
-order_same shape (Some s) None turns packet same order = absurd order
-order_same shape (Some s) (Some c) turns packet same order =
+order_same shape None d turns packet same as_many order = record { asked = same ∙ order.asked; answered = order.answered; infos = as_many ∙ order.infos }
+order_same shape (Some s) None turns packet same as_many order = absurd order
+order_same shape (Some s) (Some c) turns packet same as_many order =
     let n = length_in shape.slots (range_ended 1 (half_heard turns) packet) in
     let none : n ≡ 0 = omega (arith, same, sum_heard shape.slots 1 packet turns) in
     record {
@@ -86,6 +89,8 @@ order_same shape (Some s) (Some c) turns packet same order =
       finished = order.finished;
       descs = omega (arith, order.descs);
       range = range_same shape.slots n s.range c none order.range;
+      seq = order.seq ∙ ap (λ (x : ℕ). wrapped (x + 1)) (sym as_many);
+      replies = omega (arith, order.replies, as_many);
     }
 
 work_same : (w : Option Work) (c : ServerCounts) (n : ℕ) → WorkAgrees w c → WorkAgrees w (record c { asked = c.asked + n })
@@ -141,7 +146,7 @@ takes_part shape v t turns packet sid d opens utters counted part =
       blocks = counted.blocks;
       shake = fits_risen (is_up part.link) (is_up v.link) (server_offer shape.blocks shape.slots) v.shake counted.shake;
       holds = holds_risen (is_up v.link) v part.link turns refl part.left utters.idle counted.holds;
-      order = order_same shape v.session d turns packet same counted.order;
+      order = order_same shape v.session d turns packet same (ap (range_count 1) part.messages) counted.order;
       unit = counted.unit;
       ready = λ now. subst (λ (xs : List (List ℕ)). 1 ≤ ready_count xs) (sym part.messages) (counted.ready now);
       agrees = agrees_same v.session v.work d (length_in shape.slots (range_ended 1 (half_heard turns) packet)) none counted.agrees;
@@ -170,6 +175,17 @@ opened_work : (w : Option Work) (sid : ℕ) → w ≡ None
 opened_work None sid is = (refl, refl)
 opened_work (Some work) sid is = absurd (cc is)
 
+-- a message of the handshake is no INFO
+no_more_infos : (turns : List Turn) (packet : List ℕ) (message : Message) → (hears : HearsMessage turns packet message) → IsNoData message.body
+    → range_count 1 (heard (Heard_ packet ∷ turns)) ≡ range_count 1 (heard turns)
+no_more_infos turns packet message hears apart =
+    omega (
+      arith,
+      ap (range_count 1) hears.messages,
+      count_more 1 (heard turns) hears.bytes,
+      ap one_in (heard_no_range 1 hears.bytes message hears.spells hears.form apart),
+    )
+
 takes_shake : (opens : Bool) (shape : Shape) (v t : ServerState) (turns : List Turn) (packet : List ℕ) (sid : ℕ) (d : Option ServerCounts) → ServerRests v turns → TakesFree v
     → ServerCounted shape v turns d → ServerShakes v turns packet t opens → Behind shape turns packet sid d opens t
 takes_shake false shape v t turns packet sid d rests free counted shakes =
@@ -183,6 +199,7 @@ takes_shake false shape v t turns packet sid d rests free counted shakes =
       sum_more shape.slots 1 (heard turns) bytes,
       ap (length_in shape.slots) (heard_no_range 1 bytes shakes.message shakes.hears.spells shakes.hears.form apart),
     ) in
+    let as_many : range_count 1 (heard (Heard_ packet ∷ turns)) ≡ range_count 1 (heard turns) = no_more_infos turns packet shakes.message shakes.hears apart in
     let none : length_in shape.slots (range_ended 1 (half_heard turns) packet) ≡ 0 = omega (arith, same, sum_heard shape.slots 1 packet turns) in
     subst (Behind shape turns packet sid d false) (sym shakes.is) (record {
       slots = counted.slots;
@@ -190,7 +207,7 @@ takes_shake false shape v t turns packet sid d rests free counted shakes =
       shake = fits_to (server_offer shape.blocks shape.slots) v.shake shakes.shake (shake_take v.shake shakes.message) false shakes.takes
           (take_fits Responder (server_offer shape.blocks shape.slots) v.shake shakes.message free.owed counted.shake);
       holds = λ some. absurd (omega (arith, some, ap length shakes.left, ap length empty));
-      order = order_same shape v.session d turns packet same counted.order;
+      order = order_same shape v.session d turns packet same as_many counted.order;
       unit = counted.unit;
       ready = λ now. omega (arith, counted.ready now, ap ready_count shakes.hears.messages, ready_more (heard turns) bytes);
       agrees = agrees_same v.session v.work d (length_in shape.slots (range_ended 1 (half_heard turns) packet)) none counted.agrees;
@@ -221,6 +238,9 @@ takes_shake true shape v t turns packet sid d rests free counted shakes =
         finished = omega arith;
         descs = omega arith;
         range = refl;
+        seq = let none_yet : range_count 1 (heard (Heard_ packet ∷ turns)) ≡ 0 = no_more_infos turns packet shakes.message shakes.hears apart ∙ nothing.infos in
+            ap (λ (x : ℕ). wrapped (x + 1)) (sym none_yet);
+        replies = omega (arith, no_more_infos turns packet shakes.message shakes.hears apart, nothing.infos);
       };
       unit = counted.unit;
       ready = λ now. omega (arith, ap ready_count shakes.hears.messages, ready_more (heard turns) bytes, readies);
@@ -241,11 +261,12 @@ record AsksOf (slots : ℕ) (session : ServerSession) (range : SlotRange) (n : �
 
 asked_order : (slots added n : ℕ) (o : Option ServerSession) (d : Option ServerCounts) (turns behind : List Turn) (session next : ServerSession) (range : SlotRange) → o ≡ Some session
     → next ≡ record session { asked = wrapped (session.asked + n); seq = wrapped (session.seq + 1); range = Some range } → AsksOf slots session range n added
-    → range_sum slots 1 (heard behind) ≡ range_sum slots 1 (heard turns) + added → range_sum slots 2 (said behind) ≡ range_sum slots 2 (said turns) → (w : Option Work) → ServerAgrees o w d → ServerOrder slots o d turns
+    → range_sum slots 1 (heard behind) ≡ range_sum slots 1 (heard turns) + added → range_sum slots 2 (said behind) ≡ range_sum slots 2 (said turns)
+    → range_count 1 (heard behind) ≡ range_count 1 (heard turns) + 1 → range_count 2 (said behind) ≡ range_count 2 (said turns) → (w : Option Work) → ServerAgrees o w d → ServerOrder slots o d turns
     → ServerOrder slots (Some next) (change_server (λ (c : ServerCounts). record c { asked = c.asked + added }) d) behind
-asked_order slots added n None d turns behind session next range is same asks heard_is said_is w agrees order = absurd (cc is)
-asked_order slots added n (Some s) None turns behind session next range is same asks heard_is said_is w agrees order = absurd order
-asked_order slots added n (Some s) (Some c) turns behind session next range is same asks heard_is said_is w agrees order =
+asked_order slots added n None d turns behind session next range is same asks heard_is said_is one_more same_said w agrees order = absurd (cc is)
+asked_order slots added n (Some s) None turns behind session next range is same asks heard_is said_is one_more same_said w agrees order = absurd order
+asked_order slots added n (Some s) (Some c) turns behind session next range is same asks heard_is said_is one_more same_said w agrees order =
     let one : s ≡ session = cc is in
     let counts : ServerCountsAgree s c = agrees.0 in
     let none : s.range ≡ None = ap (λ (x : ServerSession). x.range) one ∙ asks.none in
@@ -261,6 +282,9 @@ asked_order slots added n (Some s) (Some c) turns behind session next range is s
         asks.ends,
         asks.place ∙ ap (λ (x : ServerSession). x.asked % slots) (sym one) ∙ ap (λ (x : ℕ). x % slots) (counts.asked ∙ ap wrapped (sym all)),
       );
+      seq = ap (λ (x : ServerSession). x.seq) same ∙ wraps_more session.seq (range_count 1 (heard turns) + 1) 1 (ap (λ (x : ServerSession). x.seq) (sym one) ∙ order.seq)
+          ∙ ap (λ (x : ℕ). wrapped (x + 1)) (sym one_more);
+      replies = omega (arith, order.replies, one_more, same_said, ap one_range none, ap (λ (x : ServerSession). one_range x.range) same);
     }
 
 asked_agrees : (o : Option ServerSession) (w : Option Work) (d : Option ServerCounts) (session next : ServerSession) (range : SlotRange) (n added : ℕ) → o ≡ Some session
@@ -306,13 +330,20 @@ takes_ask shape v t turns packet sid d opens rests free counted asks =
     let asks_of : AsksOf shape.slots session asks.range n added =
     record { none = free.range session asks.session_is; adds = adds; length_is = length_is; begins = begins; ends = ends; place = asks.begins ∙ ap (λ (x : ℕ). session.asked % x) own } in
     let next : ServerSession = record session { asked = wrapped (session.asked + n); seq = wrapped (session.seq + 1); range = Some asks.range } in
+    let one_more : range_count 1 (heard (Heard_ packet ∷ turns)) ≡ range_count 1 (heard turns) + 1 =
+    omega (
+      arith,
+      ap (range_count 1) asks.hears.messages,
+      count_more 1 (heard turns) bytes,
+      heard_one 1 bytes asks.message asks.range.seq asks.ident asks.range.start asks.range.end asks.range.state asks.hears.spells (ap subtype_code asks.subtype_is) asks.body_is,
+    ) in
     subst (λ (b : Bool). Behind shape turns packet sid d b t) (sym asks.opens_is)
     (subst (Behind shape turns packet sid d false) (sym asks.is) (record {
       slots = counted.slots;
       blocks = counted.blocks;
       shake = counted.shake;
       holds = λ some. absurd (omega (arith, some, ap length asks.left, ap length empty));
-      order = asked_order shape.slots added n v.session d turns (Heard_ packet ∷ turns) session next asks.range asks.session_is refl asks_of (sum_heard shape.slots 1 packet turns) refl v.work counted.agrees counted.order;
+      order = asked_order shape.slots added n v.session d turns (Heard_ packet ∷ turns) session next asks.range asks.session_is refl asks_of (sum_heard shape.slots 1 packet turns) refl one_more refl v.work counted.agrees counted.order;
       unit = counted.unit;
       ready = λ now. omega (arith, counted.ready (ap is_some asks.session_is), ap ready_count asks.hears.messages, ready_more (heard turns) bytes);
       agrees = asked_agrees v.session v.work d session next asks.range n added asks.session_is refl adds counted.agrees;

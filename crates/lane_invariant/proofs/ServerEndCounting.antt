@@ -27,6 +27,7 @@ use Rattle.lane_invariant.proofs.RulesFree.{ServerFree, server_free}
 use Rattle.lane_invariant.proofs.ServerPutCounting.{answers_more, comes_counting, goes_counting, own_counting, put_as, server_holds_counting, shake_counting}
 use Rattle.lane_invariant.proofs.ServerUttering.{held_link, server_blocked_utters}
 use Rattle.lane_invariant.proofs.ServerWorkCounting.{begins_owing, first_unit, holds_none}
+use Rattle.lane_invariant.specs.Budget.{one_range}
 use Rattle.lane_invariant.specs.Counted.{RangeStands, ServerCounted, ServerOrder}
 use Rattle.lane_invariant.specs.LaneRests.{ServerRests, ServerUtters}
 
@@ -62,6 +63,8 @@ fetched_both slots blocks (Some s) w (Some c) turns session bytes is none unfini
         finished = order.finished;
         descs = omega (arith, order.descs, works.1, other);
         range = subst (λ (x : ServerSession). RangeStands slots x.range (fetched_log blocks bytes c)) same (range_fetched slots blocks bytes s.range c order.range);
+        seq = ap (λ (x : ServerSession). x.seq) (sym same) ∙ order.seq;
+        replies = omega (arith, order.replies, ap (λ (x : ServerSession). one_range x.range) same);
       },
       (
         record { asked = counts.asked; descs = wraps_one session.descs c.descs counts.descs; finished = counts.finished; answered = counts.answered },
@@ -120,6 +123,8 @@ finished_both slots (Some s) w (Some c) turns session work status is works ends 
         finished = omega (arith, order.finished);
         descs = order.descs;
         range = subst (λ (x : ServerSession). RangeStands slots x.range (finished_log c)) same (range_finished slots s.range c order.range);
+        seq = ap (λ (x : ServerSession). x.seq) (sym same) ∙ order.seq;
+        replies = omega (arith, order.replies, ap (λ (x : ServerSession). one_range x.range) same);
       },
       (
         record { asked = counts.asked; descs = counts.descs; finished = wraps_one session.finished c.finished counts.finished; answered = counts.answered },

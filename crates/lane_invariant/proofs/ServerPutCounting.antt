@@ -12,7 +12,7 @@ use Rattle.vio_tag.specs.Spelling.{canonical}
 use Rattle.lane_law.specs.Sayings.{half_said, heard, said}
 use Rattle.disk_log.specs.Agreement.{ServerAgrees, WorkAgrees}
 use Rattle.disk_log.specs.Messages.{range_ended, range_in}
-use Rattle.disk_log.specs.WorkLog.{ServerCounts, change_server, length_in}
+use Rattle.disk_log.specs.WorkLog.{ServerCounts, change_server, length_in, one_in}
 use Rattle.disk_steps.specs.EndPuts.{ComesUp, EndsOwn, EndsShake, Goes, PutKind, shake_behind}
 use Rattle.disk_steps.specs.LaneState.{Shape}
 use Rattle.disk_steps.specs.Offering.{server_offer}
@@ -23,10 +23,11 @@ use Rattle.disk_steps.specs.ServerState.{ServerSession, ServerState, SlotRange, 
 use Rattle.lane_invariant.proofs.EndPutting.{SaysLast, SaysOn}
 use Rattle.lane_invariant.proofs.EndUttering.{is_awake, is_open_up, none_half, up_empty}
 use Rattle.lane_invariant.proofs.Fitting.{sent_fits, up_fits}
-use Rattle.lane_invariant.proofs.RangeSums.{sum_more, sum_said}
+use Rattle.lane_invariant.proofs.RangeSums.{count_said, sum_more, sum_said}
 use Rattle.lane_invariant.proofs.RangesSaid.{owed_no_range, said_range}
 use Rattle.lane_invariant.proofs.RulesFree.{AnswersFree, ServerFree}
-use Rattle.lane_invariant.specs.Counted.{HoldsAnswer, HoldsEither, HoldsOwed, RangeStands, ServerCounted, ServerOrder, range_sum}
+use Rattle.lane_invariant.specs.Budget.{one_range}
+use Rattle.lane_invariant.specs.Counted.{HoldsAnswer, HoldsEither, HoldsOwed, RangeStands, ServerCounted, ServerOrder, range_count, range_sum}
 use Rattle.lane_invariant.specs.LaneRests.{ServerRests, ServerUtters}
 use Rattle.lane_invariant.specs.ShakeFits.{MayOwe, OwedFits}
 
@@ -102,7 +103,7 @@ range_same slots n (Some range) c none stands =
 order_same : (shape : Shape) (o : Option ServerSession) (d : Option ServerCounts) (turns : List Turn) (packet : List ℕ)
     → range_sum shape.slots 2 (said (Said packet ∷ turns)) ≡ range_sum shape.slots 2 (said turns) → ServerOrder shape.slots o d turns
     → ServerOrder shape.slots o (answers_more shape turns packet d) (Said packet ∷ turns)
-order_same shape None d turns packet same order = record { asked = order.asked; answered = same ∙ order.answered }
+order_same shape None d turns packet same order = record { asked = order.asked; answered = same ∙ order.answered; infos = order.infos }
 order_same shape (Some s) None turns packet same order = absurd order
 order_same shape (Some s) (Some c) turns packet same order =
     let n = length_in shape.slots (range_ended 2 (half_said turns) packet) in
@@ -113,6 +114,8 @@ order_same shape (Some s) (Some c) turns packet same order =
       finished = omega (arith, order.finished, none);
       descs = order.descs;
       range = range_same shape.slots n s.range c none order.range;
+      seq = order.seq;
+      replies = omega (arith, order.replies, count_said 2 packet turns);
     }
 
 work_same : (w : Option Work) (c : ServerCounts) (n : ℕ) → WorkAgrees w c → WorkAgrees w (record c { answered = c.answered + n })
@@ -224,12 +227,12 @@ length_most slots start end some = omega (arith, mod_below (end + slots - start 
 
 answered_order : (slots n : ℕ) (o : Option ServerSession) (w : Option Work) (d : Option ServerCounts) (turns behind : List Turn) (session : ServerSession) (range : SlotRange) → slots ≤ 256
     → o ≡ Some session → Answered slots session range n → range_sum slots 2 (said behind) ≡ range_sum slots 2 (said turns) + n
-    → range_sum slots 1 (heard behind) ≡ range_sum slots 1 (heard turns) → ServerOrder slots o d turns → ServerAgrees o w d
+    → (1 ≤ n → range_count 2 (said behind) ≡ range_count 2 (said turns) + 1) → heard behind ≡ heard turns → ServerOrder slots o d turns → ServerAgrees o w d
     → ServerOrder slots (answered o) (change_server (λ (c : ServerCounts). record c { answered = c.answered + n }) d) behind
     × ServerAgrees (answered o) w (change_server (λ (c : ServerCounts). record c { answered = c.answered + n }) d)
-answered_order slots n None w d turns behind session range few is answers said_is heard_is order agrees = absurd (cc is)
-answered_order slots n (Some s) w None turns behind session range few is answers said_is heard_is order agrees = absurd order
-answered_order slots n (Some s) w (Some c) turns behind session range few is answers said_is heard_is order agrees =
+answered_order slots n None w d turns behind session range few is answers said_is counted heard_is order agrees = absurd (cc is)
+answered_order slots n (Some s) w None turns behind session range few is answers said_is counted heard_is order agrees = absurd order
+answered_order slots n (Some s) w (Some c) turns behind session range few is answers said_is counted heard_is order agrees =
     let same : s ≡ session = cc is in
     let ranged : s.range ≡ Some range = ap (λ (x : ServerSession). x.range) same ∙ answers.range_is in
     let stands : RangeStands slots (Some range) c = subst (λ (r : Option SlotRange). RangeStands slots r c) ranged order.range in
@@ -243,11 +246,13 @@ answered_order slots n (Some s) w (Some c) turns behind session range few is ans
     (length_most slots range.start range.end some) in
     let now : c.answered + n ≡ c.asked = omega (arith, stands.0, adds) in (
       record {
-        asked = order.asked ∙ sym heard_is;
+        asked = order.asked ∙ ap (range_sum slots 1) (sym heard_is);
         answered = omega (arith, order.answered, said_is);
         finished = omega (arith, now, all);
         descs = order.descs;
         range = now;
+        seq = order.seq ∙ ap (λ (xs : List (List ℕ)). wrapped (range_count 1 xs + 1)) (sym heard_is);
+        replies = omega (arith, order.replies, counted (omega (arith, adds)), ap (range_count 1) heard_is, ap one_range ranged);
       },
       (
         record {
@@ -274,7 +279,7 @@ own_counting shape v turns packet d few none last counted =
     omega (arith, sum_said shape.slots 2 packet turns, ap (range_sum shape.slots 2) last.messages, sum_more shape.slots 2 (said turns) bytes) in
     let both = answered_order shape.slots n v.session v.work d turns (Said packet ∷ turns) a.session a.range few a.session_is
     (record { range_is = a.range_is; finished = a.finished; adds = λ start end. whole ∙ message start end })
-    (sum_said shape.slots 2 packet turns) refl counted.order counted.agrees in
+    (sum_said shape.slots 2 packet turns) (λ some. count_said 2 packet turns ∙ one_said (range_ended 2 (half_said turns) packet) some) refl counted.order counted.agrees in
     record {
       slots = counted.slots;
       blocks = counted.blocks;
@@ -285,3 +290,7 @@ own_counting shape v turns packet d few none last counted =
       ready = λ now. counted.ready (ap is_some a.session_is);
       agrees = both.1;
     }
+  where
+    one_said : (ended : Option (List ℕ)) → 1 ≤ length_in shape.slots ended → range_count 2 (said turns) + one_in ended ≡ range_count 2 (said turns) + 1
+    one_said None some = absurd (omega (arith, some))
+    one_said (Some message) some = refl

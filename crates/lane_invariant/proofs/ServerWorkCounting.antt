@@ -168,6 +168,8 @@ order_owed slots (Some s) (Some c) turns f order = record {
   finished = order.finished;
   descs = order.descs;
   range = range_owed slots s.range c (f c.owed) order.range;
+  seq = order.seq;
+  replies = order.replies;
 }
 
 agrees_owed : (o : Option ServerSession) (w : Option Work) (work : Work) (d : Option ServerCounts) (next : Progress) (f : List Piece → List Piece) → w ≡ Some work

@@ -52,7 +52,7 @@ never_sends s l event t packet knows step is =
     here.1.step.1.0 knows.rests.server knows.utters.server knows.counted.server in
     let never : true ≡ false = both.1 in absurd (cc)
 
-facts_at : (shape : Shape) (events : List DiskEvent) (s : LaneState) (event : DiskEvent) (t : LaneState) → IsShape shape → Along shape s (log_of after (nothing_yet shape) events)
+pub facts_at : (shape : Shape) (events : List DiskEvent) (s : LaneState) (event : DiskEvent) (t : LaneState) → IsShape shape → Along shape s (log_of after (nothing_yet shape) events)
     → Run LaneStep (fresh shape) events s → LaneStep s event t → (after (log_of after (nothing_yet shape) events) event).wire.forged ≡ false
     → StepFacts s (log_of after (nothing_yet shape) events) event t
 facts_at shape events s event t sound along run step clean =

@@ -145,7 +145,7 @@ open_server None w d now agrees none = absurd (cc now)
 open_server (Some s) w None now agrees none = agrees
 open_server (Some s) w (Some c) now agrees none = absurd (cc none)
 
-not_among : (message : Message) (messages : List (List ℕ)) → messages ≡ [] → Among message messages → ⊥
+pub not_among : (message : Message) (messages : List (List ℕ)) → messages ≡ [] → Among message messages → ⊥
 not_among message [] is among = among
 not_among message (bytes ∷ messages) is among = absurd (cc is)
 

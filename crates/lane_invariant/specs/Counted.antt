@@ -20,6 +20,7 @@ use Rattle.disk_steps.specs.Ranges.{range_length, wrapped}
 use Rattle.disk_steps.specs.ServerRule.{answer}
 use Rattle.disk_steps.specs.ServerState.{Gathers, Gives, Progress, Reads, ServerSession, ServerState, SlotRange, Work, Writes}
 use Rattle.disk_steps.specs.ServerWork.{desc_of}
+use Rattle.lane_invariant.specs.Budget.{one_range}
 use Rattle.lane_invariant.specs.ShakeFits.{Fits}
 
 -- SUMS over messages: the slots of their ranges, INFO 1 or ACK 2, how many ranges, and how many agreements to RDX
@@ -92,7 +93,8 @@ HoldsEither v bytes = HoldsOwed v.shake.owed bytes ⊎ HoldsAnswer v bytes
 abbrev pub ServerHolds : ServerState → List Turn → Type 0
 ServerHolds v turns = 1 ≤ length v.link.to_send → HoldsEither v (half_said turns ++ v.link.to_send)
 
--- without a range all that was asked for is answered; a range is what isn't, and begins where so many slots went before
+-- without a range all that was asked for is answered; a range is what isn't, and begins where so many slots went before; each range that was
+-- heard before it has its answer
 abbrev pub RangeStands : ℕ → Option SlotRange → ServerCounts → Type 0
 RangeStands slots None d = d.answered ≡ d.asked
 RangeStands slots (Some range) d =
@@ -104,10 +106,13 @@ pub record InServerOrder (slots : ℕ) (session : ServerSession) (d : ServerCoun
   pub finished : d.answered ≤ d.finished
   pub descs : d.descs ≤ d.asked
   pub range : RangeStands slots session.range d
+  pub seq : session.seq ≡ wrapped (range_count 1 (heard turns) + 1)
+  pub replies : range_count 1 (heard turns) ≤ range_count 2 (said turns) + one_range session.range
 
 pub record NothingAsked (slots : ℕ) (turns : List Turn) : Type 0 where
   pub asked : range_sum slots 1 (heard turns) ≡ 0
   pub answered : range_sum slots 2 (said turns) ≡ 0
+  pub infos : range_count 1 (heard turns) ≡ 0
 
 abbrev pub ServerOrder : ℕ → Option ServerSession → Option ServerCounts → List Turn → Type 0
 ServerOrder slots None d turns = NothingAsked slots turns

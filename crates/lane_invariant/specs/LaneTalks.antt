@@ -24,6 +24,8 @@ queue_log w talk lost_a lost_b = record { wire = w.wire; talk_a = talk.client; t
 pub record Converses (w : WireLog) (c : ClientState) (v : ServerState) (talk : TalkLog) : Type 0 where
   pub lost_a : ℕ
   pub lost_b : ℕ
+  -- nothing is lost of what was put since the queues were last emptied, where the wire isn't lossy
+  pub whole : w.lossy ≡ false → (lost_a ≡ 0) × (lost_b ≡ 0)
   pub conversation : Conversation (queue_log w talk lost_a lost_b) (client_speaks c) (server_speaks v)
 
 -- of queues of so many entries

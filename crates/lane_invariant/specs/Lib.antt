@@ -24,3 +24,4 @@ pub mod Counted
 pub mod OneSession
 pub mod UpStands
 pub mod CompletesSlot
+pub mod TickBegins

@@ -15,7 +15,7 @@ ghost use Rattle.ldc_queue.specs.Wire.{peer_of};
 ghost use Rattle.lane_law.specs.Sayings.{heard, said};
 ghost use Rattle.lane_law.specs.TalkLog.{talk_of};
 ghost use Rattle.lane_law.specs.WireAt.{IsUp};
-ghost use Rattle.lane_law.specs.WireEvent.{Sent, Reset, Took};
+ghost use Rattle.lane_law.specs.WireEvent.{ByTick, Sent, Reset, Took, giver};
 ghost use Rattle.vio_tag.specs.declared.cause.Cause.{Cause};
 ghost use Rattle.disk_log.specs.Agreement.{ClientAgrees, IdleAgrees, ServerAgrees};
 ghost use Rattle.disk_log.specs.DiskLog.{after, nothing_yet};
@@ -38,6 +38,7 @@ ghost use Rattle.lane_invariant.specs.SlotsWritten.{SlotFreed, SlotPublished, Sl
 ghost use Rattle.lane_invariant.specs.Remaining.{remaining};
 ghost use Rattle.lane_invariant.specs.RemainingSteps.{AllDo, TakesNothing};
 ghost use Rattle.lane_invariant.specs.OneSession.{AreOneSession};
+ghost use Rattle.lane_invariant.specs.TickBegins.{TickBegins};
 ghost use Rattle.lane_invariant.specs.Sound.{CountsInOrder};
 ghost use Rattle.lane_invariant.specs.TableStands.{AnswersAt, TableAt};
 ghost use Rattle.lane_invariant.specs.Utterances.{SaysEach};
@@ -311,4 +312,31 @@ pub fn slots_stand_in_order()
         → (log_of after (nothing_yet shape) events).wire.forged ≡ false
         → (log_of after (nothing_yet shape) events).work.client ≡ Some k
         → RingInOrder s (log_of after (nothing_yet shape) events) k }
+{}
+
+/// A tick resets the client only where its session isn't open or something is pending, and so it is behind it: no
+/// request is lost, nobody has forged by it, and the server runs as before. Where the client's end is up no packet is
+/// lost of those that are put from then on, 35 remain and 16 for each pending request, and where a packet was lost
+/// before, that is less than remained.
+pub fn a_tick_begins_a_lane_anew()
+    ensures { (shape : Shape) (events : List DiskEvent) (s : LaneState) (e : End) (cause : Cause)
+        (packet : Option (List ℕ)) (lost : ℕ) (t : LaneState)
+        → IsShape shape → Run LaneStep (fresh shape) events s → giver cause ≡ ByTick
+        → LaneStep s (OnWire (Reset e cause packet lost)) t → TickBegins s t }
+{}
+
+/// What remains to be done on a lane that nobody forged, whatever was lost, reset, stopped or restarted on the way
+/// there, is at most 36 and 16 for each pending request where no packet was lost since the queues were last emptied,
+/// and else at most 69 and 32 for each. Both are reached: the first by a fresh lane, the second where the first packet
+/// of a lane is lost. The count of a settling allows 192 for a lane and 64 for each pending request.
+pub fn little_remains_where_nobody_forged()
+    ensures whole { (shape : Shape) (events : List DiskEvent) (s : LaneState)
+        → IsShape shape → Run LaneStep (fresh shape) events s → s.wire.forged ≡ false → s.wire.lossy ≡ false
+        → remaining s ≤ 36 + 16 * length s.client.pending }
+    ensures lossy { (shape : Shape) (events : List DiskEvent) (s : LaneState)
+        → IsShape shape → Run LaneStep (fresh shape) events s → s.wire.forged ≡ false
+        → remaining s ≤ 69 + 32 * length s.client.pending }
+    ensures reached { (shape : Shape) → IsShape shape
+        → (events : List DiskEvent) × (s : LaneState) × Run LaneStep (fresh shape) events s
+        × (s.wire.forged ≡ false) × (remaining s ≡ 69 + 32 * length s.client.pending) }
 {}

@@ -1,6 +1,6 @@
 -- The order of a handshake, as the talk of an end shows it where its session opens: a row of packets and messages that it said and
 -- heard, one behind the other, and between them only what may stand aside. The row is read as the talk stands, newest first.
-use Rattle.std.specs.Prelude.{◌≡◌, ℕ, ◌⊎◌, Bool, true, false, List, [], ◌∷◌, ◌++◌, ⊤}
+use Rattle.std.specs.Prelude.{◌≡◌, ℕ, ◌%◌, ◌⊎◌, Bool, true, false, List, [], ◌∷◌, ◌++◌, ⊤}
 use Rattle.vio_bytes.specs.Place.{number_at}
 use Rattle.ldc_packet.specs.Spelling.{ctrl_at, env_at, subtype_at, type_at}
 use Rattle.ldc_link.specs.declared.phase.Role.{Role}
@@ -63,13 +63,18 @@ closing_lines Responder = Hears 2 0x0005 ∷ Says 1 0x0005 ∷ Says 2 0x0005 ∷
 abbrev pub row : Bool → Role → List Line
 row both role = closing_lines role ++ (own_ring_lines both role ++ opening_lines role)
 
+-- A sid has 32 bits: of bytes it is the number that stands there. A list of numbers that aren't bytes may have more, and what answers it
+-- has its lowest 32.
+abbrev pub sid_in : List ℕ → ℕ
+sid_in message = message_at.sid_at message % 4294967296
+
 -- the packet ends a message with this subtype, envelope and sid, where this had come of it before
 pub record EndsAs (subtype envelope sid : ℕ) (half packet : List ℕ) : Type 0 where
   pub part : is_part packet ≡ true
   pub stop : (fragment_at packet).stop ≡ true
   pub of_subtype : message_at.subtype_at (half ++ (fragment_at packet).bytes) ≡ subtype
   pub of_envelope : message_at.envelope_at (half ++ (fragment_at packet).bytes) ≡ envelope
-  pub of_sid : message_at.sid_at (half ++ (fragment_at packet).bytes) ≡ sid
+  pub of_sid : sid_in (half ++ (fragment_at packet).bytes) ≡ sid
 
 -- the turn is the line's, behind the turns before it
 abbrev pub Meets : ℕ → Line → Turn → List Turn → Type 0

@@ -100,7 +100,7 @@ kept_more : (b : Bool) (packet : List ℕ) (n : ℕ) (xs : List (List ℕ)) → 
 kept_more true packet n xs is = omega (arith, is, length-append xs (packet ∷ []))
 kept_more false packet n xs is = omega (arith, is, length-append xs [])
 
-said_is : (turns : List Turn) → count_said turns ≡ length (numbered_said turns)
+pub said_is : (turns : List Turn) → count_said turns ≡ length (numbered_said turns)
 said_is [] = refl
 said_is (turn.Heard packet ∷ turns) = said_is turns
 said_is (turn.Said packet ∷ turns) = kept_more (is_numbered packet) packet (count_said turns) (numbered_said turns) (said_is turns)

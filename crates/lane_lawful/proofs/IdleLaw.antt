@@ -25,7 +25,7 @@ use Rattle.lane_lawful.proofs.Counting.{OfServer, of_client, of_server}
 use Rattle.lane_lawful.proofs.IdleRules.{ClientIdles, ServerIdles, client_idles, server_idles}
 use Rattle.lane_lawful.proofs.WorkNumbers.{Grounded, at_client, at_server, finished_descs, order_of}
 
-none_waits : (waiting : List (List ℕ)) → slice_get waiting 0 ≡ None → waiting ≡ []
+pub none_waits : (waiting : List (List ℕ)) → slice_get waiting 0 ≡ None → waiting ≡ []
 none_waits [] none = refl
 none_waits (packet ∷ waiting) none = absurd (cc)
 
@@ -50,7 +50,7 @@ some_server o work None P agrees holds = tt
 some_server None work (Some c) P agrees holds = absurd agrees
 some_server (Some session) work (Some c) P agrees holds = holds session c refl refl
 
-idle_client : (s : LaneState) (l : DiskLog) → Grounded s l → ClientIdles s.client (at_client s) → IfClient l.work.client (ClientIsIdle l)
+pub idle_client : (s : LaneState) (l : DiskLog) → Grounded s l → ClientIdles s.client (at_client s) → IfClient l.work.client (ClientIsIdle l)
 idle_client s l grounded idles =
     some_client s.client.session l.work.done l.work.client (ClientIsIdle l) grounded.knows.counted.client.agrees (λ session c is has.
     let of = of_client s.client.session session l.work.done l.work.client is grounded.knows.counted.client.agrees in
@@ -74,7 +74,7 @@ no_work : (work : Option Work) (c : ServerCounts) → WorkAgrees work c → c.as
 no_work None c agrees all answered descs = agrees.0
 no_work (Some work) c agrees all answered descs = absurd (omega (arith, agrees.2, all, answered, descs))
 
-idle_server : (s : LaneState) (l : DiskLog) → Grounded s l → ServerIdles s.server (at_server s) → IfServer l.work.server ServerIsIdle
+pub idle_server : (s : LaneState) (l : DiskLog) → Grounded s l → ServerIdles s.server (at_server s) → IfServer l.work.server ServerIsIdle
 idle_server s l grounded idles =
     some_server s.server.session s.server.work l.work.server ServerIsIdle grounded.knows.counted.server.agrees (λ session c is has.
     let of : OfServer session s.server.work l.work.server =

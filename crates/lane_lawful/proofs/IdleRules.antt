@@ -15,7 +15,7 @@ use Rattle.disk_steps.specs.ServerRule as server
 use Rattle.disk_steps.specs.ServerState.{ServerSession, ServerState, SlotRange, Work}
 
 -- a packet of the link's handshake is one that is owed
-control_in : (ph : LinkPhase) (k : LinkState) → owes_in ph ≡ true → is_some (owed_in ph k) ≡ true
+pub control_in : (ph : LinkPhase) (k : LinkState) → owes_in ph ≡ true → is_some (owed_in ph k) ≡ true
 control_in phase.OwesVersInfo k is = refl
 control_in phase.OwesRts k is = refl
 control_in phase.OwesRdx k is = refl
@@ -166,6 +166,8 @@ client_idles s at rule = subst (WhereIdles s at) rule (up_idles s at (is_up at.s
 
 -- THE SERVER
 pub record ServerIdles (s : ServerState) (at : Seen) : Type 0 where
+  pub free : owes s.link ≡ false
+  pub owed : s.shake.owed ≡ None
   pub first : at.first ≡ None
   pub range : (session : ServerSession) → s.session ≡ Some session → session.range ≡ None
 
@@ -173,10 +175,10 @@ abbrev ServesNone : ServerState → Seen → server.ServerRule → Type 0
 ServesNone s at server.Rests = ServerIdles s at
 ServesNone s at _ = ⊤
 
-first_serves : (s : ServerState) (at : Seen) (first : Option (List ℕ)) → at.first ≡ first → ((session : ServerSession) → s.session ≡ Some session → session.range ≡ None)
-    → ServesNone s at (server.takes_first first)
-first_serves s at None is none = record { first = is; range = none }
-first_serves s at (Some packet) is none = tt
+first_serves : (s : ServerState) (at : Seen) (first : Option (List ℕ)) → at.first ≡ first → owes s.link ≡ false → s.shake.owed ≡ None
+    → ((session : ServerSession) → s.session ≡ Some session → session.range ≡ None) → ServesNone s at (server.takes_first first)
+first_serves s at None is free owed none = record { free = free; owed = owed; first = is; range = none }
+first_serves s at (Some packet) is free owed none = tt
 
 served_work : (s : ServerState) (at : Seen) (session : ServerSession) (work : Option Work) → ServesNone s at (server.serves session work)
 served_work s at session None = tt
@@ -187,30 +189,32 @@ served_if : (s : ServerState) (at : Seen) (session : ServerSession) (range : Slo
 served_if s at session range true = tt
 served_if s at session range false = served_work s at session s.work
 
-range_serves : (s : ServerState) (at : Seen) (session : ServerSession) (range : Option SlotRange) → s.session ≡ Some session → session.range ≡ range
+range_serves : (s : ServerState) (at : Seen) (session : ServerSession) (range : Option SlotRange) → owes s.link ≡ false → s.shake.owed ≡ None → s.session ≡ Some session → session.range ≡ range
     → ServesNone s at (server.in_range s session range at)
-range_serves s at session None is ranged =
-    first_serves s at at.first refl
+range_serves s at session None free owed is ranged =
+    first_serves s at at.first refl free owed
     (λ other now.
     let both : Some session ≡ Some other = sym is ∙ now in
     let same : session ≡ other = cc in
     subst (λ (x : ServerSession). x.range ≡ None) same ranged)
-range_serves s at session (Some range) is ranged = served_if s at session range (session.finished == session.asked)
+range_serves s at session (Some range) free owed is ranged = served_if s at session range (session.finished == session.asked)
 
-session_serves : (s : ServerState) (at : Seen) (open_one : Option ServerSession) → s.session ≡ open_one → ServesNone s at (server.in_session s open_one at)
-session_serves s at None is = first_serves s at at.first refl (λ session now. let both : None ≡ Some session = sym is ∙ now in absurd (cc))
-session_serves s at (Some session) is = range_serves s at session session.range is refl
+session_serves : (s : ServerState) (at : Seen) (open_one : Option ServerSession) → owes s.link ≡ false → s.shake.owed ≡ None → s.session ≡ open_one
+    → ServesNone s at (server.in_session s open_one at)
+session_serves s at None free owed is =
+    first_serves s at at.first refl free owed (λ session now. let both : None ≡ Some session = sym is ∙ now in absurd (cc))
+session_serves s at (Some session) free owed is = range_serves s at session session.range free owed is refl
 
-says_serves : (s : ServerState) (at : Seen) (owed : Option Message) → ServesNone s at (server.says s owed at)
-says_serves s at (Some message) = tt
-says_serves s at None = session_serves s at s.session refl
+says_serves : (s : ServerState) (at : Seen) (owed : Option Message) → owes s.link ≡ false → s.shake.owed ≡ owed → ServesNone s at (server.says s owed at)
+says_serves s at (Some message) free is = tt
+says_serves s at None free is = session_serves s at s.session free is refl
 
-puts_serves : (s : ServerState) (at : Seen) (b : Bool) → ServesNone s at (if b then server.Puts else server.says s s.shake.owed at)
-puts_serves s at true = tt
-puts_serves s at false = says_serves s at s.shake.owed
+puts_serves : (s : ServerState) (at : Seen) (b : Bool) → owes s.link ≡ b → ServesNone s at (if b then server.Puts else server.says s s.shake.owed at)
+puts_serves s at true is = tt
+puts_serves s at false is = says_serves s at s.shake.owed is refl
 
 up_serves : (s : ServerState) (at : Seen) (b : Bool) → ServesNone s at (if b then (if owes s.link then server.Puts else server.says s s.shake.owed at) else server.Joins)
-up_serves s at true = puts_serves s at (owes s.link)
+up_serves s at true = puts_serves s at (owes s.link) refl
 up_serves s at false = tt
 
 pub server_idles : (s : ServerState) (at : Seen) → server.server_rule s at ≡ server.Rests → ServerIdles s at

@@ -21,7 +21,7 @@ use Rattle.lane_lawful.proofs.EndCuts.{ClientCuts, ServerCuts, client_keeps_cuts
 use Rattle.lane_lawful.proofs.Lifting.{Both, Known, both_step, known_client, known_server}
 use Rattle.lane_lawful.specs.Laws.{SaidAt}
 
-abbrev LaneCuts : LaneState → TalkLog → Type 0
+abbrev pub LaneCuts : LaneState → TalkLog → Type 0
 LaneCuts s talk = Both ClientCuts ServerCuts s talk
 
 pub fresh_known : (shape : Shape) → IsShape shape → Known (fresh shape) nothing_said
@@ -60,7 +60,7 @@ said_at s l (Works event) t known cuts step = tt
 said_at s l (Turns event) t known cuts step = tt
 said_at s l (Rests event) t known cuts step = tt
 
-abbrev Stands : LaneState → TalkLog → Type 0
+abbrev pub Stands : LaneState → TalkLog → Type 0
 Stands s talk = Known s talk × LaneCuts s talk
 
 stands_step : (s : LaneState) (event : DiskEvent) (t : LaneState) (talk : TalkLog) → Stands s talk → LaneStep s event t → Stands t (after_talk talk event)
@@ -70,7 +70,7 @@ stands_step s event t talk (known, cuts) step =
 fresh_cuts : (shape : Shape) → LaneCuts (fresh shape) nothing_said
 fresh_cuts shape = record { client = joined_cuts (fresh shape).client.link; server = joined_cuts (fresh shape).server.link }
 
-all_said : (shape : Shape) (events : List DiskEvent) (s : LaneState) → IsShape shape → Run LaneStep (fresh shape) events s
+pub all_said : (shape : Shape) (events : List DiskEvent) (s : LaneState) → IsShape shape → Run LaneStep (fresh shape) events s
     → Lawful SaidAt after (nothing_yet shape) events × Stands s (log_of after (nothing_yet shape) events).talk
 all_said shape events s sound run =
     run_lawful LaneStep SaidAt after (λ (x : LaneState) (l : DiskLog). Stands x l.talk)

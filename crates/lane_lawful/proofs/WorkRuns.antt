@@ -1,6 +1,7 @@
 -- Along every run the events of the work have their numbers, resets their grounds, and an idle end nothing to do.
 use Rattle.std.proofs.Common.{List, refl, ◌∙◌}
-use Rattle.runs.specs.Lawful.{Lawful, run_lawful}
+use Rattle.std.specs.Prelude.{⊤}
+use Rattle.runs.specs.Lawful.{Lawful, log_of, run_lawful}
 use Rattle.runs.specs.Run.{Run}
 use Rattle.disk_log.specs.DiskLog.{DiskLog, after, after_talk, nothing_yet}
 use Rattle.disk_log.specs.QuietLaws.{IdleAt}
@@ -27,6 +28,12 @@ fresh_grounded shape sound = record {
   sound = sound;
 }
 
+pub run_grounded : (shape : Shape) (events : List DiskEvent) (s : LaneState) → IsShape shape → Run LaneStep (fresh shape) events s → Grounded s (log_of after (nothing_yet shape) events)
+run_grounded shape events s sound run =
+    (run_lawful LaneStep (λ (l : DiskLog) (e : DiskEvent). ⊤) after Grounded
+    (λ (x : LaneState) (l : DiskLog) (e : DiskEvent) (y : LaneState) grounded step. (tt, record { knows = (knows_step x l e y grounded.knows step).1; sound = grounded.sound }))
+    (fresh shape) s (nothing_yet shape) events (fresh_grounded shape sound) run).1
+
 -- a law of each event of a grounded lane is one of every run
 grounded_lawful : (May : DiskLog → DiskEvent → Type 0) → ((s : LaneState) (l : DiskLog) (event : DiskEvent) (t : LaneState) → Grounded s l → LaneStep s event t → May l event)
     → (shape : Shape) (events : List DiskEvent) (s : LaneState) → IsShape shape → Run LaneStep (fresh shape) events s → Lawful May after (nothing_yet shape) events
@@ -46,10 +53,10 @@ pub idle_lawful : (shape : Shape) (events : List DiskEvent) (s : LaneState) → 
 idle_lawful = grounded_lawful IdleAt idle_at
 
 -- with what its server works on, and its table
-abbrev Serves : LaneState → DiskLog → Type 0
+abbrev pub Serves : LaneState → DiskLog → Type 0
 Serves s l = Working s l × Both AnyClient ServerWorks s l.talk
 
-serves_step : (s : LaneState) (l : DiskLog) (event : DiskEvent) (t : LaneState) → Serves s l → LaneStep s event t → Serves t (after l event)
+pub serves_step : (s : LaneState) (l : DiskLog) (event : DiskEvent) (t : LaneState) → Serves s l → LaneStep s event t → Serves t (after l event)
 serves_step s l event t (working, both) step =
     let knows = working.grounded.knows in
     let known : Known s l.talk = record { talks = knows.all.talks; rests = knows.rests; utters = knows.utters } in
@@ -62,7 +69,7 @@ serves_step s l event t (working, both) step =
       next,
     )
 
-fresh_serves : (shape : Shape) → IsShape shape → Serves (fresh shape) (nothing_yet shape)
+pub fresh_serves : (shape : Shape) → IsShape shape → Serves (fresh shape) (nothing_yet shape)
 fresh_serves shape sound = (record { grounded = fresh_grounded shape sound; work = tt; table = refl }, record { client = tt; server = tt })
 
 pub pieces_lawful : (shape : Shape) (events : List DiskEvent) (s : LaneState) → IsShape shape → Run LaneStep (fresh shape) events s → Lawful PiecesAt after (nothing_yet shape) events

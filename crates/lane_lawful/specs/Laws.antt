@@ -3,7 +3,7 @@ use Rattle.disk_log.specs.DiskLog.{DiskLog}
 use Rattle.disk_log.specs.May.{OfWire}
 use Rattle.disk_steps.specs.DiskEvent.{DiskEvent}
 use Rattle.lane_law.specs.ResetSays.{WireResetAt}
-use Rattle.lane_law.specs.WireAt.{WireGapAt, WireSaidAt}
+use Rattle.lane_law.specs.WireAt.{WireGapAt, WireSaidAt, WireUnforgedAt}
 
 -- what resets an end says why
 abbrev pub ResetAt : DiskLog → DiskEvent → Type 0
@@ -16,3 +16,7 @@ GapAt l event = OfWire (WireGapAt l.talk) event
 -- what is said is cut and numbered as the log has it
 abbrev pub SaidAt : DiskLog → DiskEvent → Type 0
 SaidAt l event = OfWire (WireSaidAt l.talk) event
+
+-- where nobody forged, an end resets itself for a gap alone, and only once a packet was lost
+abbrev pub UnforgedAt : DiskLog → DiskEvent → Type 0
+UnforgedAt l event = OfWire (WireUnforgedAt l.wire) event
