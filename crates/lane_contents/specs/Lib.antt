@@ -1,0 +1,10 @@
+pub mod Blocks
+pub mod NearContent
+pub mod LaneView
+pub mod Contents
+pub mod ReadsNear
+pub mod Near
+pub mod ImageStep
+pub mod ZeroStatuses
+pub mod LaterDisturbed
+pub mod Headline
