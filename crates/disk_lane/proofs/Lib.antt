@@ -1,0 +1,3 @@
+pub mod Granted
+pub mod NotedSteps
+pub mod Reaching

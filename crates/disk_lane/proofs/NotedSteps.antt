@@ -1,0 +1,98 @@
+-- What a lane notes beside a step of an end makes of it the lane's step.
+use Rattle.std.proofs.Common.{◌≡◌, ◌||◌, ℕ, Bool, true, false, List, Option, refl, sym, ap, ◌∙◌, subst}
+use Rattle.ldc_queue.specs.ChannelView.{ChannelView}
+use Rattle.ldc_queue.specs.declared.end.End.TheVariants.{A, B}
+use Rattle.ldc_queue.specs.Wire.{Wire, state_of}
+use Rattle.disk_steps.specs.ClientState.{ClientState}
+use Rattle.disk_steps.specs.DiskEvent.{DiskEvent}
+use Rattle.disk_steps.specs.LaneState.{LaneState, NearCounts, near_disturbed, near_finished}
+use Rattle.disk_steps.specs.LaneStep.{LaneStep}
+use Rattle.disk_steps.specs.OnChannel.{IsChannelOf}
+use Rattle.disk_steps.specs.Served.{Served}
+use Rattle.disk_steps.specs.ServerState.{ServerState}
+use Rattle.vdisk_client.proofs.LaneSteps.{lane_steps}
+use Rattle.vdisk_client.specs.Calls.{Steps, channel_after, client_event}
+use Rattle.vdisk_client.specs.OnLane.{client_moved}
+use Rattle.vdisk_client.specs.declared.answers.ClientOut.{ClientOut}
+use Rattle.vdisk_client.specs.declared.answers.ClientOut.TheVariants as client_out
+use Rattle.vdisk_server.proofs.LaneSteps.{served}
+use Rattle.vdisk_server.specs.Answering.{Serves, channel_after as server_channel_after, server_event}
+use Rattle.vdisk_server.specs.InLane.{lane_after}
+use Rattle.vdisk_server.specs.declared.answers.ServerOut.{ServerOut}
+use Rattle.vdisk_server.specs.declared.answers.ServerOut.TheVariants as server_out
+use Rattle.disk_lane.specs.Noted.{noted}
+
+or_false : (b : Bool) → (b || false) ≡ b
+or_false true = refl
+or_false false = refl
+
+-- the channel of a lane
+abbrev pub channel_of : ChannelView → LaneState → ChannelView
+channel_of c s = record c { wire = s.wire.wire; entries = s.shape.entries }
+
+same_channel : (s : LaneState) (c : ChannelView) → IsChannelOf c s → c ≡ channel_of c s
+same_channel s c is = ap (λ (w : Wire). record c { wire = w }) is.wire ∙ ap (λ (n : ℕ). record c { wire = s.wire.wire; entries = n }) is.entries
+
+-- THE CLIENT. The lane as its step left it, before anything was noted
+abbrev pub client_left : LaneState → ChannelView → ClientState → List ℕ → LaneState
+client_left s d t new = record s { shape = record s.shape { entries = d.entries }; wire = record s.wire { wire = d.wire }; client = t; memory = new }
+
+abbrev ClientNotes : LaneState → ChannelView → ClientOut → ClientState → List ℕ → Type 0
+ClientNotes s c answer t new =
+    noted (state_of A c.wire) (client_event answer t.last) (client_left s (channel_after answer c) t new) ≡ client_moved s (client_event answer t.last) t new
+
+module _ (s : LaneState) (c d : ChannelView) (t : ClientState) (new : List ℕ) where
+  client_notes : (answer : ClientOut) → Steps s.client c s.memory answer t d new → ClientNotes s (channel_of c s) answer t new
+  client_notes client_out.Idle steps = refl
+  client_notes client_out.Blocked steps = refl
+  client_notes client_out.Joined steps = refl
+  client_notes (client_out.Took packet opens) steps = refl
+  client_notes (client_out.Sent packet opens) steps = refl
+  client_notes (client_out.Published id) steps = refl
+  client_notes (client_out.Done id operation status len) steps = refl
+  client_notes (client_out.Reset cause packet) steps =
+      ap (λ (x : ClientState). record (client_moved s (client_event (client_out.Reset cause packet) t.last) t new) { near = near_disturbed x }) steps.step.2
+
+  pub client_lane : (answer : ClientOut) (next : LaneState) → IsChannelOf c s → Steps s.client c s.memory answer t d new
+      → next ≡ noted (state_of A c.wire) (client_event answer t.last) (client_left s d t new) → LaneStep s (client_event answer next.client.last) next
+  client_lane answer next is steps as_noted =
+      let event : DiskEvent = client_event answer t.last in
+      let over : ClientNotes s c answer t new = subst (λ (x : ChannelView). ClientNotes s x answer t new) (sym (same_channel s c is)) (client_notes answer steps) in
+      let moved : next ≡ client_moved s event t new = as_noted ∙ ap (λ (x : ChannelView). noted (state_of A c.wire) event (client_left s x t new)) steps.channel ∙ over in
+      let last : next.client.last ≡ t.last = ap (λ (x : LaneState). x.client.last) as_noted in
+      let step : LaneStep s event next = subst (λ (x : LaneState). LaneStep s event x) (sym moved) (lane_steps s c d t new is answer steps) in
+      subst (λ (bytes : List ℕ). LaneStep s (client_event answer bytes) next) (sym last) step
+
+-- THE SERVER, likewise
+abbrev pub server_left : LaneState → ChannelView → ServerState → List ℕ → LaneState
+server_left s d t new = record s { shape = record s.shape { entries = d.entries }; wire = record s.wire { wire = d.wire }; server = t; memory = new }
+
+abbrev ServerNotes : LaneState → ChannelView → ServerOut → ServerState → List ℕ → Type 0
+ServerNotes s c answer t new =
+    noted (state_of B c.wire) (server_event answer) (server_left s (server_channel_after answer c) t new) ≡ lane_after s (server_event answer) t new
+
+module _ (s : LaneState) (c : ChannelView) (t : ServerState) (new : List ℕ) where
+  -- an event that isn't a call of the store leaves whether one failed
+  still : (near : NearCounts) → record s { server = t; memory = new; near = near } ≡ record s { server = t; memory = new; failed = s.failed || false; near = near }
+  still near = ap (λ (b : Bool). record s { server = t; memory = new; failed = b; near = near }) (sym (or_false s.failed))
+
+  server_notes : (answer : ServerOut) → ServerNotes s (channel_of c s) answer t new
+  server_notes server_out.Idle = refl
+  server_notes server_out.Blocked = refl
+  server_notes server_out.Joined = refl
+  server_notes (server_out.Took packet opens) = refl
+  server_notes (server_out.Sent packet opens) = refl
+  server_notes (server_out.Desc slot bytes) = still s.near
+  server_notes (server_out.Moved unit fault) = still s.near
+  server_notes (server_out.Stored operation block count failed) = refl
+  server_notes (server_out.Finished slot status) = still (near_finished s.near)
+  server_notes (server_out.Reset cause packet) = refl
+
+  pub server_lane : (told new_told : Option (List ℕ)) (answer : ServerOut) (d : ChannelView) (next : LaneState) → s.stopped ≡ false → IsChannelOf c s
+      → Serves s.server c s.table s.memory told answer t new new_told → d ≡ server_channel_after answer c
+      → next ≡ noted (state_of B c.wire) (server_event answer) (server_left s d t new) → Served s told (server_event answer) next new_told
+  server_lane told new_told answer d next runs is serves channel as_noted =
+      let event : DiskEvent = server_event answer in
+      let over : ServerNotes s c answer t new = subst (λ (x : ChannelView). ServerNotes s x answer t new) (sym (same_channel s c is)) (server_notes answer) in
+      let moved : next ≡ lane_after s event t new = as_noted ∙ ap (λ (x : ChannelView). noted (state_of B c.wire) event (server_left s x t new)) channel ∙ over in
+      subst (λ (x : LaneState). Served s told event x new_told) (sym moved) (served s c told new_told answer t new runs is serves)

@@ -1,0 +1,49 @@
+-- What a call of a lane is as an event of it, by what it answered.
+use Rattle.std.specs.Prelude.{◌≡◌, Bool, true, false, List, ℕ, Option, Some, None}
+use Rattle.ldc_queue.specs.declared.end.End.{End}
+use Rattle.ldc_queue.specs.declared.end.End.TheVariants.{A, B}
+use Rattle.vio_tag.specs.declared.cause.Cause.TheVariants as the_cause
+use Rattle.lane_law.specs.WireEvent as wire
+use Rattle.disk_steps.specs.DiskEvent.{CalmReset, CalmRestart, CalmStart, CalmStop, CalmTick, DiskEvent, Off, OnWire, Rests, Started, Stopped, Turns}
+use Rattle.vdisk_server.specs.Answering.{Calls, KeepsStore, server_event}
+use Rattle.vdisk_server.specs.declared.answers.ServerOut.{ServerOut}
+
+-- a step of the server, or that it is stopped
+abbrev pub served_event : Option ServerOut → DiskEvent
+served_event (Some answer) = server_event answer
+served_event None = Turns Off
+
+-- a reset of an end that was asked for; a stopped server's end isn't reset
+abbrev pub reset_event : End → Bool → DiskEvent
+reset_event e true = OnWire (wire.Reset e the_cause.Asked None 0)
+reset_event e false = Rests (CalmReset e)
+
+abbrev pub restart_event : Bool → DiskEvent
+restart_event true = OnWire (wire.Reset B the_cause.Restart None 0)
+restart_event false = Rests CalmRestart
+
+abbrev pub stop_event : Bool → DiskEvent
+stop_event true = Turns Stopped
+stop_event false = Rests CalmStop
+
+abbrev pub start_event : Bool → DiskEvent
+start_event true = Turns Started
+start_event false = Rests CalmStart
+
+-- a tick resets a client that isn't finished
+abbrev pub tick_event : Bool → DiskEvent
+tick_event true = OnWire (wire.Reset A the_cause.Tick None 0)
+tick_event false = Rests CalmTick
+
+abbrev pub lost_event : End → Option (List ℕ) → DiskEvent
+lost_event e (Some packet) = OnWire (wire.Lost e packet)
+lost_event e None = OnWire (wire.Declines (wire.NothingLost e))
+
+-- a server that is stopped leaves its store
+abbrev pub KeepsStoreOf : {D : Type 0} → Option ServerOut → D → D → Type 0
+KeepsStoreOf (Some answer) old new = KeepsStore answer old new
+KeepsStoreOf None old new = new ≡ old
+
+abbrev pub CallsOf : Option ServerOut → ℕ → ℕ → ℕ → ℕ → Type 0
+CallsOf (Some answer) calls new_calls faults new_faults = Calls answer calls new_calls faults new_faults
+CallsOf None calls new_calls faults new_faults = (new_calls ≡ calls) × (new_faults ≡ faults)

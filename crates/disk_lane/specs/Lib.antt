@@ -1,0 +1,4 @@
+pub mod Fields
+pub mod Events
+pub mod Noted
+pub mod Granting

@@ -1,0 +1,294 @@
+// The two ends of a disk with all that stands between them. Each call is one event of the disk's lane.
+
+ghost use Rattle.std.specs.Prelude.{◌≡◌, ◌+◌, ◌*◌, ◌<◌, ◌≤◌, ◌^◌, ◌-◌, ◌||◌, IfOk, length, not, true, false};
+ghost use Rattle.ldc_queue.specs.declared.end.End.TheVariants.{A, B};
+ghost use Rattle.vdisk_msg.specs.Fills.{IsRequest};
+ghost use Rattle.disk_steps.specs.ClientState.{is_finished};
+ghost use Rattle.disk_steps.specs.DiskEvent.{Asks};
+ghost use Rattle.disk_steps.specs.LaneState.{fresh, IsShape};
+ghost use Rattle.disk_steps.specs.LaneStep.{LaneStep, stored_blocks};
+ghost use Rattle.disk_steps.specs.Served.{Served};
+ghost use Rattle.vdisk_client.specs.Calls.{TellsLength, admitted, client_event, front_count};
+ghost use Rattle.vdisk_server.specs.Answering.{Calls, KeepsStore, server_event};
+ghost use Rattle.disk_lane.specs.Events.{lost_event, reset_event, restart_event, start_event, stop_event, tick_event};
+ghost use Rattle.disk_lane.specs.Noted.{noted};
+
+use crate::granting::{own_table, pages_for};
+use crate::near::Near;
+use dom_memory::Memory;
+use flat_store::Region;
+use ldc_queue::{Channel, ChannelState, End};
+use map_table::MapTable;
+use std::alloc::Global;
+use std::marker::Model;
+use vdisk_client::{Client, ClientOut, IssueFault};
+use vdisk_msg::Request;
+use vdisk_server::{Server, ServerOut};
+use vio_bytes::NoMemory;
+use vio_io::Store;
+
+/// The client is at the end A of the channel, the server at B.
+#[derive(Drop)]
+pub struct LaneEnds {
+    region: Region,
+    slots: u32,
+    channel: Channel,
+    table: MapTable,
+    memory: Memory,
+    client: Client,
+    server: Server,
+    stopped: bool,
+    forged: bool,
+    lossy: bool,
+    failed: bool,
+    near: Near,
+}
+
+impl Model for LaneEnds {
+    ghost use Rattle.disk_steps.specs.LaneState.{LaneState};
+    ghost use Rattle.disk_lane.specs.Fields.{FitsShape, state_of};
+
+    ghost Value = { LaneState };
+
+    ghost view = { λ l. state_of l };
+
+    ghost invariant = { λ l. FitsShape l };
+}
+
+impl LaneEnds {
+    /// No end is configured, nothing was asked, and the server runs.
+    pub fn new(
+        alloc: Global,
+        region: Region,
+        slots: u32,
+        entries: u32,
+    ) -> Result<LaneEnds, NoMemory>
+        requires { IsShape (record { first = region.first; blocks = region.blocks; slots = slots; entries = entries }) }
+        ensures { IfOk result (λ lane. lane ≡ fresh (record { first = region.first; blocks = region.blocks; slots = slots; entries = entries })) }
+    {
+        let pages = pages_for(slots);
+        Ok(LaneEnds {
+            region,
+            slots,
+            channel: Channel::new(alloc, entries)?,
+            table: own_table(alloc, pages)?,
+            memory: Memory::new(alloc, pages)?,
+            client: Client::new(alloc, region.blocks, slots)?,
+            server: Server::new(alloc, region, slots)?,
+            stopped: false,
+            forged: false,
+            lossy: false,
+            failed: false,
+            near: Near::new(),
+        })
+    }
+
+    /// Asks the client for a request.
+    pub fn issue(&mut self, request: &Request) -> Result<u64, IssueFault>
+        requires fill { IsRequest request.now }
+        requires few { self.old.client.next_id < 2 ^ 64 - 1 }
+        ensures { LaneStep self.old (Asks (admitted result request.now)) self.new }
+    {
+        self.client.issue(request)
+    }
+
+    /// One step of the client.
+    pub fn step_client(&mut self) -> ClientOut
+        ensures step { LaneStep self.old (client_event result self.new.client.last) self.new }
+        ensures count { TellsLength result self.new.client.last }
+    {
+        let was = self.channel.state(End::A);
+        let out = self.client.step(&mut self.channel, &mut self.memory);
+        self.note_client(was, &out);
+        out
+    }
+
+    /// One step of the server, which runs.
+    pub fn step_server<D: Store>(&mut self, store: &mut D) -> ServerOut
+        requires runs { self.old.stopped ≡ false }
+        requires region { 512 * (self.old.shape.first + self.old.shape.blocks) ≤ D.size store.old }
+        ensures step { Served self.old (D.content store.old) (server_event result) self.new (D.content store.new) }
+        ensures store { KeepsStore result store.old store.new }
+        ensures calls { Calls result (D.calls store.old) (D.calls store.new) (D.faults store.old) (D.faults store.new) }
+        ensures size { D.size store.new ≡ D.size store.old }
+    {
+        let was = self.channel.state(End::B);
+        let out = self
+            .server
+            .step(&mut self.channel, &self.table, &mut self.memory, store);
+        self.note_server(was, &out);
+        out
+    }
+
+    /// Resets the client.
+    pub fn reset_client(&mut self)
+        ensures { LaneStep self.old (reset_event A true) self.new }
+    {
+        let was = self.channel.state(End::A);
+        self.client.reset(&mut self.channel);
+        self.disturbed(was);
+    }
+
+    /// Resets the server, which runs.
+    pub fn reset_server(&mut self)
+        requires { self.old.stopped ≡ false }
+        ensures { LaneStep self.old (reset_event B true) self.new }
+    {
+        let was = self.channel.state(End::B);
+        self.server.reset(&mut self.channel);
+        self.disturbed(was);
+    }
+
+    /// Restarts the server, which runs.
+    pub fn restart(&mut self)
+        requires { self.old.stopped ≡ false }
+        ensures { LaneStep self.old (restart_event true) self.new }
+    {
+        let was = self.channel.state(End::B);
+        self.server.restart(&mut self.channel);
+        self.disturbed(was);
+    }
+
+    /// Stops the server, which runs.
+    pub fn stop(&mut self)
+        requires { self.old.stopped ≡ false }
+        ensures { LaneStep self.old (stop_event true) self.new }
+    {
+        self.server.stop(&mut self.channel);
+        self.near.disturb(self.client.mark());
+        self.lossy = false;
+        self.stopped = true;
+    }
+
+    /// Starts the server, which is stopped.
+    pub fn start(&mut self)
+        requires { self.old.stopped ≡ true }
+        ensures { LaneStep self.old (start_event true) self.new }
+    {
+        self.stopped = false;
+    }
+
+    /// A tick of the client, which is reset unless it is finished.
+    pub fn tick(&mut self) -> bool
+        ensures { LaneStep self.old (tick_event result) self.new }
+    {
+        let was = self.channel.state(End::A);
+        let reset = self.client.tick(&mut self.channel);
+        if reset {
+            self.disturbed(was);
+        }
+        reset
+    }
+
+    /// Loses the packet that has waited longest for the end, if one waits.
+    pub fn lose(&mut self, end: End) -> Option<[u8; 64]>
+        ensures { LaneStep self.old (lost_event end result) self.new }
+    {
+        let packet = self.channel.lose(end);
+        if packet.is_some() {
+            self.lossy = true;
+        }
+        packet
+    }
+
+    /// Whether the client's session is open and nothing is pending.
+    pub fn finished(&self) -> bool
+        ensures { result ≡ is_finished self.now.client }
+    {
+        self.client.finished()
+    }
+
+    /// Whether the server runs.
+    pub fn running(&self) -> bool
+        ensures { result ≡ not self.now.stopped }
+    {
+        !self.stopped
+    }
+
+    /// How many requests are pending.
+    pub fn pending(&self) -> u32
+        ensures { result ≡ length self.now.client.pending }
+    {
+        self.client.pending()
+    }
+
+    /// How many bytes the first pending request gives at status 0.
+    pub fn front_len(&self) -> u32
+        ensures { result ≡ front_count self.now.client.pending }
+    {
+        self.client.front_len()
+    }
+
+    /// The bytes of the last completion.
+    pub fn bytes(&self) -> &[u8]
+        ensures { result.now ≡ self.now.client.last }
+    {
+        self.client.bytes()
+    }
+}
+
+impl LaneEnds {
+    ghost use Rattle.disk_steps.specs.LaneState.{near_disturbed};
+    ghost use Rattle.lane_law.specs.WireLog.{lossy_behind};
+
+    // An end that was in this state was configured.
+    fn configured(&mut self, was: ChannelState)
+        ensures { self.new ≡ record self.old { wire = record self.old.wire { lossy = lossy_behind was self.old.wire.lossy } } }
+    {
+        if was == ChannelState::Up {
+            self.lossy = false;
+        }
+    }
+
+    // An end that was in this state began anew.
+    fn disturbed(&mut self, was: ChannelState)
+        ensures { self.new ≡ record self.old {
+          wire = record self.old.wire { lossy = lossy_behind was self.old.wire.lossy };
+          near = near_disturbed self.old.client;
+        } }
+    {
+        self.configured(was);
+        self.near.disturb(self.client.mark());
+    }
+
+    // Notes what the client did, whose end was in this state.
+    fn note_client(&mut self, was: ChannelState, out: &ClientOut)
+        ensures { self.new ≡ noted was (client_event out.now self.old.client.last) self.old }
+    {
+        match out {
+            ClientOut::Joined => self.configured(was),
+            ClientOut::Reset { .. } => self.disturbed(was),
+            ClientOut::Done { .. } => self.near.complete(),
+            _ => {}
+        }
+    }
+
+    // Notes what the server did, whose end was in this state.
+    fn note_server(&mut self, was: ChannelState, out: &ServerOut)
+        ensures { self.new ≡ noted was (server_event out.now) self.old }
+    {
+        match out {
+            ServerOut::Joined => self.configured(was),
+            ServerOut::Reset { .. } => self.disturbed(was),
+            ServerOut::Finished { .. } => self.near.finish(),
+            ServerOut::Stored {
+                operation,
+                count,
+                failed,
+                ..
+            } => self.note_store(*operation, *count, *failed),
+            _ => {}
+        }
+    }
+
+    // Notes a call of the store.
+    fn note_store(&mut self, operation: u8, count: u32, failed: bool)
+        ensures { self.new ≡ record self.old {
+          failed = self.old.failed || failed;
+          near = record self.old.near { u = stored_blocks operation count failed self.old.near.u };
+        } }
+    {
+        self.near.store(operation, count, failed);
+        self.failed = self.failed || failed;
+    }
+}
