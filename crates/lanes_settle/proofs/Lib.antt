@@ -1,0 +1,14 @@
+pub mod LaneRounds
+pub mod LaneTicks
+pub mod Together
+pub mod Falling
+pub mod Behind
+pub mod Counts
+pub mod RoundCounts
+pub mod Stuck
+pub mod Moving
+pub mod TicksOnce
+pub mod SettledLanes
+pub mod FrontMoving
+pub mod Naming
+pub mod AtOnce
