@@ -1,0 +1,12 @@
+pub mod Checking
+pub mod Keeping
+pub mod UnitPlaces
+pub mod ShapePlaces
+pub mod LaneStores
+pub mod WorldRuns
+pub mod BehindDisks
+pub mod NamedPlaces
+pub mod NamedRuns
+pub mod OwnImages
+pub mod Contents
+pub mod Fronts

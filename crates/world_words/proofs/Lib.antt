@@ -1,0 +1,3 @@
+pub mod EventWords
+pub mod LeftOver
+pub mod WorldWords
