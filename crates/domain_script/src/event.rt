@@ -25,6 +25,20 @@ pub enum Lane {
     Disk(u32),
 }
 
+/// The guest's side of a lane, or its service domain's.
+#[derive(Clone, Copy, Debug, PartialEq, Eq)]
+pub enum Side {
+    Client,
+    Server,
+}
+
+/// An end of a lane: a disk's client is written `NAME.c`, its server `NAME.s`.
+#[derive(Clone, Copy, Debug, PartialEq, Eq)]
+pub struct EndName {
+    pub lane: Lane,
+    pub side: Side,
+}
+
 /// What a line of a script tells the domains to do.
 #[derive(Clone, Copy, Debug)]
 pub enum Event {

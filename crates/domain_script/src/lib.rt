@@ -17,7 +17,7 @@ mod tests;
 mod words;
 
 pub use digits::decode_lower;
-pub use event::{DiskDecl, Event, Lane, LineFault, Name};
+pub use event::{DiskDecl, EndName, Event, Lane, LineFault, Name, Side};
 pub use lines::{Lines, LinesFault};
 pub use names::Names;
 pub use parser::{parse, parse_into, spells_at_most_one};

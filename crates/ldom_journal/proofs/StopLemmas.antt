@@ -2,7 +2,7 @@
 use Rattle.std.proofs.Common.{◌≢◌, ℕ, refl}
 use Rattle.ldom_journal.specs.declared.status.Status.TheVariants as status
 use Rattle.ldom_journal.specs.declared.stop.Stop.{Stop}
-use Rattle.ldom_journal.specs.declared.stop.Stop.TheVariants.{End, Source, Limit, Memory, Faulty}
+use Rattle.ldom_journal.specs.declared.stop.Stop.TheVariants.{End, Source, Limit, Memory, Faulty, Entries}
 use Rattle.ldom_journal.specs.Stops.{IsReaders, stop_status}
 
 pub readers_of : (stop : Stop) (lines : ℕ) → IsReaders (stop_status stop lines)
@@ -11,6 +11,7 @@ readers_of Source lines = tt
 readers_of (Limit kind) lines = tt
 readers_of Memory lines = tt
 readers_of (Faulty fault) lines = tt
+readers_of Entries lines = tt
 
 -- of them all only the end is `Done`
 pub done_at_end : (stop : Stop) (lines : ℕ) → stop ≢ End → stop_status stop lines ≢ status.Done
@@ -19,3 +20,4 @@ done_at_end Source lines other is = cc is
 done_at_end (Limit kind) lines other is = cc is
 done_at_end Memory lines other is = cc is
 done_at_end (Faulty fault) lines other is = cc is
+done_at_end Entries lines other is = cc is

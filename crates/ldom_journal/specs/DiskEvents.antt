@@ -1,4 +1,4 @@
--- What the entries of a journal say of disks. `said` alone lists the kinds of entry: laws of a disk read its events.
+-- What the entries of a journal say of the requests of disks. `said` alone lists the kinds of entry: laws of a disk read its events.
 use Rattle.std.specs.Prelude.{ℕ, ◌==◌, if◌then◌else◌, List, Option, Some, None}
 use Rattle.std.specs.List.{filter_map}
 use Rattle.vdisk_msg.specs.declared.request.Request.{Request}
@@ -10,7 +10,7 @@ use Rattle.domain_script.specs.declared.event.Lane.TheVariants.{Disk}
 use Rattle.ldom_journal.specs.declared.entry.Entry.{Entry}
 use Rattle.ldom_journal.specs.declared.entry.Entry.TheVariants as entry
 use Rattle.ldom_journal.specs.declared.entry.Who.{Who}
-use Rattle.ldom_journal.specs.declared.entry.Who.TheVariants.{Lane}
+use Rattle.ldom_journal.specs.declared.entry.Who.TheVariants.{End, Lane}
 use Rattle.ldom_journal.specs.declared.entry.Why.{Why}
 use Rattle.ldom_journal.specs.declared.entry.Why.TheVariants.{Count, Range}
 
@@ -40,6 +40,7 @@ pub data Said : Type 0 where
 
 abbrev pub not_taken : Who → Refusal → Said
 not_taken (Lane (Disk disk)) refusal = NotTaken disk refusal
+not_taken (End e) refusal = Nothing
 
 abbrev pub said : Entry → Said
 said (entry.Accepted disk id request) = OfDisk disk (Accepted id request)
@@ -47,6 +48,7 @@ said (entry.Full who) = not_taken who NoRoom
 said (entry.Refused who why) = not_taken who (Defective why)
 said (entry.Done disk id operation status bytes) = OfDisk disk (Done id operation status bytes.items)
 said entry.Settled = AllRest
+said other = Nothing
 
 -- the request that a line asks
 abbrev pub request_asked : Event → Option Request

@@ -2,16 +2,24 @@
 use Rattle.std.specs.Prelude.{ℕ, Bool, true, false, ◌==◌, ◌&&◌, if◌then◌else◌, List, [], ◌++◌, take, slice_get, Option, Some, None, codes, decimal}
 use Rattle.std.specs.List.{flat_map}
 use Rattle.hex.specs.Hex.{encode_lower}
+use Rattle.cookie_copy.specs.declared.fault.CopyFault.{CopyFault}
+use Rattle.disk_steps.specs.ServerWork.{copy_number}
+use Rattle.vio_tag.specs.CauseText.{cause_text, copy_word}
+use Rattle.vio_tag.specs.declared.cause.Cause.{Cause}
 use Rattle.domain_script.specs.declared.event.DiskDecl.{DiskDecl}
+use Rattle.domain_script.specs.declared.event.EndName.{EndName}
+use Rattle.domain_script.specs.declared.event.Lane.{Lane}
 use Rattle.domain_script.specs.declared.event.Lane.TheVariants.{Disk}
+use Rattle.domain_script.specs.declared.event.Side.{Side}
+use Rattle.domain_script.specs.declared.event.Side.TheVariants.{Client, Server}
 use Rattle.vdisk_msg.specs.declared.request.Request.{Request}
 use Rattle.vdisk_msg.specs.declared.request.Request.TheVariants.{Read, Write, Flush}
 use Rattle.ldom_journal.specs.declared.entry.Who.{Who}
-use Rattle.ldom_journal.specs.declared.entry.Who.TheVariants.{Lane as OfLane}
+use Rattle.ldom_journal.specs.declared.entry.Who.TheVariants.{Lane as OfLane, End as OfEnd}
 use Rattle.ldom_journal.specs.declared.entry.Why.{Why}
 use Rattle.ldom_journal.specs.declared.entry.Why.TheVariants.{Count, Range}
 use Rattle.ldom_journal.specs.declared.entry.Entry.{Entry}
-use Rattle.ldom_journal.specs.declared.entry.Entry.TheVariants.{Accepted, Full, Refused, Done, Settled}
+use Rattle.ldom_journal.specs.declared.entry.Entry.TheVariants as entry
 use Rattle.ldom_journal.specs.declared.status.Mode.{Mode}
 use Rattle.ldom_journal.specs.declared.status.Mode.TheVariants.{Run, Trace, EndOnly}
 use Rattle.ldom_journal.specs.BlockWord.{blocks_text}
@@ -25,9 +33,21 @@ declared_name None = []
 abbrev pub disk_name : List DiskDecl → ℕ → List ℕ
 disk_name disks k = declared_name (slice_get disks k)
 
+-- the name of a lane, and that of an end: `.c` is the client's, `.s` the server's
+abbrev pub lane_name : List DiskDecl → Lane → List ℕ
+lane_name disks (Disk k) = disk_name disks k
+
+abbrev pub side_text : Side → List ℕ
+side_text Client = codes ".c"
+side_text Server = codes ".s"
+
+abbrev pub end_name : List DiskDecl → EndName → List ℕ
+end_name disks e = lane_name disks e.lane ++ side_text e.side
+
 -- the name of whom an entry is about
 abbrev pub who_name : List DiskDecl → Who → List ℕ
-who_name disks (OfLane (Disk k)) = disk_name disks k
+who_name disks (OfLane lane) = lane_name disks lane
+who_name disks (OfEnd e) = end_name disks e
 
 -- a range of blocks: the first, and how many
 abbrev pub range_text : ℕ → ℕ → List ℕ
@@ -48,37 +68,114 @@ why_word Range = codes "range"
 abbrev pub operation_word : ℕ → List ℕ
 operation_word operation = if operation == 1 then codes "read" else if operation == 2 then codes "write" else codes "flush"
 
--- what stands after a completion: the words of its blocks after a read with status 0
-abbrev pub read_text : Entry → List ℕ
-read_text (Done disk id operation status bytes) = if (operation == 1) && (status == 0) then blocks_text bytes.items else []
-read_text entry = []
+-- how a copy ended: the word of its fault, where it has one
+abbrev pub fault_word : Option CopyFault → List ℕ
+fault_word None = codes "ok"
+fault_word (Some fault) = copy_word (copy_number fault)
+
+-- how a call of the store ended
+abbrev pub failed_word : Bool → List ℕ
+failed_word true = codes "failed"
+failed_word false = codes "ok"
 
 -- the kind of a request's entry, its disk and its id
 abbrev pub id_text : List ℕ → List DiskDecl → ℕ → ℕ → List ℕ
 id_text kind disks disk id = kind ++ disk_name disks disk ++ codes " " ++ decimal id
 
--- an entry's line before the words of a read and the line feed
-abbrev pub head_text : List DiskDecl → Entry → List ℕ
-head_text disks (Accepted disk id request) = id_text (codes "accepted ") disks disk id ++ request_text request
-head_text disks (Full who) = codes "full " ++ who_name disks who
-head_text disks (Refused who why) = codes "refused " ++ who_name disks who ++ codes " " ++ why_word why
-head_text disks (Done disk id operation status bytes) = id_text (codes "done ") disks disk id ++ codes " " ++ operation_word operation ++ codes " " ++ decimal status
-head_text disks Settled = codes "settled"
+-- the kind of an entry and its end; and a number behind them, or bytes
+abbrev pub end_text : List ℕ → List DiskDecl → EndName → List ℕ
+end_text kind disks e = kind ++ end_name disks e
+
+abbrev pub number_text : List ℕ → List DiskDecl → EndName → ℕ → List ℕ
+number_text kind disks e n = end_text kind disks e ++ codes " " ++ decimal n
+
+abbrev pub bytes_text : List ℕ → List DiskDecl → EndName → List ℕ → List ℕ
+bytes_text kind disks e bytes = end_text kind disks e ++ codes " " ++ encode_lower bytes
+
+-- behind a packet by which the session opened
+abbrev pub opens_text : Bool → List ℕ
+opens_text true = codes " opens"
+opens_text false = []
+
+-- a unit that was copied
+abbrev pub moved_text : List DiskDecl → EndName → ℕ → Option CopyFault → List ℕ
+moved_text disks e unit fault = number_text (codes "moved ") disks e unit ++ codes " " ++ fault_word fault
+
+-- a call of the store: what it asked, and how it ended
+abbrev pub call_text : List DiskDecl → EndName → ℕ → ℕ → ℕ → List ℕ
+call_text disks e operation block count = end_text (codes "stored ") disks e ++ codes " " ++ operation_word operation ++ codes " " ++ range_text block count
+
+abbrev pub stored_text : List DiskDecl → EndName → ℕ → ℕ → ℕ → Bool → List ℕ
+stored_text disks e operation block count failed = call_text disks e operation block count ++ codes " " ++ failed_word failed
+
+-- how many frames a reset lost, where it lost some; and, in a trace, the packet that it took
+abbrev pub lost_text : ℕ → List ℕ
+lost_text lost = if lost == 0 then [] else codes " lost=" ++ decimal lost
+
+abbrev pub took_text : Mode → Option (List ℕ) → List ℕ
+took_text Trace (Some packet) = codes " took=" ++ encode_lower packet
+took_text mode packet = []
+
+abbrev pub reset_text : Mode → List DiskDecl → EndName → Cause → Option (List ℕ) → ℕ → List ℕ
+reset_text mode disks e cause packet lost = end_text (codes "reset ") disks e ++ codes " " ++ cause_text cause ++ lost_text lost ++ took_text mode packet
+
+-- a completion, but for the words of its blocks
+abbrev pub done_text : List DiskDecl → ℕ → ℕ → ℕ → ℕ → List ℕ
+done_text disks disk id operation status = id_text (codes "done ") disks disk id ++ codes " " ++ operation_word operation ++ codes " " ++ decimal status
+
+-- what stands behind a completion: the words of its blocks after a read with status 0
+abbrev pub read_text : Entry → List ℕ
+read_text (entry.Done disk id operation status bytes) = if (operation == 1) && (status == 0) then blocks_text bytes.items else []
+read_text other = []
+
+-- AN ENTRY'S LINE before the words of a read and the line feed
+abbrev pub head_text : Mode → List DiskDecl → Entry → List ℕ
+head_text mode disks (entry.Accepted disk id request) = id_text (codes "accepted ") disks disk id ++ request_text request
+head_text mode disks (entry.Full who) = codes "full " ++ who_name disks who
+head_text mode disks (entry.Refused who why) = codes "refused " ++ who_name disks who ++ codes " " ++ why_word why
+head_text mode disks (entry.Lost e packet) = bytes_text (codes "lost ") disks e packet
+head_text mode disks (entry.Stopped disk) = codes "stopped " ++ disk_name disks disk
+head_text mode disks (entry.Started disk) = codes "started " ++ disk_name disks disk
+head_text mode disks (entry.Calm who) = codes "calm " ++ who_name disks who
+head_text mode disks entry.Settled = codes "settled"
+head_text mode disks (entry.Unsettled who) = codes "unsettled " ++ who_name disks who
+head_text mode disks (entry.Idle e) = end_text (codes "idle ") disks e
+head_text mode disks (entry.Off e) = end_text (codes "off ") disks e
+head_text mode disks (entry.Blocked e) = end_text (codes "blocked ") disks e
+head_text mode disks (entry.Joined e lost) = end_text (codes "joined ") disks e ++ codes " lost=" ++ decimal lost
+head_text mode disks (entry.Took e packet opens) = bytes_text (codes "took ") disks e packet ++ opens_text opens
+head_text mode disks (entry.Sent e packet opens) = bytes_text (codes "sent ") disks e packet ++ opens_text opens
+head_text mode disks (entry.Published e id) = number_text (codes "published ") disks e id
+head_text mode disks (entry.Done disk id operation status bytes) = done_text disks disk id operation status
+head_text mode disks (entry.Desc e slot bytes) = number_text (codes "desc ") disks e slot ++ codes " " ++ encode_lower bytes
+head_text mode disks (entry.Moved e unit fault) = moved_text disks e unit fault
+head_text mode disks (entry.Stored e operation block count failed) = stored_text disks e operation block count failed
+head_text mode disks (entry.Finished e slot status) = number_text (codes "finished ") disks e slot ++ codes " " ++ decimal status
+head_text mode disks (entry.Reset e cause packet lost) = reset_text mode disks e cause packet lost
 
 -- an entry's line
-abbrev pub line_text : List DiskDecl → Entry → List ℕ
-line_text disks entry = head_text disks entry ++ read_text entry ++ codes "\n"
+abbrev pub line_text : Mode → List DiskDecl → Entry → List ℕ
+line_text mode disks entry = head_text mode disks entry ++ read_text entry ++ codes "\n"
+
+-- the entries that a user of the disks sees
+abbrev pub is_seen : Entry → Bool
+is_seen (entry.Full who) = true
+is_seen (entry.Refused who why) = true
+is_seen entry.Settled = true
+is_seen (entry.Unsettled who) = true
+is_seen (entry.Done disk id operation status bytes) = true
+is_seen (entry.Reset e cause packet lost) = true
+is_seen other = false
 
 -- whether a mode shows an entry
 abbrev pub shows : Mode → Entry → Bool
-shows Run (Accepted disk id request) = false
-shows Run entry = true
+shows Run entry = is_seen entry
 shows Trace entry = true
 shows EndOnly entry = false
 
 -- an entry's line where the mode shows it
 abbrev pub entry_lines : Mode → List DiskDecl → Entry → List ℕ
-entry_lines mode disks entry = if shows mode entry then line_text disks entry else []
+entry_lines mode disks entry = if shows mode entry then line_text mode disks entry else []
 
 -- the lines of a report before its end line
 abbrev pub report_entries : Mode → List DiskDecl → List Entry → List ℕ

@@ -6,6 +6,7 @@ pub mod Failing
 pub mod HasWords
 pub mod JournalState
 pub mod Kept
+pub mod LaneEvents
 pub mod LinesEnd
 pub mod Packed
 pub mod Report

@@ -7,7 +7,7 @@ use Rattle.ldom_journal.specs.declared.entry.Entry.{Entry}
 use Rattle.ldom_journal.specs.declared.entry.Entry.TheVariants as entry
 use Rattle.ldom_journal.specs.declared.status.Mode.{Mode}
 use Rattle.ldom_journal.specs.declared.status.LimitKind.{LimitKind}
-use Rattle.ldom_journal.specs.declared.status.LimitKind.TheVariants.{Lines, Bytes}
+use Rattle.ldom_journal.specs.declared.status.LimitKind.TheVariants.{Lines, Bytes, Entries}
 use Rattle.ldom_journal.specs.declared.status.Status.{Status}
 use Rattle.ldom_journal.specs.declared.status.Status.TheVariants.{Usage, Script, ImageSize, Limit}
 use Rattle.ldom_journal.specs.EntryText.{report_entries}
@@ -23,6 +23,11 @@ abbrev pub is_done : Entry → Bool
 is_done (entry.Done disk id operation status bytes) = true
 is_done other = false
 
+-- whether an end was reset
+abbrev pub is_reset : Entry → Bool
+is_reset (entry.Reset e cause packet lost) = true
+is_reset other = false
+
 -- how many requests were taken up
 abbrev pub accepted_count : List Entry → ℕ
 accepted_count entries = count_by is_accepted entries
@@ -30,6 +35,10 @@ accepted_count entries = count_by is_accepted entries
 -- how many requests were completed
 abbrev pub done_count : List Entry → ℕ
 done_count entries = count_by is_done entries
+
+-- how often an end was reset
+abbrev pub reset_count : List Entry → ℕ
+reset_count entries = count_by is_reset entries
 
 -- why a line spells no event, or no packet
 abbrev pub fault_text : LineFault → List ℕ
@@ -40,6 +49,7 @@ fault_text Hex = codes "hex"
 abbrev pub limit_text : LimitKind → List ℕ
 limit_text Lines = codes "lines"
 limit_text Bytes = codes "bytes"
+limit_text Entries = codes "entries"
 
 -- after a status: the line at which the run ended, and why; or how long the image had to be, and is
 abbrev pub cause_text : Status → List ℕ
@@ -53,10 +63,14 @@ abbrev pub counts_text : List Entry → List ℕ
 counts_text entries =
     codes " accepted=" ++ decimal (accepted_count entries) ++ codes " done=" ++ decimal (done_count entries) ++ codes " pending=" ++ decimal (accepted_count entries - done_count entries)
 
+-- how often an end was reset, and that no frames were carried
+abbrev pub resets_text : List Entry → List ℕ
+resets_text entries = codes " resets=" ++ decimal (reset_count entries) ++ codes " frames=0"
+
 -- the line that ends each report but that of a wrong command line
 abbrev pub end_line : ℕ → List Entry → Status → List ℕ
 end_line lines entries status =
-    codes "end lines=" ++ decimal lines ++ counts_text entries ++ codes " resets=0 frames=0 status=" ++ decimal (status_number status) ++ cause_text status ++ codes "\n"
+    codes "end lines=" ++ decimal lines ++ counts_text entries ++ resets_text entries ++ codes " status=" ++ decimal (status_number status) ++ cause_text status ++ codes "\n"
 
 -- the one line for words that are none of the program's
 abbrev pub usage_line : List ℕ

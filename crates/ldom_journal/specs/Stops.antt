@@ -1,22 +1,22 @@
 -- Why no further line of a source is taken up.
-use Rattle.std.specs.Prelude.{◌≡◌, ℕ, ◌+◌, List, Option, ⊤}
+use Rattle.std.specs.Prelude.{◌≡◌, ℕ, ◌+◌, ◌-◌, List, Option, ⊤}
 use Rattle.std.specs.Io.KnownBytes.{IsAtEnd, Keeps}
 use Rattle.domain_script.specs.declared.lines.LinesFault.{LinesFault}
 use Rattle.domain_script.specs.declared.lines.LinesFault.TheVariants as reader
 use Rattle.domain_script.specs.Pieces.{HasNoFeed}
-use Rattle.ldom_journal.specs.declared.status.LimitKind.TheVariants.{Lines, Bytes}
+use Rattle.ldom_journal.specs.declared.status.LimitKind.TheVariants as limit
 use Rattle.ldom_journal.specs.declared.status.Status.{Status}
 use Rattle.ldom_journal.specs.declared.status.Status.TheVariants as status
 use Rattle.ldom_journal.specs.declared.stop.Stop.{Stop}
-use Rattle.ldom_journal.specs.declared.stop.Stop.TheVariants.{End, Source, Limit, Memory, Faulty}
+use Rattle.ldom_journal.specs.declared.stop.Stop.TheVariants.{End, Source, Limit, Memory, Faulty, Entries}
 use Rattle.ldom_journal.specs.LinesEnd.{IsPast}
 
 -- a fault of the reader
 abbrev pub stop_of : LinesFault → Stop
 stop_of reader.Source = Source
 stop_of reader.Memory = Memory
-stop_of reader.Long = Limit Bytes
-stop_of reader.Many = Limit Lines
+stop_of reader.Long = Limit limit.Bytes
+stop_of reader.Many = Limit limit.Lines
 
 -- how a run or a dump ends where its lines stop so, after that many were read
 abbrev pub stop_status : Stop → ℕ → Status
@@ -25,6 +25,12 @@ stop_status Source lines = status.SourceFault
 stop_status (Limit kind) lines = status.Limit (lines + 1) kind
 stop_status Memory lines = status.NoMemory
 stop_status (Faulty fault) lines = status.Script lines fault
+stop_status Entries lines = status.Limit lines limit.Entries
+
+-- how many lines the report counts where they stop so, after that many were read
+abbrev pub stop_lines : Stop → ℕ → ℕ
+stop_lines Entries lines = lines - 1
+stop_lines other lines = lines
 
 -- Why the reader gave no line after so many: `rest` was to come, which `left` is now, and all that was taken is kept. Where
 -- the source failed, no whole line is held.
@@ -34,6 +40,7 @@ StopsReading Source rest left held count = HasNoFeed held × Keeps rest left
 StopsReading (Limit kind) rest left held count = IsPast kind rest count × Keeps rest left
 StopsReading Memory rest left held count = Keeps rest left
 StopsReading (Faulty fault) rest left held count = ⊥
+StopsReading Entries rest left held count = ⊥
 
 -- a status with which reading ends
 abbrev pub IsReaders : Status → Type 0

@@ -1,7 +1,7 @@
 ghost use Rattle.std.specs.Prelude.{◌≡◌, ◌+◌, ◌≤◌, ◌++◌, length, OnOk, OnErr};
 ghost use Rattle.std.specs.Io.KnownBytes.{Appends};
 ghost use Rattle.gathered_text.specs.Gathered.{WroteFront};
-ghost use Rattle.ldom_journal.specs.Report.{accepted_count, cause_text, counts_text, done_count, end_line, fault_text, last_line, limit_text};
+ghost use Rattle.ldom_journal.specs.Report.{accepted_count, cause_text, counts_text, done_count, end_line, fault_text, is_accepted, is_done, is_reset, last_line, limit_text, reset_count, resets_text};
 ghost use Rattle.vio_io.specs.Causes.{Rose};
 
 use crate::{Entry, Journal, LimitKind, Status};
@@ -9,22 +9,43 @@ use domain_script::LineFault;
 use gathered_text::{TEXT_ROOM, Text};
 use vio_io::{Failed, Sink};
 
+/// Whether a request was taken up.
+fn is_accepted(entry: &Entry) -> bool
+    ensures { result ≡ is_accepted entry.now }
+{
+    matches!(entry, Entry::Accepted { .. })
+}
+
+/// Whether a request was completed.
+fn is_done(entry: &Entry) -> bool
+    ensures { result ≡ is_done entry.now }
+{
+    matches!(entry, Entry::Done { .. })
+}
+
+/// Whether an end was reset.
+fn is_reset(entry: &Entry) -> bool
+    ensures { result ≡ is_reset entry.now }
+{
+    matches!(entry, Entry::Reset { .. })
+}
+
 fn count_accepted(entries: &[Entry]) -> usize
     ensures { result ≡ accepted_count entries.now }
 {
-    entries
-        .iter()
-        .filter(|entry| matches!(entry, Entry::Accepted { .. }))
-        .count()
+    entries.iter().filter(|entry| is_accepted(entry)).count()
 }
 
 fn count_done(entries: &[Entry]) -> usize
     ensures { result ≡ done_count entries.now }
 {
-    entries
-        .iter()
-        .filter(|entry| matches!(entry, Entry::Done { .. }))
-        .count()
+    entries.iter().filter(|entry| is_done(entry)).count()
+}
+
+fn count_resets(entries: &[Entry]) -> usize
+    ensures { result ≡ reset_count entries.now }
+{
+    entries.iter().filter(|entry| is_reset(entry)).count()
 }
 
 fn push_counts(text: &mut Text, entries: &[Entry])
@@ -40,6 +61,16 @@ fn push_counts(text: &mut Text, entries: &[Entry])
     text.push_number(done);
     text.push(b" pending=");
     text.push_number(accepted.saturating_sub(done));
+}
+
+fn push_resets(text: &mut Text, entries: &[Entry])
+    requires { length text.old + 100 ≤ TEXT_ROOM }
+    ensures text { text.new ≡ text.old ++ resets_text entries.now }
+    ensures len { length text.new ≤ length text.old + 100 }
+{
+    text.push(b" resets=");
+    text.push_number(count_resets(entries) as u64);
+    text.push(b" frames=0");
 }
 
 fn fault_bytes(fault: LineFault) -> &'static [u8]
@@ -59,6 +90,7 @@ fn limit_bytes(kind: LimitKind) -> &'static [u8]
     match kind {
         LimitKind::Lines => b"lines",
         LimitKind::Bytes => b"bytes",
+        LimitKind::Entries => b"entries",
     }
 }
 
@@ -99,7 +131,8 @@ fn push_end_line(text: &mut Text, entries: &[Entry], lines: u32, status: &Status
     text.push(b"end lines=");
     text.push_number(u64::from(lines));
     push_counts(text, entries);
-    text.push(b" resets=0 frames=0 status=");
+    push_resets(text, entries);
+    text.push(b" status=");
     text.push_number(u64::from(status.number()));
     push_cause(text, status);
     text.push(b"\n");

@@ -1,10 +1,13 @@
 use crate::{Bytes, KeptRequest};
-use domain_script::Lane;
+use cookie_copy::CopyFault;
+use domain_script::{EndName, Lane};
+use vio_tag::Cause;
 
-/// Whom an entry is about.
+/// Whom an entry is about: a lane as a whole, or one of its ends.
 #[derive(Clone, Copy, Debug, PartialEq, Eq)]
 pub enum Who {
     Lane(Lane),
+    End(EndName),
 }
 
 /// Why a request was refused.
@@ -18,7 +21,7 @@ pub enum Why {
 }
 
 /// What happened at one step of a run. A disk goes by its number in the order of declaration, counted from 0, a
-/// request of it by its id, likewise.
+/// request of it by its id, likewise; an end by the lane and the side. A packet is its 64 bytes.
 #[derive(Debug, Drop)]
 pub enum Entry {
     /// A guest's request was taken up.
@@ -39,6 +42,76 @@ pub enum Entry {
         why: Why,
     },
 
+    /// The packet that had waited longest for an end was lost.
+    Lost {
+        end: EndName,
+        packet: [u8; 64],
+    },
+
+    /// A disk's server was stopped.
+    Stopped {
+        disk: u32,
+    },
+
+    /// A disk's server was started.
+    Started {
+        disk: u32,
+    },
+
+    /// What the line asked for changes nothing.
+    Calm {
+        who: Who,
+    },
+
+    /// Nothing is left to do.
+    Settled,
+
+    /// A settle ended though something is left to do here.
+    Unsettled {
+        who: Who,
+    },
+
+    /// An end has nothing to do.
+    Idle {
+        end: EndName,
+    },
+
+    /// The end of a stopped server was to make a step.
+    Off {
+        end: EndName,
+    },
+
+    /// An end has no room for its next packet.
+    Blocked {
+        end: EndName,
+    },
+
+    /// An end was configured, and so many frames were lost by that.
+    Joined {
+        end: EndName,
+        lost: u32,
+    },
+
+    /// An end took a packet, and its session may have opened by it.
+    Took {
+        end: EndName,
+        packet: [u8; 64],
+        opens: bool,
+    },
+
+    /// An end put a packet, and its session may have opened by it.
+    Sent {
+        end: EndName,
+        packet: [u8; 64],
+        opens: bool,
+    },
+
+    /// The client put the request with this id into its ring.
+    Published {
+        end: EndName,
+        id: u64,
+    },
+
     /// A request was completed. `operation` is one of `VD_OP_BREAD`, `VD_OP_BWRITE` and `VD_OP_FLUSH`, `status` is 0 or
     /// an error number of Linux, and `bytes` are what a read with status 0 gave: 512 for each block.
     Done {
@@ -49,8 +122,43 @@ pub enum Entry {
         bytes: Bytes,
     },
 
-    /// Nothing is left to do.
-    Settled,
+    /// The server fetched the descriptor of a slot.
+    Desc {
+        end: EndName,
+        slot: u32,
+        bytes: [u8; 128],
+    },
+
+    /// The server copied a unit of 8,192 bytes, or why it couldn't.
+    Moved {
+        end: EndName,
+        unit: u32,
+        fault: Option<CopyFault>,
+    },
+
+    /// The server called its store for a unit of blocks or, with `VD_OP_FLUSH` and no blocks, for a flush.
+    Stored {
+        end: EndName,
+        operation: u8,
+        block: u64,
+        count: u64,
+        failed: bool,
+    },
+
+    /// The server gave the descriptor of a slot its status.
+    Finished {
+        end: EndName,
+        slot: u32,
+        status: u32,
+    },
+
+    /// An end was reset, maybe by a packet that it took, and so many frames were lost by that.
+    Reset {
+        end: EndName,
+        cause: Cause,
+        packet: Option<[u8; 64]>,
+        lost: u32,
+    },
 }
 
 // A journal holds millions of entries.

@@ -1,177 +1,102 @@
-ghost use Rattle.std.specs.Prelude.{◌≡◌, ◌+◌, ◌≤◌, ◌<◌, ◌++◌, length, take, All, OnOk, OnErr};
+// The lines of a report.
+ghost use Rattle.std.specs.Prelude.{◌≡◌, ◌+◌, ◌≤◌, ◌++◌, length, take, All, OnOk, OnErr};
 ghost use Rattle.std.specs.Io.KnownBytes.{Appends};
-ghost use Rattle.ldom_journal.specs.EntryText.{disk_name, entry_lines, head_text, id_text, line_text, operation_word, range_text, read_text, report_entries, request_text, shows, who_name, why_word};
+ghost use Rattle.ldom_journal.specs.EntryText.{entry_lines, head_text, is_seen, line_text, read_text, report_entries, shows};
 ghost use Rattle.gathered_text.specs.Gathered.{Gathers, WroteFront};
-ghost use Rattle.ldom_journal.specs.HasWords.{HasWords, IsDeclared};
+ghost use Rattle.ldom_journal.specs.HasWords.{HasWords};
 ghost use Rattle.vio_io.specs.Causes.{Rose};
 
 use crate::block_words::put_blocks;
-use crate::{Entry, KeptRequest, Mode, VD_OP_BREAD, VD_OP_BWRITE, VD_OP_FLUSH, Who, Why};
-use domain_script::{Lane, Name, Names};
+use crate::line_names::{push_end, push_end_number};
+use crate::request_lines::{push_about, push_accepted, push_done, push_of_disk, push_refused};
+use crate::step_lines::{
+    push_carried, push_descriptor, push_finished, push_joined, push_moved, push_packet, push_reset,
+    push_stored,
+};
+use crate::{Entry, Mode, VD_OP_BREAD};
+use domain_script::Names;
 use gathered_text::{TEXT_ROOM, Text};
-use vdisk_msg::{Fill, Request};
 use vio_io::{Failed, Sink};
 
 /// More bytes than a line has before the words of a read.
 const LINE_ROOM: usize = 4096;
+
+/// Whether a user of the disks sees an entry.
+fn is_seen(entry: &Entry) -> bool
+    ensures { result ≡ is_seen entry.now }
+{
+    matches!(
+        entry,
+        Entry::Full { .. }
+            | Entry::Refused { .. }
+            | Entry::Settled
+            | Entry::Unsettled { .. }
+            | Entry::Done { .. }
+            | Entry::Reset { .. }
+    )
+}
 
 /// Whether a mode shows an entry.
 fn is_shown(mode: Mode, entry: &Entry) -> bool
     ensures { result ≡ shows mode entry.now }
 {
     match mode {
-        Mode::Run => !matches!(entry, Entry::Accepted { .. }),
+        Mode::Run => is_seen(entry),
         Mode::Trace => true,
         Mode::EndOnly => false,
     }
 }
 
-fn name_bytes(name: &Name) -> &[u8]
-    ensures bytes { result.now ≡ take name.now.len name.now.bytes }
-    ensures short { length result.now ≤ 8 }
-{
-    &name.bytes[..usize::from(name.len).min(8)]
-}
-
-fn fill_bytes(fill: &Fill) -> &[u8]
-    ensures bytes { result.now ≡ take fill.now.len fill.now.bytes }
-    ensures short { length result.now ≤ 1024 }
-{
-    &fill.bytes[..usize::from(fill.len).min(1024)]
-}
-
-fn push_disk(text: &mut Text, disk: u32, names: &Names)
-    requires declared { disk < length names.now.disks }
-    requires room { length text.old + 8 ≤ TEXT_ROOM }
-    ensures text { text.new ≡ text.old ++ disk_name names.now.disks disk }
-    ensures len { length text.new ≤ length text.old + 8 }
-{
-    match names.disk(disk) {
-        Some(disk) => text.push(name_bytes(&disk.name)),
-        None => unreachable!(),
-    }
-}
-
-fn push_who(text: &mut Text, who: Who, names: &Names)
-    requires declared { IsDeclared names.now.disks who }
-    requires room { length text.old + 8 ≤ TEXT_ROOM }
-    ensures text { text.new ≡ text.old ++ who_name names.now.disks who }
-    ensures len { length text.new ≤ length text.old + 8 }
-{
-    let Who::Lane(Lane::Disk(disk)) = who;
-    push_disk(text, disk, names);
-}
-
-/// The disk and the id of a request, after the kind of its entry.
-fn push_id(text: &mut Text, kind: &[u8], disk: u32, id: u64, names: &Names)
-    requires declared { disk < length names.now.disks }
-    requires room { length text.old + length kind.now + 29 ≤ TEXT_ROOM }
-    ensures text { text.new ≡ text.old ++ id_text kind.now names.now.disks disk id }
-    ensures len { length text.new ≤ length text.old + length kind.now + 29 }
-{
-    text.push(kind);
-    push_disk(text, disk, names);
-    text.push(b" ");
-    text.push_number(id);
-}
-
-/// A range of blocks, after the word of an operation.
-fn push_range(text: &mut Text, block: u64, count: u64)
-    requires { length text.old + 41 ≤ TEXT_ROOM }
-    ensures text { text.new ≡ text.old ++ range_text block count }
-    ensures len { length text.new ≤ length text.old + 41 }
-{
-    text.push_number(block);
-    text.push(b" ");
-    text.push_number(count);
-}
-
-fn push_request(text: &mut Text, request: &Request)
-    requires { length text.old + 2100 ≤ TEXT_ROOM }
-    ensures { text.new ≡ text.old ++ request_text request.now }
-{
-    match request {
-        Request::Read { block, count } => {
-            text.push(b" read ");
-            push_range(text, *block, *count);
-        }
-        Request::Write { block, count, fill } => {
-            text.push(b" write ");
-            push_range(text, *block, *count);
-            text.push(b" ");
-            text.push_hex(fill_bytes(fill));
-        }
-        Request::Flush => text.push(b" flush"),
-    }
-}
-
-/// As `push_request`. The request is taken out here, so that the lines of other entries make no room for it.
-fn push_kept(text: &mut Text, kept: &KeptRequest)
-    requires { length text.old + 2100 ≤ TEXT_ROOM }
-    ensures { text.new ≡ text.old ++ request_text kept.now }
-{
-    push_request(text, &kept.get());
-}
-
-fn why_word(why: Why) -> &'static [u8]
-    ensures bytes { result.now ≡ why_word why }
-    ensures short { length result.now ≤ 5 }
-{
-    match why {
-        Why::Count => b"count",
-        Why::Range => b"range",
-    }
-}
-
-fn operation_word(operation: u8) -> &'static [u8]
-    requires least { 1 ≤ operation }
-    requires most { operation ≤ 3 }
-    ensures bytes { result.now ≡ operation_word operation }
-    ensures short { length result.now ≤ 5 }
-{
-    match operation {
-        VD_OP_BREAD => b"read",
-        VD_OP_BWRITE => b"write",
-        VD_OP_FLUSH => b"flush",
-        _ => unreachable!(),
-    }
-}
-
 /// An entry's line before the words of a read and the line feed.
-fn push_head(text: &mut Text, entry: &Entry, names: &Names)
+fn push_head(text: &mut Text, mode: Mode, entry: &Entry, names: &Names)
     requires words { HasWords names.now.disks entry.now }
     requires room { length text.old + LINE_ROOM ≤ TEXT_ROOM }
-    ensures { text.new ≡ text.old ++ head_text names.now.disks entry.now }
+    ensures { text.new ≡ text.old ++ head_text mode names.now.disks entry.now }
 {
     match entry {
-        Entry::Accepted { disk, id, request } => {
-            push_id(text, b"accepted ", *disk, *id, names);
-            push_kept(text, request);
-        }
-        Entry::Full { who } => {
-            text.push(b"full ");
-            push_who(text, *who, names);
-        }
-        Entry::Refused { who, why } => {
-            text.push(b"refused ");
-            push_who(text, *who, names);
-            text.push(b" ");
-            text.push(why_word(*why));
-        }
+        Entry::Accepted { disk, id, request } => push_accepted(text, *disk, *id, request, names),
+        Entry::Full { who } => push_about(text, b"full ", *who, names),
+        Entry::Refused { who, why } => push_refused(text, *who, *why, names),
+        Entry::Lost { end, packet } => push_packet(text, b"lost ", *end, packet, names),
+        Entry::Stopped { disk } => push_of_disk(text, b"stopped ", *disk, names),
+        Entry::Started { disk } => push_of_disk(text, b"started ", *disk, names),
+        Entry::Calm { who } => push_about(text, b"calm ", *who, names),
+        Entry::Settled => text.push(b"settled"),
+        Entry::Unsettled { who } => push_about(text, b"unsettled ", *who, names),
+        Entry::Idle { end } => push_end(text, b"idle ", *end, names),
+        Entry::Off { end } => push_end(text, b"off ", *end, names),
+        Entry::Blocked { end } => push_end(text, b"blocked ", *end, names),
+        Entry::Joined { end, lost } => push_joined(text, *end, *lost, names),
+        Entry::Took { end, packet, opens } => push_carried(
+            text, b"took ", *end, packet, *opens, names,
+        ),
+        Entry::Sent { end, packet, opens } => push_carried(
+            text, b"sent ", *end, packet, *opens, names,
+        ),
+        Entry::Published { end, id } => push_end_number(text, b"published ", *end, *id, names),
         Entry::Done {
             disk,
             id,
             operation,
             status,
             ..
-        } => {
-            push_id(text, b"done ", *disk, *id, names);
-            text.push(b" ");
-            text.push(operation_word(*operation));
-            text.push(b" ");
-            text.push_number(u64::from(*status));
-        }
-        Entry::Settled => text.push(b"settled"),
+        } => push_done(text, *disk, *id, *operation, *status, names),
+        Entry::Desc { end, slot, bytes } => push_descriptor(text, *end, *slot, bytes, names),
+        Entry::Moved { end, unit, fault } => push_moved(text, *end, *unit, *fault, names),
+        Entry::Stored {
+            end,
+            operation,
+            block,
+            count,
+            failed,
+        } => push_stored(text, *end, *operation, *block, *count, *failed, names),
+        Entry::Finished { end, slot, status } => push_finished(text, *end, *slot, *status, names),
+        Entry::Reset {
+            end,
+            cause,
+            packet,
+            lost,
+        } => push_reset(text, mode, *end, *cause, packet, *lost, names),
     }
 }
 
@@ -197,19 +122,20 @@ fn put_read<K: Sink>(text: &mut Text, entry: &Entry, out: &mut K) -> Result<(), 
 /// The line of an entry.
 fn put_line<K: Sink>(
     text: &mut Text,
+    mode: Mode,
     entry: &Entry,
     names: &Names,
     out: &mut K,
 ) -> Result<(), Failed>
     requires words { HasWords names.now.disks entry.now }
-    ensures told { OnOk result (Gathers (K.written out.old) (K.written out.new) text.new (text.old ++ line_text names.now.disks entry.now)) }
-    ensures front { OnErr result (WroteFront (K.written out.old) (K.written out.new) (text.old ++ line_text names.now.disks entry.now)) }
+    ensures told { OnOk result (Gathers (K.written out.old) (K.written out.new) text.new (text.old ++ line_text mode names.now.disks entry.now)) }
+    ensures front { OnErr result (WroteFront (K.written out.old) (K.written out.new) (text.old ++ line_text mode names.now.disks entry.now)) }
     ensures ok { OnOk result (K.faults out.new ≡ K.faults out.old) }
     ensures count { K.faults out.old ≤ K.faults out.new }
     ensures cause { OnErr result (Rose (K.faults out.old) (K.faults out.new)) }
 {
     text.make_room(LINE_ROOM, out)?;
-    push_head(text, entry, names);
+    push_head(text, mode, entry, names);
     put_read(text, entry, out)?;
     text.make_room(1, out)?;
     text.push(b"\n");
@@ -232,7 +158,7 @@ fn put_entry<K: Sink>(
     ensures cause { OnErr result (Rose (K.faults out.old) (K.faults out.new)) }
 {
     if is_shown(mode, entry) {
-        put_line(text, entry, names, out)
+        put_line(text, mode, entry, names, out)
     } else {
         Ok(())
     }

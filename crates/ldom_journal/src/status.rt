@@ -24,6 +24,9 @@ pub enum LimitKind {
 
     /// The bytes of a line.
     Bytes,
+
+    /// The entries of the journal as a line begins.
+    Entries,
 }
 
 /// How a run ended. Lines of the script are counted from 1.
@@ -53,7 +56,8 @@ pub enum Status {
     /// The image is shorter than the disks that the script declares: their bytes, and its own.
     ImageSize { need: u64, have: u64 },
 
-    /// A line of the script is past a limit.
+    /// A line of the script is past a limit. At `Entries` the line was read, but not run: the journal has `MOST_ENTRIES` or
+    /// more.
     Limit { line: u32, kind: LimitKind },
 
     /// Memory was wanted and there was none.

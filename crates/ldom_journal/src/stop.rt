@@ -3,11 +3,14 @@ ghost use Rattle.std.specs.Prelude.{◌≡◌, ◌-◌, ◌^◌, ◌<◌, IfErr,
 ghost use Rattle.domain_script.specs.declared.lines.LinesStop.TheVariants.{Going};
 ghost use Rattle.domain_script.specs.LinesState.{GivesLine, to_come};
 ghost use Rattle.ldom_journal.specs.Failing.{Fails};
-ghost use Rattle.ldom_journal.specs.Stops.{StopsReading, stop_of, stop_status};
+ghost use Rattle.ldom_journal.specs.Stops.{StopsReading, stop_lines, stop_of, stop_status};
 
 use crate::status::{LimitKind, Status};
 use domain_script::{LineFault, Lines, LinesFault};
 use vio_io::Source;
+
+/// With so many entries, or more, no further line is run.
+pub const MOST_ENTRIES: usize = 2_000_000;
 
 /// Why no further line is taken up.
 #[derive(Clone, Copy, Debug, PartialEq, Eq)]
@@ -26,6 +29,9 @@ pub enum Stop {
 
     /// The line that was read spells nothing.
     Faulty(LineFault),
+
+    /// The line that was read begins with too many entries. A reader never says so: whoever runs the lines does.
+    Entries,
 }
 
 impl Stop {
@@ -43,6 +49,21 @@ impl Stop {
             },
             Stop::Memory => Status::NoMemory,
             Stop::Faulty(fault) => Status::Script { line: lines, fault },
+            Stop::Entries => Status::Limit {
+                line: lines,
+                kind: LimitKind::Entries,
+            },
+        }
+    }
+
+    /// How many lines the report counts where the lines stop so, after that many were read: not the one that begins
+    /// with too many entries.
+    pub fn counted(self, lines: u32) -> u32
+        ensures { result ≡ stop_lines self lines }
+    {
+        match self {
+            Stop::Entries => lines.saturating_sub(1),
+            _ => lines,
         }
     }
 

@@ -1,6 +1,6 @@
 ghost use Rattle.std.specs.Prelude.{◌≡◌, ◌%◌, ◌≤◌, ◌<◌, [], ◌∷◌, ◌++◌, List, length, IfOk, OnOk};
 ghost use Rattle.domain_script.specs.declared.event.DiskDecl.{DiskDecl};
-ghost use Rattle.ldom_journal.specs.HasWords.{HasWords};
+ghost use Rattle.ldom_journal.specs.HasWords.{HasFault, HasWords, IsEnd};
 
 use crate::*;
 use domain_script::{DiskDecl, Event, Fill, Name};
@@ -8,10 +8,24 @@ use std::alloc::Global;
 use std::test::Fail;
 use vio_io::ListSink;
 
-const D0: Who = Who::Lane(Lane::Disk(0));
+mod ended;
+mod steps;
+mod words;
+
+pub(crate) const D0: Who = Who::Lane(Lane::Disk(0));
+
+pub(crate) const CLIENT: EndName = EndName {
+    lane: Lane::Disk(0),
+    side: Side::Client,
+};
+
+pub(crate) const SERVER: EndName = EndName {
+    lane: Lane::Disk(0),
+    side: Side::Server,
+};
 
 /// One disk, `d0`.
-fn one_disk() -> Names
+pub(crate) fn one_disk() -> Names
     ensures { length result.disks ≡ 1 }
 {
     let mut names = Names::new();
@@ -28,7 +42,7 @@ fn one_disk() -> Names
 }
 
 /// Puts an entry last.
-fn note(journal: &mut Journal, entry: Entry) -> Result<(), NoMemory>
+pub(crate) fn note(journal: &mut Journal, entry: Entry) -> Result<(), NoMemory>
     ensures { OnOk result (journal.new.entries ≡ journal.old.entries ++ entry ∷ []) }
 {
     journal.reserve(1)?;
@@ -37,7 +51,7 @@ fn note(journal: &mut Journal, entry: Entry) -> Result<(), NoMemory>
 }
 
 /// A journal of one entry.
-fn journal_of(alloc: Global, entry: Entry) -> Result<Journal, NoMemory>
+pub(crate) fn journal_of(alloc: Global, entry: Entry) -> Result<Journal, NoMemory>
     ensures { IfOk result (λ journal. journal.entries ≡ entry ∷ []) }
 {
     let mut journal = Journal::new(alloc);
@@ -46,7 +60,7 @@ fn journal_of(alloc: Global, entry: Entry) -> Result<Journal, NoMemory>
 }
 
 /// What a mode shows of an entry of the disk.
-fn shown(alloc: Global, mode: Mode, entry: Entry) -> Result<ListSink, Fail>
+pub(crate) fn shown(alloc: Global, mode: Mode, entry: Entry) -> Result<ListSink, Fail>
     requires { (disks : List DiskDecl) → length disks ≡ 1 → HasWords disks entry }
 {
     let names = one_disk();
@@ -57,7 +71,7 @@ fn shown(alloc: Global, mode: Mode, entry: Entry) -> Result<ListSink, Fail>
 }
 
 /// A completion of the disk's request 0, with no bytes.
-fn done(alloc: Global, operation: u8, status: u32) -> Entry
+pub(crate) fn done(alloc: Global, operation: u8, status: u32) -> Entry
     requires least { 1 ≤ operation }
     requires most { operation ≤ 3 }
     requires no_data { operation ≡ 1 → 0 < status }
@@ -72,28 +86,18 @@ fn done(alloc: Global, operation: u8, status: u32) -> Entry
     }
 }
 
-/// A read that gave these bytes.
-fn read_of(alloc: Global, bytes: &[u8]) -> Result<Entry, NoMemory>
-    requires some { 0 < length bytes.now }
-    requires blocks { length bytes.now % 512 ≡ 0 }
-    ensures { IfOk result (λ entry. (disks : List DiskDecl) → length disks ≡ 1 → HasWords disks entry) }
+/// A reset without a packet.
+pub(crate) fn reset(end: EndName, cause: Cause, lost: u32) -> Entry
+    requires declared { (disks : List DiskDecl) → length disks ≡ 1 → IsEnd disks end }
+    requires fault { HasFault cause }
+    ensures { (disks : List DiskDecl) → length disks ≡ 1 → HasWords disks result }
 {
-    Ok(Entry::Done {
-        disk: 0,
-        id: 0,
-        operation: VD_OP_BREAD,
-        status: 0,
-        bytes: Bytes::from_slice(alloc, bytes)?,
-    })
-}
-
-/// 128 blocks, none of which repeats a shorter word.
-fn without_repetition() -> [u8; 65536] {
-    let mut bytes = [0; 65536];
-    for (k, byte) in bytes.iter_mut().enumerate() {
-        *byte = (k / 2 % 256) as u8;
+    Entry::Reset {
+        end,
+        cause,
+        packet: None,
+        lost,
     }
-    bytes
 }
 
 #[test]
@@ -174,123 +178,6 @@ fn trace_alone_shows_accepted(rt: HostRuntime) -> Result<(), Fail> {
             };
             assert_eq!(rt; shown(alloc, mode, accepted)?.bytes(), text);
         }
-    }
-    Ok(())
-}
-
-#[test]
-fn a_block_is_shown_by_its_shortest_word(rt: HostRuntime) -> Result<(), Fail> {
-    let alloc = rt.alloc();
-    let words = [
-        (b"\0".as_slice(), b"done d0 0 read 0 *00\n".as_slice()),
-        (b"log.", b"done d0 0 read 0 *6c6f672e\n"),
-        (b"\xabc\xabc", b"done d0 0 read 0 *ab63\n"),
-    ];
-    for (word, line) in words {
-        let mut block = [0; 512];
-        for (k, byte) in block.iter_mut().enumerate() {
-            *byte = word.get(k % word.len().max(1)).copied().unwrap_or(0);
-        }
-        let read = read_of(alloc, &block)?;
-        assert_eq!(rt; shown(alloc, Mode::Run, read)?.bytes(), line);
-    }
-    Ok(())
-}
-
-#[test]
-fn a_failing_sink_gets_a_front_of_the_lines(rt: HostRuntime) -> Result<(), Fail> {
-    let alloc = rt.alloc();
-    let names = one_disk();
-    let journal = journal_of(alloc, read_of(alloc, &without_repetition())?)?;
-    let mut whole = ListSink::new(alloc, 200_000, &[])?;
-    journal.write_text(Mode::Run, &names, &mut whole)?;
-    // A block without repetition has 1,024 digits.
-    assert_eq!(rt;
-        whole.bytes().len(),
-        b"done d0 0 read 0".len() + 128 * (b" *".len() + 1024) + 1
-    );
-    for (call, least) in [(0, 0), (1, 61_440), (2, 122_880)] {
-        let mut sink = ListSink::new(alloc, 200_000, &[call])?;
-        let result = journal.write_text(Mode::Run, &names, &mut sink);
-        assert_eq!(rt; result, Err(Failed));
-        assert!(rt; sink.bytes().len() >= least && sink.bytes().len() < whole.bytes().len());
-        assert!(rt; whole.bytes().starts_with(sink.bytes()));
-    }
-    Ok(())
-}
-
-#[test]
-fn the_last_line_tells_the_status(rt: HostRuntime) -> Result<(), Fail> {
-    let alloc = rt.alloc();
-    let mut journal = Journal::new(alloc);
-    for id in 0..2 {
-        let request = KeptRequest::new(alloc, &Request::Flush)?;
-        note(
-            &mut journal,
-            Entry::Accepted {
-                disk: 0,
-                id,
-                request,
-            },
-        )?;
-    }
-    note(&mut journal, done(alloc, VD_OP_FLUSH, 0))?;
-    note(&mut journal, Entry::Settled)?;
-    let word = Status::Script {
-        line: 2,
-        fault: LineFault::Word,
-    };
-    let lines = Status::Limit {
-        line: 20001,
-        kind: LimitKind::Lines,
-    };
-    let bytes = Status::Limit {
-        line: 1,
-        kind: LimitKind::Bytes,
-    };
-    let rows = [
-        (
-            4,
-            Status::Done,
-            b"end lines=4 accepted=2 done=1 pending=1 resets=0 frames=0 status=0\n".as_slice(),
-        ),
-        (
-            2,
-            word,
-            b"end lines=2 accepted=2 done=1 pending=1 resets=0 frames=0 status=2 at=2 fault=word\n",
-        ),
-        (
-            20000,
-            lines,
-            b"end lines=20000 accepted=2 done=1 pending=1 resets=0 frames=0 status=8 at=20001 limit=lines\n",
-        ),
-        (
-            0,
-            bytes,
-            b"end lines=0 accepted=2 done=1 pending=1 resets=0 frames=0 status=8 at=1 limit=bytes\n",
-        ),
-        (
-            2,
-            Status::ImageSize {
-                need: 32_768,
-                have: 512,
-            },
-            b"end lines=2 accepted=2 done=1 pending=1 resets=0 frames=0 status=7 need=32768 have=512\n",
-        ),
-        (
-            20000,
-            Status::ImageSize {
-                need: u64::MAX,
-                have: 0,
-            },
-            b"end lines=20000 accepted=2 done=1 pending=1 resets=0 frames=0 status=7 need=18446744073709551615 have=0\n",
-        ),
-        (0, Status::Usage, b"usage: ldom COMMAND [WORD]\n"),
-    ];
-    for (count, status, line) in rows {
-        let mut sink = ListSink::new(alloc, 4096, &[])?;
-        write_end(&journal, count, &status, &mut sink)?;
-        assert_eq!(rt; sink.bytes(), line);
     }
     Ok(())
 }

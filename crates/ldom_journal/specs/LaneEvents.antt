@@ -1,0 +1,113 @@
+-- What the entries of a journal say of the lanes of disks. `world_event` alone lists the kinds of entry: laws of lanes read it.
+use Rattle.std.specs.Prelude.{ℕ, Bool, true, false, ◌==◌, ◌&&◌, if◌then◌else◌, Option, Some, None}
+use Rattle.ldc_queue.specs.declared.end.End.{End}
+use Rattle.ldc_queue.specs.declared.end.End.TheVariants.{A, B}
+use Rattle.lane_law.specs.WireEvent.{WireEvent, Declines, NothingLost}
+use Rattle.lane_law.specs.WireEvent as wire
+use Rattle.disk_steps.specs.DiskEvent.{DiskEvent, OnWire, Asks, Works, Turns, Rests, Worked, Calm, CalmTick, CalmStop, CalmStart, CalmReset, CalmRestart}
+use Rattle.disk_steps.specs.DiskEvent as disk
+use Rattle.lanes_settle.specs.Settle.{SettleEntry, OfLane}
+use Rattle.lanes_world.specs.Lines.{Asked, Call, Calls, Line, Loses, Resets, Restarts, Starts, Stops, Ticks}
+use Rattle.lanes_settle.specs.Settle as settle
+use Rattle.domain_script.specs.declared.event.EndName.{EndName}
+use Rattle.domain_script.specs.declared.event.Lane.{Lane}
+use Rattle.domain_script.specs.declared.event.Lane.TheVariants.{Disk}
+use Rattle.domain_script.specs.declared.event.Side.{Side}
+use Rattle.domain_script.specs.declared.event.Side.TheVariants.{Client, Server}
+use Rattle.ldom_journal.specs.declared.entry.Entry.{Entry}
+use Rattle.ldom_journal.specs.declared.entry.Entry.TheVariants as entry
+use Rattle.ldom_journal.specs.declared.entry.Who.{Who}
+use Rattle.ldom_journal.specs.declared.entry.Who.TheVariants.{Lane as OfWhole, End as OfEnd}
+use Rattle.ldom_journal.specs.declared.entry.Why.{Why}
+use Rattle.ldom_journal.specs.DiskEvents.{defect_of}
+
+-- the end of a channel that a side has
+abbrev pub end_of : Side → End
+end_of Client = A
+end_of Server = B
+
+-- the number of a lane
+abbrev pub lane_number : Lane → ℕ
+lane_number (Disk k) = k
+
+-- whether an end is this one of this lane
+abbrev pub is_same : End → End → Bool
+is_same A A = true
+is_same B B = true
+is_same _ _ = false
+
+abbrev pub is_end : ℕ → End → EndName → Bool
+is_end j e name = (j == lane_number name.lane) && is_same e (end_of name.side)
+
+-- an event where this holds, and else none
+abbrev pub if_so : Bool → SettleEntry → Option SettleEntry
+if_so true x = Some x
+if_so false x = None
+
+-- an event of an end's lane
+abbrev pub of_lane : EndName → DiskEvent → Option SettleEntry
+of_lane e event = Some (OfLane (lane_number e.lane) event)
+
+abbrev pub on_wire : EndName → WireEvent → Option SettleEntry
+on_wire e event = of_lane e (OnWire event)
+
+-- the work of a client, and that of a server: of the other end there is none
+abbrev pub of_client : Side → EndName → DiskEvent → Option SettleEntry
+of_client Client e event = of_lane e event
+of_client Server e event = None
+
+abbrev pub of_server : Side → EndName → DiskEvent → Option SettleEntry
+of_server Server e event = of_lane e event
+of_server Client e event = None
+
+-- a request that found no room, or was refused, on the disk that the line names
+abbrev pub full_event : Line → Who → Option SettleEntry
+full_event (Asked j request) (OfWhole (Disk k)) = if_so (j == k) (OfLane k (Asks (disk.Full request)))
+full_event _ _ = None
+
+abbrev pub refused_event : Line → Who → Why → Option SettleEntry
+refused_event (Asked j request) (OfWhole (Disk k)) why = if_so (j == k) (OfLane k (Asks (disk.Refused (defect_of why) request)))
+refused_event _ _ why = None
+
+-- What was asked of a lane and changes nothing there: of the lane that the line names, or of the end that it names.
+abbrev pub called_event : ℕ → Call → Who → Option SettleEntry
+called_event j Stops (OfWhole (Disk k)) = if_so (j == k) (OfLane k (Rests CalmStop))
+called_event j Starts (OfWhole (Disk k)) = if_so (j == k) (OfLane k (Rests CalmStart))
+called_event j Ticks (OfWhole (Disk k)) = if_so (j == k) (OfLane k (Rests CalmTick))
+called_event j (Resets e) (OfEnd name) = if_so (is_end j e name) (OfLane j (Rests (CalmReset e)))
+called_event j Restarts (OfEnd name) = if_so (is_end j B name) (OfLane j (Rests CalmRestart))
+called_event j (Loses e) (OfEnd name) = if_so (is_end j e name) (OfLane j (OnWire (Declines (NothingLost e))))
+called_event j _ _ = None
+
+abbrev pub calm_event : Line → Who → Option SettleEntry
+calm_event (Calls j call) who = called_event j call who
+calm_event _ who = None
+
+abbrev pub unsettled_event : Who → Option SettleEntry
+unsettled_event (OfWhole (Disk k)) = Some (settle.Unsettled k)
+unsettled_event (OfEnd e) = None
+
+-- WHAT AN ENTRY IS FOR THE LANES, where it came in the part of this line; none where it doesn't belong to it, or to its end
+abbrev pub world_event : Line → Entry → Option SettleEntry
+world_event asked (entry.Accepted k id request) = Some (OfLane k (Asks (disk.Accepted id request)))
+world_event asked (entry.Full who) = full_event asked who
+world_event asked (entry.Refused who why) = refused_event asked who why
+world_event asked (entry.Lost e packet) = on_wire e (wire.Lost (end_of e.side) packet)
+world_event asked (entry.Stopped k) = Some (OfLane k (Turns disk.Stopped))
+world_event asked (entry.Started k) = Some (OfLane k (Turns disk.Started))
+world_event asked (entry.Calm who) = calm_event asked who
+world_event asked entry.Settled = Some settle.Settled
+world_event asked (entry.Unsettled who) = unsettled_event who
+world_event asked (entry.Idle e) = on_wire e (wire.Idle (end_of e.side))
+world_event asked (entry.Off e) = of_server e.side e (Turns disk.Off)
+world_event asked (entry.Blocked e) = on_wire e (wire.Blocked (end_of e.side))
+world_event asked (entry.Joined e lost) = on_wire e (wire.Joined (end_of e.side) lost)
+world_event asked (entry.Took e packet opens) = on_wire e (wire.Took (end_of e.side) packet opens)
+world_event asked (entry.Sent e packet opens) = on_wire e (wire.Sent (end_of e.side) packet opens)
+world_event asked (entry.Published e id) = of_client e.side e (Works (disk.Published id))
+world_event asked (entry.Done k id operation status bytes) = Some (OfLane k (Works (disk.Done id operation status bytes.items)))
+world_event asked (entry.Desc e slot bytes) = of_server e.side e (Works (disk.Desc slot bytes))
+world_event asked (entry.Moved e unit fault) = of_server e.side e (Works (disk.Moved unit fault))
+world_event asked (entry.Stored e operation block count failed) = of_server e.side e (Works (disk.Stored operation block count failed))
+world_event asked (entry.Finished e slot status) = of_server e.side e (Works (disk.Finished slot status))
+world_event asked (entry.Reset e cause packet lost) = on_wire e (wire.Reset (end_of e.side) cause packet lost)
