@@ -6,7 +6,7 @@ use Rattle.std.proofs.lemmas.List.{length-map}
 use Rattle.hex.proofs.HexLemmas.{decode_of-ok}
 use Rattle.domain_script.specs.declared.event.LineFault.{LineFault}
 use Rattle.domain_script.specs.ScriptLines.{BeginsWithLonger, TakesLine, TakesLines, script_lines, with_front}
-use Rattle.ldom_journal.specs.declared.status.LimitKind.TheVariants.{Lines, Bytes}
+use Rattle.ldom_journal.specs.declared.status.LimitKind.TheVariants.{Lines, Bytes, Entries}
 use Rattle.ldom_journal.specs.declared.status.Status.{Status}
 use Rattle.ldom_journal.specs.declared.status.Status.TheVariants as the_status
 use Rattle.ldom_dump.specs.Decoded.{Decoded}
@@ -67,6 +67,7 @@ ended the_status.SourceFault status old new rest now held all bytes taken stop w
 ended the_status.SinkFault status old new rest now held all bytes taken stop written whole source sink = absurd (sink written.0)
 ended (the_status.Script at fault) status old new rest now held all bytes taken stop written whole source sink = absurd (no_fault rest (prepend_known held now) bytes _ fault taken stop.2 whole.digits)
 ended (the_status.Limit at Bytes) status old new rest now held all bytes taken stop written whole source sink = absurd (none_longer rest bytes _ taken stop.1.1 whole.digits)
+ended (the_status.Limit at Entries) status old new rest now held all bytes taken stop written whole source sink = absurd stop.1
 ended (the_status.Limit at Lines) status old new rest now held all bytes taken stop written whole source sink =
     absurd (none_more rest bytes _ taken (length-map all (λ (d : Decoded). d.line) ∙ stop.1.0) stop.1.1 whole.few)
 ended the_status.Usage status old new rest now held all bytes taken stop written whole source sink = absurd stop

@@ -17,7 +17,11 @@ use Rattle.domain_script.specs.ScriptLines.{script_lines}
 use Rattle.domain_script.proofs.ComputedEvents.{events_spelled}
 use Rattle.infallible_io.specs.States.{InfallibleDiskState}
 use Rattle.ldom_journal.specs.BlockWord.{blocks_text, repeats, word_length}
-use Rattle.replay_law.specs.Clean.{IsCleanScript}
+use Rattle.ldom_journal.specs.declared.entry.Entry.{Entry}
+use Rattle.ldom_journal.specs.declared.status.LimitKind.{LimitKind}
+use Rattle.ldom_journal.specs.declared.status.Status.{Status}
+use Rattle.ldom_journal.specs.declared.status.Status.TheVariants as status
+use Rattle.replay_law.specs.Clean.{IsCleanScript, IsFull}
 use Rattle.replay_law.specs.PlainRun.{plain_content, plain_ids, plain_text}
 use Rattle.replay_law.specs.Quiet.{IsQuietScript}
 use Rattle.replay_law.proofs.PlainRows.{a_read_sees_the_write}
@@ -97,3 +101,16 @@ image_is None is = absurd is
 image_is (Some d) is =
     let told : d.bytes ≡ plain_content disk zeros events = cc is in
     told ∙ content_is
+
+-- where the journal is full the status is a limit's
+pub full_limit : (why : Status) (journal : List Entry) → IsFull why journal → (line : ℕ) × (kind : LimitKind) × (why ≡ status.Limit line kind)
+full_limit (status.Limit line kind) journal full = (line, kind, refl)
+full_limit status.Done journal full = absurd full
+full_limit status.Usage journal full = absurd full
+full_limit (status.Script line fault) journal full = absurd full
+full_limit status.SourceFault journal full = absurd full
+full_limit status.SinkFault journal full = absurd full
+full_limit status.HostFault journal full = absurd full
+full_limit status.StoreFault journal full = absurd full
+full_limit (status.ImageSize need have) journal full = absurd full
+full_limit status.NoMemory journal full = absurd full

@@ -11,6 +11,24 @@ use ldom_replay::{Outcome, Status, replay};
 use std::alloc::Global;
 use vio_bytes::NoMemory;
 
+/// Why the script did not come to its end.
+#[derive(Clone, Copy, Debug, PartialEq, Eq)]
+pub enum Unfinished {
+    /// Memory was wanted.
+    Memory,
+
+    /// A line began with too many entries.
+    Full,
+}
+
+impl From<NoMemory> for Unfinished {
+    fn from(_: NoMemory) -> Self
+        ensures { result ≡ Unfinished.Memory }
+    {
+        Unfinished::Memory
+    }
+}
+
 /// What came of the script.
 #[derive(Drop)]
 pub struct Example {
@@ -18,9 +36,9 @@ pub struct Example {
     pub report: GrowingSink,
 }
 
-/// Replays one write and one read of the blocks around it over a disk of zeros. The status is 0, or memory was wanted,
-/// which is status 9.
-pub fn one_write_and_one_read(alloc: Global) -> Result<Example, NoMemory>
+/// Replays one write and one read of the blocks around it over a disk of zeros. The status is 0, or the run is
+/// unfinished: memory was wanted, which is status 9, or its journal is full, which is status 8.
+pub fn one_write_and_one_read(alloc: Global) -> Result<Example, Unfinished>
     ensures report { IfOk result (λ e. e.report.written ≡ report) }
     ensures image { IfOk result (λ e. IsSomeAnd e.outcome.image (λ disk. disk.bytes ≡ image)) }
     ensures ids { IfOk result (λ e. completed_ids e.outcome.journal.entries ≡ 0 ∷ 1 ∷ []) }
@@ -39,7 +57,9 @@ pub fn one_write_and_one_read(alloc: Global) -> Result<Example, NoMemory>
     match outcome.status {
         Status::Done => Ok(Example { outcome, report }),
         // The sink fails for want of memory alone.
-        Status::NoMemory | Status::SinkFault => Err(NoMemory),
+        Status::NoMemory | Status::SinkFault => Err(Unfinished::Memory),
+        // The script is past no limit, but the journal may be.
+        Status::Limit { .. } => Err(Unfinished::Full),
         // The script is clean, and no other object can fail.
         _ => unreachable!(),
     }

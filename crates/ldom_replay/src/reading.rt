@@ -1,18 +1,18 @@
 // What a run has read of its script.
-ghost use Rattle.std.specs.Prelude.{◌≡◌, ◌+◌, ◌≤◌, [], IfErr, IfOk, OnOk};
+ghost use Rattle.std.specs.Prelude.{◌≡◌, ◌+◌, ◌<◌, ◌≤◌, [], length, IfErr, IfOk, OnOk};
 ghost use Rattle.domain_script.specs.declared.lines.LinesStop.TheVariants.{Going};
 ghost use Rattle.domain_script.specs.LinesState.{to_come};
 ghost use Rattle.domain_script.specs.ScriptEvents.{no_names};
 ghost use Rattle.domain_script.specs.Spells.{IsDeclared};
-ghost use Rattle.ldom_journal.specs.LinesEnd.{counted_lines};
-ghost use Rattle.ldom_journal.specs.Stops.{stop_status};
+ghost use Rattle.ldom_journal.specs.LinesEnd.{counted_lines, most_entries};
+ghost use Rattle.ldom_journal.specs.Stops.{stop_lines, stop_status};
 ghost use Rattle.ldom_journal.specs.Failing.{Fails};
 ghost use Rattle.replay_law.specs.Reading.{ReadsEvent, StopsAt};
 ghost use Rattle.domain_script.specs.Limits.{most_lines};
 
 use crate::run::Run;
 use domain_script::{Event, Lines, Names, parse_into};
-use ldom_journal::{Journal, Status, Stop, next_line};
+use ldom_journal::{Journal, MOST_ENTRIES, Status, Stop, next_line};
 use std::alloc::Global;
 use vio_bytes::NoMemory;
 use vio_io::{Source, Store};
@@ -40,7 +40,8 @@ impl Reader {
         })
     }
 
-    /// Reads the event of the next line, which is noted in the names; else says why no line was taken up.
+    /// Reads the event of the next line, which is noted in the names; else says why no line was taken up. A line that
+    /// begins with too many entries is read, and nothing is made of it.
     pub fn read_event<S: Source>(&mut self, source: &mut S, event: &mut Event) -> Result<(), Stop>
         requires going { self.old.lines.stop ≡ Going }
         requires few { self.old.lines.number ≤ most_lines }
@@ -51,16 +52,20 @@ impl Reader {
         ensures next { OnOk result ((self.new.lines.number ≡ self.old.lines.number + 1)
             × (self.new.lines.number ≤ most_lines) × (self.new.lines.stop ≡ Going)) }
         ensures most { self.new.lines.number ≤ most_lines }
+        ensures below { OnOk result (length self.old.journal.entries < most_entries) }
         ensures journal { self.new.journal ≡ self.old.journal }
 
         ensures stop { IfErr result (λ stop. StopsAt (stop_status stop self.new.lines.number)
             (to_come self.old.lines (S.left source.old)) self.new.lines.held (S.left source.new) self.old.names
-            self.old.lines.number) }
-        ensures lines { IfErr result (λ stop. (self.new.lines.number ≡ counted_lines
+            self.old.lines.number (length self.old.journal.entries)) }
+        ensures lines { IfErr result (λ stop. (stop_lines stop self.new.lines.number ≡ counted_lines
             (stop_status stop self.new.lines.number) self.old.lines.number) × (self.new.names ≡ self.old.names)) }
         ensures source { Fails (result ≡ Err Stop.Source) (S.faults source.old) (S.faults source.new) }
     {
         next_line(&mut self.lines, source)?;
+        if self.journal.len() >= MOST_ENTRIES {
+            return Err(Stop::Entries);
+        }
         match parse_into(self.lines.line(), &self.names, event) {
             Ok(()) => {
                 self.names.note(event);
@@ -78,17 +83,31 @@ impl Reader {
         stop.status(self.lines.number())
     }
 
-    /// The run of what was read, with this status and this image.
-    pub fn into_run<D: Store>(self, status: Status, image: Option<D>) -> Run<D>
+    /// How many lines the report counts of a run whose lines stop so.
+    pub fn counted(&self, stop: Stop) -> u32
+        ensures { result ≡ stop_lines stop self.now.lines.number }
+    {
+        stop.counted(self.lines.number())
+    }
+
+    /// How many lines were read.
+    pub fn number(&self) -> u32
+        ensures { result ≡ self.now.lines.number }
+    {
+        self.lines.number()
+    }
+
+    /// The run of what was read, with this status, this image, and so many lines for its report.
+    pub fn into_run<D: Store>(self, status: Status, lines: u32, image: Option<D>) -> Run<D>
         ensures status { result.status ≡ status }
-        ensures lines { result.lines ≡ self.lines.number }
+        ensures lines { result.lines ≡ lines }
         ensures names { result.names ≡ self.names }
         ensures journal { result.journal ≡ self.journal }
         ensures image { result.image ≡ image }
     {
         Run {
             status,
-            lines: self.lines.number(),
+            lines,
             names: self.names,
             journal: self.journal,
             image,

@@ -6,7 +6,7 @@ ghost use Rattle.domain_script.specs.declared.lines.LinesStop.TheVariants.{Going
 ghost use Rattle.domain_script.specs.LinesState.{to_come};
 ghost use Rattle.domain_script.specs.Spells.{IsDeclared};
 ghost use Rattle.ldom_journal.specs.Report.{accepted_count};
-ghost use Rattle.ldom_journal.specs.Stops.{stop_status};
+ghost use Rattle.ldom_journal.specs.Stops.{stop_lines, stop_status};
 ghost use Rattle.ldom_journal.specs.Failing.{Fails};
 ghost use Rattle.replay_law.specs.Going.{RunsAll, RunsLines};
 ghost use Rattle.replay_law.specs.Attached.{AreOpening};
@@ -32,6 +32,7 @@ fn read_opening<S: Source>(reader: &mut Reader, source: &mut S) -> Result<Event,
     requires going { reader.old.lines.stop ≡ Going }
     requires first { reader.old.lines.number ≡ 0 }
     requires names { reader.old.names ≡ no_names }
+    requires empty { reader.old.journal.entries ≡ [] }
 
     ensures opens { IfOk result (λ event. Opens (to_come reader.old.lines (S.left source.old))
         (to_come reader.new.lines (S.left source.new)) event reader.new.names reader.new.lines.number) }
@@ -42,7 +43,8 @@ fn read_opening<S: Source>(reader: &mut Reader, source: &mut S) -> Result<Event,
     ensures journal { reader.new.journal ≡ reader.old.journal }
 
     ensures stops { IfErr result (λ stop. OpensAndStops (to_come reader.old.lines (S.left source.old))
-        (S.left source.new) (stop_status stop reader.new.lines.number) reader.new.names reader.new.lines.number) }
+        (S.left source.new) (stop_status stop reader.new.lines.number) reader.new.names
+        (stop_lines stop reader.new.lines.number)) }
     ensures few { length reader.new.names.disks ≤ 1 }
     ensures source { Fails (result ≡ Err Stop.Source) (S.faults source.old) (S.faults source.new) }
 {
@@ -77,7 +79,7 @@ fn run_lines<S: Source, D: Store>(reader: &mut Reader, source: &mut S, world: &m
     ensures runs { RunsLines (to_come reader.old.lines (S.left source.old)) (S.left source.new) reader.old.names
         reader.old.journal.entries world.old reader.old.lines.number
         (stop_status result reader.new.lines.number) reader.new.names reader.new.journal.entries world.new
-        reader.new.lines.number }
+        (stop_lines result reader.new.lines.number) }
     ensures most { reader.new.lines.number ≤ most_lines }
     ensures source { Fails (result ≡ Stop.Source) (S.faults source.old) (S.faults source.new) }
 {
@@ -139,7 +141,8 @@ pub fn run_script<H: Host, S: Source>(
             Stop::End => attach(alloc, name, host, source, reader, None),
             other => {
                 let status = reader.status(other);
-                reader.into_run(status, None)
+                let lines = reader.counted(other);
+                reader.into_run(status, lines, None)
             }
         },
     }
@@ -173,7 +176,10 @@ fn attach<H: Host, S: Source>(
 {
     match host.attach(alloc, name, BLOCK * blocks_declared(&reader.names)) {
         Ok(image) => run_over(alloc, image, source, reader, first),
-        Err(fault) => reader.into_run(status_of(fault), None),
+        Err(fault) => {
+            let lines = reader.number();
+            reader.into_run(status_of(fault), lines, None)
+        }
     }
 }
 
@@ -204,14 +210,15 @@ fn run_over<D: Store, S: Source>(
     ensures host_fault { result.status ≢ Status.HostFault }
     ensures image { IsSome result.image }
 {
+    let lines = reader.number();
     let need = BLOCK * blocks_declared(&reader.names);
     let have = image.len();
     if have < need {
-        return reader.into_run(Status::ImageSize { need, have }, Some(image));
+        return reader.into_run(Status::ImageSize { need, have }, lines, Some(image));
     }
     match World::new(alloc, &reader.names, image) {
         Ok(world) => run_world(source, reader, world, first),
-        Err((NoMemory, given_back)) => reader.into_run(Status::NoMemory, Some(given_back)),
+        Err((NoMemory, given_back)) => reader.into_run(Status::NoMemory, lines, Some(given_back)),
     }
 }
 
@@ -246,7 +253,8 @@ fn run_world<S: Source, D: Store>(
 {
     let stop = run_first(first, &mut reader, source, &mut world);
     let status = ended(reader.status(stop), world.faulty());
-    reader.into_run(status, Some(world.finish()))
+    let lines = reader.counted(stop);
+    reader.into_run(status, lines, Some(world.finish()))
 }
 
 // The status of a run that came so far: at the input's end a faulty image has its own.
@@ -275,7 +283,7 @@ fn run_first<S: Source, D: Store>(
     ensures runs { (start : Option (List ℕ))
         → Opened start reader.old.lines.held (S.left source.old) first reader.old.names reader.old.lines.number
         → RunsAll start (S.left source.new) reader.old.names world.old (stop_status result reader.new.lines.number)
-        reader.new.names reader.new.journal.entries world.new reader.new.lines.number }
+        reader.new.names reader.new.journal.entries world.new (stop_lines result reader.new.lines.number) }
     ensures most { reader.new.lines.number ≤ most_lines }
     ensures source { Fails (result ≡ Stop.Source) (S.faults source.old) (S.faults source.new) }
 {

@@ -15,7 +15,7 @@ ghost use Rattle.ldom_journal.specs.Report.{report, usage_line};
 ghost use Rattle.ldom_dump.specs.DumpReport.{Dumps};
 ghost use Rattle.ldom_dump.specs.Whole.{IsWhole};
 ghost use Rattle.replay_law.specs.Counts.{FaultsTold, NoneFailed, counts};
-ghost use Rattle.replay_law.specs.Clean.{IsCleanScript, NeverFails, StandsStill};
+ghost use Rattle.replay_law.specs.Clean.{EndsClean, IsCleanScript, NeverFails, StandsStill};
 ghost use Rattle.replay_law.specs.Failures.{SucceedOrFail, failed_count};
 ghost use Rattle.replay_law.specs.Outside.{IsOutsideAccepted, KeepsGiven};
 ghost use Rattle.ldom_journal.specs.DiskEvents.{history};
@@ -85,21 +85,21 @@ pub fn replay<H: Host, S: Source, K: Sink>(
         (IsOutsideAccepted result.journal.entries) (H.Disk.content disk)) }
 
     // A script without faults and within the limits, over `-` or an image that is as long as its disks, is run to its
-    // end, where no count rose and memory suffices.
+    // end, where no count rose and memory suffices, or to a line that begins with too many entries.
     ensures complete { (image : List ℕ) → AsksRun (map string_bytes words.now) image
         → (bytes : List ℕ) → S.left script.old ≡ Some bytes → (clean : IsCleanScript bytes)
         → NoneFailed (counts (S.faults script.old) (H.faults host.old) (K.faults out.old))
         (counts (S.faults script.new) (H.faults host.new) (K.faults out.new))
         → IfSome result.image (λ disk. H.Disk.faults disk ≡ 0)
         → (image ≢ codes "-" → IfSome result.image (λ disk. bytes_needed clean.names.disks ≤ H.Disk.size disk))
-        → (result.status ≡ Status.Done) ⊎ (result.status ≡ Status.NoMemory) }
+        → EndsClean result.status result.journal.entries }
 
     // So over a source, a host and a disk whose types never fail, where the sink doesn't either.
     ensures infallible { (image : List ℕ) → AsksRun (map string_bytes words.now) image
         → (bytes : List ℕ) → S.left script.old ≡ Some bytes → (clean : IsCleanScript bytes)
         → NeverFails S.faults → NeverFails H.faults → NeverFails H.Disk.faults
         → (image ≢ codes "-" → IfSome result.image (λ disk. bytes_needed clean.names.disks ≤ H.Disk.size disk))
-        → result.status ≢ Status.SinkFault → (result.status ≡ Status.Done) ⊎ (result.status ≡ Status.NoMemory) }
+        → result.status ≢ Status.SinkFault → EndsClean result.status result.journal.entries }
 
     // Each completion has status 0, or 5 where the image failed: no more of these than the image counts.
     ensures statuses { SucceedOrFail result.journal.entries }

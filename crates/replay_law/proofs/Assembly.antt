@@ -30,11 +30,11 @@ use Rattle.ldom_journal.specs.LinesEnd.{counted_lines}
 use Rattle.replay_law.specs.Reading.{StopsAt}
 use Rattle.replay_law.specs.Replayed.{FaultsAre, JournalIs, Replayed, Stopped, attach_status, ended_status, start_of}
 use Rattle.domain_script.specs.ScriptEvents.{AllSpell, no_names}
-use Rattle.replay_law.specs.Script.{FitsScript, FitsCutOff}
+use Rattle.replay_law.specs.Script.{BeginBelow, FitsScript, FitsCutOff}
 use Rattle.replay_law.specs.Worlds.{WorldState, blocks_of}
 use Rattle.replay_law.proofs.LineCases.{none_begun, noted_disks, silent, stays_ended}
 use Rattle.replay_law.proofs.ReadLemmas.{opening_halves, other_line, read_none}
-use Rattle.replay_law.proofs.RunLemmas.{fits_more, fits_none, keeps_same}
+use Rattle.replay_law.proofs.RunLemmas.{below_append, fits_more, fits_none, keeps_same}
 
 spell_append : (xs ys : List (List ℕ)) (a b c : NamesState) (es fs : List Event) → AllSpell xs a es b → AllSpell ys b fs c → AllSpell (xs ++ ys) a (es ++ fs) c
 spell_append [] ys a b c [] fs first second = subst (λ (n : NamesState). AllSpell ys n fs c) first second
@@ -62,34 +62,37 @@ from_start lines None none = refl
 from_start lines (Some bytes) none = ap (λ (l : List ℕ). Some (l ++ bytes)) none
 
 -- declarations give no entry
-fits_opening : (s : WorldState) (events : List Event) → AreOpening events → FitsScript s events [] s
-fits_opening s [] are = fits_none s
+fits_opening : (s : WorldState) (events : List Event) → AreOpening events → FitsScript 0 s events [] s
+fits_opening s [] are = fits_none 0 s
 fits_opening s (event ∷ events) are = one_first (fits_opening s events are.1)
   where
-    one_first : FitsScript s events [] s → FitsScript s (event ∷ events) [] s
+    one_first : FitsScript 0 s events [] s → FitsScript 0 s (event ∷ events) [] s
     one_first fits = record {
       lines = (event, []) ∷ fits.lines;
       events_are = ap (λ (l : List Event). event ∷ l) fits.events_are;
       parts = fits.parts;
       run = (s, silent s event are.0, fits.run);
+      begin_below = (omega arith, fits.begin_below);
     }
 
-fits_append : (s m t : WorldState) (es fs : List Event) (xs ys : List Entry) → FitsScript s es xs m → FitsScript m fs ys t → FitsScript s (es ++ fs) (xs ++ ys) t
-fits_append s m t es fs xs ys first second = record {
+fits_append : (entries : ℕ) (s m t : WorldState) (es fs : List Event) (xs ys : List Entry) → FitsScript entries s es xs m → FitsScript (entries + length xs) m fs ys t → FitsScript entries s (es ++ fs) (xs ++ ys) t
+fits_append entries s m t es fs xs ys first second = record {
   lines = first.lines ++ second.lines;
   events_are = map-append (λ (l : Event × List Entry). l.0) first.lines second.lines ∙ ap (λ (l : List Event). l ++ map (λ (x : Event × List Entry). x.0) second.lines) first.events_are ∙ ap (λ (l : List Event). es ++ l) second.events_are;
   parts = flat_map-append (λ (l : Event × List Entry). l.1) first.lines second.lines ∙ ap (λ (l : List Entry). l ++ flat_map (λ (x : Event × List Entry). x.1) second.lines) first.parts ∙ ap (λ (l : List Entry). xs ++ l) second.parts;
   run = run_append LineStep s m t first.lines second.lines first.run second.run;
+  begin_below = below_append entries first.lines second.lines first.begin_below (subst (λ (l : List Entry). BeginBelow (entries + length l) second.lines) (sym first.parts) second.begin_below);
 }
 
-cut_append : (s m t : WorldState) (es fs : List Event) (xs ys : List Entry) → FitsScript s es xs m → FitsCutOff m fs ys t → FitsCutOff s (es ++ fs) (xs ++ ys) t
-cut_append s m t es fs xs ys first second = record {
+cut_append : (entries : ℕ) (s m t : WorldState) (es fs : List Event) (xs ys : List Entry) → FitsScript entries s es xs m → FitsCutOff (entries + length xs) m fs ys t → FitsCutOff entries s (es ++ fs) (xs ++ ys) t
+cut_append entries s m t es fs xs ys first second = record {
   before = es ++ second.before;
   last = second.last;
   events_are = ap (λ (l : List Event). es ++ l) second.events_are ∙ sym (append_assoc es second.before (second.last ∷ []));
   front = xs ++ second.front;
   middle = second.middle;
-  fits = fits_append s m second.middle es second.before xs second.front first second.fits;
+  fits = fits_append entries s m second.middle es second.before xs second.front first second.fits;
+  begins_below = omega (arith, second.begins_below, length-append xs second.front);
   so_far = record {
     part = second.so_far.part;
     grew = ap (λ (l : List Entry). xs ++ l) second.so_far.grew ∙ sym (append_assoc xs second.front second.so_far.part);
@@ -98,12 +101,12 @@ cut_append s m t es fs xs ys first second = record {
   };
 }
 
-grew_append : (ending : Ending) (s m t : WorldState) (es fs : List Event) (xs ys : List Entry) → FitsScript s es xs m → GrewTo ending m fs ys t
-    → GrewTo ending s (es ++ fs) (xs ++ ys) t
-grew_append MayBeCut s m t es fs xs ys first (inl second) = inl (fits_append s m t es fs xs ys first second)
-grew_append MayBeCut s m t es fs xs ys first (inr second) = inr (cut_append s m t es fs xs ys first second)
-grew_append NotBegun s m t es fs xs ys first second = fits_append s m t es fs xs ys first second
-grew_append Whole s m t es fs xs ys first second = fits_append s m t es fs xs ys first second
+grew_append : (ending : Ending) (entries : ℕ) (s m t : WorldState) (es fs : List Event) (xs ys : List Entry) → FitsScript entries s es xs m → GrewTo ending (entries + length xs) m fs ys t
+    → GrewTo ending entries s (es ++ fs) (xs ++ ys) t
+grew_append MayBeCut entries s m t es fs xs ys first (inl second) = inl (fits_append entries s m t es fs xs ys first second)
+grew_append MayBeCut entries s m t es fs xs ys first (inr second) = inr (cut_append entries s m t es fs xs ys first second)
+grew_append NotBegun entries s m t es fs xs ys first second = fits_append entries s m t es fs xs ys first second
+grew_append Whole entries s m t es fs xs ys first second = fits_append entries s m t es fs xs ys first second
 
 -- a line came that is neither blank nor a declaration
 not_opening : (opening : List Event) (event : Event) → is_opening event ≡ false → AreOpening (opening ++ event ∷ []) → ⊥
@@ -115,15 +118,17 @@ attached_there events rest (inr first) are = absurd (not_opening first.opening f
 
 -- a run that stopped after the first such line
 abbrev stopped_behind : (start now : Option (List ℕ)) (held : List ℕ) (event : Event) (names : NamesState) (count : ℕ) (why : Status) → (opens : Opens start (prepend_known held now) event names count)
-    → StopsAt why (prepend_known held now) held now names count → count ≡ counted_lines why count → Stopped start now why (opens.opening ++ event ∷ []) names count
-stopped_behind start now held event names count why opens stop is = record { left = prepend_known held now; count = count; read = opens.read; held = held; stop = stop; lines_are = is }
+    → (entries : ℕ) → StopsAt why (prepend_known held now) held now names count entries → count ≡ counted_lines why count → Stopped start now why (opens.opening ++ event ∷ []) names entries count
+stopped_behind start now held event names count why opens entries stop is = record { left = prepend_known held now; count = count; read = opens.read; held = held; stop = stop; lines_are = is }
 
 -- the first event that isn't a declaration, and the lines after it
 pub runs_all : (start rest now : Option (List ℕ)) (event : Event) (names after : NamesState) (s m t : WorldState) (journal new : List Entry) (number lines : ℕ) (why : Status)
     → Opens start rest event names number → Fits s event [] journal m → RunsLines rest now names journal m number why after new t lines → RunsAll start now names s why after new t lines
 runs_all start rest now event names after s m t journal new number lines why opens fits runs =
-    let first : FitsScript s (opens.opening ++ event ∷ []) journal m =
-    subst (λ (l : List Entry). FitsScript s (opens.opening ++ event ∷ []) l m) (sym fits.grew) (fits_more s s m opens.opening event [] fits.part (fits_opening s opens.opening opens.are) fits.step) in
+    let first : FitsScript 0 s (opens.opening ++ event ∷ []) journal m =
+    subst (λ (l : List Entry). FitsScript 0 s (opens.opening ++ event ∷ []) l m) (sym fits.grew) (fits_more 0 s s m opens.opening event [] fits.part (fits_opening s opens.opening opens.are) (omega arith) fits.step) in
+    let behind : length journal ≡ 0 + length journal = omega arith in
+    let rest_fits : Grew why (0 + length journal) m runs.events runs.part t = subst (λ (n : ℕ). Grew why n m runs.events runs.part t) behind runs.fits in
     let count : number + length runs.read.texts ≡ length (opens.read.texts ++ runs.read.texts) = omega (arith, opens.read.counts, length-append opens.read.texts runs.read.texts) in
     record {
       events = (opens.opening ++ event ∷ []) ++ runs.events;
@@ -141,7 +146,7 @@ runs_all start rest now event names after s m t journal new number lines why ope
         stop = runs.stop;
         lines_are = runs.lines_are;
       };
-      fits = subst (λ (l : List Entry). Grew why s ((opens.opening ++ event ∷ []) ++ runs.events) l t) (sym runs.grew) (grew_append (ending why) s m t (opens.opening ++ event ∷ []) runs.events journal runs.part first runs.fits);
+      fits = subst (λ (l : List Entry). Grew why 0 s ((opens.opening ++ event ∷ []) ++ runs.events) l t) (sym runs.grew) (grew_append (ending why) 0 s m t (opens.opening ++ event ∷ []) runs.events journal runs.part first rest_fits);
       disks = same_disks runs.read.texts names after runs.events opens.ended runs.read.spell;
       attached = λ _ are. not_opening opens.opening event (other_line event opens.other) (opening_halves (opens.opening ++ event ∷ []) runs.events are).0;
     }
@@ -151,8 +156,8 @@ pub runs_first_cut : (start now : Option (List ℕ)) (held : List ℕ) (event : 
     → Opens start (prepend_known held now) event names number → FitsSoFar s event [] journal t → RunsAll start now names s status.NoMemory names journal t number
 runs_first_cut start now held event names s t journal number opens fits = record {
   events = opens.opening ++ event ∷ [];
-  stopped = stopped_behind start now held event names number status.NoMemory opens (keeps_same (prepend_known held now)) refl;
-  fits = inr (record { before = opens.opening; last = event; events_are = refl; front = []; middle = s; fits = fits_opening s opens.opening opens.are; so_far = fits });
+  stopped = stopped_behind start now held event names number status.NoMemory opens (length journal) (keeps_same (prepend_known held now)) refl;
+  fits = inr (record { before = opens.opening; last = event; events_are = refl; front = []; middle = s; fits = fits_opening s opens.opening opens.are; begins_below = omega arith; so_far = fits });
   disks = refl;
   attached = λ _. not_opening opens.opening event (other_line event opens.other);
 }
@@ -184,16 +189,17 @@ ended_as P why faulty readers also =
     done true p = also p
     done false p = p
 
-ended_stop : (why : Status) (faulty : Bool) (names : NamesState) (left now : Option (List ℕ)) (held : List ℕ) (count : ℕ) → IsReaders why → StopsAt why left held now names count → StopsAt (ended_status why faulty) left held now names count
-ended_stop why faulty names left now held count readers = ended_as (λ (w : Status). StopsAt w left held now names count) why faulty readers (λ stop. stop)
+ended_stop : (why : Status) (faulty : Bool) (names : NamesState) (left now : Option (List ℕ)) (held : List ℕ) (count entries : ℕ) → IsReaders why → StopsAt why left held now names count entries
+    → StopsAt (ended_status why faulty) left held now names count entries
+ended_stop why faulty names left now held count entries readers = ended_as (λ (w : Status). StopsAt w left held now names count entries) why faulty readers (λ stop. stop)
 
 ended_count : (why : Status) (faulty : Bool) (count : ℕ) → IsReaders why → counted_lines why count ≡ counted_lines (ended_status why faulty) count
 ended_count why faulty count readers = ended_as (λ (w : Status). counted_lines why count ≡ counted_lines w count) why faulty readers (λ is. is) refl
 
-ended_journal : (why : Status) (faulty : Bool) (s t : WorldState) (events : List Event) (journal : List Entry) → IsReaders why → Grew why s events journal t → JournalIs (ended_status why faulty) s events journal t
+ended_journal : (why : Status) (faulty : Bool) (s t : WorldState) (events : List Event) (journal : List Entry) → IsReaders why → Grew why 0 s events journal t → JournalIs (ended_status why faulty) s events journal t
 ended_journal why faulty s t events journal readers grew =
     ended_as (λ (w : Status). JournalIs w s events journal t) why faulty readers (λ is. is)
-    (by_readers (λ (w : Status). Grew w s events journal t → JournalIs w s events journal t) (λ is. is) (λ at fault is. is) (λ is. is) (λ at kind is. is) (λ is. is) why readers grew)
+    (by_readers (λ (w : Status). Grew w 0 s events journal t → JournalIs w s events journal t) (λ is. is) (λ at fault is. is) (λ is. is) (λ at kind is. is) (λ is. is) why readers grew)
 
 ended_faults : {D : Type 0} (image : D) (why : Status) (faulty : Bool) (faults : ℕ) → IsReaders why → (IsTrue faulty ↔ (0 < faults)) → FaultsAre (ended_status why faulty) (Some image) faults
 ended_faults image why faulty faults readers tells =
@@ -231,7 +237,7 @@ refused_image Failed events rest image at none = (none refl, at)
 refused_image Memory events rest None at none = (refl, inr at)
 refused_image Memory events rest (Some disk) at none = attached_there events rest at
 
-opening_journal : (why : Status) (s : WorldState) (events : List Event) → IsReaders why → FitsScript s events [] s → JournalIs why s events [] s
+opening_journal : (why : Status) (s : WorldState) (events : List Event) → IsReaders why → FitsScript 0 s events [] s → JournalIs why s events [] s
 opening_journal why s events readers fits = by_readers (λ (w : Status). JournalIs w s events [] s) fits (λ at fault. fits) fits (λ at kind. fits) (inl fits) why readers
 
 opening_faults : {D : Type 0} (image : Option D) (why : Status) (faults : ℕ) → IsReaders why → why ≢ status.Done → FaultsAre why image faults
@@ -252,7 +258,7 @@ module _ {D : Type 0} (content : D → Option (List ℕ)) (faults : D → ℕ) (
       → content image ≡ t.image.told → faults image ≡ t.image.faults → (IsTrue faulty ↔ (0 < t.image.faults)) → Replayed content faults start now gives (ended_status why faulty) lines after journal (Some image)
   replayed_of why faulty names after s t journal lines image readers runs begins told failed tells =
       let begin : s ≡ start_of after gives = begins ∙ ap (λ (disks : List _). start_of (record { disks = disks; ended = true }) gives) (sym runs.disks) in
-      let fits : Grew why (start_of after gives) runs.events journal t = subst (λ (x : WorldState). Grew why x runs.events journal t) begin runs.fits in
+      let fits : Grew why 0 (start_of after gives) runs.events journal t = subst (λ (x : WorldState). Grew why 0 x runs.events journal t) begin runs.fits in
       record {
         events = runs.events;
         stopped = record {
@@ -260,7 +266,7 @@ module _ {D : Type 0} (content : D → Option (List ℕ)) (faults : D → ℕ) (
           count = runs.stopped.count;
           read = runs.stopped.read;
           held = runs.stopped.held;
-          stop = ended_stop why faulty after runs.stopped.left now runs.stopped.held runs.stopped.count readers runs.stopped.stop;
+          stop = ended_stop why faulty after runs.stopped.left now runs.stopped.held runs.stopped.count (length journal) readers runs.stopped.stop;
           lines_are = runs.stopped.lines_are ∙ ended_count why faulty runs.stopped.count readers;
         };
         final = t;
@@ -282,7 +288,7 @@ module _ {D : Type 0} (content : D → Option (List ℕ)) (faults : D → ℕ) (
     image_stands = opening_image D why opens.opening opens.stopped.left readers other opens.are;
   }
 
-  refused_stop : (fault : AttachFault) (left : Option (List ℕ)) (held : List ℕ) (names : NamesState) (count : ℕ) → Keeps left (prepend_known held now) → StopsAt (attach_status fault) left held now names count
+  refused_stop : (fault : AttachFault) (left : Option (List ℕ)) (held : List ℕ) (names : NamesState) (count : ℕ) → Keeps left (prepend_known held now) → StopsAt (attach_status fault) left held now names count 0
   refused_stop Failed left held names count kept = kept
   refused_stop Memory left held names count kept = kept
 
@@ -307,6 +313,7 @@ module _ {D : Type 0} (content : D → Option (List ℕ)) (faults : D → ℕ) (
     front = [];
     middle = start_of names gives;
     fits = fits_opening (start_of names gives) opening are;
+    begins_below = omega arith;
     so_far = none_of (start_of names gives) event;
   })
 
@@ -324,7 +331,7 @@ module _ {D : Type 0} (content : D → Option (List ℕ)) (faults : D → ℕ) (
   }
   replayed_refused fault held (Some event) names lines image is none opened = record {
     events = opened.opening ++ event ∷ [];
-    stopped = stopped_behind start now held event names lines (attach_status fault) opened (refused_stop fault (prepend_known held now) held names lines (keeps_same (prepend_known held now))) (refused_count fault lines);
+    stopped = stopped_behind start now held event names lines (attach_status fault) opened 0 (refused_stop fault (prepend_known held now) held names lines (keeps_same (prepend_known held now))) (refused_count fault lines);
     final = start_of names gives;
     journal_is = refused_first fault names opened.opening event opened.are;
     image_is = is;
@@ -346,7 +353,7 @@ module _ {D : Type 0} (content : D → Option (List ℕ)) (faults : D → ℕ) (
   }
   replayed_short need have held (Some event) names lines image told none opened = record {
     events = opened.opening ++ event ∷ [];
-    stopped = stopped_behind start now held event names lines (status.ImageSize need have) opened (keeps_same (prepend_known held now)) refl;
+    stopped = stopped_behind start now held event names lines (status.ImageSize need have) opened 0 (keeps_same (prepend_known held now)) refl;
     final = start_of names gives;
     journal_is = (refl, refl);
     image_is = (told, none);
@@ -363,7 +370,7 @@ module _ {D : Type 0} (content : D → Option (List ℕ)) (faults : D → ℕ) (
     events = [];
     stopped = record { left = start; count = 0; read = read_none start names 0 is refl; held = []; stop = nothing_held start now same; lines_are = refl };
     final = start_of names gives;
-    journal_is = inl (fits_none (start_of names gives));
+    journal_is = inl (fits_none 0 (start_of names gives));
     image_is = tt;
     faults_are = tt;
     image_stands = (refl, inl tt);

@@ -1,5 +1,5 @@
 -- A clean script is run to its end, where memory suffices and no count rose.
-use Rattle.std.proofs.Common.{◌≡◌, ◌≢◌, inl, inr, ◌⊎◌, ℕ, ◌*◌, ◌<◌, replicate, ◌≤◌, List, [], ◌∷◌, ◌++◌, length, refl, ◌∙◌, ap, subst, arith, length-append, Option, Some, None, IfSome}
+use Rattle.std.proofs.Common.{◌≡◌, ◌≢◌, inl, inr, ℕ, ◌*◌, ◌<◌, replicate, ◌≤◌, List, [], ◌∷◌, ◌++◌, length, refl, sym, ◌∙◌, ap, subst, arith, length-append, Option, Some, None, IfSome}
 use Rattle.std.specs.Prelude.{◌==◌, if◌then◌else◌, Bool, true, false, IsSome}
 use Rattle.std.specs.Io.KnownBytes.{prepend_known}
 use Rattle.std.specs.Str.{bytes_eq}
@@ -11,11 +11,11 @@ use Rattle.domain_script.specs.ScriptLines.{script_lines, with_front, TakesLine,
 use Rattle.domain_script.specs.Spells.{Spells}
 use Rattle.ldom_journal.specs.declared.entry.Entry.{Entry}
 use Rattle.ldom_journal.specs.declared.status.LimitKind.{LimitKind}
-use Rattle.ldom_journal.specs.declared.status.LimitKind.TheVariants.{Lines, Bytes}
+use Rattle.ldom_journal.specs.declared.status.LimitKind.TheVariants.{Lines, Bytes, Entries}
 use Rattle.ldom_journal.specs.declared.status.Status.{Status}
 use Rattle.ldom_journal.specs.declared.status.Status.TheVariants as status
 use Rattle.domain_script.specs.ScriptLines.{AreShort}
-use Rattle.replay_law.specs.Clean.{IsCleanScript, NeverFails, StandsStill}
+use Rattle.replay_law.specs.Clean.{EndsClean, IsCleanScript, IsFull, NeverFails, StandsStill}
 use Rattle.replay_law.specs.Outcomes.{Reports}
 use Rattle.ldom_journal.specs.LinesEnd.{IsPast}
 use Rattle.replay_law.specs.Reading.{IsFaulty}
@@ -66,6 +66,7 @@ no_limit : (bytes : List ℕ) (kind : LimitKind) (left : Option (List ℕ)) (tex
 no_limit bytes kind None texts count few short taken counts past = taken
 no_limit bytes Lines (Some left) texts count few short taken counts past =
     omega (arith, few, ap (λ (l : List (List ℕ)). length l) taken.0, length-append texts (script_lines left), counts, past.0, some_lines left past.1)
+no_limit bytes Entries (Some left) texts count few short taken counts past = past
 no_limit bytes Bytes (Some left) texts count few short taken counts past =
     let long : BeginsWithLonger 3100 left = past.1 in
     let lines : script_lines bytes ≡ texts ++ long.line ∷ long.others = taken.0 ∙ ap (λ (l : List (List ℕ)). texts ++ l) long.is in
@@ -106,9 +107,14 @@ module _ {D : Type 0} (content : D → Option (List ℕ)) (faults : D → ℕ) (
   counts None told n is = tt
   counts (Some d) told n is = is.1
 
-  by_ran : (now : Status) → ran ≡ now → why ≡ now → Replayed content faults (Some bytes) behind gives now lines names journal image → (why ≡ status.Done) ⊎ (why ≡ status.NoMemory)
+  never_past : (at : ℕ) (kind : LimitKind) → (replayed : Replayed content faults (Some bytes) behind gives (status.Limit at kind) lines names journal image) → IsPast kind replayed.stopped.left replayed.stopped.count → ⊥
+  never_past at kind replayed past =
+      let read = replayed.stopped.read in
+      no_limit bytes kind replayed.stopped.left read.texts replayed.stopped.count clean.few clean.short read.taken.taken read.counts past
+
+  by_ran : (now : Status) → ran ≡ now → why ≡ now → Replayed content faults (Some bytes) behind gives now lines names journal image → EndsClean why journal
   by_ran status.Done ended is replayed = inl is
-  by_ran status.NoMemory ended is replayed = inr is
+  by_ran status.NoMemory ended is replayed = inr (inl is)
   by_ran status.Usage ended is replayed = absurd replayed.stopped.stop
   by_ran status.SinkFault ended is replayed = absurd replayed.stopped.stop
   by_ran status.SourceFault ended is replayed = absurd (source ended)
@@ -118,19 +124,19 @@ module _ {D : Type 0} (content : D → Option (List ℕ)) (faults : D → ℕ) (
       absurd (store_works image replayed.final.image.faults replayed.faults_are.0 (counts image replayed.final.image.told replayed.final.image.faults replayed.image_is) store replayed.faults_are.1)
   by_ran (status.Script at fault) ended is replayed =
       let left : Option (List ℕ) = prepend_known replayed.stopped.held behind in
-      let faulty : IsFaulty replayed.stopped.left left names fault = replayed.stopped.stop.2 in
+      let faulty : IsFaulty replayed.stopped.left left names fault = replayed.stopped.stop.3 in
       let read = replayed.stopped.read in
       absurd (no_fault bytes no_names names clean.names replayed.stopped.left left read.texts faulty.text replayed.events clean.events clean.spelled read.taken.taken faulty.taken read.spell faulty.nothing)
-  by_ran (status.Limit at kind) ended is replayed =
-      let read = replayed.stopped.read in
-      absurd (no_limit bytes kind replayed.stopped.left read.texts replayed.stopped.count clean.few clean.short read.taken.taken read.counts replayed.stopped.stop.1)
+  by_ran (status.Limit at Lines) ended is replayed = absurd (never_past at Lines replayed replayed.stopped.stop.1)
+  by_ran (status.Limit at Bytes) ended is replayed = absurd (never_past at Bytes replayed replayed.stopped.stop.1)
+  by_ran (status.Limit at Entries) ended is replayed = inr (inr (subst (λ (w : Status). IsFull w journal) (sym is) replayed.stopped.stop.2))
 
   not_sink : ran ≡ status.SinkFault → ⊥
   not_sink is = (subst (λ (w : Status). Replayed content faults script behind gives w lines names journal image) is run).stopped.stop
 
-  by_report : Reports ran why old new text → (why ≡ status.Done) ⊎ (why ≡ status.NoMemory)
+  by_report : Reports ran why old new text → EndsClean why journal
   by_report (inl told) = by_ran ran refl told.0 (subst (λ (s : Option (List ℕ)). Replayed content faults s behind gives ran lines names journal image) known run)
   by_report (inr failed) = absurd (sink failed.0 not_sink)
 
-  pub completes : (why ≡ status.Done) ⊎ (why ≡ status.NoMemory)
+  pub completes : EndsClean why journal
   completes = by_report reports

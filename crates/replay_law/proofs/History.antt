@@ -94,13 +94,13 @@ lines_tell w v [] run = λ x. ap (λ (u : WorldState). disk_in u.disks x) run
 lines_tell w v (step ∷ lines) run =
     tells_append w run.0 v step.1 (flat_map (λ l. l.1) lines) (part_tells step.0 w run.0 step.1 run.1.1) (lines_tell run.0 v lines run.2)
 
-pub script_tells : (w v : WorldState) (events : List Event) (journal : List Entry) → FitsScript w events journal v → Tells w journal v
-script_tells w v events journal fits = subst (λ (l : List Entry). Tells w l v) fits.parts (lines_tell w v fits.lines fits.run)
+pub script_tells : (entries : ℕ) (w v : WorldState) (events : List Event) (journal : List Entry) → FitsScript entries w events journal v → Tells w journal v
+script_tells entries w v events journal fits = subst (λ (l : List Entry). Tells w l v) fits.parts (lines_tell w v fits.lines fits.run)
 
-pub cut_off_tells : (w v : WorldState) (events : List Event) (journal : List Entry) → FitsCutOff w events journal v → Tells w journal v
-cut_off_tells w v events journal cut =
+pub cut_off_tells : (entries : ℕ) (w v : WorldState) (events : List Event) (journal : List Entry) → FitsCutOff entries w events journal v → Tells w journal v
+cut_off_tells entries w v events journal cut =
     subst (λ (l : List Entry). Tells w l v) (sym cut.so_far.grew)
-    (tells_append w cut.middle v cut.front cut.so_far.part (script_tells w cut.middle cut.before cut.front cut.fits)
+    (tells_append w cut.middle v cut.front cut.so_far.part (script_tells entries w cut.middle cut.before cut.front cut.fits)
     (part_tells cut.last cut.middle v cut.so_far.part cut.so_far.run))
 
 pub many_lines : (w v : WorldState) (lines : List (Event × List Entry)) → Run LineStep w lines v → length v.disks ≡ length w.disks

@@ -6,6 +6,7 @@ pub mod DiskNumbers
 mod FaultsRise
 pub mod History
 pub mod MoreFacts
+mod NoResets
 mod OneReading
 mod OutsideKept
 pub mod LineCases

@@ -56,7 +56,7 @@ admitted names x t es run =
     admission (first_at names.disks x) (blocks_at names.disks x) (ring_at names.disks x) t es (subst (λ (s : ListState). Run ListStep s es t) (fresh_at 0 names.disks x) run)
 
 module _ (names : NamesState) (gives : ℕ → Option (List ℕ)) where
-  script_admits : (why : Status) (t : WorldState) (events : List Event) (journal : List Entry) → FitsScript (start_of names gives) events journal t → AdmitsRequests why names.disks events journal
+  script_admits : (why : Status) (t : WorldState) (events : List Event) (journal : List Entry) → FitsScript 0 (start_of names gives) events journal t → AdmitsRequests why names.disks events journal
   script_admits why t events journal fits =
       let all : fits.lines ++ [] ≡ fits.lines = append-nil fits.lines in
       record {
@@ -71,7 +71,7 @@ module _ (names : NamesState) (gives : ℕ → Option (List ℕ)) where
             (subst (λ (ls : List (Event × List Entry)). Run ListStep (disk_in (fresh_disks 0 names.disks) x) (all_happened x ls) (disk_in t.disks x)) (sym all) (disks_run (start_of names gives) t fits.lines fits.run x));
       }
 
-  cut_admits : (why : Status) → ending why ≡ MayBeCut → (t : WorldState) (events : List Event) (journal : List Entry) → FitsCutOff (start_of names gives) events journal t → AdmitsRequests why names.disks events journal
+  cut_admits : (why : Status) → ending why ≡ MayBeCut → (t : WorldState) (events : List Event) (journal : List Entry) → FitsCutOff 0 (start_of names gives) events journal t → AdmitsRequests why names.disks events journal
   cut_admits why is t events journal cut =
       let last : List (Event × List Entry) = (cut.last, cut.so_far.part) ∷ [] in
       let run : (x : ℕ) → Run ListStep (disk_in (fresh_disks 0 names.disks) x) (all_happened x cut.fits.lines ++ all_happened x last) (disk_in t.disks x) =
@@ -113,7 +113,7 @@ module _ (names : NamesState) (gives : ℕ → Option (List ℕ)) where
 module _ {D : Type 0} (content : D → Option (List ℕ)) (faults : D → ℕ) (script now : Option (List ℕ)) (gives : ℕ → Option (List ℕ)) (why : Status) (lines : ℕ) (names : NamesState) (journal : List Entry) (image : Option D) (run : Replayed content faults script now gives why lines names journal image) where
   -- each completion has status 0 or 5
   pub statuses : SucceedOrFail journal
-  statuses = journal_is SucceedOrFail (ending why) (start_of names gives) run.final run.events journal (script_statuses (start_of names gives) run.final run.events journal) (cut_off_statuses (start_of names gives) run.final run.events journal) (λ _. All-nil SucceedsOrFails) run.journal_is
+  statuses = journal_is SucceedOrFail (ending why) (start_of names gives) run.final run.events journal (script_statuses 0 (start_of names gives) run.final run.events journal) (cut_off_statuses 0 (start_of names gives) run.final run.events journal) (λ _. All-nil SucceedsOrFails) run.journal_is
 
   -- each request got what it had to get
   pub admits : AdmitsRequests why names.disks run.events journal
@@ -133,7 +133,7 @@ module _ {D : Type 0} (content : D → Option (List ℕ)) (faults : D → ℕ) (
       counted =
           let start = start_of names gives in
           journal_is (λ (l : List Entry). failed_count l ≤ run.final.image.faults) (ending why) start run.final run.events journal
-          (script_failed start run.final run.events journal refl few) (cut_off_failed start run.final run.events journal refl few) (λ _. omega arith)
+          (script_failed 0 start run.final run.events journal refl few) (cut_off_failed 0 start run.final run.events journal refl few) (λ _. omega arith)
           run.journal_is
 
   -- the image is as attached but for what accepted writes name
@@ -149,9 +149,9 @@ module _ {D : Type 0} (content : D → Option (List ℕ)) (faults : D → ℕ) (
       kept : KeepsOthers (IsOutsideDisks names.disks journal) first run.final.image.told
       kept = journal_is (λ (l : List Entry). KeepsOthers (IsOutsideDisks names.disks l) first run.final.image.told) (ending why) (start_of names gives) run.final run.events journal
           (λ fits. script_kept names.disks 0 first run.events journal run.final long
-          (subst (λ (told : Option (List ℕ)). FitsScript (begins (record { told = told; faults = 0 })) run.events journal run.final) is fits))
+          (subst (λ (told : Option (List ℕ)). FitsScript 0 (begins (record { told = told; faults = 0 })) run.events journal run.final) is fits))
           (λ cut. cut_off_kept names.disks 0 first run.events journal run.final long
-          (subst (λ (told : Option (List ℕ)). FitsCutOff (begins (record { told = told; faults = 0 })) run.events journal run.final) is cut))
+          (subst (λ (told : Option (List ℕ)). FitsCutOff 0 (begins (record { told = told; faults = 0 })) run.events journal run.final) is cut))
           (λ same. unchanged (IsOutsideDisks names.disks []) first run.final.image.told (ap (λ (x : WorldState). x.image.told) same ∙ is)) run.journal_is
 
   -- the image keeps what it was attached with, where that is told

@@ -79,7 +79,7 @@ opens start rest left event names after count next so_far reads is few not_openi
   ended = ap (λ (n : NamesState). n.ended) reads.noted_is ∙ ends names event (other_line event not_opening);
 }
 
-pub opens_and_stops : (start rest now : Option (List ℕ)) (held : List ℕ) (why : Status) (names after : NamesState) (count lines : ℕ) → OpensSoFar start rest names count → StopsAt why rest held now names count → lines ≡ counted_lines why count → after ≡ names
+pub opens_and_stops : (start rest now : Option (List ℕ)) (held : List ℕ) (why : Status) (names after : NamesState) (count lines : ℕ) → OpensSoFar start rest names count → StopsAt why rest held now names count 0 → lines ≡ counted_lines why count → after ≡ names
     → OpensAndStops start now why after lines
 opens_and_stops start rest now held why names after count lines so_far stops is same = subst (λ (n : NamesState). OpensAndStops start now why n lines) (sym same) (record {
   opening = so_far.opening;

@@ -21,17 +21,17 @@ use Rattle.replay_law.proofs.Worded.{cut_worded, lines_worded}
 
 -- a fact of the journal that holds of no entries, of whole scripts and of those that are cut off
 pub journal_is : (P : List Entry → Type 0) (ending : Ending) (s t : WorldState) (events : List Event) (journal : List Entry)
-    → (FitsScript s events journal t → P journal) → (FitsCutOff s events journal t → P journal) → (t ≡ s → P [])
+    → (FitsScript 0 s events journal t → P journal) → (FitsCutOff 0 s events journal t → P journal) → (t ≡ s → P [])
     → JournalEnds ending s events journal t → P journal
 journal_is P MayBeCut s t events journal whole cut none (inl is) = whole is
 journal_is P MayBeCut s t events journal whole cut none (inr is) = cut is
 journal_is P NotBegun s t events journal whole cut none is = subst P (sym is.0) (none is.1)
 journal_is P Whole s t events journal whole cut none is = whole is
 
-script_worded : (disks : List DiskDecl) (w v : WorldState) (events : List Event) (journal : List Entry) → length w.disks ≡ length disks → AllAdmitted w → FitsScript w events journal v → All (HasWords disks) journal
+script_worded : (disks : List DiskDecl) (w v : WorldState) (events : List Event) (journal : List Entry) → length w.disks ≡ length disks → AllAdmitted w → FitsScript 0 w events journal v → All (HasWords disks) journal
 script_worded disks w v events journal many admitted fits = subst (λ (l : List Entry). All (HasWords disks) l) fits.parts (lines_worded disks w v fits.lines many fits.run admitted)
 
-cut_off_worded : (disks : List DiskDecl) (w v : WorldState) (events : List Event) (journal : List Entry) → length w.disks ≡ length disks → AllAdmitted w → FitsCutOff w events journal v → All (HasWords disks) journal
+cut_off_worded : (disks : List DiskDecl) (w v : WorldState) (events : List Event) (journal : List Entry) → length w.disks ≡ length disks → AllAdmitted w → FitsCutOff 0 w events journal v → All (HasWords disks) journal
 cut_off_worded disks w v events journal many admitted cut =
     All-same (HasWords disks) journal (cut.front ++ cut.so_far.part) cut.so_far.grew
     (All-append (HasWords disks) cut.front cut.so_far.part (script_worded disks w cut.middle cut.before cut.front many admitted cut.fits)
@@ -52,6 +52,6 @@ module _ {D : Type 0} (content : D → Option (List ℕ)) (faults : D → ℕ) (
   once disk =
       let start = start_of names gives in
       journal_is (λ (l : List Entry). CompletesOnceInOrder (history disk l)) (ending why) start run.final run.events journal
-      (λ fits. tells_once names.disks start.image run.final journal (script_tells start run.final run.events journal fits) disk)
-      (λ cut. tells_once names.disks start.image run.final journal (cut_off_tells start run.final run.events journal cut) disk)
+      (λ fits. tells_once names.disks start.image run.final journal (script_tells 0 start run.final run.events journal fits) disk)
+      (λ cut. tells_once names.disks start.image run.final journal (cut_off_tells 0 start run.final run.events journal cut) disk)
       (λ _. none_once [] refl) run.journal_is

@@ -1,5 +1,5 @@
 -- A script's lines run one after another.
-use Rattle.std.proofs.Common.{◌≡◌, inl, inr, ℕ, ◌+◌, ◌≤◌, List, [], ◌∷◌, ◌++◌, length, refl, sym, ◌∙◌, ap, subst, append_assoc, length-append, arith, Option, Some, None}
+use Rattle.std.proofs.Common.{◌≡◌, inl, inr, ℕ, ◌+◌, ◌<◌, ◌≤◌, List, [], ◌∷◌, ◌++◌, length, refl, sym, ◌∙◌, ap, subst, append_assoc, length-append, arith, Option, Some, None}
 use Rattle.std.specs.Io.KnownBytes.{Keeps, prepend_known}
 use Rattle.std.specs.List.{flat_map}
 use Rattle.std.proofs.lemmas.List.{append-nil, map-append}
@@ -16,23 +16,35 @@ use Rattle.replay_law.specs.Parts.{Fits, FitsSoFar, LineStep}
 use Rattle.ldom_journal.specs.LinesEnd.{counted_lines}
 use Rattle.replay_law.specs.Reading.{ReadsEvent, StopsAt}
 use Rattle.replay_law.specs.Worlds.{WorldState}
-use Rattle.replay_law.specs.Script.{FitsScript}
+use Rattle.replay_law.specs.Script.{BeginBelow, FitsScript}
 use Rattle.domain_script.proofs.ScriptLemmas.{short-append, takes-append, takes_none}
 use Rattle.replay_law.proofs.ReadLemmas.{spell_more}
 
+-- lines that begin below the most, and then others
+pub below_append : (entries : ℕ) (lines more : List (Event × List Entry)) → BeginBelow entries lines → BeginBelow (entries + length (flat_map (λ l. l.1) lines)) more → BeginBelow entries (lines ++ more)
+below_append entries [] more first second =
+    let same : entries + 0 ≡ entries = omega arith in
+    subst (λ (n : ℕ). BeginBelow n more) same second
+below_append entries (line ∷ lines) more first second =
+    let behind : List Entry = flat_map (λ (l : Event × List Entry). l.1) lines in
+    let same : entries + length (line.1 ++ behind) ≡ entries + length line.1 + length behind = omega (arith, length-append line.1 behind) in
+    (first.0, below_append (entries + length line.1) lines more first.1 (subst (λ (n : ℕ). BeginBelow n more) same second))
+
 -- no line yet
-pub fits_none : (s : WorldState) → FitsScript s [] [] s
-fits_none s = record { lines = []; events_are = refl; parts = refl; run = refl }
+pub fits_none : (entries : ℕ) (s : WorldState) → FitsScript entries s [] [] s
+fits_none entries s = record { lines = []; events_are = refl; parts = refl; run = refl; begin_below = tt }
 
 -- one more line with its part
-pub fits_more : (s m t : WorldState) (events : List Event) (event : Event) (journal part : List Entry) → FitsScript s events journal m → LineStep m (event, part) t → FitsScript s (events ++ event ∷ []) (journal ++ part) t
-fits_more s m t events event journal part fits step =
+pub fits_more : (entries : ℕ) (s m t : WorldState) (events : List Event) (event : Event) (journal part : List Entry) → FitsScript entries s events journal m → entries + length journal < 2000000 → LineStep m (event, part) t
+    → FitsScript entries s (events ++ event ∷ []) (journal ++ part) t
+fits_more entries s m t events event journal part fits below step =
     let last : List (Event × List Entry) = (event, part) ∷ [] in
     record {
       lines = fits.lines ++ last;
       events_are = map-append (λ (l : Event × List Entry). l.0) fits.lines last ∙ ap (λ (l : List Event). l ++ event ∷ []) fits.events_are;
       parts = flat_map-append (λ (l : Event × List Entry). l.1) fits.lines last ∙ ap (λ (l : List Entry). flat_map (λ (x : Event × List Entry). x.1) fits.lines ++ l) (append-nil part) ∙ ap (λ (l : List Entry). l ++ part) fits.parts;
       run = run_push LineStep s m t fits.lines (event, part) fits.run step;
+      begin_below = below_append entries fits.lines last fits.begin_below (subst (λ (l : List Entry). entries + length l < 2000000) (sym fits.parts) below, tt);
     }
 
 -- no line was read yet
@@ -58,7 +70,7 @@ pub record RunsSoFar (start : Option (List ℕ)) (before : NamesState) (old : Li
   pub read : ReadsOn start rest before number events names
   pub part : List Entry
   pub grew : new ≡ old ++ part
-  pub fits : FitsScript s events part t
+  pub fits : FitsScript (length old) s events part t
   pub counts : count ≡ number + length read.texts
 
 pub runs_none : (start : Option (List ℕ)) (names : NamesState) (old : List Entry) (s : WorldState) (number : ℕ) → number ≤ 20000
@@ -68,31 +80,35 @@ runs_none start names old s number few = record {
   read = on_none start names number few;
   part = [];
   grew = sym (append-nil old);
-  fits = fits_none s;
+  fits = fits_none (length old) s;
   counts = omega arith;
 }
 
+-- what stands before a line, by what stood before the first
+below_here : (old mid part : List Entry) → mid ≡ old ++ part → length mid < 2000000 → length old + length part < 2000000
+below_here old mid part grew below = omega (arith, below, ap (λ (l : List Entry). length l) grew, length-append old part)
+
 pub runs_more : (start rest left : Option (List ℕ)) (before names after : NamesState) (old mid new : List Entry) (s m t : WorldState)
     (number count next : ℕ) (event : Event) → RunsSoFar start before old s number rest names mid m count → ReadsEvent rest left names event after
-    → next ≡ count + 1 → next ≤ 20000 → Fits m event mid new t → RunsSoFar start before old s number left after new t next
-runs_more start rest left before names after old mid new s m t number count next event so_far reads is few fits = record {
+    → next ≡ count + 1 → next ≤ 20000 → length mid < 2000000 → Fits m event mid new t → RunsSoFar start before old s number left after new t next
+runs_more start rest left before names after old mid new s m t number count next event so_far reads is few below fits = record {
   events = so_far.events ++ event ∷ [];
   read = on_more start rest left before names after number count next so_far.events event so_far.read so_far.counts reads is few;
   part = so_far.part ++ fits.part;
   grew = fits.grew ∙ ap (λ (l : List Entry). l ++ fits.part) so_far.grew ∙ append_assoc old so_far.part fits.part;
-  fits = fits_more s m t so_far.events event so_far.part fits.part so_far.fits fits.step;
+  fits = fits_more (length old) s m t so_far.events event so_far.part fits.part so_far.fits (below_here old mid so_far.part so_far.grew below) fits.step;
   counts = omega (arith, is, so_far.counts, length-append so_far.read.texts (reads.text ∷ []));
 }
 
-grew_whole : (ending : Ending) (s : WorldState) (events : List Event) (part : List Entry) (t : WorldState) → FitsScript s events part t
-    → GrewTo ending s events part t
-grew_whole MayBeCut s events part t fits = inl fits
-grew_whole NotBegun s events part t fits = fits
-grew_whole Whole s events part t fits = fits
+grew_whole : (ending : Ending) (entries : ℕ) (s : WorldState) (events : List Event) (part : List Entry) (t : WorldState) → FitsScript entries s events part t
+    → GrewTo ending entries s events part t
+grew_whole MayBeCut entries s events part t fits = inl fits
+grew_whole NotBegun entries s events part t fits = fits
+grew_whole Whole entries s events part t fits = fits
 
 -- no further line is taken up
 pub runs_stop : (start rest now : Option (List ℕ)) (held : List ℕ) (before names after : NamesState) (old new : List Entry) (s t : WorldState)
-    (number count lines : ℕ) (why : Status) → RunsSoFar start before old s number rest names new t count → StopsAt why rest held now names count
+    (number count lines : ℕ) (why : Status) → RunsSoFar start before old s number rest names new t count → StopsAt why rest held now names count (length new)
     → lines ≡ counted_lines why count → after ≡ names → RunsLines start now before old s number why after new t lines
 runs_stop start rest now held before names after old new s t number count lines why so_far stop is same =
     subst (λ (n : NamesState). RunsLines start now before old s number why n new t lines) (sym same) (record {
@@ -101,9 +117,9 @@ runs_stop start rest now held before names after old new s t number count lines 
       read = so_far.read;
       part = so_far.part;
       grew = so_far.grew;
-      fits = grew_whole (ending why) s so_far.events so_far.part t so_far.fits;
+      fits = grew_whole (ending why) (length old) s so_far.events so_far.part t so_far.fits;
       held = held;
-      stop = subst (λ (n : ℕ). StopsAt why rest held now names n) so_far.counts stop;
+      stop = subst (λ (n : ℕ). StopsAt why rest held now names n (length new)) so_far.counts stop;
       lines_are = is ∙ ap (λ (n : ℕ). counted_lines why n) so_far.counts;
     })
 
@@ -114,9 +130,9 @@ keeps_same (Some bytes) = refl
 -- memory was wanted in the midst of a line
 pub runs_cut : (start rest now : Option (List ℕ)) (held : List ℕ) (before names after : NamesState) (old mid new : List Entry) (s m t : WorldState)
     (number count next : ℕ) (event : Event) → RunsSoFar start before old s number rest names mid m count
-    → ReadsEvent rest (prepend_known held now) names event after → next ≡ count + 1 → next ≤ 20000 → FitsSoFar m event mid new t
+    → ReadsEvent rest (prepend_known held now) names event after → next ≡ count + 1 → next ≤ 20000 → length mid < 2000000 → FitsSoFar m event mid new t
     → RunsLines start now before old s number status.NoMemory after new t next
-runs_cut start rest now held before names after old mid new s m t number count next event so_far reads is few fits = record {
+runs_cut start rest now held before names after old mid new s m t number count next event so_far reads is few below fits = record {
   events = so_far.events ++ event ∷ [];
   left = prepend_known held now;
   read = on_more start rest (prepend_known held now) before names after number count next so_far.events event so_far.read so_far.counts reads is few;
@@ -129,6 +145,7 @@ runs_cut start rest now held before names after old mid new s m t number count n
     front = so_far.part;
     middle = m;
     fits = so_far.fits;
+    begins_below = below_here old mid so_far.part so_far.grew below;
     so_far = record { part = fits.part; grew = refl; begun = fits.begun; run = fits.run };
   });
   held = held;

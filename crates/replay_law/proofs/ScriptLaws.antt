@@ -17,12 +17,12 @@ use Rattle.replay_law.specs.Worlds.{WorldState, blocks_of, fresh_world}
 use Rattle.replay_law.proofs.FaultsRise.{Reaches, failed_run, faults_run, faults_lines, statuses_run}
 use Rattle.replay_law.proofs.OutsideKept.{cut_keeps, lines_keep}
 
-pub script_kept : (disks : List DiskDecl) (faults : ℕ) (content : List ℕ) (events : List Event) (journal : List Entry) (v : WorldState) → 512 * blocks_of disks ≤ length content → FitsScript (fresh_world disks (record { told = Some content; faults = faults })) events journal v
+pub script_kept : (disks : List DiskDecl) (faults : ℕ) (content : List ℕ) (events : List Event) (journal : List Entry) (v : WorldState) → 512 * blocks_of disks ≤ length content → FitsScript 0 (fresh_world disks (record { told = Some content; faults = faults })) events journal v
     → KeepsOthers (IsOutsideDisks disks journal) content v.image.told
 script_kept disks faults content events journal v within fits =
     subst (λ (l : List Entry). KeepsOthers (IsOutsideDisks disks l) content v.image.told) fits.parts (lines_keep disks faults v fits.lines content within fits.run)
 
-pub cut_off_kept : (disks : List DiskDecl) (faults : ℕ) (content : List ℕ) (events : List Event) (journal : List Entry) (v : WorldState) → 512 * blocks_of disks ≤ length content → FitsCutOff (fresh_world disks (record { told = Some content; faults = faults })) events journal v
+pub cut_off_kept : (disks : List DiskDecl) (faults : ℕ) (content : List ℕ) (events : List Event) (journal : List Entry) (v : WorldState) → 512 * blocks_of disks ≤ length content → FitsCutOff 0 (fresh_world disks (record { told = Some content; faults = faults })) events journal v
     → KeepsOthers (IsOutsideDisks disks journal) content v.image.told
 cut_off_kept disks faults content events journal v within cut =
     subst (λ (l : List Entry). KeepsOthers (IsOutsideDisks disks l) content v.image.told) (ap (λ (l : List Entry). l ++ cut.so_far.part) cut.fits.parts ∙ sym cut.so_far.grew)
@@ -54,15 +54,15 @@ counted journal from now none short reaches = elim reaches [
 none_failed : (now : ℕ) → Reaches now (failed_count []) now
 none_failed now = inl (omega arith)
 
-pub script_failed : (w v : WorldState) (events : List Event) (journal : List Entry) → w.image.faults ≡ 0 → length journal < 2 ^ 63 → FitsScript w events journal v → failed_count journal ≤ v.image.faults
-script_failed w v events journal none short fits =
+pub script_failed : (entries : ℕ) (w v : WorldState) (events : List Event) (journal : List Entry) → w.image.faults ≡ 0 → length journal < 2 ^ 63 → FitsScript entries w events journal v → failed_count journal ≤ v.image.faults
+script_failed entries w v events journal none short fits =
     let parts : List Entry = flat_map (λ (l : Event × List Entry). l.1) fits.lines in
     counted journal w.image.faults v.image.faults none short
     (subst (λ (l : List Entry). Reaches w.image.faults (failed_count l) v.image.faults) (append-nil parts ∙ fits.parts)
     (lines_failed w v fits.lines [] v.image.faults fits.run (omega arith) (none_failed v.image.faults)))
 
-pub cut_off_failed : (w v : WorldState) (events : List Event) (journal : List Entry) → w.image.faults ≡ 0 → length journal < 2 ^ 63 → FitsCutOff w events journal v → failed_count journal ≤ v.image.faults
-cut_off_failed w v events journal none short cut =
+pub cut_off_failed : (entries : ℕ) (w v : WorldState) (events : List Event) (journal : List Entry) → w.image.faults ≡ 0 → length journal < 2 ^ 63 → FitsCutOff entries w events journal v → failed_count journal ≤ v.image.faults
+cut_off_failed entries w v events journal none short cut =
     let part : List Entry = cut.so_far.part in
     let m = cut.middle in
     counted journal w.image.faults v.image.faults none short
@@ -77,13 +77,13 @@ lines_statuses w v (step ∷ lines) rest run are =
     subst (λ (l : List Entry). All SucceedsOrFails (whole_history l)) (sym (append_assoc step.1 (flat_map (λ (l : Event × List Entry). l.1) lines) rest))
     (statuses_run step.0 w run.0 step.1 (flat_map (λ (l : Event × List Entry). l.1) lines ++ rest) run.1.1 (lines_statuses run.0 v lines rest run.2 are))
 
-pub script_statuses : (w v : WorldState) (events : List Event) (journal : List Entry) → FitsScript w events journal v → SucceedOrFail journal
-script_statuses w v events journal fits =
+pub script_statuses : (entries : ℕ) (w v : WorldState) (events : List Event) (journal : List Entry) → FitsScript entries w events journal v → SucceedOrFail journal
+script_statuses entries w v events journal fits =
     let parts : List Entry = flat_map (λ (l : Event × List Entry). l.1) fits.lines in
     subst SucceedOrFail (append-nil parts ∙ fits.parts) (lines_statuses w v fits.lines [] fits.run (All-nil SucceedsOrFails))
 
-pub cut_off_statuses : (w v : WorldState) (events : List Event) (journal : List Entry) → FitsCutOff w events journal v → SucceedOrFail journal
-cut_off_statuses w v events journal cut =
+pub cut_off_statuses : (entries : ℕ) (w v : WorldState) (events : List Event) (journal : List Entry) → FitsCutOff entries w events journal v → SucceedOrFail journal
+cut_off_statuses entries w v events journal cut =
     let part : List Entry = cut.so_far.part in
     subst SucceedOrFail (ap (λ (l : List Entry). l ++ part) cut.fits.parts ∙ sym cut.so_far.grew)
     (lines_statuses w cut.middle cut.fits.lines part cut.fits.run

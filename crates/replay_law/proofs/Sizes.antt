@@ -54,19 +54,19 @@ blocks_lines : (w v : WorldState) (lines : List (Event × List Entry)) → Run L
 blocks_lines w v [] run = ap (λ (x : WorldState). blocks_in x.disks) (sym run)
 blocks_lines w v (step ∷ lines) run = blocks_lines run.0 v lines run.2 ∙ blocks_run step.0 w run.0 step.1 run.1.1
 
-blocks_script : (w v : WorldState) (events : List Event) (journal : List Entry) → FitsScript w events journal v → blocks_in v.disks ≡ blocks_in w.disks
-blocks_script w v events journal fits = blocks_lines w v fits.lines fits.run
+blocks_script : (entries : ℕ) (w v : WorldState) (events : List Event) (journal : List Entry) → FitsScript entries w events journal v → blocks_in v.disks ≡ blocks_in w.disks
+blocks_script entries w v events journal fits = blocks_lines w v fits.lines fits.run
 
-blocks_cut : (w v : WorldState) (events : List Event) (journal : List Entry) → FitsCutOff w events journal v → blocks_in v.disks ≡ blocks_in w.disks
-blocks_cut w v events journal cut = blocks_run cut.last cut.middle v cut.so_far.part cut.so_far.run ∙ blocks_script w cut.middle cut.before cut.front cut.fits
+blocks_cut : (entries : ℕ) (w v : WorldState) (events : List Event) (journal : List Entry) → FitsCutOff entries w events journal v → blocks_in v.disks ≡ blocks_in w.disks
+blocks_cut entries w v events journal cut = blocks_run cut.last cut.middle v cut.so_far.part cut.so_far.run ∙ blocks_script entries w cut.middle cut.before cut.front cut.fits
 
 -- the disks have as many blocks when their run has ended
-pub blocks_grew : (why : Status) (w v : WorldState) (events : List Event) (journal : List Entry) → IsReaders why → Grew why w events journal v → blocks_in v.disks ≡ blocks_in w.disks
-blocks_grew why w v events journal =
-    by_readers (λ (x : Status). Grew x w events journal v → blocks_in v.disks ≡ blocks_in w.disks) whole (λ at fault. whole) whole (λ at kind. whole) (λ either. elim either [ inl fits ↦ whole fits | inr cut ↦ blocks_cut w v events journal cut ]) why
+pub blocks_grew : (why : Status) (entries : ℕ) (w v : WorldState) (events : List Event) (journal : List Entry) → IsReaders why → Grew why entries w events journal v → blocks_in v.disks ≡ blocks_in w.disks
+blocks_grew why entries w v events journal =
+    by_readers (λ (x : Status). Grew x entries w events journal v → blocks_in v.disks ≡ blocks_in w.disks) whole (λ at fault. whole) whole (λ at kind. whole) (λ either. elim either [ inl fits ↦ whole fits | inr cut ↦ blocks_cut entries w v events journal cut ]) why
   where
-    whole : FitsScript w events journal v → blocks_in v.disks ≡ blocks_in w.disks
-    whole fits = blocks_script w v events journal fits
+    whole : FitsScript entries w events journal v → blocks_in v.disks ≡ blocks_in w.disks
+    whole fits = blocks_script entries w v events journal fits
 
 module _ {D : Type 0} (size : D → ℕ) where
   -- a run in a world over an image that is long enough
@@ -140,7 +140,7 @@ module _ {D : Type 0} (size : D → ℕ) where
       → s ≡ start_of names gives → 512 * blocks_in t.disks ≤ size image → IfSome (gives (512 * blocks_of names.disks)) (λ bytes. 512 * blocks_of names.disks ≤ length bytes)
       → SizeIs size (ended_status why faulty) (512 * blocks_of after.disks) (gives (512 * blocks_of after.disks)) (Some image)
   sized_run start now gives why faulty names after s t journal lines image readers runs begins enough long =
-      let blocks : blocks_in t.disks ≡ blocks_of names.disks = blocks_grew why s t runs.events journal readers runs.fits ∙ ap (λ (x : WorldState). blocks_in x.disks) begins ∙ fresh_blocks 0 names.disks in
+      let blocks : blocks_in t.disks ≡ blocks_of names.disks = blocks_grew why 0 s t runs.events journal readers runs.fits ∙ ap (λ (x : WorldState). blocks_in x.disks) begins ∙ fresh_blocks 0 names.disks in
       subst (λ (disks : List DiskDecl). SizeIs size (ended_status why faulty) (512 * blocks_of disks) (gives (512 * blocks_of disks)) (Some image)) (sym runs.disks)
       (sized_of size why faulty (512 * blocks_of names.disks) (gives (512 * blocks_of names.disks)) image readers (omega (arith, enough, blocks)) long)
 

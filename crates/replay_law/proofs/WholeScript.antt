@@ -45,8 +45,8 @@ module _ {D : Type 0} (content : D → Option (List ℕ)) (faults size : D → �
       ∙ ap (λ (n : NamesState). report mode.Run n.disks (length events) journal status.Done) (sym one.1) in
       record {
         final = replayed.final;
-        fits = subst (λ (n : NamesState). FitsScript (start_of n gives) events journal replayed.final) (sym one.1)
-            (subst (λ (l : List Event). FitsScript (start_of runs.names gives) l journal replayed.final) (sym one.0) replayed.journal_is);
+        fits = subst (λ (n : NamesState). FitsScript 0 (start_of n gives) events journal replayed.final) (sym one.1)
+            (subst (λ (l : List Event). FitsScript 0 (start_of runs.names gives) l journal replayed.final) (sym one.0) replayed.journal_is);
         faultless = replayed.faults_are.1;
         image_is = attached image replayed.final replayed.image_is replayed.faults_are.0 replayed.faults_are.1;
         written = subst (λ (l : List ℕ). Appends old new l) text told.1;
@@ -63,10 +63,10 @@ module _ {D : Type 0} (content : D → Option (List ℕ)) (faults size : D → �
       let disks : quiet.names.disks ≡ disk ∷ [] = quiet_disks disk (script_lines bytes) events quiet.names quiet.quiet quiet.spelled in
       let least : blocks_of (disk ∷ []) ≡ disk.blocks = omega arith in
       let told : gives (512 * blocks_of (disk ∷ [])) ≡ Some given = ap (λ (n : ℕ). gives (512 * n)) least ∙ gave in
-      let one : FitsScript (fresh_world (disk ∷ []) (record { told = gives (512 * blocks_of (disk ∷ [])); faults = 0 })) events journal whole.final =
-      subst (λ (d : List DiskDecl). FitsScript (fresh_world d (record { told = gives (512 * blocks_of d); faults = 0 })) events journal whole.final) disks whole.fits in
-      let fits : FitsScript (fresh_world (disk ∷ []) (record { told = Some given; faults = 0 })) events journal whole.final =
-      subst (λ (o : Option (List ℕ)). FitsScript (fresh_world (disk ∷ []) (record { told = o; faults = 0 })) events journal whole.final) told one in
+      let one : FitsScript 0 (fresh_world (disk ∷ []) (record { told = gives (512 * blocks_of (disk ∷ [])); faults = 0 })) events journal whole.final =
+      subst (λ (d : List DiskDecl). FitsScript 0 (fresh_world d (record { told = gives (512 * blocks_of d); faults = 0 })) events journal whole.final) disks whole.fits in
+      let fits : FitsScript 0 (fresh_world (disk ∷ []) (record { told = Some given; faults = 0 })) events journal whole.final =
+      subst (λ (o : Option (List ℕ)). FitsScript 0 (fresh_world (disk ∷ []) (record { told = o; faults = 0 })) events journal whole.final) told one in
       let law = plain_law disk given events journal whole.final quiet.quiet fits whole.faultless in
       record {
         written = subst (λ (l : List ℕ). Appends old new l) (ap (λ (d : List DiskDecl). report mode.Run d (length events) journal status.Done) disks ∙ law.0) whole.written;

@@ -16,13 +16,13 @@ use Rattle.replay_law.specs.Script.{FitsScript, FitsCutOff}
 use Rattle.replay_law.specs.Worlds.{WorldState}
 use Rattle.domain_script.specs.Limits.{most_lines}
 
--- what the journal got by how it ended: after want of memory the last line's part may be cut off
-abbrev pub GrewTo : Ending → WorldState → List Event → List Entry → WorldState → Type 0
-GrewTo MayBeCut s events part t = FitsScript s events part t ⊎ FitsCutOff s events part t
-GrewTo other s events part t = FitsScript s events part t
+-- what the journal got behind so many entries, by how it ended: after want of memory the last line's part may be cut off
+abbrev pub GrewTo : Ending → ℕ → WorldState → List Event → List Entry → WorldState → Type 0
+GrewTo MayBeCut entries s events part t = FitsScript entries s events part t ⊎ FitsCutOff entries s events part t
+GrewTo other entries s events part t = FitsScript entries s events part t
 
-abbrev pub Grew : Status → WorldState → List Event → List Entry → WorldState → Type 0
-Grew why s events part t = GrewTo (ending why) s events part t
+abbrev pub Grew : Status → ℕ → WorldState → List Event → List Entry → WorldState → Type 0
+Grew why entries s events part t = GrewTo (ending why) entries s events part t
 
 -- from the bytes that are still to come, after so many lines, these lines were read
 pub record ReadsOn (start left : Option (List ℕ)) (before : NamesState) (number : ℕ) (events : List Event) (after : NamesState) : Type 0 where
@@ -40,16 +40,16 @@ pub record RunsLines (start now : Option (List ℕ)) (before : NamesState) (old 
   pub read : ReadsOn start left before number events after
   pub part : List Entry
   pub grew : new ≡ old ++ part
-  pub fits : Grew why s events part t
+  pub fits : Grew why (length old) s events part t
   pub held : List ℕ
-  pub stop : StopsAt why left held now after (number + length read.texts)
+  pub stop : StopsAt why left held now after (number + length read.texts) (length new)
   pub lines_are : lines ≡ counted_lines why (number + length read.texts)
 
 -- From its first line on the script was read and run, and then no further line was taken up.
 pub record RunsAll (start now : Option (List ℕ)) (before : NamesState) (s : WorldState) (why : Status) (after : NamesState) (journal : List Entry) (t : WorldState) (lines : ℕ) : Type 0 where
   pub events : List Event
-  pub stopped : Stopped start now why events after lines
-  pub fits : Grew why s events journal t
+  pub stopped : Stopped start now why events after (length journal) lines
+  pub fits : Grew why 0 s events journal t
   pub disks : after.disks ≡ before.disks
   -- but at the input's end, a line came at which the image is attached
   pub attached : why ≢ status.Done → AreOpening events → ⊥

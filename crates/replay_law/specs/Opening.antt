@@ -22,7 +22,7 @@ pub record Opens (start left : Option (List ℕ)) (event : Event) (names : Names
 pub record OpensAndStops (start now : Option (List ℕ)) (why : Status) (names : NamesState) (lines : ℕ) : Type 0 where
   pub opening : List Event
   pub are : AreOpening opening
-  pub stopped : Stopped start now why opening names lines
+  pub stopped : Stopped start now why opening names 0 lines
 
 -- after such lines came this event, or the end; these bytes are held and the source has these left
 abbrev pub Opened : Option (List ℕ) → List ℕ → Option (List ℕ) → Option Event → NamesState → ℕ → Type 0

@@ -1,5 +1,5 @@
 -- One line of a script after another, and why no further one is taken up.
-use Rattle.std.specs.Prelude.{◌≡◌, ℕ, ◌+◌, ◌≤◌, List, length, Option}
+use Rattle.std.specs.Prelude.{◌≡◌, ℕ, ◌+◌, ◌<◌, ◌≤◌, List, length, Option}
 use Rattle.std.specs.Io.KnownBytes.{IsAtEnd, Keeps, prepend_known}
 use Rattle.domain_script.specs.declared.event.Event.{Event}
 use Rattle.domain_script.specs.declared.event.LineFault.{LineFault}
@@ -8,7 +8,8 @@ use Rattle.domain_script.specs.NamesState.{NamesState, noted}
 use Rattle.domain_script.specs.Pieces.{HasNoFeed}
 use Rattle.domain_script.specs.ScriptLines.{TakesLine}
 use Rattle.domain_script.specs.Spells.{Spells}
-use Rattle.ldom_journal.specs.LinesEnd.{IsPast}
+use Rattle.ldom_journal.specs.LinesEnd.{IsPast, most_entries}
+use Rattle.ldom_journal.specs.declared.status.LimitKind.TheVariants as limit
 use Rattle.ldom_journal.specs.declared.status.Status.{Status}
 use Rattle.ldom_journal.specs.declared.status.Status.TheVariants as status
 use Rattle.domain_script.specs.Limits.{most_line_bytes, most_lines}
@@ -29,16 +30,23 @@ pub record IsFaulty (rest left : Option (List ℕ)) (names : NamesState) (fault 
   pub nothing : (event : Event) → Spells text names event → ⊥
   pub word : fault ≡ Word
 
--- Why no line is taken up after so many: `rest` is to come, which is now `held` and what the source has left.
--- Where the source failed, no whole line is held.
-abbrev pub StopsAt : Status → Option (List ℕ) → List ℕ → Option (List ℕ) → NamesState → ℕ → Type 0
-StopsAt (status.Script at fault) rest held now names count = (at ≡ count + 1) × (at ≤ most_lines) × IsFaulty rest (prepend_known held now) names fault
-StopsAt (status.Limit at kind) rest held now names count = (at ≡ count + 1) × IsPast kind rest count × Keeps rest (prepend_known held now)
-StopsAt status.Done rest held now names count = IsAtEnd rest × Keeps rest (prepend_known held now)
-StopsAt status.StoreFault rest held now names count = IsAtEnd rest × Keeps rest (prepend_known held now)
-StopsAt status.SourceFault rest held now names count = HasNoFeed held × Keeps rest (prepend_known held now)
-StopsAt status.HostFault rest held now names count = Keeps rest (prepend_known held now)
-StopsAt (status.ImageSize need have) rest held now names count = Keeps rest (prepend_known held now)
-StopsAt status.NoMemory rest held now names count = Keeps rest (prepend_known held now)
-StopsAt status.Usage rest held now names count = ⊥
-StopsAt status.SinkFault rest held now names count = ⊥
+-- a line came next, whatever it spells
+pub record IsRead (rest left : Option (List ℕ)) : Type 0 where
+  pub text : List ℕ
+  pub taken : TakesLine rest left text
+  pub short : length text ≤ most_line_bytes
+
+-- Why no line is taken up after so many, where the journal has so many entries: `rest` is to come, which is now `held` and
+-- what the source has left. Where the source failed, no whole line is held.
+abbrev pub StopsAt : Status → Option (List ℕ) → List ℕ → Option (List ℕ) → NamesState → ℕ → ℕ → Type 0
+StopsAt (status.Script at fault) rest held now names count entries = (at ≡ count + 1) × (at ≤ most_lines) × (entries < most_entries) × IsFaulty rest (prepend_known held now) names fault
+StopsAt (status.Limit at limit.Entries) rest held now names count entries = (at ≡ count + 1) × (at ≤ most_lines) × (most_entries ≤ entries) × IsRead rest (prepend_known held now)
+StopsAt (status.Limit at kind) rest held now names count entries = (at ≡ count + 1) × IsPast kind rest count × Keeps rest (prepend_known held now)
+StopsAt status.Done rest held now names count entries = IsAtEnd rest × Keeps rest (prepend_known held now)
+StopsAt status.StoreFault rest held now names count entries = IsAtEnd rest × Keeps rest (prepend_known held now)
+StopsAt status.SourceFault rest held now names count entries = HasNoFeed held × Keeps rest (prepend_known held now)
+StopsAt status.HostFault rest held now names count entries = Keeps rest (prepend_known held now)
+StopsAt (status.ImageSize need have) rest held now names count entries = Keeps rest (prepend_known held now)
+StopsAt status.NoMemory rest held now names count entries = Keeps rest (prepend_known held now)
+StopsAt status.Usage rest held now names count entries = ⊥
+StopsAt status.SinkFault rest held now names count entries = ⊥

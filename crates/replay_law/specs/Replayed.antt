@@ -1,5 +1,5 @@
 -- What a run did with its script, up to where it stopped.
-use Rattle.std.specs.Prelude.{◌≡◌, ℕ, ◌*◌, ◌<◌, ◌⊎◌, Bool, if◌then◌else◌, List, [], Option, IfSome, IsSome, ⊤}
+use Rattle.std.specs.Prelude.{◌≡◌, ℕ, ◌*◌, ◌<◌, ◌⊎◌, Bool, if◌then◌else◌, List, [], length, Option, IfSome, IsSome, ⊤}
 use Rattle.domain_script.specs.declared.event.Event.{Event}
 use Rattle.domain_script.specs.NamesState.{NamesState}
 use Rattle.ldom_journal.specs.declared.entry.Entry.{Entry}
@@ -14,21 +14,21 @@ use Rattle.replay_law.specs.Reading.{StopsAt}
 use Rattle.replay_law.specs.Script.{ReadSoFar, FitsScript, FitsCutOff}
 use Rattle.replay_law.specs.Worlds.{WorldState, bytes_needed, fresh_world}
 
--- These events were read, and then no further line was taken up; the report counts so many lines. The source has `now`
--- left, and what was taken from it and is in no line is held.
-pub record Stopped (start now : Option (List ℕ)) (why : Status) (events : List Event) (names : NamesState) (lines : ℕ) : Type 0 where
+-- These events were read, and then no further line was taken up, where the journal has so many entries; the report counts
+-- so many lines. The source has `now` left, and what was taken from it and is in no line is held.
+pub record Stopped (start now : Option (List ℕ)) (why : Status) (events : List Event) (names : NamesState) (entries lines : ℕ) : Type 0 where
   pub left : Option (List ℕ)
   pub count : ℕ
   pub read : ReadSoFar start left events names count
   pub held : List ℕ
-  pub stop : StopsAt why left held now names count
+  pub stop : StopsAt why left held now names count entries
   pub lines_are : lines ≡ counted_lines why count
 
 -- the journal of a run: after want of memory the last line's part may be cut off, and without an image there is none
 abbrev pub JournalEnds : Ending → WorldState → List Event → List Entry → WorldState → Type 0
-JournalEnds MayBeCut s events journal t = FitsScript s events journal t ⊎ FitsCutOff s events journal t
+JournalEnds MayBeCut s events journal t = FitsScript 0 s events journal t ⊎ FitsCutOff 0 s events journal t
 JournalEnds NotBegun s events journal t = (journal ≡ []) × (t ≡ s)
-JournalEnds Whole s events journal t = FitsScript s events journal t
+JournalEnds Whole s events journal t = FitsScript 0 s events journal t
 
 -- by how it ended
 abbrev pub JournalIs : Status → WorldState → List Event → List Entry → WorldState → Type 0
@@ -59,7 +59,7 @@ start_of names gives = fresh_world names.disks (record { told = gives (bytes_nee
 pub record Replayed {D : Type 0} (content : D → Option (List ℕ)) (faults : D → ℕ) (script now : Option (List ℕ)) (gives : ℕ → Option (List ℕ))
     (why : Status) (lines : ℕ) (names : NamesState) (journal : List Entry) (image : Option D) : Type 0 where
   pub events : List Event
-  pub stopped : Stopped script now why events names lines
+  pub stopped : Stopped script now why events names (length journal) lines
   pub final : WorldState
   pub journal_is : JournalIs why (start_of names gives) events journal final
   pub image_is : IfSome image (λ disk. (content disk ≡ final.image.told) × (faults disk ≡ final.image.faults))

@@ -18,7 +18,7 @@ use Rattle.replay_law.specs.Worlds.{WorldState}
 pub record RunsWhole {D : Type 0} (content : D → Option (List ℕ)) (faults : D → ℕ) (gives : ℕ → Option (List ℕ)) (names : NamesState) (events : List Event)
     (journal : List Entry) (image : Option D) (old new : Option (List ℕ)) : Type 0 where
   pub final : WorldState
-  pub fits : FitsScript (start_of names gives) events journal final
+  pub fits : FitsScript 0 (start_of names gives) events journal final
   pub faultless : final.image.faults ≡ 0
   pub image_is : IsSomeAnd image (λ disk. (content disk ≡ final.image.told) × (faults disk ≡ 0))
   pub written : Appends old new (report mode.Run names.disks (length events) journal Done)

@@ -20,17 +20,17 @@ ghost use Rattle.replay_law.specs.Worlds.{WorldState, bytes_needed, fresh_world}
 pub fn a_quiet_script_runs_plainly()
     ensures text { (disk : DiskDecl) (content : List ℕ) (events : List Event) (journal : List Entry) (v : WorldState)
         → IsQuiet disk events
-        → FitsScript (fresh_world (disk ∷ []) (record { told = Some content; faults = 0 })) events journal v
+        → FitsScript 0 (fresh_world (disk ∷ []) (record { told = Some content; faults = 0 })) events journal v
         → v.image.faults ≡ 0
         → report mode.Run (disk ∷ []) (length events) journal status.Done ≡ plain_text disk content events }
     ensures content { (disk : DiskDecl) (content : List ℕ) (events : List Event) (journal : List Entry) (v : WorldState)
         → IsQuiet disk events
-        → FitsScript (fresh_world (disk ∷ []) (record { told = Some content; faults = 0 })) events journal v
+        → FitsScript 0 (fresh_world (disk ∷ []) (record { told = Some content; faults = 0 })) events journal v
         → v.image.faults ≡ 0
         → v.image.told ≡ Some (plain_content disk content events) }
     ensures ids { (disk : DiskDecl) (content : List ℕ) (events : List Event) (journal : List Entry) (v : WorldState)
         → IsQuiet disk events
-        → FitsScript (fresh_world (disk ∷ []) (record { told = Some content; faults = 0 })) events journal v
+        → FitsScript 0 (fresh_world (disk ∷ []) (record { told = Some content; faults = 0 })) events journal v
         → v.image.faults ≡ 0
         → completed_ids journal ≡ plain_ids disk content events }
 {}
@@ -41,12 +41,12 @@ pub fn bytes_outside_of_writes_stay()
     ensures script { (disks : List DiskDecl) (faults : ℕ) (content : List ℕ) (events : List Event)
         (journal : List Entry) (v : WorldState)
         → bytes_needed disks ≤ length content
-        → FitsScript (fresh_world disks (record { told = Some content; faults = faults })) events journal v
+        → FitsScript 0 (fresh_world disks (record { told = Some content; faults = faults })) events journal v
         → KeepsOthers (IsOutsideDisks disks journal) content v.image.told }
     ensures cut_off { (disks : List DiskDecl) (faults : ℕ) (content : List ℕ) (events : List Event)
         (journal : List Entry) (v : WorldState)
         → bytes_needed disks ≤ length content
-        → FitsCutOff (fresh_world disks (record { told = Some content; faults = faults })) events journal v
+        → FitsCutOff 0 (fresh_world disks (record { told = Some content; faults = faults })) events journal v
         → KeepsOthers (IsOutsideDisks disks journal) content v.image.told }
 {}
 
@@ -58,16 +58,18 @@ pub fn each_disk_runs()
 /// No more completions failed than the image counts faults, where it counted none at first and its count can't have
 /// stopped at the last value.
 pub fn failed_completions_are_counted()
-    ensures script { (w v : WorldState) (events : List Event) (journal : List Entry)
-        → w.image.faults ≡ 0 → length journal < 2 ^ 63 → FitsScript w events journal v → failed_count journal ≤ v.image.faults }
-    ensures cut_off { (w v : WorldState) (events : List Event) (journal : List Entry)
-        → w.image.faults ≡ 0 → length journal < 2 ^ 63 → FitsCutOff w events journal v → failed_count journal ≤ v.image.faults }
+    ensures script { (entries : ℕ) (w v : WorldState) (events : List Event) (journal : List Entry)
+        → w.image.faults ≡ 0 → length journal < 2 ^ 63 → FitsScript entries w events journal v
+        → failed_count journal ≤ v.image.faults }
+    ensures cut_off { (entries : ℕ) (w v : WorldState) (events : List Event) (journal : List Entry)
+        → w.image.faults ≡ 0 → length journal < 2 ^ 63 → FitsCutOff entries w events journal v
+        → failed_count journal ≤ v.image.faults }
 {}
 
 /// Each completion has the status 0, or 5 where the image failed.
 pub fn completions_succeed_or_fail()
-    ensures script { (w v : WorldState) (events : List Event) (journal : List Entry) → FitsScript w events journal v
-        → SucceedOrFail journal }
-    ensures cut_off { (w v : WorldState) (events : List Event) (journal : List Entry) → FitsCutOff w events journal v
-        → SucceedOrFail journal }
+    ensures script { (entries : ℕ) (w v : WorldState) (events : List Event) (journal : List Entry)
+        → FitsScript entries w events journal v → SucceedOrFail journal }
+    ensures cut_off { (entries : ℕ) (w v : WorldState) (events : List Event) (journal : List Entry)
+        → FitsCutOff entries w events journal v → SucceedOrFail journal }
 {}

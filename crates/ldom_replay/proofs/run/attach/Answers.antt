@@ -27,7 +27,7 @@ returns-in-Err-clause-replayed g c start opened =
     let read = c.args.reader in
     replayed_as g.H.Disk.Store.content g.H.Disk.Store.faults start now gives (attach_status c.in-Err.fault) c.into_run.result.status read.lines.number c.into_run.result.lines
     read.names c.into_run.result.names [] c.into_run.result.journal.entries None c.into_run.result.image
-    (c.into_run.ensures.status ∙ c.status_of.ensures) c.into_run.ensures.lines c.into_run.ensures.names
+    (c.into_run.ensures.status ∙ c.status_of.ensures) (c.into_run.ensures.lines ∙ c.number-lines.ensures) c.into_run.ensures.names
     (ap (λ (j : JournalState). j.entries) c.into_run.ensures.journal ∙ c.requires.journal) c.into_run.ensures.image
     (replayed_refused g.H.Disk.Store.content g.H.Disk.Store.faults start now gives c.in-Err.fault read.lines.held c.args.first read.names read.lines.number None tt (λ _. refl) opened)
 

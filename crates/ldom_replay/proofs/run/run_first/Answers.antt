@@ -4,7 +4,7 @@ use Rattle.domain_script.specs.LinesState.{to_come}
 use Rattle.domain_script.specs.declared.event.Event.{Event}
 use Rattle.ldom_journal.specs.declared.entry.Entry.{Entry}
 use Rattle.ldom_journal.specs.declared.status.Status.TheVariants as status
-use Rattle.ldom_journal.specs.Stops.{stop_status}
+use Rattle.ldom_journal.specs.Stops.{stop_lines, stop_status}
 use Rattle.replay_law.specs.Going.{RunsAll}
 use Rattle.replay_law.specs.Opening.{Opened}
 use Rattle.replay_law.specs.Parts.{Fits, FitsSoFar}
@@ -22,7 +22,7 @@ pub returns-in-Ok-clause-runs : goal.returns-in-Ok-clause-runs
 returns-in-Ok-clause-runs g c start opened =
     let now = g.S.Source.left c.args.source.now in
     runs_all start (to_come c.args.reader.now.lines now) (g.S.Source.left c.run_lines.new.source) c.in-Some.event c.args.reader.now.names c.run_lines.new.reader.names c.args.world.now c.apply.new.self c.run_lines.new.world c.apply.new.journal.entries c.run_lines.new.reader.journal.entries
-    c.args.reader.now.lines.number c.run_lines.new.reader.lines.number (stop_status c.run_lines.result c.run_lines.new.reader.lines.number)
+    c.args.reader.now.lines.number (stop_lines c.run_lines.result c.run_lines.new.reader.lines.number) (stop_status c.run_lines.result c.run_lines.new.reader.lines.number)
     (subst (λ (first : Option Event). Opened start c.args.reader.now.lines.held now first c.args.reader.now.names c.args.reader.now.lines.number) c.in-Some.is opened)
     (subst (λ (l : List Entry). Fits c.args.world.now c.in-Some.event l c.apply.new.journal.entries c.apply.new.self) c.requires.journal c.in-Ok.ensures.fits)
     c.run_lines.ensures.runs

@@ -4,7 +4,7 @@ use Rattle.ldom_journal.specs.declared.status.Status.{Status}
 use Rattle.replay_law.specs.Going.{RunsLines}
 use Rattle.replay_law.specs.Parts.{Fits, FitsSoFar}
 use Rattle.domain_script.specs.LinesState.{to_come}
-use Rattle.ldom_journal.specs.Stops.{stop_status}
+use Rattle.ldom_journal.specs.Stops.{stop_lines, stop_status}
 use Rattle.replay_law.proofs.ReadLemmas.{same_disks, still_ended}
 use Rattle.replay_law.proofs.History.{fits_many}
 use Rattle.replay_law.proofs.LineCases.{for_declared}
@@ -40,7 +40,7 @@ loop-stop-preserved g c =
       agrees = c.in-Ok-apply.ensures.agrees;
       so_far = runs_more start rest left c.args.reader.now.names c.loop-stop.reader.names c.read_event.new.self.names c.args.reader.now.journal.entries c.loop-stop.reader.journal.entries c.apply.new.journal.entries
           c.args.world.now c.loop-stop.world c.apply.new.self c.args.reader.now.lines.number c.loop-stop.reader.lines.number c.read_event.new.self.lines.number c.read_event.new.event
-          c.loop-stop.invariant.so_far c.in-Ok.ensures.event c.in-Ok.ensures.next.0 c.in-Ok.ensures.next.1
+          c.loop-stop.invariant.so_far c.in-Ok.ensures.event c.in-Ok.ensures.next.0 c.in-Ok.ensures.next.1 c.in-Ok.ensures.below
           (subst (λ (j : JournalState). Fits c.loop-stop.world c.read_event.new.event j.entries c.apply.new.journal.entries c.apply.new.self) c.in-Ok.ensures.journal c.in-Ok-apply.ensures.fits);
       unfailed = c.in-Ok.ensures.source.unfailed (λ is. cc) ∙ c.loop-stop.invariant.unfailed;
     }
@@ -50,7 +50,7 @@ returns-in-Err-apply-clause-runs g c =
     runs_cut (to_come c.args.reader.now.lines (g.S.Source.left c.args.source.now)) (to_come c.loop-stop.reader.lines (g.S.Source.left c.loop-stop.source)) (g.S.Source.left c.read_event.new.source) c.read_event.new.self.lines.held
     c.args.reader.now.names c.loop-stop.reader.names c.read_event.new.self.names c.args.reader.now.journal.entries c.loop-stop.reader.journal.entries c.apply.new.journal.entries
     c.args.world.now c.loop-stop.world c.apply.new.self c.args.reader.now.lines.number c.loop-stop.reader.lines.number c.read_event.new.self.lines.number c.read_event.new.event
-    c.loop-stop.invariant.so_far c.in-Ok.ensures.event c.in-Ok.ensures.next.0 c.in-Ok.ensures.next.1
+    c.loop-stop.invariant.so_far c.in-Ok.ensures.event c.in-Ok.ensures.next.0 c.in-Ok.ensures.next.1 c.in-Ok.ensures.below
     (subst (λ (j : JournalState). FitsSoFar c.loop-stop.world c.read_event.new.event j.entries c.apply.new.journal.entries c.apply.new.self) c.in-Ok.ensures.journal c.in-Err-apply.ensures.so_far)
 
 pub returns-in-Err-clause-runs : goal.returns-in-Err-clause-runs
@@ -60,10 +60,10 @@ returns-in-Err-clause-runs g c =
     let now = g.S.Source.left c.read_event.new.source in
     let read = c.read_event.new.self in
     let why : Status = stop_status c.in-Err.stop read.lines.number in
-    subst (λ (j : JournalState). RunsLines start now c.args.reader.now.names c.args.reader.now.journal.entries c.args.world.now c.args.reader.now.lines.number why read.names j.entries c.loop-stop.world read.lines.number) (sym c.in-Err.ensures.journal)
+    subst (λ (j : JournalState). RunsLines start now c.args.reader.now.names c.args.reader.now.journal.entries c.args.world.now c.args.reader.now.lines.number why read.names j.entries c.loop-stop.world (stop_lines c.in-Err.stop read.lines.number)) (sym c.in-Err.ensures.journal)
     (runs_stop start rest now read.lines.held c.args.reader.now.names c.loop-stop.reader.names read.names
     c.args.reader.now.journal.entries c.loop-stop.reader.journal.entries c.args.world.now c.loop-stop.world c.args.reader.now.lines.number c.loop-stop.reader.lines.number
-    read.lines.number why c.loop-stop.invariant.so_far c.in-Err.ensures.stop c.in-Err.ensures.lines.0 c.in-Err.ensures.lines.1)
+    (stop_lines c.in-Err.stop read.lines.number) why c.loop-stop.invariant.so_far c.in-Err.ensures.stop c.in-Err.ensures.lines.0 c.in-Err.ensures.lines.1)
 
 pub apply-requires-clause-event : goal.apply-requires-clause-event
 apply-requires-clause-event g c =

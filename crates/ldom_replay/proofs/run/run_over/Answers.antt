@@ -16,7 +16,7 @@ returns-then-have-need-clause-replayed g c start gives opened told none =
     let read = c.args.reader in
     replayed_as g.D.Store.content g.D.Store.faults start now gives (status.ImageSize (512 * c.blocks_declared-need.result) c.len-have.result) c.into_run.result.status read.lines.number c.into_run.result.lines
     read.names c.into_run.result.names [] c.into_run.result.journal.entries (Some c.args.image) c.into_run.result.image
-    c.into_run.ensures.status c.into_run.ensures.lines c.into_run.ensures.names
+    c.into_run.ensures.status (c.into_run.ensures.lines ∙ c.number-lines.ensures) c.into_run.ensures.names
     (ap (λ (j : JournalState). j.entries) c.into_run.ensures.journal ∙ c.requires.journal) c.into_run.ensures.image
     (replayed_short g.D.Store.content g.D.Store.faults start now gives (512 * c.blocks_declared-need.result) c.len-have.result read.lines.held c.args.first read.names read.lines.number c.args.image told none opened)
 
@@ -48,7 +48,7 @@ returns-in-Err-clause-replayed g c start gives opened told none =
     subst (λ d. (g.D.Store.content d ≡ (start_of read.names gives).image.told) × (g.D.Store.faults d ≡ 0)) (sym c.in-Err.ensures.given_back) (told, none) in
     replayed_as g.D.Store.content g.D.Store.faults start now gives (attach_status Memory) c.into_run-in-Err.result.status read.lines.number c.into_run-in-Err.result.lines
     read.names c.into_run-in-Err.result.names [] c.into_run-in-Err.result.journal.entries (Some c.in-Err.given_back) c.into_run-in-Err.result.image
-    c.into_run-in-Err.ensures.status c.into_run-in-Err.ensures.lines c.into_run-in-Err.ensures.names
+    c.into_run-in-Err.ensures.status (c.into_run-in-Err.ensures.lines ∙ c.number-lines.ensures) c.into_run-in-Err.ensures.names
     (ap (λ (j : JournalState). j.entries) c.into_run-in-Err.ensures.journal ∙ c.requires.journal) c.into_run-in-Err.ensures.image
     (replayed_refused g.D.Store.content g.D.Store.faults start now gives Memory read.lines.held c.args.first read.names read.lines.number (Some c.in-Err.given_back)
     back (λ is. cc) opened)

@@ -3,7 +3,7 @@ use Rattle.domain_script.specs.LinesState.{LinesState}
 use Rattle.ldom_journal.specs.JournalState.{JournalState}
 use Rattle.ldom_journal.specs.declared.status.Status.{Status}
 use Rattle.ldom_journal.specs.declared.status.Status.TheVariants as status
-use Rattle.ldom_journal.specs.Stops.{stop_status}
+use Rattle.ldom_journal.specs.Stops.{stop_lines, stop_status}
 use Rattle.ldom_journal.proofs.StopLemmas.{done_at_end, readers_of}
 use Rattle.replay_law.specs.Opening.{OpensAndStops}
 use Rattle.replay_law.proofs.Assembly.{from_start, replayed_as, replayed_none, replayed_unattached}
@@ -24,15 +24,16 @@ returns-in_default g c =
     let gives = g.H.Host.gives c.args.host.now c.args.name.now in
     let read = c.read_opening.new.reader in
     let why : Status = stop_status c.in-Err-read_opening.stop read.lines.number in
+    let lines : ℕ = stop_lines c.in-Err-read_opening.stop read.lines.number in
     record {
       replayed =
-          replayed_as g.H.Disk.Store.content g.H.Disk.Store.faults left (g.S.Source.left c.read_opening.new.source) gives why c.into_run.result.status read.lines.number c.into_run.result.lines
+          replayed_as g.H.Disk.Store.content g.H.Disk.Store.faults left (g.S.Source.left c.read_opening.new.source) gives why c.into_run.result.status lines c.into_run.result.lines
           read.names c.into_run.result.names [] c.into_run.result.journal.entries None c.into_run.result.image
-          (c.into_run.ensures.status ∙ c.status-status.ensures) c.into_run.ensures.lines c.into_run.ensures.names
+          (c.into_run.ensures.status ∙ c.status-status.ensures) (c.into_run.ensures.lines ∙ c.counted-lines.ensures) c.into_run.ensures.names
           (ap (λ (j : JournalState). j.entries) (c.into_run.ensures.journal ∙ c.read_opening.ensures.journal ∙ c.in-Ok.ensures.journal)) c.into_run.ensures.image
-          (replayed_unattached g.H.Disk.Store.content g.H.Disk.Store.faults left (g.S.Source.left c.read_opening.new.source) gives why read.names read.lines.number
+          (replayed_unattached g.H.Disk.Store.content g.H.Disk.Store.faults left (g.S.Source.left c.read_opening.new.source) gives why read.names lines
           (readers_of c.in-Err-read_opening.stop read.lines.number) (done_at_end c.in-Err-read_opening.stop read.lines.number c.in_default.not-End)
-          (subst (λ (start : Option (List ℕ)). OpensAndStops start (g.S.Source.left c.read_opening.new.source) why read.names read.lines.number) (from_start c.in-Ok.reader.lines left (ap (λ (l : LinesState). l.held) c.in-Ok.ensures.lines)) c.in-Err-read_opening.ensures.stops));
+          (subst (λ (start : Option (List ℕ)). OpensAndStops start (g.S.Source.left c.read_opening.new.source) why read.names lines) (from_start c.in-Ok.reader.lines left (ap (λ (l : LinesState). l.held) c.in-Ok.ensures.lines)) c.in-Err-read_opening.ensures.stops));
       sized = sized_as g.H.Disk.Store.size gives why c.into_run.result.status read.names c.into_run.result.names None c.into_run.result.image
           (c.into_run.ensures.status ∙ c.status-status.ensures) c.into_run.ensures.names c.into_run.ensures.image
           (sized_none g.H.Disk.Store.size why (512 * blocks_of read.names.disks) (gives (512 * blocks_of read.names.disks)) (readers_of c.in-Err-read_opening.stop read.lines.number));

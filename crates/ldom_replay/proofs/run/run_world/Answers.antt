@@ -1,7 +1,7 @@
 use Rattle.std.proofs.Common.{◌≡◌, ◌∙◌, Some, ap}
 use Rattle.ldom_journal.specs.JournalState.{JournalState}
 use Rattle.ldom_journal.specs.declared.status.Status.{Status}
-use Rattle.ldom_journal.specs.Stops.{stop_status}
+use Rattle.ldom_journal.specs.Stops.{stop_lines, stop_status}
 use Rattle.ldom_journal.proofs.StopLemmas.{readers_of}
 use Rattle.replay_law.specs.Replayed.{ended_status}
 use Rattle.replay_law.proofs.Assembly.{replayed_as, replayed_of}
@@ -15,12 +15,12 @@ returns-clause-replayed g c start gives opened begins =
     let why : Status = stop_status c.run_first-stop.result read.lines.number in
     let ended_is : c.ended-status.result ≡ ended_status why c.faulty.result = c.ended-status.ensures ∙ ap (λ (w : Status). ended_status w c.faulty.result) c.status.ensures in
     let status_is : c.into_run.result.status ≡ ended_status why c.faulty.result = c.into_run.ensures.status ∙ ended_is in
-    replayed_as g.D.Store.content g.D.Store.faults start now gives (ended_status why c.faulty.result) c.into_run.result.status read.lines.number c.into_run.result.lines
+    replayed_as g.D.Store.content g.D.Store.faults start now gives (ended_status why c.faulty.result) c.into_run.result.status (stop_lines c.run_first-stop.result read.lines.number) c.into_run.result.lines
     read.names c.into_run.result.names read.journal.entries c.into_run.result.journal.entries (Some c.finish.result) c.into_run.result.image
-    status_is c.into_run.ensures.lines c.into_run.ensures.names
+    status_is (c.into_run.ensures.lines ∙ c.counted-lines.ensures) c.into_run.ensures.names
     (ap (λ (j : JournalState). j.entries) c.into_run.ensures.journal) c.into_run.ensures.image
     (replayed_of g.D.Store.content g.D.Store.faults start now gives why c.faulty.result c.args.reader.names read.names c.args.world c.run_first-stop.new.world
-    read.journal.entries read.lines.number c.finish.result (readers_of c.run_first-stop.result read.lines.number) (c.run_first-stop.ensures.runs start opened) begins
+    read.journal.entries (stop_lines c.run_first-stop.result read.lines.number) c.finish.result (readers_of c.run_first-stop.result read.lines.number) (c.run_first-stop.ensures.runs start opened) begins
     c.finish.ensures.content c.finish.ensures.faults c.faulty.ensures)
 
 pub returns-clause-sized : goal.returns-clause-sized
@@ -32,5 +32,5 @@ returns-clause-sized g c start gives opened begins long =
     let status_is : c.into_run.result.status ≡ ended_status why c.faulty.result = c.into_run.ensures.status ∙ ended_is in
     sized_as g.D.Store.size gives (ended_status why c.faulty.result) c.into_run.result.status read.names c.into_run.result.names (Some c.finish.result) c.into_run.result.image
     status_is c.into_run.ensures.names c.into_run.ensures.image
-    (sized_run g.D.Store.size start now gives why c.faulty.result c.args.reader.names read.names c.args.world c.run_first-stop.new.world read.journal.entries read.lines.number
+    (sized_run g.D.Store.size start now gives why c.faulty.result c.args.reader.names read.names c.args.world c.run_first-stop.new.world read.journal.entries (stop_lines c.run_first-stop.result read.lines.number)
     c.finish.result (readers_of c.run_first-stop.result read.lines.number) (c.run_first-stop.ensures.runs start opened) begins c.finish.ensures.size long)

@@ -7,6 +7,7 @@ use Rattle.ldom_journal.specs.DiskEvents.{history}
 use Rattle.replay_law.proofs.Completeness.{all_zero, completes, never, still}
 use Rattle.replay_law.proofs.History.{none_once}
 use Rattle.std.proofs.lemmas.List.Elements.{All-nil}
+use Rattle.replay_law.specs.Clean.{EndsClean}
 use Rattle.replay_law.specs.Failures.{SucceedOrFail, SucceedsOrFails, failed_count}
 use Rattle.replay_law.specs.Outcomes.{RunsScript}
 use Rattle.replay_law.specs.Worlds.{blocks_of}
@@ -87,21 +88,23 @@ pub returns-in-Some-Run-clause-complete : goal.returns-in-Some-Run-clause-comple
 returns-in-Some-Run-clause-complete g c image asks bytes known clean still_all store long =
     let named : image ≡ c.in-Some-Run.image.now =
     one_run (map string_bytes c.args.words.now) c.in-Some-Run.image.now image (ap (λ (asked : Asked). Some (wanted_of asked)) (sym c.in-Some-Run.field-0-is) ∙ c.in-Some-Run.ensures) asks in
-    completes _ _ _ _ _ _ _ _ _ _ c.run_script.ensures.replayed c.report_run.result.status (g.K.Sink.written c.args.out.now) (g.K.Sink.written c.report_run.new.out) _ bytes c.report_run.ensures.reports known clean
+    subst (λ (j : JournalState). EndsClean c.report_run.result.status j.entries) (sym c.report_run.ensures.journal)
+    (completes _ _ _ _ _ _ _ _ _ _ c.run_script.ensures.replayed c.report_run.result.status (g.K.Sink.written c.args.out.now) (g.K.Sink.written c.report_run.new.out) _ bytes c.report_run.ensures.reports known clean
     (λ ran. still _ _ still_all.source (c.run_script.ensures.source.cause ran)) (λ ran. still _ _ still_all.host (c.run_script.ensures.host.cause ran)) (λ told ran. still _ _ still_all.sink (c.report_run.ensures.sink_fault told ran))
     (subst (λ (i : Option g.row.H-Disk.Denot). IfSome i (λ disk. g.H.Disk.Store.faults disk ≡ 0)) c.report_run.ensures.image store)
     g.H.Disk.Store.size c.run_script.ensures.sized c.in-Some-Run.image.now (λ is n. subst (λ (name : List ℕ). g.H.Host.gives c.args.host.now name n ≡ Some (replicate n 0)) (sym is) (g.met.H.Host.dash c.args.host.now n))
-    (λ other. subst (λ (i : Option g.row.H-Disk.Denot). IfSome i (λ disk. 512 * blocks_of clean.names.disks ≤ g.H.Disk.Store.size disk)) c.report_run.ensures.image (long (λ same. other (sym named ∙ same))))
+    (λ other. subst (λ (i : Option g.row.H-Disk.Denot). IfSome i (λ disk. 512 * blocks_of clean.names.disks ≤ g.H.Disk.Store.size disk)) c.report_run.ensures.image (long (λ same. other (sym named ∙ same)))))
 
 pub returns-in-Some-Run-clause-infallible : goal.returns-in-Some-Run-clause-infallible
 returns-in-Some-Run-clause-infallible g c image asks bytes known clean source host disk long written =
     let named : image ≡ c.in-Some-Run.image.now =
     one_run (map string_bytes c.args.words.now) c.in-Some-Run.image.now image (ap (λ (asked : Asked). Some (wanted_of asked)) (sym c.in-Some-Run.field-0-is) ∙ c.in-Some-Run.ensures) asks in
-    completes _ _ _ _ _ _ _ _ _ _ c.run_script.ensures.replayed c.report_run.result.status (g.K.Sink.written c.args.out.now) (g.K.Sink.written c.report_run.new.out) _ bytes c.report_run.ensures.reports known clean
+    subst (λ (j : JournalState). EndsClean c.report_run.result.status j.entries) (sym c.report_run.ensures.journal)
+    (completes _ _ _ _ _ _ _ _ _ _ c.run_script.ensures.replayed c.report_run.result.status (g.K.Sink.written c.args.out.now) (g.K.Sink.written c.report_run.new.out) _ bytes c.report_run.ensures.reports known clean
     (λ ran. never g.S.Source.faults _ _ source (c.run_script.ensures.source.cause ran)) (λ ran. never g.H.Host.faults _ _ host (c.run_script.ensures.host.cause ran)) (λ told ran. absurd (written told))
     (all_zero g.H.Disk.Store.faults disk c.run_script.result.image)
     g.H.Disk.Store.size c.run_script.ensures.sized c.in-Some-Run.image.now (λ is n. subst (λ (name : List ℕ). g.H.Host.gives c.args.host.now name n ≡ Some (replicate n 0)) (sym is) (g.met.H.Host.dash c.args.host.now n))
-    (λ other. subst (λ (i : Option g.row.H-Disk.Denot). IfSome i (λ image. 512 * blocks_of clean.names.disks ≤ g.H.Disk.Store.size image)) c.report_run.ensures.image (long (λ same. other (sym named ∙ same))))
+    (λ other. subst (λ (i : Option g.row.H-Disk.Denot). IfSome i (λ image. 512 * blocks_of clean.names.disks ≤ g.H.Disk.Store.size image)) c.report_run.ensures.image (long (λ same. other (sym named ∙ same)))))
 
 pub returns-in-Some-Dump-clause-dumps_whole : goal.returns-in-Some-Dump-clause-dumps_whole
 returns-in-Some-Dump-clause-dumps_whole g c words bytes known whole source sink = c.report_dump.ensures.whole bytes known whole (still _ _ source) (still _ _ sink)
