@@ -3,6 +3,9 @@ use Rattle.std.proofs.Common.{◌≡◌, ◌||◌, ℕ, Bool, true, false, List,
 use Rattle.ldc_queue.specs.ChannelView.{ChannelView}
 use Rattle.ldc_queue.specs.declared.end.End.TheVariants.{A, B}
 use Rattle.ldc_queue.specs.Wire.{Wire, state_of}
+use Rattle.disk_lane.specs.Events.{ResetsOwn}
+use Rattle.disk_steps.proofs.OwnSteps.{client_resets_own}
+use Rattle.disk_steps.specs.ClientRule.{client_rule}
 use Rattle.disk_steps.specs.ClientState.{ClientState}
 use Rattle.disk_steps.specs.DiskEvent.{DiskEvent}
 use Rattle.disk_steps.specs.LaneState.{LaneState, NearCounts, near_disturbed, near_finished}
@@ -11,7 +14,7 @@ use Rattle.disk_steps.specs.OnChannel.{IsChannelOf}
 use Rattle.disk_steps.specs.Served.{Served}
 use Rattle.disk_steps.specs.ServerState.{ServerState}
 use Rattle.vdisk_client.proofs.LaneSteps.{lane_steps}
-use Rattle.vdisk_client.specs.Calls.{Steps, channel_after, client_event}
+use Rattle.vdisk_client.specs.Calls.{Steps, channel_after, client_event, sees}
 use Rattle.vdisk_client.specs.OnLane.{client_moved}
 use Rattle.vdisk_client.specs.declared.answers.ClientOut.{ClientOut}
 use Rattle.vdisk_client.specs.declared.answers.ClientOut.TheVariants as client_out
@@ -52,6 +55,16 @@ module _ (s : LaneState) (c d : ChannelView) (t : ClientState) (new : List ℕ) 
   client_notes (client_out.Done id operation status len) steps = refl
   client_notes (client_out.Reset cause packet) steps =
       ap (λ (x : ClientState). record (client_moved s (client_event (client_out.Reset cause packet) t.last) t new) { near = near_disturbed x }) steps.step.2
+
+  pub client_own : (answer : ClientOut) → Steps s.client c s.memory answer t d new → ResetsOwn answer
+  client_own client_out.Idle steps = tt
+  client_own client_out.Blocked steps = tt
+  client_own client_out.Joined steps = tt
+  client_own (client_out.Took packet opens) steps = tt
+  client_own (client_out.Sent packet opens) steps = tt
+  client_own (client_out.Published id) steps = tt
+  client_own (client_out.Done id operation status len) steps = tt
+  client_own (client_out.Reset cause packet) steps = client_resets_own (client_rule s.client (sees c)) s.client s.memory cause packet steps.step.0
 
   pub client_lane : (answer : ClientOut) (next : LaneState) → IsChannelOf c s → Steps s.client c s.memory answer t d new
       → next ≡ noted (state_of A c.wire) (client_event answer t.last) (client_left s d t new) → LaneStep s (client_event answer next.client.last) next

@@ -1,10 +1,13 @@
 -- What a call of a lane is as an event of it, by what it answered.
-use Rattle.std.specs.Prelude.{◌≡◌, Bool, true, false, List, ℕ, Option, Some, None}
+use Rattle.std.specs.Prelude.{◌≡◌, Bool, true, false, List, ℕ, Option, Some, None, ⊤}
 use Rattle.ldc_queue.specs.declared.end.End.{End}
 use Rattle.ldc_queue.specs.declared.end.End.TheVariants.{A, B}
 use Rattle.vio_tag.specs.declared.cause.Cause.TheVariants as the_cause
 use Rattle.lane_law.specs.WireEvent as wire
+use Rattle.lane_law.specs.WireEvent.{ByStep, giver}
 use Rattle.disk_steps.specs.DiskEvent.{CalmReset, CalmRestart, CalmStart, CalmStop, CalmTick, DiskEvent, Off, OnWire, Rests, Started, Stopped, Turns}
+use Rattle.vdisk_client.specs.declared.answers.ClientOut.{ClientOut}
+use Rattle.vdisk_client.specs.declared.answers.ClientOut.TheVariants as client_out
 use Rattle.vdisk_server.specs.Answering.{Calls, KeepsStore, server_event}
 use Rattle.vdisk_server.specs.declared.answers.ServerOut.{ServerOut}
 
@@ -47,3 +50,8 @@ KeepsStoreOf None old new = new ≡ old
 abbrev pub CallsOf : Option ServerOut → ℕ → ℕ → ℕ → ℕ → Type 0
 CallsOf (Some answer) calls new_calls faults new_faults = Calls answer calls new_calls faults new_faults
 CallsOf None calls new_calls faults new_faults = (new_calls ≡ calls) × (new_faults ≡ faults)
+
+-- a client's step resets its end for a cause of its own, none that a script, a restart or a tick gives
+abbrev pub ResetsOwn : ClientOut → Type 0
+ResetsOwn (client_out.Reset cause packet) = giver cause ≡ ByStep
+ResetsOwn _ = ⊤

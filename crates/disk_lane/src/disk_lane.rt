@@ -7,7 +7,7 @@ ghost use Rattle.disk_steps.specs.LaneState.{fresh, IsShape};
 ghost use Rattle.disk_steps.specs.LaneStep.{LaneStep};
 ghost use Rattle.disk_steps.specs.Served.{Served};
 ghost use Rattle.vdisk_client.specs.Calls.{TellsLength, admitted, client_event, front_count};
-ghost use Rattle.disk_lane.specs.Events.{CallsOf, KeepsStoreOf, lost_event, reset_event, restart_event, served_event, start_event, stop_event, tick_event};
+ghost use Rattle.disk_lane.specs.Events.{CallsOf, KeepsStoreOf, ResetsOwn, lost_event, reset_event, restart_event, served_event, start_event, stop_event, tick_event};
 
 use crate::lane_ends::LaneEnds;
 use flat_store::Region;
@@ -74,6 +74,7 @@ impl DiskLane {
     pub fn step_client(&mut self) -> ClientOut
         ensures step { LaneStep self.old (client_event result self.new.client.last) self.new }
         ensures count { TellsLength result self.new.client.last }
+        ensures own { ResetsOwn result }
         ensures shape { self.new.shape ≡ self.old.shape }
     {
         self.ends.step_client()

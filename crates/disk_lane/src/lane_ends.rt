@@ -10,7 +10,7 @@ ghost use Rattle.disk_steps.specs.LaneStep.{LaneStep, stored_blocks};
 ghost use Rattle.disk_steps.specs.Served.{Served};
 ghost use Rattle.vdisk_client.specs.Calls.{TellsLength, admitted, client_event, front_count};
 ghost use Rattle.vdisk_server.specs.Answering.{Calls, KeepsStore, server_event};
-ghost use Rattle.disk_lane.specs.Events.{lost_event, reset_event, restart_event, start_event, stop_event, tick_event};
+ghost use Rattle.disk_lane.specs.Events.{ResetsOwn, lost_event, reset_event, restart_event, start_event, stop_event, tick_event};
 ghost use Rattle.disk_lane.specs.Noted.{noted};
 
 use crate::granting::{own_table, pages_for};
@@ -96,6 +96,7 @@ impl LaneEnds {
     pub fn step_client(&mut self) -> ClientOut
         ensures step { LaneStep self.old (client_event result self.new.client.last) self.new }
         ensures count { TellsLength result self.new.client.last }
+        ensures own { ResetsOwn result }
     {
         let was = self.channel.state(End::A);
         let out = self.client.step(&mut self.channel, &mut self.memory);
