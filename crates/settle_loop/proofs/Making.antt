@@ -9,23 +9,10 @@ use Rattle.lane_law.specs.WireEvent.{Idle}
 use Rattle.lane_lawful.proofs.StepFalls.{idles}
 use Rattle.ldc_queue.specs.declared.end.End.{End}
 use Rattle.lanes_settle.specs.Settle.{OfLane, SettleEntry, entry_of}
+use Rattle.lanes_world.proofs.Along.{lane_step}
 use Rattle.lanes_world.specs.World.{LaneMoves, OneMoves, WorldState, WorldStep}
 use Rattle.settle_loop.proofs.Places.{set_same}
 use Rattle.settle_loop.specs.RoundMade.{LaneMade}
-
--- an event over the image is a step of the lane
-pub lane_step : (s : LaneState) (i : ImageState) (event : DiskEvent) (t : LaneState) (j : ImageState) → LaneMoves s i event t j → LaneStep s event t
-lane_step s i (OnWire event) t j moves = moves.0
-lane_step s i (Asks event) t j moves = moves.0
-lane_step s i (Works (Published id)) t j moves = moves.0
-lane_step s i (Works (Done id operation status bytes)) t j moves = moves.0
-lane_step s i (Works (Desc slot bytes)) t j moves = moves.0
-lane_step s i (Works (Moved unit fault)) t j moves = moves.0
-lane_step s i (Works (Stored operation block count failed)) t j moves = (moves.0.gave, moves.0.step)
-lane_step s i (Works (Finished slot status)) t j moves = moves.0
-lane_step s i (Works Misplaced) t j moves = moves.0
-lane_step s i (Turns event) t j moves = moves.0
-lane_step s i (Rests event) t j moves = moves.0
 
 -- A WORLD is its lanes and its image
 abbrev world_of : List LaneState → ImageState → WorldState

@@ -16,7 +16,7 @@ use Rattle.lanes_settle.specs.Settle.{OfLane, SettleEntry, tick_entries}
 use Rattle.lanes_settle.specs.Ticks.{TickLanes, TicksWhere, gets_tick, marked, some_get_ticks, tick, waits_on}
 use Rattle.lanes_world.specs.Lines.{AnswersCall, Ticks}
 use Rattle.lanes_world.specs.World.{OneMoves, WorldState, WorldStep}
-use Rattle.settle_loop.proofs.Making.{lane_step}
+use Rattle.lanes_world.proofs.Along.{lane_step}
 use Rattle.settle_loop.proofs.Places.{after_one, drop_whole, same_first, same_next, set_same, take_most, take_one, take_set_one, take_whole, take_within, drop_set}
 use Rattle.settle_loop.proofs.RoundsOn.{SetAt, set_at}
 use Rattle.settle_loop.specs.TicksMade.{LaneTicked, TickedWhere, TicksBegun, TicksUpTo}
