@@ -6,7 +6,9 @@ use Rattle.hex.specs.Hex.{decode_pairs, encode_with}
 use Rattle.vdisk_msg.specs.declared.request.Fill.{Fill}
 use Rattle.vdisk_msg.specs.declared.request.Request.TheVariants.{Read, Write}
 use Rattle.domain_script.specs.declared.event.DiskDecl.{DiskDecl}
-use Rattle.domain_script.specs.declared.event.Event.TheVariants.{Disk, Issue, Settle}
+use Rattle.domain_script.specs.declared.event.Event.TheVariants.{Blank, Disk, Issue, Settle, Step, Round, Restart, Stop, Tick}
+use Rattle.domain_script.specs.declared.event.Lane.TheVariants as lane
+use Rattle.domain_script.specs.declared.event.Side.TheVariants.{Client, Server}
 use Rattle.domain_script.specs.ScriptEvents.{AllSpell, no_names}
 use Rattle.domain_script.specs.ScriptLines.{script_lines}
 use Rattle.domain_script.proofs.ComputedEvents.{events_spelled}
@@ -23,3 +25,17 @@ word = record { len = 1; bytes = 171 ∷ replicate 1023 0 }
 one_write_one_read : AllSpell (script_lines bytes) no_names (Disk disk ∷ Issue 0 (Write 3 2 word) ∷ Issue 0 (Read 2 3) ∷ Settle ∷ []) (record { disks = disk ∷ []; ended = true })
 unfolding decode_pairs encode_with digits
 one_write_one_read = events_spelled (script_lines bytes) no_names
+
+-- two disks, and rows of their lanes
+abbrev other_bytes : List ℕ
+other_bytes = codes "disk d0 64 8 16\n# and\ndisk e 1 2 8\nstep e.c 12\nround 100\nrestart d0.s\nstop e\ntick e\n"
+
+abbrev other_disk : DiskDecl
+other_disk = record { name = record { len = 1; bytes = 101 ∷ replicate 7 0 }; blocks = 1; ring = 2; queue = 8 }
+
+rows_of_two_disks : AllSpell (script_lines other_bytes) no_names
+    (Disk disk ∷ Blank ∷ Disk other_disk ∷ Step (record { lane = lane.Disk 1; side = Client }) 12 ∷ Round 100
+    ∷ Restart (record { lane = lane.Disk 0; side = Server }) ∷ Stop 1 ∷ Tick (lane.Disk 1) ∷ [])
+    (record { disks = disk ∷ other_disk ∷ []; ended = true })
+unfolding decode_pairs encode_with digits
+rows_of_two_disks = events_spelled (script_lines other_bytes) no_names

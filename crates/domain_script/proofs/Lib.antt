@@ -8,6 +8,7 @@ pub mod WordLemmas
 pub mod NumberLemmas
 pub mod HexWords
 pub mod SameName
+pub mod FieldValues
 pub mod RowLemmas
 pub mod Naming
 pub mod PowersOfTwo

@@ -1,11 +1,18 @@
--- Which disk a word names.
-use Rattle.std.proofs.Common.{◌≡◌, ◌<◌, ℕ, zero, suc, List, [], ◌∷◌, length, Option, Some, None, MatchOption, IfNone, refl, sym, ◌∙◌, ap, subst, arith}
+-- Which disk and which end a word names.
+use Rattle.std.proofs.Common.{◌≡◌, ◌<◌, ℕ, zero, suc, List, [], ◌∷◌, ◌++◌, append_assoc, length, Option, Some, None, MatchOption, IsTrue, ◌↔◌, Bool, not, true, false, IfNone, refl, sym, ◌∙◌, ap, subst, arith}
+use Rattle.std.specs.Option.{is_some}
+use Rattle.std.proofs.lemmas.List.{append_cancel_right, same_from_push}
 use Rattle.domain_script.specs.declared.event.DiskDecl.{DiskDecl}
+use Rattle.domain_script.specs.declared.event.EndName.{EndName}
+use Rattle.domain_script.specs.declared.event.Lane.{Lane}
+use Rattle.domain_script.specs.declared.event.Lane.TheVariants as lane
 use Rattle.domain_script.specs.declared.event.Name.{Name}
-use Rattle.domain_script.specs.NamesState.{NamesState, IsDiskNamed, IsFree}
-use Rattle.domain_script.specs.Spells.{NamesDisk}
-use Rattle.domain_script.specs.Words.{SpellsName}
-use Rattle.domain_script.proofs.SameName.{same_name}
+use Rattle.domain_script.specs.declared.event.Side.{Side}
+use Rattle.domain_script.specs.declared.event.Side.TheVariants.{Client, Server}
+use Rattle.domain_script.specs.NamesState.{NamesState, IsDiskNamed, IsFree, IsLane}
+use Rattle.domain_script.specs.Spells.{NamesDisk, NamesEnd, NamesLane}
+use Rattle.domain_script.specs.Words.{side_text, SpellsName}
+use Rattle.domain_script.proofs.SameName.{same_end, same_name}
 
 -- a word spells at most one name
 pub one_name : (word : List ℕ) (a b : Name) → SpellsName word a → SpellsName word b → a ≡ b
@@ -24,6 +31,14 @@ pub no_disk : (disks : List DiskDecl) (name : Name) (k : ℕ) → IsFree name di
 no_disk [] name k free named = named
 no_disk (x ∷ xs) name zero free named = free.0 named
 no_disk (x ∷ xs) name (suc k) free named = no_disk xs name k free.1 named.1
+
+-- where `find` gives nothing the name is free
+pub free_tells : (name : Name) (disks : List DiskDecl) (found : Option ℕ) (test : Bool) → MatchOption found (IsFree name disks) (IsDiskNamed name disks)
+    → is_some found ≡ not test → IsTrue test ↔ IsFree name disks
+free_tells name disks None true free is = (λ none. free, λ free. refl)
+free_tells name disks None false free is = let both : false ≡ true = is in cc
+free_tells name disks (Some k) true named is = let both : true ≡ false = is in cc
+free_tells name disks (Some k) false named is = (λ none. let both : false ≡ true = none in cc, λ free. absurd (no_disk disks name k free named))
 
 -- a disk that is named is declared
 pub named_within : (disks : List DiskDecl) (name : Name) (k : ℕ) → IsDiskNamed name disks k → k < length disks
@@ -48,3 +63,40 @@ pub none_named : (names : NamesState) (word : List ℕ) (name : Name) (found : O
     → MatchOption found (IsFree name names.disks) (IsDiskNamed name names.disks) → IfNone found ((k : ℕ) → NamesDisk names word k → ⊥)
 none_named names word name None spelled free = names_no_disk names word name spelled free
 none_named names word name (Some k) spelled named = tt
+
+-- the lane that a word names is declared
+pub lane_within : (names : NamesState) (word : List ℕ) (l : Lane) → NamesLane names word l → IsLane names l
+lane_within names word (lane.Disk disk) named = named_within names.disks named.name disk named.declared_as
+
+one_lane : (names : NamesState) (word : List ℕ) (a b : Lane) → NamesLane names word a → NamesLane names word b → a ≡ b
+one_lane names word (lane.Disk j) (lane.Disk k) first second = ap (λ (n : ℕ). lane.Disk n) (names_one_disk names word j k first second)
+
+no_lane : (names : NamesState) (word : List ℕ) (l : Lane) → ((disk : ℕ) → NamesDisk names word disk → ⊥) → NamesLane names word l → ⊥
+no_lane names word (lane.Disk disk) none named = none disk named
+
+-- two sides are written differently
+other_letter : (xs ys : List ℕ) (a b : ℕ) → xs ++ 46 ∷ a ∷ [] ≡ ys ++ 46 ∷ b ∷ [] → a ≡ b
+other_letter xs ys a b same =
+    let pushed : (xs ++ 46 ∷ []) ++ a ∷ [] ≡ (ys ++ 46 ∷ []) ++ b ∷ [] = append_assoc xs (46 ∷ []) (a ∷ []) ∙ same ∙ sym (append_assoc ys (46 ∷ []) (b ∷ [])) in
+    (same_from_push (xs ++ 46 ∷ []) (ys ++ 46 ∷ []) a b pushed).1
+
+-- a word has at most one side and one name in front of it
+pub one_side : (xs ys : List ℕ) (s t : Side) → xs ++ side_text s ≡ ys ++ side_text t → (xs ≡ ys) × (s ≡ t)
+one_side xs ys Client Client same = (append_cancel_right xs ys (side_text Client) same, refl)
+one_side xs ys Server Server same = (append_cancel_right xs ys (side_text Server) same, refl)
+one_side xs ys Client Server same = let letter : 99 ≡ 115 = other_letter xs ys 99 115 same in absurd (omega (arith, letter))
+one_side xs ys Server Client same = let letter : 115 ≡ 99 = other_letter xs ys 115 99 same in absurd (omega (arith, letter))
+
+-- a word names at most one end
+pub names_one_end : (names : NamesState) (word : List ℕ) (a b : EndName) → NamesEnd names word a → NamesEnd names word b → a ≡ b
+names_one_end names word a b first second =
+    let same = one_side first.name second.name a.side b.side (sym first.spelled ∙ second.spelled) in
+    let named : NamesLane names second.name a.lane = subst (λ (w : List ℕ). NamesLane names w a.lane) same.0 first.lane_named in
+    same_end a b (one_lane names second.name a.lane b.lane named second.lane_named) same.1
+
+-- no lane has the name in front of the side
+pub names_no_end : (names : NamesState) (word name : List ℕ) (side : Side) → word ≡ name ++ side_text side → ((disk : ℕ) → NamesDisk names name disk → ⊥)
+    → (end : EndName) → NamesEnd names word end → ⊥
+names_no_end names word name side is none end named =
+    let same = one_side named.name name end.side side (sym named.spelled ∙ is) in
+    no_lane names name end.lane none (subst (λ (w : List ℕ). NamesLane names w end.lane) same.0 named.lane_named)

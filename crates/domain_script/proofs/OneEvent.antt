@@ -1,8 +1,8 @@
 -- A line spells at most one event.
-use Rattle.std.proofs.Common.{◌≡◌, ◌≢◌, ℕ, List, [], ◌∷◌, Option, Some, None, ◌⊎◌, inl, inr, refl, sym, ◌∙◌, ap, subst, arith}
+use Rattle.std.proofs.Common.{◌≡◌, ℕ, List, [], ◌∷◌, Option, Some, None, ◌⊎◌, inl, inr, refl, sym, ◌∙◌, ap, subst, arith}
 use Rattle.std.specs.List.{onto_first}
 use Rattle.domain_script.specs.declared.event.Event.{Event}
-use Rattle.domain_script.specs.declared.event.Event.TheVariants.{Blank, Disk, Issue, Settle}
+use Rattle.domain_script.specs.declared.event.Event.TheVariants.{Blank, Disk, Issue, Settle, Step, Round, Reset, Restart, Stop, Start, Lose, Tick}
 use Rattle.domain_script.specs.declared.rows.RowKind.{RowKind}
 use Rattle.domain_script.specs.NamesState.{NamesState}
 use Rattle.domain_script.specs.Rows.{row_named}
@@ -41,6 +41,14 @@ blank_or_row line names Blank spells = inl (spells, refl)
 blank_or_row line names (Disk disk) spells = inr spells
 blank_or_row line names (Issue disk request) spells = inr spells
 blank_or_row line names Settle spells = inr spells
+blank_or_row line names (Step end count) spells = inr spells
+blank_or_row line names (Round count) spells = inr spells
+blank_or_row line names (Reset end) spells = inr spells
+blank_or_row line names (Restart end) spells = inr spells
+blank_or_row line names (Stop disk) spells = inr spells
+blank_or_row line names (Start disk) spells = inr spells
+blank_or_row line names (Lose end) spells = inr spells
+blank_or_row line names (Tick lane) spells = inr spells
 
 -- the same for a line
 pub one_spelled : (line : List ℕ) (names : NamesState) (a b : Event) → Spells line names a → Spells line names b → a ≡ b

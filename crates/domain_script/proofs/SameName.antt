@@ -1,14 +1,23 @@
--- Names by their fields.
+-- Names and ends by their fields.
 use Rattle.std.proofs.Common.{◌≡◌, ℕ, Bool, true, false, ◌&&◌, eqb, List, sym, ◌∙◌, ap}
 use Rattle.std.proofs.lemmas.Bool.{and_parts, eqb-true, eq-eqb}
 use Rattle.std.proofs.lemmas.Slice.Eq.{bytes_eq-Decides}
 use Rattle.std.specs.Str.{bytes_eq}
+use Rattle.domain_script.specs.declared.event.EndName.{EndName}
+use Rattle.domain_script.specs.declared.event.Lane.{Lane}
 use Rattle.domain_script.specs.declared.event.Name.{Name}
+use Rattle.domain_script.specs.declared.event.Side.{Side}
 
 pub same_name : (a b : Name) → a.len ≡ b.len → a.bytes ≡ b.bytes → a ≡ b
 same_name a b len bytes =
     let first : a ≡ record { len = b.len; bytes = a.bytes } = ap (λ (n : ℕ). let x : Name = record { len = n; bytes = a.bytes } in x) len in
     let second : record { len = b.len; bytes = a.bytes } ≡ b = ap (λ (l : List ℕ). let x : Name = record { len = b.len; bytes = l } in x) bytes in
+    first ∙ second
+
+pub same_end : (a b : EndName) → a.lane ≡ b.lane → a.side ≡ b.side → a ≡ b
+same_end a b lanes sides =
+    let first : a ≡ record { lane = b.lane; side = a.side } = ap (λ (l : Lane). let x : EndName = record { lane = l; side = a.side } in x) lanes in
+    let second : record { lane = b.lane; side = a.side } ≡ b = ap (λ (s : Side). let x : EndName = record { lane = b.lane; side = s } in x) sides in
     first ∙ second
 
 -- what the test of two names says

@@ -1,8 +1,8 @@
 -- From the words of a line to the line, and what a line that spells an event says of the names.
-use Rattle.std.proofs.Common.{◌≡◌, ℕ, true, false, List, [], ◌∷◌, Option, Some, None, Result, IfNone, OnOk, OnSome, sym, subst}
+use Rattle.std.proofs.Common.{◌≡◌, inl, inr, ℕ, true, false, List, [], ◌∷◌, Option, Some, None, Result, IfNone, OnOk, OnSome, sym, subst}
 use Rattle.domain_script.specs.declared.event.DiskDecl.{DiskDecl}
 use Rattle.domain_script.specs.declared.event.Event.{Event}
-use Rattle.domain_script.specs.declared.event.Event.TheVariants.{Blank, Disk, Issue, Settle}
+use Rattle.domain_script.specs.declared.event.Event.TheVariants.{Disk}
 use Rattle.domain_script.specs.declared.event.LineFault.{LineFault}
 use Rattle.domain_script.specs.declared.event.LineFault.TheVariants.{Word}
 use Rattle.std.specs.Option.{ok_or}
@@ -11,17 +11,17 @@ use Rattle.domain_script.specs.NamesState.{NamesState}
 use Rattle.domain_script.specs.Rows.{MayStand, row_named}
 use Rattle.domain_script.specs.Words.{words}
 use Rattle.domain_script.specs.Spells.{IsBlank, IsDeclared, Spells, SpellsFound, SpellsWords}
+use Rattle.domain_script.proofs.OneEvent.{blank_or_row}
 use Rattle.domain_script.proofs.RowLemmas.{declared_row}
 
 -- a line that isn't blank and whose words spell nothing
 pub no_event : (line : List ℕ) (ws : List (List ℕ)) (names : NamesState) → words line ≡ ws → (IsBlank line → false ≡ true)
     → ((event : Event) → SpellsWords ws names event → ⊥) → (event : Event) → Spells line names event → ⊥
-no_event line ws names is not_blank none Blank spells = let both : false ≡ true = not_blank spells in cc
-no_event line ws names is not_blank none (Disk disk) spells =
-    none (Disk disk) (subst (λ (l : List (List ℕ)). SpellsWords l names (Disk disk)) is spells)
-no_event line ws names is not_blank none (Issue disk request) spells =
-    none (Issue disk request) (subst (λ (l : List (List ℕ)). SpellsWords l names (Issue disk request)) is spells)
-no_event line ws names is not_blank none Settle spells = none Settle (subst (λ (l : List (List ℕ)). SpellsWords l names Settle) is spells)
+no_event line ws names is not_blank none event spells =
+    elim (blank_or_row line names event spells) [
+      | inl blank ↦ let both : false ≡ true = not_blank blank.0 in cc
+      | inr row ↦ none event (subst (λ (l : List (List ℕ)). SpellsWords l names event) is row)
+    ]
 
 pub none_spelled : (line : List ℕ) (ws : List (List ℕ)) (names : NamesState) (found : Option Unit) → words line ≡ ws → (IsBlank line → false ≡ true)
     → IfNone found ((event : Event) → SpellsWords ws names event → ⊥) → IfNone found ((event : Event) → Spells line names event → ⊥)
@@ -38,10 +38,11 @@ declared_words (word ∷ line) names event spells = declared_found (row_named wo
 
 -- a line that spells an event names disks that are declared
 pub is_declared : (line : List ℕ) (names : NamesState) (event : Event) → Spells line names event → IsDeclared names event
-is_declared line names Blank spells = tt
-is_declared line names (Disk disk) spells = declared_words (words line) names (Disk disk) spells
-is_declared line names (Issue disk request) spells = declared_words (words line) names (Issue disk request) spells
-is_declared line names Settle spells = declared_words (words line) names Settle spells
+is_declared line names event spells =
+    elim (blank_or_row line names event spells) [
+      | inl blank ↦ subst (IsDeclared names) (sym blank.1) tt
+      | inr row ↦ declared_words (words line) names event row
+    ]
 
 pub found_declared : (line : List ℕ) (names : NamesState) (event : Event) (found : Option Unit) (r : Result Unit LineFault) → r ≡ ok_or found Word
     → OnSome found (Spells line names event) → OnOk r (IsDeclared names event)

@@ -1,8 +1,8 @@
 -- The events of lines that are known byte for byte: `events_of` computes them.
-use Rattle.std.specs.Prelude.{ℕ, ◌+◌, ◌-◌, ◌*◌, ◌^◌, ◌==◌, nat_le, nat_lt, ◌&&◌, not, cond, if◌then◌else◌, Bool, true, false, List, [], ◌∷◌, ◌++◌, length, replicate, decimal, Option, Some, None, Result, Ok, Err}
+use Rattle.std.specs.Prelude.{ℕ, suc, ◌+◌, ◌-◌, ◌*◌, ◌^◌, ◌==◌, nat_le, nat_lt, ◌&&◌, not, cond, if◌then◌else◌, Bool, true, false, List, [], ◌∷◌, ◌++◌, length, take, drop, replicate, decimal, Option, Some, None, Result, Ok, Err}
 use Rattle.std.specs.Char.{is_ascii_lowercase}
 use Rattle.std.specs.List.{list_all}
-use Rattle.std.specs.Option.{option_and_then}
+use Rattle.std.specs.Option.{option_and_then, option_map}
 use Rattle.std.specs.Result.{is_ok}
 use Rattle.std.specs.Str.{bytes_eq}
 use Rattle.hex.specs.Hex.{decode_of, encode_lower}
@@ -10,13 +10,17 @@ use Rattle.hex.specs.declared.error.FromHexError.{FromHexError}
 use Rattle.vdisk_msg.specs.declared.request.Fill.{Fill}
 use Rattle.domain_script.specs.declared.event.DiskDecl.{DiskDecl}
 use Rattle.domain_script.specs.declared.event.Event.{Event}
-use Rattle.domain_script.specs.declared.event.Event.TheVariants.{Blank, Disk, Issue, Settle}
+use Rattle.domain_script.specs.declared.event.Event.TheVariants.{Blank, Disk, Step, Round, Restart}
+use Rattle.domain_script.specs.declared.event.EndName.{EndName}
+use Rattle.domain_script.specs.declared.event.Lane.TheVariants as lane
 use Rattle.domain_script.specs.declared.event.Name.{Name}
+use Rattle.domain_script.specs.declared.event.Side.{Side}
+use Rattle.domain_script.specs.declared.event.Side.TheVariants.{Client, Server}
 use Rattle.domain_script.specs.declared.rows.RowKind.{RowKind}
 use Rattle.domain_script.specs.NamesState.{NamesState, noted}
-use Rattle.domain_script.specs.Rows.{Bytes, Counted, DiskName, Field, Filled, Named, NewName, Number, Value, made, row_named, row_of}
+use Rattle.domain_script.specs.Rows.{Bytes, Counted, DiskName, Ended, EndWord, Field, Filled, Named, NewName, Number, Value, made, row_named, row_of}
 use Rattle.domain_script.specs.Spells.{is_printable}
-use Rattle.domain_script.specs.Words.{words, is_name_byte}
+use Rattle.domain_script.specs.Words.{side_text, words, is_name_byte}
 
 -- the number that decimal digits spell after others, and whether a word is that number's text
 abbrev pub digits_value : ℕ → List ℕ → ℕ
@@ -40,10 +44,33 @@ begins_name (b ∷ bs) = is_ascii_lowercase b && list_all is_name_byte bs
 abbrev pub is_name : List ℕ → Bool
 is_name word = begins_name word && nat_le (length word) 8
 
--- whether a word names the first disk
-abbrev pub names_first : List ℕ → List DiskDecl → Bool
-names_first word [] = false
-names_first word (disk ∷ disks) = is_name word && ((disk.name.len == length word) && bytes_eq disk.name.bytes (name_of word).bytes)
+-- whether a disk has a name, and the number of the first that has it
+abbrev pub has_name : Name → DiskDecl → Bool
+has_name name disk = (disk.name.len == name.len) && bytes_eq disk.name.bytes name.bytes
+
+abbrev pub number_named : Name → List DiskDecl → Option ℕ
+number_named name [] = None
+number_named name (disk ∷ disks) = if has_name name disk then Some 0 else option_map (λ k. suc k) (number_named name disks)
+
+-- the number of the disk that a word names
+abbrev pub disk_of : NamesState → List ℕ → Option ℕ
+disk_of names word = if is_name word then number_named (name_of word) names.disks else None
+
+-- the last two bytes of a word, those before them, the side that two bytes spell, and the end that a word names
+abbrev pub last_two : List ℕ → List ℕ
+last_two word = drop (length word - 2) word
+
+abbrev pub before_two : List ℕ → List ℕ
+before_two word = take (length word - 2) word
+
+abbrev pub side_of : List ℕ → Option Side
+side_of bytes = if bytes_eq bytes (side_text Client) then Some Client else (if bytes_eq bytes (side_text Server) then Some Server else None)
+
+abbrev pub end_named : Side → ℕ → EndName
+end_named side disk = record { lane = lane.Disk disk; side = side }
+
+abbrev pub end_of : NamesState → List ℕ → Option EndName
+end_of names word = option_and_then (λ side. option_map (end_named side) (disk_of names (before_two word))) (side_of (last_two word))
 
 -- the bytes of a word in hexadecimal, and whether it spells them
 abbrev pub ok_bytes : Result (List ℕ) FromHexError → List ℕ
@@ -63,12 +90,15 @@ exponent_of n = cond (n == 2) 1 (cond (n == 4) 2 (cond (n == 8) 3 (cond (n == 16
 abbrev pub is_power_from : ℕ → ℕ → Bool
 is_power_from least n = nat_le least n && (nat_le n 256 && (n == 2 ^ exponent_of n))
 
-abbrev pub declares_none : List DiskDecl → Bool
-declares_none [] = true
-declares_none (disk ∷ disks) = false
-
 abbrev pub is_disk : DiskDecl → Bool
 is_disk disk = nat_le 1 disk.blocks && (nat_le disk.blocks 65536 && (is_power_from 2 disk.ring && is_power_from 8 disk.queue))
+
+-- whether a disk may be declared
+abbrev pub is_free : Name → List DiskDecl → Bool
+is_free name disks = list_all (λ disk. not (has_name name disk)) disks
+
+abbrev pub can_declare : NamesState → DiskDecl → Bool
+can_declare names disk = not names.ended && (nat_lt (length names.disks) 8 && (is_free disk.name names.disks && is_disk disk))
 
 abbrev pub some_if : {A : Type 0} → Bool → A → Option A
 some_if test a = if test then Some a else None
@@ -76,7 +106,8 @@ some_if test a = if test then Some a else None
 -- the value that a word spells as a field
 abbrev pub field_value : NamesState → Field → List ℕ → Option Value
 field_value names NewName word = some_if (is_name word) (Named (name_of word))
-field_value names DiskName word = some_if (names_first word names.disks) (Counted 0)
+field_value names DiskName word = option_map (λ disk. Counted disk) (disk_of names word)
+field_value names EndWord word = option_map (λ end. Ended end) (end_of names word)
 field_value names Number word = some_if (is_number word) (Counted (value_of word))
 field_value names Bytes word = some_if (is_fill word) (Filled (fill_of word))
 
@@ -90,11 +121,20 @@ field_values names (field ∷ fields) (word ∷ line) =
     option_and_then (λ value. value_in_front value (field_values names fields line)) (field_value names field word)
 field_values names _ _ = None
 
+abbrev pub are_turns : ℕ → Bool
+are_turns count = nat_lt 0 count && nat_le count 100
+
+abbrev pub is_server : Side → Bool
+is_server Client = false
+is_server Server = true
+
 abbrev pub may_stand : NamesState → Event → Bool
 may_stand names Blank = false
-may_stand names (Disk disk) = is_disk disk && (declares_none names.disks && not names.ended)
-may_stand names Settle = not (declares_none names.disks)
-may_stand names (Issue disk request) = true
+may_stand names (Disk disk) = can_declare names disk
+may_stand names (Step end count) = are_turns count
+may_stand names (Round count) = are_turns count
+may_stand names (Restart end) = is_server end.side
+may_stand names event = true
 
 -- the event of a row's words, and of all words of a line
 abbrev pub event_made : NamesState → RowKind → Option (List Value) → Option Event
@@ -116,7 +156,7 @@ abbrev pub is_blank : List ℕ → Bool
 is_blank [] = true
 is_blank (b ∷ bs) = (b == 35) && list_all is_printable bs
 
--- the event that a line spells, where at most one disk is declared
+-- the event that a line spells
 abbrev pub event_of : List ℕ → NamesState → Option Event
 event_of line names = if is_blank line then Some Blank else words_event names (words line)
 

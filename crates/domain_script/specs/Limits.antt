@@ -1,5 +1,5 @@
 -- How much a script may have.
-use Rattle.std.specs.Prelude.{ℕ}
+use Rattle.std.specs.Prelude.{ℕ, ◌<◌, ◌≤◌}
 
 -- its lines, and those of a dump
 abbrev pub most_lines : ℕ
@@ -8,3 +8,11 @@ most_lines = 20000
 -- the bytes of a line, without its line feed
 abbrev pub most_line_bytes : ℕ
 most_line_bytes = 3100
+
+-- the steps of a line, and its rounds
+abbrev pub most_turns : ℕ
+most_turns = 100
+
+-- how many steps or rounds a line may ask for
+abbrev pub AreTurns : ℕ → Type 0
+AreTurns count = (0 < count) × (count ≤ most_turns)

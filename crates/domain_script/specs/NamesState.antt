@@ -2,7 +2,9 @@
 use Rattle.std.specs.Prelude.{◌≡◌, ◌≢◌, ℕ, zero, suc, ◌<◌, Bool, true, false, List, [], ◌∷◌, ◌++◌, length}
 use Rattle.domain_script.specs.declared.event.DiskDecl.{DiskDecl}
 use Rattle.domain_script.specs.declared.event.Event.{Event}
-use Rattle.domain_script.specs.declared.event.Event.TheVariants.{Blank, Disk, Issue, Settle}
+use Rattle.domain_script.specs.declared.event.Event.TheVariants.{Blank, Disk}
+use Rattle.domain_script.specs.declared.event.Lane.{Lane}
+use Rattle.domain_script.specs.declared.event.Lane.TheVariants as lane
 use Rattle.domain_script.specs.declared.event.Name.{Name}
 use Rattle.domain_script.specs.Declarations.{IsDisk}
 
@@ -23,6 +25,10 @@ IsDiskNamed name [] k = ⊥
 IsDiskNamed name (disk ∷ disks) zero = disk.name ≡ name
 IsDiskNamed name (disk ∷ disks) (suc k) = (disk.name ≢ name) × IsDiskNamed name disks k
 
+-- the lane is that of a disk which is declared
+abbrev pub IsLane : NamesState → Lane → Type 0
+IsLane names (lane.Disk disk) = disk < length names.disks
+
 -- a disk may still be declared
 pub record CanDeclare (names : NamesState) (disk : DiskDecl) : Type 0 where
   pub open_still : names.ended ≡ false
@@ -32,14 +38,11 @@ pub record CanDeclare (names : NamesState) (disk : DiskDecl) : Type 0 where
 
 -- the event may come: a declaration only where one may still stand
 abbrev pub CanNote : NamesState → Event → Type 0
-CanNote names Blank = Unit {0}
 CanNote names (Disk disk) = CanDeclare names disk
-CanNote names (Issue disk request) = Unit {0}
-CanNote names Settle = Unit {0}
+CanNote names event = Unit {0}
 
--- the names after an event
+-- the names after an event: any but a blank and a declaration ends the declarations
 abbrev pub noted : NamesState → Event → NamesState
 noted names Blank = names
 noted names (Disk disk) = record { disks = names.disks ++ disk ∷ []; ended = names.ended }
-noted names (Issue disk request) = record { disks = names.disks; ended = true }
-noted names Settle = record { disks = names.disks; ended = true }
+noted names event = record { disks = names.disks; ended = true }

@@ -1,14 +1,19 @@
 -- The rows of a script: which event a line spells.
-use Rattle.std.specs.Prelude.{◌≡◌, ℕ, ◌<◌, nat_le, ◌&&◌, Bool, IsTrue, List, [], ◌∷◌, length, Option, Some, None, ⊤}
+use Rattle.std.specs.Prelude.{◌≡◌, ℕ, ◌<◌, nat_le, ◌&&◌, Bool, IsTrue, List, [], ◌∷◌, ◌++◌, length, Option, Some, None, ⊤}
 use Rattle.std.specs.List.{list_all}
 use Rattle.domain_script.specs.declared.event.Event.{Event}
-use Rattle.domain_script.specs.declared.event.Event.TheVariants.{Blank, Disk, Issue, Settle}
+use Rattle.domain_script.specs.declared.event.EndName.{EndName}
+use Rattle.domain_script.specs.declared.event.Lane.{Lane}
+use Rattle.domain_script.specs.declared.event.Lane.TheVariants as lane
+use Rattle.domain_script.specs.declared.event.Event.TheVariants.{Blank, Issue, Step, Round, Reset, Restart, Stop, Start, Lose, Tick}
 use Rattle.domain_script.specs.declared.event.Name.{Name}
+use Rattle.domain_script.specs.declared.event.Side.TheVariants.{Server}
 use Rattle.domain_script.specs.declared.rows.RowKind.{RowKind}
 use Rattle.domain_script.specs.Fills.{IsRequest}
-use Rattle.domain_script.specs.NamesState.{NamesState, IsDiskNamed}
-use Rattle.domain_script.specs.Rows.{Bytes, Counted, DiskName, Field, Filled, MayStand, Named, NewName, Number, Value, made, row_named, row_of}
-use Rattle.domain_script.specs.Words.{words, SpellsNumber, SpellsName, SpellsFill}
+use Rattle.domain_script.specs.Limits.{AreTurns}
+use Rattle.domain_script.specs.NamesState.{NamesState, IsDiskNamed, IsLane}
+use Rattle.domain_script.specs.Rows.{Bytes, Counted, DiskName, Ended, EndWord, Field, Filled, MayStand, Named, NewName, Number, Value, made, row_named, row_of}
+use Rattle.domain_script.specs.Words.{side_text, words, SpellsNumber, SpellsName, SpellsFill}
 
 -- from the space to the tilde
 abbrev pub is_printable : ℕ → Bool
@@ -25,10 +30,21 @@ pub record NamesDisk (names : NamesState) (word : List ℕ) (disk : ℕ) : Type 
   pub spelled : SpellsName word name
   pub declared_as : IsDiskNamed name names.disks disk
 
+-- the word names the lane
+abbrev pub NamesLane : NamesState → List ℕ → Lane → Type 0
+NamesLane names word (lane.Disk disk) = NamesDisk names word disk
+
+-- the word is the name of the end's lane with its side behind it
+pub record NamesEnd (names : NamesState) (word : List ℕ) (end : EndName) : Type 0 where
+  pub name : List ℕ
+  pub spelled : word ≡ name ++ side_text end.side
+  pub lane_named : NamesLane names name end.lane
+
 -- the word of a field spells a value
 abbrev pub SpellsField : NamesState → Field → List ℕ → Value → Type 0
 SpellsField names NewName word (Named name) = SpellsName word name
 SpellsField names DiskName word (Counted disk) = NamesDisk names word disk
+SpellsField names EndWord word (Ended end) = NamesEnd names word end
 SpellsField names Number word (Counted n) = SpellsNumber word n
 SpellsField names Bytes word (Filled fill) = SpellsFill word fill
 SpellsField names _ word _ = ⊥
@@ -62,9 +78,15 @@ abbrev pub Spells : List ℕ → NamesState → Event → Type 0
 Spells line names Blank = IsBlank line
 Spells line names event = SpellsWords (words line) names event
 
--- a request is for a disk that is declared, and settling for at least one
+-- what an event names is declared: the disk of a request, of a stop and a start, and the lane of an end and of a tick
 abbrev pub IsDeclared : NamesState → Event → Type 0
-IsDeclared names Blank = ⊤
-IsDeclared names (Disk disk) = ⊤
 IsDeclared names (Issue disk request) = (disk < length names.disks) × IsRequest request
-IsDeclared names Settle = 0 < length names.disks
+IsDeclared names (Step end count) = IsLane names end.lane × AreTurns count
+IsDeclared names (Round count) = AreTurns count
+IsDeclared names (Reset end) = IsLane names end.lane
+IsDeclared names (Restart end) = IsLane names end.lane × (end.side ≡ Server)
+IsDeclared names (Stop disk) = disk < length names.disks
+IsDeclared names (Start disk) = disk < length names.disks
+IsDeclared names (Lose end) = IsLane names end.lane
+IsDeclared names (Tick lane) = IsLane names lane
+IsDeclared names event = ⊤

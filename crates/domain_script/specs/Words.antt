@@ -1,10 +1,12 @@
 -- The words of a line, and what a single word spells.
-use Rattle.std.specs.Prelude.{◌≡◌, ℕ, ◌-◌, ◌^◌, ◌<◌, ◌≤◌, ◌==◌, ◌||◌, Bool, IsTrue, List, [], ◌∷◌, ◌++◌, length, take, replicate, decimal, Ok}
+use Rattle.std.specs.Prelude.{◌≡◌, ℕ, ◌-◌, ◌^◌, ◌<◌, ◌≤◌, ◌==◌, ◌||◌, Bool, IsTrue, List, [], ◌∷◌, ◌++◌, length, take, replicate, codes, decimal, Ok}
 use Rattle.std.specs.Char.{is_ascii_lowercase, is_ascii_digit}
 use Rattle.std.specs.List.{slice_split, list_all}
 use Rattle.hex.specs.Hex.{decode_of, encode_lower}
 use Rattle.vdisk_msg.specs.declared.request.Fill.{Fill}
 use Rattle.domain_script.specs.declared.event.Name.{Name}
+use Rattle.domain_script.specs.declared.event.Side.{Side}
+use Rattle.domain_script.specs.declared.event.Side.TheVariants.{Client, Server}
 use Rattle.domain_script.specs.Fills.{IsFill}
 
 -- the parts between spaces: each space ends a word, so that two together have an empty one between them
@@ -30,6 +32,11 @@ pub record SpellsName (word : List ℕ) (name : Name) : Type 0 where
   pub most : length word ≤ 8
   pub len : name.len ≡ length word
   pub bytes : name.bytes ≡ word ++ replicate (8 - length word) 0
+
+-- how the side of an end stands behind its lane's name
+abbrev pub side_text : Side → List ℕ
+side_text Client = codes ".c"
+side_text Server = codes ".s"
 
 -- the word of a write in hexadecimal: it reads as the bytes, and is their lower-case text
 pub record SpellsFill (word : List ℕ) (fill : Fill) : Type 0 where

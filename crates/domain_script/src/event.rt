@@ -53,6 +53,30 @@ pub enum Event {
 
     /// All that is pending is to complete.
     Settle,
+
+    /// An end takes so many steps.
+    Step { end: EndName, count: u32 },
+
+    /// So many rounds: in each the ends take their steps in turn.
+    Round { count: u32 },
+
+    /// An end resets its channel.
+    Reset { end: EndName },
+
+    /// A disk's server begins anew.
+    Restart { end: EndName },
+
+    /// A disk's server stops.
+    Stop { disk: u32 },
+
+    /// A disk's server goes on.
+    Start { disk: u32 },
+
+    /// The first packet that waits for an end is lost.
+    Lose { end: EndName },
+
+    /// The clock of a lane moves on.
+    Tick { lane: Lane },
 }
 
 /// Why a line spells no event.

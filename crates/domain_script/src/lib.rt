@@ -3,13 +3,18 @@
 #![tactic(auto)]
 
 mod digits;
+mod disk_rows;
+mod end_rows;
 mod event;
+mod lane_words;
 mod lines;
 mod names;
 mod numbers;
 mod parser;
 mod piece;
 mod reading;
+#[cfg(test)]
+mod row_tests;
 mod rows;
 mod spellings;
 #[cfg(test)]

@@ -4,6 +4,10 @@ ghost use Rattle.domain_script.specs.Declarations.{IsDisk};
 use crate::{DiskDecl, Event, Name};
 use std::marker::Model;
 
+/// The most disks.
+const MOST_DISKS: u32 = 8;
+
+/// What stands in the place of a disk that isn't declared.
 const NO_DISK: DiskDecl = DiskDecl {
     name: Name {
         len: 0,
@@ -52,6 +56,7 @@ impl Names {
     pub fn disk(&self, k: u32) -> Option<DiskDecl>
         ensures value { result ≡ slice_get self.now.disks k }
         ensures limits { IfSome result IsDisk }
+        ensures few { length self.now.disks ≤ 8 }
     {
         if k < self.count {
             Some(self.disks[k as usize])
@@ -60,18 +65,18 @@ impl Names {
         }
     }
 
-    /// Whether every line so far was blank.
-    pub fn is_untouched(&self) -> bool
-        ensures { IsTrue result ↔ ((self.now.disks ≡ []) × (self.now.ended ≡ false)) }
+    /// Whether the declarations haven't ended.
+    pub fn is_open(&self) -> bool
+        ensures { IsTrue result ↔ (self.now.ended ≡ false) }
     {
-        self.count == 0 && !self.ended
+        !self.ended
     }
 
-    /// Whether a disk is declared.
-    pub fn has_disk(&self) -> bool
-        ensures { IsTrue result ↔ (0 < length self.now.disks) }
+    /// Whether fewer than eight disks are declared.
+    pub fn has_room(&self) -> bool
+        ensures { IsTrue result ↔ (length self.now.disks < 8) }
     {
-        self.count > 0
+        self.count < MOST_DISKS
     }
 
     /// The number of the disk with this name. None exactly where no disk has it.
@@ -86,6 +91,13 @@ impl Names {
         None
     }
 
+    /// Whether no disk has this name.
+    pub fn is_free(&self, name: &Name) -> bool
+        ensures { IsTrue result ↔ IsFree name.now self.now.disks }
+    {
+        self.find(name).is_none()
+    }
+
     /// Notes an event of the script. A declaration is added; any other event but a blank ends the declarations.
     pub fn note(&mut self, event: &Event)
         requires { CanNote self.old event.now }
@@ -97,7 +109,7 @@ impl Names {
                 self.disks[self.count as usize] = *disk;
                 self.count += 1;
             }
-            Event::Issue { .. } | Event::Settle => self.ended = true,
+            _ => self.ended = true,
         }
     }
 }

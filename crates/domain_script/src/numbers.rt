@@ -1,5 +1,6 @@
 ghost use Rattle.std.specs.Prelude.{◌≡◌, ◌↔◌, ℕ, ◌<◌, ◌≤◌, IfNone, IfSome, IsTrue};
 ghost use Rattle.domain_script.specs.Declarations.{IsDisk, IsPowerOfTwo};
+ghost use Rattle.domain_script.specs.Limits.{AreTurns};
 ghost use Rattle.domain_script.specs.Words.{SpellsNumber};
 
 use crate::DiskDecl;
@@ -16,6 +17,9 @@ const LEAST_QUEUE: u32 = 8;
 
 /// The most slots of a ring, and entries of a channel's queue.
 pub const MOST_SIZE: u32 = 256;
+
+/// The most steps or rounds of a line.
+const MOST_TURNS: u32 = 100;
 
 /// The number that a word spells: it is that number's own decimal text.
 pub fn number(word: &[u8]) -> Option<u64>
@@ -43,6 +47,16 @@ pub fn number_up_to(word: &[u8], most: u32) -> Option<u32>
     } else {
         None
     }
+}
+
+/// The steps or rounds that a word spells, 1 to 100.
+pub fn turns(word: &[u8]) -> Option<u32>
+    ensures some { IfSome result (SpellsNumber word.now) }
+    ensures within { IfSome result AreTurns }
+    ensures none { IfNone result ((n : ℕ) → SpellsNumber word.now n → AreTurns n → ⊥) }
+{
+    let count = number_up_to(word, MOST_TURNS)?;
+    if count >= 1 { Some(count) } else { None }
 }
 
 /// Whether a disk is within the limits.

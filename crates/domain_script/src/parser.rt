@@ -9,8 +9,10 @@ use crate::words::split_once;
 use crate::{Event, LineFault, Names};
 
 /// The event that a line spells after the lines that were noted. A line, without its line feed, is empty or a
-/// comment, or one of the rows `disk NAME BLOCKS RING QUEUE`, `write NAME BLOCK COUNT HEX`, `read NAME BLOCK COUNT`,
-/// `flush NAME` and `settle`, with one space between two words. `Word` exactly where it spells no event.
+/// comment, or one of the rows of a script, with one space between two words: `disk NAME BLOCKS RING QUEUE`,
+/// `write NAME BLOCK COUNT HEX`, `read NAME BLOCK COUNT`, `flush NAME`, `step END K`, `round K`, `settle`, `reset END`,
+/// `restart END`, `stop NAME`, `start NAME`, `drop END`, `tick NAME`. An END is a disk's NAME with `.c` or `.s` behind it.
+/// `Word` exactly where the line spells no event.
 pub fn parse(line: &[u8], names: &Names) -> Result<Event, LineFault>
     ensures event { IfOk result (Spells line.now names.now) }
     ensures fault { IfErr result (λ fault. (fault ≡ LineFault.Word) × ((event : event_data) → Spells line.now names.now event → ⊥)) }

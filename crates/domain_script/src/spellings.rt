@@ -1,12 +1,13 @@
-ghost use Rattle.std.specs.Prelude.{◌≡◌, ◌↔◌, ℕ, ◌/◌, ◌≤◌, false, List, length, take, drop, replicate, IfNone, IfSome, IsTrue, OnSome};
+ghost use Rattle.std.specs.Prelude.{◌≡◌, ◌≢◌, ◌↔◌, ℕ, ◌/◌, ◌≤◌, ◌++◌, false, List, length, take, drop, replicate, MatchOption, IfNone, IfSome, IsTrue, OnSome};
 ghost use Rattle.hex.specs.Hex.{decode_of, encode_lower};
 ghost use Rattle.std.specs.List.{list_all};
 ghost use Rattle.domain_script.specs.declared.event.Name.{Name as name_data};
+ghost use Rattle.domain_script.specs.declared.event.Side.{Side as side_data};
 ghost use Rattle.vdisk_msg.specs.declared.request.Fill.{Fill as fill_data};
-ghost use Rattle.domain_script.specs.Words.{is_name_byte, IsNameWord, SpellsFill, SpellsName};
+ghost use Rattle.domain_script.specs.Words.{is_name_byte, side_text, IsNameWord, SpellsFill, SpellsName};
 
 use crate::digits::decode_lower;
-use crate::{Fill, Name};
+use crate::{Fill, Name, Side};
 
 /// The most bytes that a write repeats.
 const MOST_FILL: usize = 1024;
@@ -31,6 +32,17 @@ pub fn name(word: &[u8]) -> Option<Name>
         len: word.len() as u8,
         bytes,
     })
+}
+
+/// The name and the side that a word spells: `.c` behind a client's name, `.s` behind a server's.
+pub fn name_and_side(word: &[u8]) -> Option<(&[u8], Side)>
+    ensures { MatchOption result ((name : List ℕ) (side : side_data) → word.now ≢ name ++ side_text side) (λ p. word.now ≡ p.0.now ++ side_text p.1) }
+{
+    match word {
+        [name @ .., b'.', b'c'] => Some((name, Side::Client)),
+        [name @ .., b'.', b's'] => Some((name, Side::Server)),
+        _ => None,
+    }
 }
 
 /// Whether a word is a letter and letters or digits after it.

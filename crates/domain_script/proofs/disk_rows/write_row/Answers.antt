@@ -2,7 +2,7 @@ use Rattle.std.proofs.Common.{◌≡◌, arith}
 use Rattle.std.proofs.lemmas.Grind.{common_steps}
 use Rattle.domain_script.specs.Words.{words}
 use Rattle.domain_script.proofs.RowLemmas.{if_filled, if_unfilled}
-use Rattle.domain_script.proofs.rows.write_row.Goals as goal
+use Rattle.domain_script.proofs.disk_rows.write_row.Goals as goal
 
 pub returns-clause-some : goal.returns-clause-some
 returns-clause-some c =

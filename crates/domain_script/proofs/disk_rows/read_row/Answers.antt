@@ -1,6 +1,6 @@
 use Rattle.std.proofs.Common.{[], ◌∷◌, refl}
 use Rattle.domain_script.specs.Rows.{Counted}
-use Rattle.domain_script.proofs.rows.read_row.Goals as goal
+use Rattle.domain_script.proofs.disk_rows.read_row.Goals as goal
 
 pub returns-clause-some : goal.returns-clause-some
 returns-clause-some c = record {

@@ -1,5 +1,5 @@
 use Rattle.domain_script.proofs.Naming.{none_named}
-use Rattle.domain_script.proofs.rows.declared_disk.Goals as goal
+use Rattle.domain_script.proofs.lane_words.declared_disk.Goals as goal
 
 pub returns-in_err-name-clause-none : goal.returns-in_err-name-clause-none
 returns-in_err-name-clause-none c = rw c.from_residual.ensures (λ disk named. c.in_err-name.ensures.none named.name named.spelled)
