@@ -2,7 +2,7 @@
 use Rattle.std.specs.Prelude.{ℕ, ◌==◌, if◌then◌else◌, List, Option, Some, None}
 use Rattle.std.specs.List.{filter_map}
 use Rattle.vdisk_msg.specs.declared.request.Request.{Request}
-use Rattle.disk_law.specs.ListStep.{DiskEvent, Accepted, Full, Refused, Done, Rested}
+use Rattle.disk_law.specs.ListStep.{DiskEvent, Accepted, Full, Refused, Done}
 use Rattle.disk_law.specs.Requests.{Defect, BadCount, BadRange}
 use Rattle.domain_script.specs.declared.event.Event.{Event}
 use Rattle.domain_script.specs.declared.event.Event.TheVariants as line
@@ -34,8 +34,6 @@ pub data Said : Type 0 where
   OfDisk : (disk : ℕ) (event : DiskEvent) → Said
   -- a request of this disk, that of the entry's line, wasn't taken up
   NotTaken : (disk : ℕ) (refusal : Refusal) → Said
-  -- nothing is left to do, for any disk
-  AllRest : Said
   Nothing : Said
 
 abbrev pub not_taken : Who → Refusal → Said
@@ -47,7 +45,6 @@ said (entry.Accepted disk id request) = OfDisk disk (Accepted id request)
 said (entry.Full who) = not_taken who NoRoom
 said (entry.Refused who why) = not_taken who (Defective why)
 said (entry.Done disk id operation status bytes) = OfDisk disk (Done id operation status bytes.items)
-said entry.Settled = AllRest
 said other = Nothing
 
 -- the request that a line asks
@@ -68,7 +65,6 @@ refused_for x disk refusal (Some request) = for_disk x disk (refused refusal req
 abbrev pub said_of : ℕ → Option Request → Said → Option DiskEvent
 said_of x asked (OfDisk disk event) = for_disk x disk event
 said_of x asked (NotTaken disk refusal) = refused_for x disk refusal asked
-said_of x asked AllRest = Some Rested
 said_of x asked Nothing = None
 
 -- what an entry that came in the part of a line is for the disk x, if anything
@@ -87,7 +83,6 @@ history x entries = happened x line.Blank entries
 abbrev pub said_of_any : Said → Option DiskEvent
 said_of_any (OfDisk disk event) = Some event
 said_of_any (NotTaken disk refusal) = None
-said_of_any AllRest = Some Rested
 said_of_any Nothing = None
 
 -- what the journal tells of all disks together

@@ -113,6 +113,13 @@ impl Bytes {
         BLOCK * self.lengths.len() + self.plain
     }
 
+    /// How many more bytes there is room for.
+    pub fn room(&self) -> usize
+        ensures { result ≡ self.now.room }
+    {
+        self.room
+    }
+
     /// Whether there are no bytes.
     pub fn is_empty(&self) -> bool
         ensures { IsTrue result ↔ (length self.now.items ≡ 0) }
