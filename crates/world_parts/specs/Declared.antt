@@ -1,0 +1,36 @@
+-- The world that a script's declarations make.
+use Rattle.std.specs.Prelude.{ℕ, ◌+◌, ◌*◌, ◌≤◌, List, [], ◌∷◌, Option}
+use Rattle.domain_script.specs.declared.event.DiskDecl.{DiskDecl}
+use Rattle.disk_law.specs.ListState.{ImageState}
+use Rattle.disk_steps.specs.LaneState.{LaneState, Shape}
+use Rattle.lanes_world.specs.World.{WorldState, fresh_world}
+
+-- a disk from this block of the image on
+abbrev pub shape_of : ℕ → DiskDecl → Shape
+shape_of first disk = record { first = first; blocks = disk.blocks; slots = disk.ring; entries = disk.queue }
+
+-- one after another
+abbrev pub shapes_of : ℕ → List DiskDecl → List Shape
+shapes_of first [] = []
+shapes_of first (disk ∷ disks) = shape_of first disk ∷ shapes_of (first + disk.blocks) disks
+
+-- the blocks of all disks together
+abbrev pub blocks_of : List DiskDecl → ℕ
+blocks_of [] = 0
+blocks_of (disk ∷ disks) = disk.blocks + blocks_of disks
+
+-- how many bytes they need
+abbrev pub bytes_needed : List DiskDecl → ℕ
+bytes_needed disks = 512 * blocks_of disks
+
+-- their world over an image, before anything was asked
+abbrev pub world_of : List DiskDecl → ImageState → WorldState
+world_of disks image = fresh_world (shapes_of 0 disks) image
+
+-- an image, by what it tells and how often it failed
+abbrev pub image_of : Option (List ℕ) → ℕ → ImageState
+image_of told faults = record { told = told; faults = faults }
+
+-- the lane's disk lies within an image of so many bytes
+abbrev pub LiesWithin : ℕ → LaneState → Type 0
+LiesWithin size s = 512 * (s.shape.first + s.shape.blocks) ≤ size

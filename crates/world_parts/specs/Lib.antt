@@ -1,0 +1,5 @@
+pub mod Parts
+pub mod Declared
+pub mod Lines
+pub mod Script
+pub mod Endings

@@ -1,0 +1,51 @@
+-- What a line of a script is for a world of lanes, and the part that it gives.
+use Rattle.std.specs.Prelude.{ℕ, ◌<◌, List, ⊤}
+use Rattle.std.specs.List.{flat_map}
+use Rattle.vdisk_msg.specs.Fills.{IsRequest}
+use Rattle.disk_law.specs.ListStep.{DiskEvent}
+use Rattle.domain_script.specs.declared.event.Event.{Event}
+use Rattle.domain_script.specs.declared.event.Event.TheVariants as event
+use Rattle.lanes_settle.specs.Settle.{SettleEntry}
+use Rattle.lanes_world.specs.Lines.{Asked, Calls, Line, LineMoves, Loses, Nothing, Resets, Restarts, Rounds, Settles, Starts, Steps, Stops, Ticks}
+use Rattle.lanes_world.specs.World.{WorldState}
+use Rattle.ldom_journal.specs.DiskEvents.{happened}
+use Rattle.ldom_journal.specs.LaneEvents.{end_of, lane_number}
+use Rattle.ldom_journal.specs.declared.entry.Entry.{Entry}
+use Rattle.world_parts.specs.Parts.{Says}
+
+-- what an event asks of a world
+abbrev pub line_of : Event → Line
+line_of event.Blank = Nothing
+line_of (event.Disk disk) = Nothing
+line_of (event.Issue disk request) = Asked disk request
+line_of event.Settle = Settles
+line_of (event.Step end count) = Steps (lane_number end.lane) (end_of end.side) count
+line_of (event.Round count) = Rounds count
+line_of (event.Reset end) = Calls (lane_number end.lane) (Resets (end_of end.side))
+line_of (event.Restart end) = Calls (lane_number end.lane) Restarts
+line_of (event.Stop disk) = Calls disk Stops
+line_of (event.Start disk) = Calls disk Starts
+line_of (event.Lose end) = Calls (lane_number end.lane) (Loses (end_of end.side))
+line_of (event.Tick lane) = Calls (lane_number lane) Ticks
+
+-- the event is of one of so many disks, and a request's fill is one
+abbrev pub IsForDisks : ℕ → Event → Type 0
+IsForDisks many (event.Issue disk request) = (disk < many) × IsRequest request
+IsForDisks many (event.Step end count) = lane_number end.lane < many
+IsForDisks many (event.Reset end) = lane_number end.lane < many
+IsForDisks many (event.Restart end) = lane_number end.lane < many
+IsForDisks many (event.Stop disk) = disk < many
+IsForDisks many (event.Start disk) = disk < many
+IsForDisks many (event.Lose end) = lane_number end.lane < many
+IsForDisks many (event.Tick lane) = lane_number lane < many
+IsForDisks many other = ⊤
+
+-- A LINE with its part of the journal leads a world from one state to another
+pub record LineStep (w : WorldState) (line : Event × List Entry) (v : WorldState) : Type 0 where
+  pub entries : List SettleEntry
+  pub says : Says (line_of line.0) line.1 entries
+  pub moves : LineMoves w (line_of line.0) entries v
+
+-- what lines with their parts say of the requests of the disk x
+abbrev pub all_happened : ℕ → List (Event × List Entry) → List DiskEvent
+all_happened x lines = flat_map (λ l. happened x l.0 l.1) lines
