@@ -1,0 +1,26 @@
+-- A journal with the entries that were added to it: none, one, and some behind others.
+use Rattle.std.proofs.Common.{◌≡◌, Option, Some, List, [], ◌∷◌, ◌++◌, refl, sym, ap, ap₂, ◌∙◌, append_assoc, append-nil}
+use Rattle.lanes_settle.specs.Settle.{SettleEntry}
+use Rattle.lanes_world.specs.Lines.{Line}
+use Rattle.ldom_journal.specs.LaneEvents.{world_event}
+use Rattle.ldom_journal.specs.declared.entry.Entry.{Entry}
+use Rattle.settle_loop.proofs.Places.{map_both}
+use Rattle.world_parts.specs.Parts.{Adds}
+
+pub none_adds : (line : Line) (old new : List Entry) → new ≡ old → Adds line old new []
+none_adds line old new same = record { part = []; grew = same ∙ sym (append-nil old); says = refl }
+
+pub one_adds : (line : Line) (old new : List Entry) (e : Entry) (x : SettleEntry) → new ≡ old ++ e ∷ []
+    → world_event line e ≡ Some x → Adds line old new (x ∷ [])
+one_adds line old new e x grew is =
+    record { part = e ∷ []; grew = grew; says = ap (λ (o : Option SettleEntry). o ∷ []) is }
+
+pub both_add : (line : Line) (old mid new : List Entry) (one two : List SettleEntry) → Adds line old mid one
+    → Adds line mid new two → Adds line old new (one ++ two)
+both_add line old mid new one two first second = record {
+  part = first.part ++ second.part;
+  grew = second.grew ∙ ap (λ (l : List Entry). l ++ second.part) first.grew ∙ append_assoc old first.part second.part;
+  says = map_both (λ (e : Entry). world_event line e) first.part second.part
+      ∙ ap₂ (λ (x y : List (Option SettleEntry)). x ++ y) first.says second.says
+      ∙ sym (map_both (λ (x : SettleEntry). Some x) one two);
+}

@@ -1,0 +1,179 @@
+-- A step of an end of a lane over the image, by what it answered.
+use Rattle.std.proofs.Common.{◌≡◌, ℕ, ◌≤◌, Bool, true, false, List, [], ◌∷◌, length, Option, Some, None, slice_get, ◌==◌, if◌then◌else◌, drop, refl, sym, ap, subst, arith}
+use Rattle.std.proofs.lemmas.List.{length-take}
+use Rattle.disk_law.specs.ListState.{ImageState}
+use Rattle.disk_lane.specs.Events.{CallsOf, KeepsStoreOf, ResetsOwn, served_event}
+use Rattle.disk_steps.proofs.OwnSteps.{server_resets_own}
+use Rattle.disk_steps.specs.ClientStep.{completed_slot}
+use Rattle.disk_steps.specs.LaneState.{LaneState}
+use Rattle.disk_steps.specs.LaneStep.{LaneStep, ResetBy, ServerOnWire, reach}
+use Rattle.disk_steps.specs.Seeing.{seen}
+use Rattle.disk_steps.specs.Served.{Served}
+use Rattle.disk_steps.specs.ServerRule.{server_rule}
+use Rattle.lane_law.specs.WireEvent as wire
+use Rattle.lane_law.specs.WireEvent.{ByStep, Giver, giver}
+use Rattle.lane_lawful.specs.CalmEnds.{IsStep}
+use Rattle.lanes_settle.specs.Settle.{OfLane}
+use Rattle.lanes_world.specs.Lines.{Line}
+use Rattle.lanes_world.specs.World.{FaultsAfter, LaneMoves}
+use Rattle.ldc_queue.specs.declared.end.End.TheVariants.{A, B}
+use Rattle.ldom_journal.specs.LaneEvents.{world_event}
+use Rattle.ldom_journal.specs.declared.entry.Entry.{Entry}
+use Rattle.ldom_world.specs.Fitting.{HasRoomFor}
+use Rattle.ldom_world.specs.OneLane.{LaneSteps}
+use Rattle.vdisk_client.specs.Calls.{client_event, front_count}
+use Rattle.vdisk_client.specs.declared.answers.ClientOut.{ClientOut}
+use Rattle.vdisk_client.specs.declared.answers.ClientOut.TheVariants as client_out
+use Rattle.vdisk_msg.specs.Requested.{buffer_of, buffer_place}
+use Rattle.vdisk_msg.specs.Requests.{given_count}
+use Rattle.vdisk_msg.specs.declared.request.Request.{Request}
+use Rattle.vdisk_server.specs.Answering as server
+use Rattle.vdisk_server.specs.declared.answers.ServerOut.{ServerOut}
+use Rattle.vdisk_server.specs.declared.answers.ServerOut.TheVariants as server_out
+use Rattle.vio_tag.specs.declared.cause.Cause.{Cause}
+use Rattle.world_parts.specs.Declared.{image_of}
+
+-- THE CLIENT: each answer is a step of its end, and leaves the image
+client_of_end : (answer : ClientOut) (last : List ℕ) → ResetsOwn answer → IsStep A (client_event answer last)
+client_of_end client_out.Idle last own = refl
+client_of_end client_out.Blocked last own = refl
+client_of_end client_out.Joined last own = refl
+client_of_end (client_out.Took packet opens) last own = refl
+client_of_end (client_out.Sent packet opens) last own = refl
+client_of_end (client_out.Published id) last own = tt
+client_of_end (client_out.Done id operation status len) last own = tt
+client_of_end (client_out.Reset cause packet) last own = (refl, own)
+
+client_moves : (answer : ClientOut) (last : List ℕ) (s t : LaneState) (i : ImageState)
+    → LaneStep s (client_event answer last) t → LaneMoves s i (client_event answer last) t i
+client_moves client_out.Idle last s t i step = (step, refl)
+client_moves client_out.Blocked last s t i step = (step, refl)
+client_moves client_out.Joined last s t i step = (step, refl)
+client_moves (client_out.Took packet opens) last s t i step = (step, refl)
+client_moves (client_out.Sent packet opens) last s t i step = (step, refl)
+client_moves (client_out.Published id) last s t i step = (step, refl)
+client_moves (client_out.Done id operation status len) last s t i step = (step, refl)
+client_moves (client_out.Reset cause packet) last s t i step = (step, refl)
+
+pub client_steps : (k : ℕ) (answer : ClientOut) (last : List ℕ) (s t : LaneState) (x : Entry) (i : ImageState)
+    → LaneStep s (client_event answer last) t → ResetsOwn answer
+    → ((line : Line) → world_event line x ≡ Some (OfLane k (client_event answer last))) → LaneSteps k A s i x t i
+client_steps k answer last s t x i step own says = record {
+  event = client_event answer last;
+  of_end = client_of_end answer last own;
+  moves = client_moves answer last s t i step;
+  says = says;
+}
+
+-- WHAT A COMPLETION CARRIES is at most what its request gives
+front_given : (pending : List Request) (request : Request) → slice_get pending 0 ≡ Some request
+    → front_count pending ≡ given_count request
+front_given [] request front = absurd (cc front)
+front_given (first ∷ pending) request front = let same : first ≡ request = cc front in ap given_count same
+
+given_few : (b : Bool) (few : List ℕ) (n : ℕ) → length few ≤ n → length (if b then few else []) ≤ n
+given_few true few n within = within
+given_few false few n within = omega (arith)
+
+buffer_few : (slots slot count : ℕ) (memory : List ℕ) → length (buffer_of slots slot count memory) ≤ count
+buffer_few slots slot count memory = omega (arith, length-take count (drop (buffer_place slots slot) memory))
+
+pub completion_fits : (answer : ClientOut) (last : List ℕ) (s t : LaneState) (room : ℕ)
+    → LaneStep s (client_event answer last) t → front_count s.client.pending ≤ room → HasRoomFor answer last room
+completion_fits client_out.Idle last s t room step enough = tt
+completion_fits client_out.Blocked last s t room step enough = tt
+completion_fits client_out.Joined last s t room step enough = tt
+completion_fits (client_out.Took packet opens) last s t room step enough = tt
+completion_fits (client_out.Sent packet opens) last s t room step enough = tt
+completion_fits (client_out.Published id) last s t room step enough = tt
+completion_fits (client_out.Done id operation status len) last s t room step enough =
+    let done = step.step in
+    let slot = completed_slot s.client done.session in
+    let count = given_count done.request in
+    let few =
+    given_few (status == 0) (buffer_of s.client.slots slot count s.memory) count
+    (buffer_few s.client.slots slot count s.memory) in
+    omega (
+      arith,
+      few,
+      ap (λ (l : List ℕ). length l) done.bytes_are,
+      front_given s.client.pending done.request done.front,
+      enough,
+    )
+completion_fits (client_out.Reset cause packet) last s t room step enough = tt
+
+-- THE SERVER: each answer is a step of its end
+module _ (s t : LaneState) where
+  server_of_end : (gave : List ℕ) (cause : Cause) (packet : Option (List ℕ))
+      → ServerOnWire s gave (wire.Reset B cause packet 0) t → giver cause ≡ ByStep
+  server_of_end gave cause packet step =
+      server_resets_own (server_rule s.server (seen B s.shape.entries s.wire.wire)) s.server
+      (reach s (seen B s.shape.entries s.wire.wire).both) cause packet t.memory step.step.1.0
+
+  reset_by : (gave : List ℕ) (cause : Cause) (packet : Option (List ℕ))
+      → ServerOnWire s gave (wire.Reset B cause packet 0) t → ResetBy (giver cause) B s cause packet 0 t
+  reset_by gave cause packet step =
+      subst (λ (who : Giver). ResetBy who B s cause packet 0 t) (sym (server_of_end gave cause packet step))
+      (gave, step)
+
+  -- what the store counts, as the image does
+  same_faults : (failed : Bool) (old new : ℕ) → server.FaultsAfter failed old new → FaultsAfter failed old new
+  same_faults true old new after = after.1
+  same_faults false old new after = after
+
+  module _ {D : Type 0} (content : D → Option (List ℕ)) (calls faults : D → ℕ) (old new : D) where
+    same_image : new ≡ old → image_of (content new) (faults new) ≡ image_of (content old) (faults old)
+    same_image same = ap (λ (d : D). image_of (content d) (faults d)) same
+
+    abbrev ServerMoves : Option ServerOut → Type 0
+    ServerMoves answer =
+        LaneMoves s (image_of (content old) (faults old)) (served_event answer) t (image_of (content new) (faults new))
+
+    server_moves : (answer : Option ServerOut) → Served s (content old) (served_event answer) t (content new)
+        → KeepsStoreOf answer old new
+        → CallsOf answer (calls old) (calls new) (faults old) (faults new) → ServerMoves answer
+    server_moves None served keeps counts = (served.step, same_image keeps)
+    server_moves (Some server_out.Idle) served keeps counts = ((served.gave, served.step), same_image keeps)
+    server_moves (Some server_out.Blocked) served keeps counts = ((served.gave, served.step), same_image keeps)
+    server_moves (Some server_out.Joined) served keeps counts = ((served.gave, served.step), same_image keeps)
+    server_moves (Some (server_out.Took packet opens)) served keeps counts =
+        ((served.gave, served.step), same_image keeps)
+    server_moves (Some (server_out.Sent packet opens)) served keeps counts =
+        ((served.gave, served.step), same_image keeps)
+    server_moves (Some (server_out.Desc slot bytes)) served keeps counts =
+        ((served.gave, served.step), same_image keeps)
+    server_moves (Some (server_out.Moved unit fault)) served keeps counts =
+        ((served.gave, served.step), same_image keeps)
+    server_moves (Some (server_out.Stored operation block count failed)) served keeps counts =
+        (served, same_faults failed (faults old) (faults new) counts.faults_are)
+    server_moves (Some (server_out.Finished slot status)) served keeps counts =
+        ((served.gave, served.step), same_image keeps)
+    server_moves (Some (server_out.Reset cause packet)) served keeps counts =
+        (reset_by served.gave cause packet served.step, same_image keeps)
+
+    server_end : (answer : Option ServerOut) → Served s (content old) (served_event answer) t (content new)
+        → IsStep B (served_event answer)
+    server_end None served = tt
+    server_end (Some server_out.Idle) served = refl
+    server_end (Some server_out.Blocked) served = refl
+    server_end (Some server_out.Joined) served = refl
+    server_end (Some (server_out.Took packet opens)) served = refl
+    server_end (Some (server_out.Sent packet opens)) served = refl
+    server_end (Some (server_out.Desc slot bytes)) served = tt
+    server_end (Some (server_out.Moved unit fault)) served = tt
+    server_end (Some (server_out.Stored operation block count failed)) served = tt
+    server_end (Some (server_out.Finished slot status)) served = tt
+    server_end (Some (server_out.Reset cause packet)) served =
+        (refl, server_of_end served.gave cause packet served.step)
+
+    pub server_steps : (k : ℕ) (answer : Option ServerOut) (x : Entry)
+        → Served s (content old) (served_event answer) t (content new) → KeepsStoreOf answer old new
+        → CallsOf answer (calls old) (calls new) (faults old) (faults new)
+        → ((line : Line) → world_event line x ≡ Some (OfLane k (served_event answer)))
+        → LaneSteps k B s (image_of (content old) (faults old)) x t (image_of (content new) (faults new))
+    server_steps k answer x served keeps counts says = record {
+      event = served_event answer;
+      of_end = server_end answer served;
+      moves = server_moves answer served keeps counts;
+      says = says;
+    }

@@ -1,0 +1,10 @@
+pub mod Telling
+pub mod Adding
+pub mod Answering
+pub mod LaneStepping
+pub mod Lifting
+pub mod Opened
+pub mod Turning
+pub mod Declaring
+pub mod SettlingAdds
+pub mod SettlingLanes

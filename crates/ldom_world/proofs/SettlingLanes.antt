@@ -1,0 +1,218 @@
+-- What a lane is in a settle: its mark in a round, its tick, and its name where it is left over.
+use Rattle.std.proofs.Common.{◌≡◌, ℕ, ◌+◌, ◌<◌, Bool, true, false, Option, Some, List, [], ◌∷◌, ◌++◌, length, map, take, slice_get, slice_set, refl, sym, ap, ◌∙◌, subst, arith, append-nil}
+use Rattle.std.proofs.lemmas.List.Sums.{sum_by-append}
+use Rattle.std.specs.Prelude.{◌&&◌, ◌||◌, ◌==◌, cond, if◌then◌else◌, not}
+use Rattle.runs.specs.Run.{Run}
+use Rattle.disk_steps.specs.DiskEvent.{CalmTick, Rests}
+use Rattle.disk_steps.specs.LaneState.{LaneState}
+use Rattle.domain_script.specs.declared.event.Lane.TheVariants.{Disk}
+use Rattle.lanes_settle.specs.Settle.{OfLane, SettleEntry, Unsettled}
+use Rattle.lanes_settle.specs.Ticks.{gets_tick, tick, waits_on}
+use Rattle.lanes_world.specs.Lines.{AnswersCall, Calls, Line, OneEntry, Settles, Ticks}
+use Rattle.lanes_world.specs.World.{OneMoves, WorldState, WorldStep}
+use Rattle.ldom_journal.specs.LaneEvents.{if_so, world_event}
+use Rattle.ldom_journal.specs.Report.{accepted_count, is_accepted}
+use Rattle.ldom_journal.specs.declared.entry.Entry.{Entry}
+use Rattle.ldom_journal.specs.declared.entry.Entry.TheVariants as entry
+use Rattle.ldom_journal.specs.declared.entry.Who.{Who}
+use Rattle.ldom_journal.specs.declared.entry.Who.TheVariants.{Lane as OfWhole, End as OfEnd}
+use Rattle.settle_loop.proofs.Places.{after_one, set_same, take_set_one}
+use Rattle.settle_loop.proofs.TicksOn.{lane_gets_none, lane_gets_tick}
+use Rattle.settle_loop.specs.Names.{name_of}
+use Rattle.settle_loop.specs.RoundMade.{all_true}
+use Rattle.settle_loop.specs.TicksMade.{LaneTicked}
+use Rattle.world_parts.specs.Parts.{Adds, Fits, FitsSoFar, Says}
+use Rattle.ldom_world.proofs.Adding.{none_adds, one_adds}
+use Rattle.ldom_world.proofs.SettlingAdds.{names_go_by, ticks_go_by}
+use Rattle.ldom_world.specs.SettleParts.{Grew, NamesGoOn, TicksGoOn}
+
+-- THE MARKS of the first lanes, with one more
+and_true : (b : Bool) → (b && true) ≡ b
+and_true true = refl
+and_true false = refl
+
+all_more : (marks : List Bool) (mark : Bool) → all_true (marks ++ mark ∷ []) ≡ (all_true marks && mark)
+all_more [] mark = and_true mark
+all_more (true ∷ marks) mark = all_more marks mark
+all_more (false ∷ marks) mark = refl
+
+pub all_set : (k : ℕ) (marks new : List Bool) (all mark : Bool) → k < length marks → new ≡ slice_set marks k mark
+    → all_true (take k marks) ≡ all → all_true (take (k + 1) new) ≡ (all && mark)
+all_set k marks new all mark less is so_far =
+    ap (λ (l : List Bool). all_true (take (k + 1) l)) is
+    ∙ ap (λ (n : ℕ). all_true (take n (slice_set marks k mark))) (after_one k)
+    ∙ ap (λ (l : List Bool). all_true l) (take_set_one marks k mark less)
+    ∙ all_more (take k marks) mark ∙ ap (λ (b : Bool). b && mark) so_far
+
+-- WHETHER A LANE WAITS
+pub waits_by : (finished stopped running : Bool) → running ≡ not stopped
+    → (not finished && running) ≡ (if finished then false else if stopped then false else true)
+waits_by true stopped running is = refl
+waits_by false true running is = is
+waits_by false false running is = is
+
+-- AN ENTRY THAT ACCEPTS NOTHING leaves the count
+count_one : (e : Entry) → is_accepted e ≡ false → accepted_count (e ∷ []) ≡ 0
+count_one e none = ap (λ (b : Bool). 0 + cond {A = ℕ} b 1 0) none
+
+none_more : (n m : ℕ) → m ≡ 0 → n + m ≡ n
+none_more n m zeroth = omega (arith, zeroth)
+
+pub count_stays : (old new : List Entry) (e : Entry) → is_accepted e ≡ false → new ≡ old ++ e ∷ []
+    → accepted_count new ≡ accepted_count old
+count_stays old new e none is =
+    ap (λ (l : List Entry). accepted_count l) is ∙ sum_by-append _ old (e ∷ [])
+    ∙ none_more (accepted_count old) (accepted_count (e ∷ [])) (count_one e none)
+
+-- THE EVENT OF A TICK is said by the same entry in whatever line it is
+calm_no_tick : (b : Bool) (j k : ℕ) → if_so b (OfLane j (Rests CalmTick)) ≡ Some (OfLane k tick) → ⊥
+calm_no_tick true j k is = cc is
+calm_no_tick false j k is = cc is
+
+tick_of_calm : (k : ℕ) (who : Who) → world_event (Calls k Ticks) (entry.Calm who) ≡ Some (OfLane k tick) → ⊥
+tick_of_calm k (OfWhole (Disk j)) is = calm_no_tick (k == j) j k is
+tick_of_calm k (OfEnd name) is = cc is
+
+tick_entry : (k : ℕ) (e : Entry) → world_event (Calls k Ticks) e ≡ Some (OfLane k tick)
+    → world_event Settles e ≡ Some (OfLane k tick)
+tick_entry k (entry.Accepted j id request) is = is
+tick_entry k (entry.Full who) is = absurd (cc is)
+tick_entry k (entry.Refused who why) is = absurd (cc is)
+tick_entry k (entry.Lost e packet) is = is
+tick_entry k (entry.Stopped j) is = is
+tick_entry k (entry.Started j) is = is
+tick_entry k (entry.Calm who) is = absurd (tick_of_calm k who is)
+tick_entry k entry.Settled is = is
+tick_entry k (entry.Unsettled who) is = is
+tick_entry k (entry.Idle e) is = is
+tick_entry k (entry.Off e) is = is
+tick_entry k (entry.Blocked e) is = is
+tick_entry k (entry.Joined e lost) is = is
+tick_entry k (entry.Took e packet opens) is = is
+tick_entry k (entry.Sent e packet opens) is = is
+tick_entry k (entry.Published e id) is = is
+tick_entry k (entry.Done j id operation status bytes) is = is
+tick_entry k (entry.Desc e slot bytes) is = is
+tick_entry k (entry.Moved e unit fault) is = is
+tick_entry k (entry.Stored e operation block count failed) is = is
+tick_entry k (entry.Finished e slot status) is = is
+tick_entry k (entry.Reset e cause packet lost) is = is
+
+tick_said : (k : ℕ) (part : List Entry) → Says (Calls k Ticks) part (OfLane k tick ∷ [])
+    → Says Settles part (OfLane k tick ∷ [])
+tick_said k [] says = absurd (cc says)
+tick_said k (e ∷ []) says =
+    let one : world_event (Calls k Ticks) e ≡ Some (OfLane k tick) = cc says in
+    ap (λ (o : Option SettleEntry). o ∷ []) (tick_entry k e one)
+tick_said k (e ∷ f ∷ part) says = absurd (cc says)
+
+-- A CALL FOR A TICK of a lane that gets one is the tick of a settle
+run_of_one : (w v : WorldState) (x : SettleEntry) (entries : List SettleEntry) → entries ≡ x ∷ []
+    → Run WorldStep w entries v → WorldStep w x v
+run_of_one w v x entries is run =
+    let one : Run WorldStep w (x ∷ []) v = subst (λ (l : List SettleEntry). Run WorldStep w l v) is run in
+    subst (λ (u : WorldState). WorldStep w x u) one.2 one.1
+
+pub tick_grew : (k : ℕ) (w v : WorldState) (old new : List Entry) (lane : LaneState) (had : Bool)
+    → slice_get w.lanes k ≡ Some lane → gets_tick lane had ≡ true → Fits w (Calls k Ticks) old new v
+    → Grew (λ es. LaneTicked k had true w es v) old new
+tick_grew k w v old new lane had there gets fits =
+    let one : OneEntry k (AnswersCall Ticks) fits.entries = fits.moves.part_of in
+    let moves : OneMoves w k one.event v = run_of_one w v (OfLane k one.event) fits.entries one.is fits.moves.run in
+    let ticked : LaneTicked k had true w (OfLane k one.event ∷ []) v = lane_gets_tick k had w one.event v lane there
+    gets one.answers moves in
+    let is : fits.entries ≡ OfLane k tick ∷ [] = one.is ∙ ticked.ticked.1 in
+    record {
+      entries = OfLane k tick ∷ [];
+      adds = record {
+        part = fits.adds.part;
+        grew = fits.adds.grew;
+        says = tick_said k fits.adds.part
+            (subst (λ (l : List SettleEntry). Says (Calls k Ticks) fits.adds.part l) is fits.adds.says);
+      };
+      holds = subst (λ (l : List SettleEntry). LaneTicked k had true w l v) ticked.ticked.1 ticked;
+    }
+
+pub none_ticked_grew : (k : ℕ) (w : WorldState) (old : List Entry) (lane : LaneState) (had : Bool)
+    → slice_get w.lanes k ≡ Some lane → gets_tick lane had ≡ false
+    → Grew (λ es. LaneTicked k had false w es w) old old
+none_ticked_grew k w old lane had there gets =
+    record { entries = []; adds = none_adds Settles old old refl; holds = lane_gets_none k had w lane there gets }
+
+-- where memory was wanted for it, nothing was done
+pub record Unchanged (w : WorldState) (old new : List Entry) (v : WorldState) : Type 0 where
+  pub world_stays : v ≡ w
+  pub journal_stays : new ≡ old
+
+no_part : (line : Line) (part : List Entry) → map (λ (e : Entry). world_event line e) part ≡ [] → part ≡ []
+no_part line [] is = refl
+no_part line (e ∷ part) is = absurd (cc is)
+
+none_begun : (w v : WorldState) (line : Line) (old new : List Entry) (entries : List SettleEntry) → entries ≡ []
+    → Adds line old new entries → Run WorldStep w entries v → Unchanged w old new v
+none_begun w v line old new entries none adds run =
+    let empty : adds.part ≡ [] = no_part line adds.part
+    (adds.says ∙ ap (λ (l : List SettleEntry). map (λ (x : SettleEntry). Some x) l) none) in
+    let stays : w ≡ v = subst (λ (l : List SettleEntry). Run WorldStep w l v) none run in
+    record {
+      world_stays = sym stays;
+      journal_stays = adds.grew ∙ ap (λ (l : List Entry). old ++ l) empty ∙ append-nil old;
+    }
+
+pub tick_wants : (k : ℕ) (w v : WorldState) (old new : List Entry) → FitsSoFar w (Calls k Ticks) old new v
+    → Unchanged w old new v
+tick_wants k w v old new so_far =
+    none_begun w v (Calls k Ticks) old new so_far.entries so_far.begins.begins so_far.adds so_far.begins.run
+
+-- THE TICKS GO ON by a lane that gets one, and by one that gets none
+or_true : (b : Bool) → (b || true) ≡ true
+or_true true = refl
+or_true false = refl
+
+or_false : (b : Bool) → (b || false) ≡ b
+or_false true = refl
+or_false false = refl
+
+pub ticked_goes_on : (k : ℕ) (w v : WorldState) (old new : List Entry) (have marks : List Bool) (lane : LaneState)
+    (mark : Bool) → slice_get w.lanes k ≡ Some lane → slice_get have k ≡ Some mark → k < length have
+    → gets_tick lane mark ≡ true → marks ≡ slice_set have k true → Fits w (Calls k Ticks) old new v
+    → TicksGoOn k w have old true v marks new
+ticked_goes_on k w v old new have marks lane mark there at less gets is fits =
+    ticks_go_by k w v old new have marks mark true at (tick_grew k w v old new lane mark there gets fits) less
+    (is ∙ ap (λ (b : Bool). slice_set have k b) (sym (or_true mark)))
+
+pub unticked_goes_on : (k : ℕ) (w : WorldState) (old : List Entry) (have : List Bool) (lane : LaneState) (mark : Bool)
+    → slice_get w.lanes k ≡ Some lane → slice_get have k ≡ Some mark → k < length have
+    → gets_tick lane mark ≡ false → TicksGoOn k w have old false w have old
+unticked_goes_on k w old have lane mark there at less gets =
+    ticks_go_by k w w old old have have mark false at (none_ticked_grew k w old lane mark there gets) less
+    (sym (set_same have k mark at) ∙ ap (λ (b : Bool). slice_set have k b) (sym (or_false mark)))
+
+-- THE NAMES GO ON by a lane that is left over, and by one that isn't
+not_by : (b : Bool) → (if b then false else true) ≡ not b
+not_by true = refl
+not_by false = refl
+
+name_by : (k : ℕ) (calm rests : Bool) (lane : LaneState) → rests ≡ (calm && not (waits_on lane))
+    → name_of k calm lane ≡ (if rests then [] else Unsettled k ∷ [])
+name_by k calm rests lane is =
+    ap (λ (b : Bool). if calm && b then [] else Unsettled k ∷ []) (not_by (waits_on lane))
+    ∙ ap (λ (b : Bool). if b then [] else Unsettled k ∷ []) (sym is)
+
+pub named_goes_on : (k : ℕ) (w : WorldState) (calm rests : Bool) (lane : LaneState) (old new : List Entry)
+    → slice_get w.lanes k ≡ Some lane → rests ≡ (calm && not (waits_on lane)) → rests ≡ false
+    → new ≡ old ++ entry.Unsettled (OfWhole (Disk k)) ∷ [] → NamesGoOn k w calm old new
+named_goes_on k w calm rests lane old new there is left grew =
+    names_go_by k w old new calm lane there
+    (subst (λ (l : List SettleEntry). Adds Settles old new l)
+    (sym (name_by k calm rests lane is ∙ ap (λ (b : Bool). if b then [] else Unsettled k ∷ []) left))
+    (one_adds Settles old new (entry.Unsettled (OfWhole (Disk k))) (Unsettled k) grew refl))
+
+pub unnamed_goes_on : (k : ℕ) (w : WorldState) (calm rests : Bool) (lane : LaneState) (old : List Entry)
+    → slice_get w.lanes k ≡ Some lane → rests ≡ (calm && not (waits_on lane)) → rests ≡ true
+    → NamesGoOn k w calm old old
+unnamed_goes_on k w calm rests lane old there is left =
+    names_go_by k w old old calm lane there
+    (subst (λ (l : List SettleEntry). Adds Settles old old l)
+    (sym (name_by k calm rests lane is ∙ ap (λ (b : Bool). if b then [] else Unsettled k ∷ []) left))
+    (none_adds Settles old old refl))

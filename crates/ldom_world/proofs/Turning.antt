@@ -1,0 +1,241 @@
+-- Steps of ends turn by turn: a step of one end, the two of a lane, a round, and rounds; and a front of them where
+-- memory was wanted.
+use Rattle.std.proofs.Common.{◌≡◌, ℕ, zero, suc, ◌+◌, ◌-◌, ◌<◌, Result, Ok, Err, List, [], ◌∷◌, ◌++◌, length, replicate, refl, sym, ap, subst, ◌∙◌, arith, append_assoc, append-nil}
+use Rattle.std.specs.Prelude.{OnErr}
+use Rattle.runs.specs.Run.{run_append}
+use Rattle.lanes_settle.specs.Settle.{OfLane, SettleEntry, Settled, Unsettled}
+use Rattle.lanes_world.specs.Lines.{AreSteps, Rounds, Steps, Turn, round_turns, turn, turns_of}
+use Rattle.lanes_world.specs.World.{WorldState, WorldStep}
+use Rattle.ldc_queue.specs.declared.end.End.{End}
+use Rattle.ldc_queue.specs.declared.end.End.TheVariants.{A, B}
+use Rattle.ldom_journal.specs.declared.entry.Entry.{Entry}
+use Rattle.ldom_world.proofs.Adding.{both_add, none_adds}
+use Rattle.ldom_world.specs.TurnsMade.{TurnsBegun, TurnsMade}
+use Rattle.world_parts.specs.Parts.{Fits, FitsSoFar, MakesStep}
+
+-- what holds where memory was wanted, of a call's answer
+pub at_error : {X E : Type 0} (result : Result X E) (P : Type 0) → P → OnErr result P
+at_error (Ok x) P holds = tt
+at_error (Err e) P holds = holds
+
+-- TURNS, one after the other
+both_steps : (first second : List Turn) (one two : List SettleEntry) → AreSteps first one → AreSteps second two
+    → AreSteps (first ++ second) (one ++ two)
+both_steps [] second [] two steps more = more
+both_steps [] second (x ∷ one) two steps more = absurd steps
+both_steps (next ∷ first) second [] two steps more = absurd steps
+both_steps (next ∷ first) second (OfLane k event ∷ one) two steps more =
+    (steps.0, steps.1, both_steps first second one two steps.2 more)
+both_steps (next ∷ first) second (Settled ∷ one) two steps more = absurd steps
+both_steps (next ∷ first) second (Unsettled k ∷ one) two steps more = absurd steps
+
+pub none_turned : (w v : WorldState) (old new : List Entry) → v ≡ w → new ≡ old → TurnsMade [] w old new v
+none_turned w v old new same none = record {
+  entries = [];
+  adds = λ line. none_adds line old new none;
+  steps = tt;
+  run = sym same;
+}
+
+one_turned : (k : ℕ) (e : End) (w v : WorldState) (old new : List Entry) → MakesStep k e w old new v
+    → TurnsMade (turn k e ∷ []) w old new v
+one_turned k e w v old new made = record {
+  entries = OfLane k made.event ∷ [];
+  adds = made.adds;
+  steps = (refl, made.of_end, tt);
+  run = (v, made.moves, refl);
+}
+
+-- so many turns are these, by an equation
+as_turns : (turns others : List Turn) (w v : WorldState) (old new : List Entry) → turns ≡ others
+    → TurnsMade turns w old new v → TurnsMade others w old new v
+as_turns turns others w v old new is made = subst (λ (l : List Turn). TurnsMade l w old new v) is made
+
+module _ (first second : List Turn) (w m v : WorldState) (old mid new : List Entry) where
+  both_turned : TurnsMade first w old mid m → TurnsMade second m mid new v → TurnsMade (first ++ second) w old new v
+  both_turned one two = record {
+    entries = one.entries ++ two.entries;
+    adds = λ line. both_add line old mid new one.entries two.entries (one.adds line) (two.adds line);
+    steps = both_steps first second one.entries two.entries one.steps two.steps;
+    run = run_append WorldStep w m v one.entries two.entries one.run two.run;
+  }
+
+-- FRONTS: nothing yet, a front of what follows, and less than what there is
+pub none_begun : (turns : List Turn) (w v : WorldState) (old new : List Entry) → v ≡ w → new ≡ old
+    → TurnsBegun turns w old new v
+none_begun turns w v old new same none = record {
+  made = [];
+  left = turns;
+  turns_are = refl;
+  turned = none_turned w v old new same none;
+}
+
+begun_behind : (first second : List Turn) (w m v : WorldState) (old mid new : List Entry) → TurnsMade first w old mid m
+    → TurnsBegun second m mid new v → TurnsBegun (first ++ second) w old new v
+begun_behind first second w m v old mid new one two = record {
+  made = first ++ two.made;
+  left = two.left;
+  turns_are = ap (λ (l : List Turn). first ++ l) two.turns_are ∙ sym (append_assoc first two.made two.left);
+  turned = both_turned first two.made w m v old mid new one two.turned;
+}
+
+begun_before : (first second : List Turn) (w v : WorldState) (old new : List Entry) → TurnsBegun first w old new v
+    → TurnsBegun (first ++ second) w old new v
+begun_before first second w v old new begun = record {
+  made = begun.made;
+  left = begun.left ++ second;
+  turns_are = ap (λ (l : List Turn). l ++ second) begun.turns_are ∙ append_assoc begun.made begun.left second;
+  turned = begun.turned;
+}
+
+as_begun : (turns others : List Turn) (w v : WorldState) (old new : List Entry) → turns ≡ others
+    → TurnsBegun turns w old new v → TurnsBegun others w old new v
+as_begun turns others w v old new is begun = subst (λ (l : List Turn). TurnsBegun l w old new v) is begun
+
+-- THE TWO STEPS of a lane
+pub both_ends : (k : ℕ) (w m v : WorldState) (old mid new : List Entry) → MakesStep k A w old mid m
+    → MakesStep k B m mid new v → TurnsMade (turn k A ∷ turn k B ∷ []) w old new v
+both_ends k w m v old mid new client server =
+    both_turned (turn k A ∷ []) (turn k B ∷ []) w m v old mid new (one_turned k A w m old mid client)
+    (one_turned k B m v mid new server)
+
+pub client_alone : (k : ℕ) (w m v : WorldState) (old mid new : List Entry) → MakesStep k A w old mid m → v ≡ m
+    → new ≡ mid → TurnsBegun (turn k A ∷ turn k B ∷ []) w old new v
+client_alone k w m v old mid new client same none =
+    begun_behind (turn k A ∷ []) (turn k B ∷ []) w m v old mid new (one_turned k A w m old mid client)
+    (none_begun (turn k B ∷ []) m v mid new same none)
+
+-- A ROUND, lane by lane
+round_both : (k n more : ℕ) → round_turns k (n + more) ≡ round_turns k n ++ round_turns (k + n) more
+round_both k zero more =
+    ap (λ (i : ℕ). round_turns k i) (let is : 0 + more ≡ more = omega (arith) in is)
+    ∙ ap (λ (i : ℕ). round_turns i more) (let is : k ≡ k + 0 = omega (arith) in is)
+round_both k (suc n) more =
+    ap (λ (i : ℕ). round_turns k i) (let is : suc n + more ≡ suc (n + more) = omega (arith) in is)
+    ∙ ap (λ (l : List Turn). turn k A ∷ turn k B ∷ l)
+    (round_both (k + 1) n more
+    ∙ ap (λ (i : ℕ). round_turns (k + 1) n ++ round_turns i more)
+    (let is : (k + 1) + n ≡ k + suc n = omega (arith) in is))
+
+round_more : (k : ℕ) → round_turns 0 k ++ turn k A ∷ turn k B ∷ [] ≡ round_turns 0 (k + 1)
+round_more k =
+    sym (round_both 0 k 1
+    ∙ ap (λ (i : ℕ). round_turns 0 k ++ round_turns i 1) (let is : 0 + k ≡ k = omega (arith) in is))
+
+module _ (k : ℕ) (w m v : WorldState) (first old new : List Entry) where
+  pub round_turned : TurnsMade (round_turns 0 k) w first old m → TurnsMade (turn k A ∷ turn k B ∷ []) m old new v
+      → TurnsMade (round_turns 0 (k + 1)) w first new v
+  round_turned before both =
+      as_turns (round_turns 0 k ++ turn k A ∷ turn k B ∷ []) (round_turns 0 (k + 1)) w v first new (round_more k)
+      (both_turned (round_turns 0 k) (turn k A ∷ turn k B ∷ []) w m v first old new before both)
+
+  pub round_wants : (many : ℕ) → k < many → TurnsMade (round_turns 0 k) w first old m
+      → TurnsBegun (turn k A ∷ turn k B ∷ []) m old new v → TurnsBegun (round_turns 0 many) w first new v
+  round_wants many less before begun =
+      let rest = many - (k + 1) in
+      let all : (k + 1) + rest ≡ many = omega (arith, less) in
+      as_begun (round_turns 0 (k + 1) ++ round_turns (0 + (k + 1)) rest) (round_turns 0 many) w v first new
+      (sym (round_both 0 (k + 1) rest) ∙ ap (λ (i : ℕ). round_turns 0 i) all)
+      (begun_before (round_turns 0 (k + 1)) (round_turns (0 + (k + 1)) rest) w v first new
+      (as_begun (round_turns 0 k ++ turn k A ∷ turn k B ∷ []) (round_turns 0 (k + 1)) w v first new (round_more k)
+      (begun_behind (round_turns 0 k) (turn k A ∷ turn k B ∷ []) w m v first old new before begun)))
+
+-- ROUNDS, one after the other
+turns_both : (n more many : ℕ) → turns_of (n + more) many ≡ turns_of n many ++ turns_of more many
+turns_both zero more many = ap (λ (i : ℕ). turns_of i many) (let is : 0 + more ≡ more = omega (arith) in is)
+turns_both (suc n) more many =
+    ap (λ (i : ℕ). turns_of i many) (let is : suc n + more ≡ suc (n + more) = omega (arith) in is)
+    ∙ ap (λ (l : List Turn). round_turns 0 many ++ l) (turns_both n more many)
+    ∙ sym (append_assoc (round_turns 0 many) (turns_of n many) (turns_of more many))
+
+turns_more : (n many : ℕ) → turns_of n many ++ round_turns 0 many ≡ turns_of (n + 1) many
+turns_more n many =
+    ap (λ (l : List Turn). turns_of n many ++ l) (sym (append-nil (round_turns 0 many))) ∙ sym (turns_both n 1 many)
+
+rounds_so_far : (count : ℕ) (w v : WorldState) (old new : List Entry)
+    → TurnsBegun (turns_of count (length w.lanes)) w old new v → FitsSoFar w (Rounds count) old new v
+rounds_so_far count w v old new begun = record {
+  entries = begun.turned.entries;
+  adds = begun.turned.adds (Rounds count);
+  begins = record {
+    begins = record { made = begun.made; left = begun.left; turns_are = begun.turns_are; steps = begun.turned.steps };
+    run = begun.turned.run;
+  };
+}
+
+module _ (n : ℕ) (w m v : WorldState) (first old new : List Entry) where
+  pub rounds_turned : (many now : ℕ) → now ≡ many → TurnsMade (turns_of n many) w first old m
+      → TurnsMade (round_turns 0 now) m old new v → TurnsMade (turns_of (n + 1) many) w first new v
+  rounds_turned many now same before round =
+      as_turns (turns_of n many ++ round_turns 0 many) (turns_of (n + 1) many) w v first new (turns_more n many)
+      (both_turned (turns_of n many) (round_turns 0 many) w m v first old new before
+      (subst (λ (i : ℕ). TurnsMade (round_turns 0 i) m old new v) same round))
+
+  pub rounds_want : (count now : ℕ) → n < count → now ≡ length w.lanes
+      → TurnsMade (turns_of n (length w.lanes)) w first old m → TurnsBegun (round_turns 0 now) m old new v
+      → FitsSoFar w (Rounds count) first new v
+  rounds_want count now less same before begun =
+      let many = length w.lanes in
+      let rest = count - (n + 1) in
+      let all : (n + 1) + rest ≡ count = omega (arith, less) in
+      rounds_so_far count w v first new
+      (as_begun (turns_of (n + 1) many ++ turns_of rest many) (turns_of count many) w v first new
+      (sym (turns_both (n + 1) rest many) ∙ ap (λ (i : ℕ). turns_of i many) all)
+      (begun_before (turns_of (n + 1) many) (turns_of rest many) w v first new
+      (as_begun (turns_of n many ++ round_turns 0 many) (turns_of (n + 1) many) w v first new (turns_more n many)
+      (begun_behind (turns_of n many) (round_turns 0 many) w m v first old new before
+      (subst (λ (i : ℕ). TurnsBegun (round_turns 0 i) m old new v) same begun)))))
+
+pub rounds_fit : (count : ℕ) (w v : WorldState) (old new : List Entry)
+    → TurnsMade (turns_of count (length w.lanes)) w old new v → Fits w (Rounds count) old new v
+rounds_fit count w v old new turned = record {
+  entries = turned.entries;
+  adds = turned.adds (Rounds count);
+  moves = record { part_of = turned.steps; run = turned.run };
+}
+
+-- STEPS of one end, one after the other
+same_both : (n more : ℕ) (next : Turn) → replicate (n + more) next ≡ replicate n next ++ replicate more next
+same_both zero more next = ap (λ (i : ℕ). replicate i next) (let is : 0 + more ≡ more = omega (arith) in is)
+same_both (suc n) more next =
+    ap (λ (i : ℕ). replicate i next) (let is : suc n + more ≡ suc (n + more) = omega (arith) in is)
+    ∙ ap (λ (l : List Turn). next ∷ l) (same_both n more next)
+
+module _ (k : ℕ) (e : End) (n : ℕ) (w m v : WorldState) (first old new : List Entry) where
+  pub one_more_step : TurnsMade (replicate n (turn k e)) w first old m → MakesStep k e m old new v
+      → TurnsMade (replicate (n + 1) (turn k e)) w first new v
+  one_more_step before made =
+      as_turns (replicate n (turn k e) ++ turn k e ∷ []) (replicate (n + 1) (turn k e)) w v first new
+      (sym (same_both n 1 (turn k e)))
+      (both_turned (replicate n (turn k e)) (turn k e ∷ []) w m v first old new before
+      (one_turned k e m v old new made))
+
+  pub steps_want : (count : ℕ) → n < count → TurnsMade (replicate n (turn k e)) w first old m → v ≡ m → new ≡ old
+      → FitsSoFar w (Steps k e count) first new v
+  steps_want count less before same none =
+      let rest = count - n in
+      let all : n + rest ≡ count = omega (arith, less) in
+      let turned =
+      both_turned (replicate n (turn k e)) [] w m v first old new before (none_turned m v old new same none) in
+      record {
+        entries = turned.entries;
+        adds = turned.adds (Steps k e count);
+        begins = record {
+          begins = record {
+            made = replicate n (turn k e) ++ [];
+            left = replicate rest (turn k e);
+            turns_are = sym (ap (λ (i : ℕ). replicate i (turn k e)) all) ∙ same_both n rest (turn k e)
+                ∙ ap (λ (l : List Turn). l ++ replicate rest (turn k e)) (sym (append-nil (replicate n (turn k e))));
+            steps = turned.steps;
+          };
+          run = turned.run;
+        };
+      }
+
+pub steps_fit : (k : ℕ) (e : End) (count : ℕ) (w v : WorldState) (old new : List Entry)
+    → TurnsMade (replicate count (turn k e)) w old new v → Fits w (Steps k e count) old new v
+steps_fit k e count w v old new turned = record {
+  entries = turned.entries;
+  adds = turned.adds (Steps k e count);
+  moves = record { part_of = turned.steps; run = turned.run };
+}

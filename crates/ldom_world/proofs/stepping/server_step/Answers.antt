@@ -1,0 +1,10 @@
+use Rattle.ldom_world.proofs.LaneStepping.{server_steps}
+use Rattle.ldom_world.proofs.stepping.server_step.Goals as goal
+
+pub returns-clause-steps : goal.returns-clause-steps
+returns-clause-steps g c =
+    server_steps c.args.lane.now c.step_server-out.new.self g.D.Store.content g.D.Store.calls g.D.Store.faults
+    c.args.image.now c.step_server-out.new.store
+    c.args.disk c.step_server-out.result c.server_entry.result
+    c.step_server-out.ensures.step c.step_server-out.ensures.store c.step_server-out.ensures.calls
+    c.server_entry.ensures

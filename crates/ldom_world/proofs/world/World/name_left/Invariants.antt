@@ -1,0 +1,10 @@
+use Rattle.std.proofs.Common.{◌≡◌}
+use Rattle.ldom_journal.specs.Report.{accepted_count}
+use Rattle.ldom_world.specs.SettleParts.{NamesAdd}
+use Rattle.ldom_world.proofs.world.World.name_left.Given as goal
+
+abbrev pub invariant-loop-disk : goal.invariant-loop-disk
+invariant-loop-disk g l = record {
+  named : NamesAdd l.disk l.self l.quiet l.fn.journal.entries l.journal.entries;
+  accepted : accepted_count l.journal.entries ≡ accepted_count l.fn.journal.entries;
+}

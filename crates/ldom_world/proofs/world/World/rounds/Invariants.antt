@@ -1,0 +1,13 @@
+use Rattle.std.proofs.Common.{◌≡◌, length}
+use Rattle.lanes_world.specs.Lines.{turns_of}
+use Rattle.ldom_journal.specs.Report.{accepted_count}
+use Rattle.ldom_world.specs.TurnsMade.{TurnsMade}
+use Rattle.settle_loop.specs.Issued.{issued_on}
+use Rattle.ldom_world.proofs.world.World.rounds.Given as goal
+
+abbrev pub invariant-loop : goal.invariant-loop
+invariant-loop g l = record {
+  turned : TurnsMade (turns_of l.counter (length l.fn.self.lanes)) l.fn.self l.fn.journal.entries l.journal.entries l.self;
+  many : length l.self.lanes ≡ length l.fn.self.lanes;
+  agrees : accepted_count l.journal.entries ≡ issued_on l.self.lanes;
+}

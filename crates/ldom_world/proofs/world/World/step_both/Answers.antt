@@ -1,0 +1,25 @@
+use Rattle.std.proofs.Common.{[], ◌∷◌}
+use Rattle.lanes_world.specs.Lines.{turn}
+use Rattle.ldc_queue.specs.declared.end.End.TheVariants.{A, B}
+use Rattle.ldom_world.proofs.Turning.{at_error, both_ends, client_alone, none_begun}
+use Rattle.ldom_world.proofs.world.World.step_both.Goals as goal
+
+pub returns-in_err-step-clause-begun : goal.returns-in_err-step-clause-begun
+returns-in_err-step-clause-begun g c =
+    at_error c.from_residual.result _
+    (none_begun (turn c.args.disk A ∷ turn c.args.disk B ∷ []) c.args.self.now c.step.new.self
+    c.args.journal.now.entries c.step.new.journal.entries
+    c.in_err-step.ensures.same.0 c.in_err-step.ensures.same.1)
+
+pub returns-in_err-step-2-clause-begun : goal.returns-in_err-step-2-clause-begun
+returns-in_err-step-2-clause-begun g c =
+    at_error c.from_residual-in_err-step-2.result _
+    (client_alone c.args.disk c.args.self.now c.step.new.self c.step-2.new.self c.args.journal.now.entries
+    c.step.new.journal.entries c.step-2.new.journal.entries
+    c.in_ok-step.ensures.made c.in_err-step-2.ensures.same.0 c.in_err-step-2.ensures.same.1)
+
+pub returns-clause-made : goal.returns-clause-made
+returns-clause-made g c =
+    both_ends c.args.disk c.args.self.now c.step.new.self c.step-2.new.self c.args.journal.now.entries
+    c.step.new.journal.entries c.step-2.new.journal.entries
+    c.in_ok-step.ensures.made c.in_ok-step-2.ensures.made

@@ -1,0 +1,15 @@
+use Rattle.std.proofs.Common.{◌≡◌, length, replicate}
+use Rattle.lanes_world.specs.Lines.{turn}
+use Rattle.ldom_journal.specs.LaneEvents.{end_of}
+use Rattle.ldom_journal.specs.Report.{accepted_count}
+use Rattle.ldom_world.specs.TurnsMade.{TurnsMade}
+use Rattle.settle_loop.specs.Issued.{issued_on}
+use Rattle.ldom_world.proofs.world.World.steps.Given as goal
+
+abbrev pub invariant-loop : goal.invariant-loop
+invariant-loop g l = record {
+  turned : TurnsMade (replicate l.counter (turn l.fn.disk (end_of l.fn.side))) l.fn.self l.fn.journal.entries
+      l.journal.entries l.self;
+  many : length l.self.lanes ≡ length l.fn.self.lanes;
+  agrees : accepted_count l.journal.entries ≡ issued_on l.self.lanes;
+}

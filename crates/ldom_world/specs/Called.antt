@@ -1,0 +1,28 @@
+-- The calls of a lane as a script has them, and the entries of requests that weren't taken up.
+use Rattle.std.specs.Prelude.{ℕ}
+use Rattle.domain_script.specs.declared.event.Lane.TheVariants.{Disk}
+use Rattle.lanes_world.specs.Lines.{Call}
+use Rattle.lanes_world.specs.Lines as script
+use Rattle.ldom_journal.specs.LaneEvents.{end_of}
+use Rattle.ldom_journal.specs.declared.entry.Entry.{Entry}
+use Rattle.ldom_journal.specs.declared.entry.Entry.TheVariants as entry
+use Rattle.ldom_journal.specs.declared.entry.Who.TheVariants as who
+use Rattle.ldom_journal.specs.declared.entry.Why.TheVariants.{Count, Range}
+use Rattle.vdisk_client.specs.declared.answers.IssueFault.{IssueFault}
+use Rattle.vdisk_client.specs.declared.answers.IssueFault.TheVariants as fault
+use Rattle.ldom_world.specs.declared.calls.LaneCall.{LaneCall}
+use Rattle.ldom_world.specs.declared.calls.LaneCall.TheVariants as lane
+
+abbrev pub call_of : LaneCall → Call
+call_of (lane.Reset side) = script.Resets (end_of side)
+call_of lane.Restart = script.Restarts
+call_of lane.Stop = script.Stops
+call_of lane.Start = script.Starts
+call_of (lane.Lose side) = script.Loses (end_of side)
+call_of lane.Tick = script.Ticks
+
+-- the entry of a request that was refused, or found no room
+abbrev pub refused_entry : ℕ → IssueFault → Entry
+refused_entry k fault.Count = entry.Refused (who.Lane (Disk k)) Count
+refused_entry k fault.Range = entry.Refused (who.Lane (Disk k)) Range
+refused_entry k fault.Full = entry.Full (who.Lane (Disk k))

@@ -1,0 +1,9 @@
+-- What a step of a client needs to put what it completes.
+use Rattle.std.specs.Prelude.{ℕ, ◌≤◌, List, length, ⊤}
+use Rattle.vdisk_client.specs.declared.answers.ClientOut.{ClientOut}
+use Rattle.vdisk_client.specs.declared.answers.ClientOut.TheVariants as out
+
+-- what a completion carries has this room; no other answer carries anything
+abbrev pub HasRoomFor : ClientOut → List ℕ → ℕ → Type 0
+HasRoomFor (out.Done id operation status len) last room = length last ≤ room
+HasRoomFor _ last room = ⊤

@@ -1,0 +1,6 @@
+pub mod Fitting
+pub mod OneLane
+pub mod Called
+pub mod Resting
+pub mod TurnsMade
+pub mod SettleParts

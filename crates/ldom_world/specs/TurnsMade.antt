@@ -1,0 +1,22 @@
+-- Steps of ends, turn by turn, and the part of the journal that they give.
+use Rattle.std.specs.Prelude.{◌≡◌, List, ◌++◌}
+use Rattle.runs.specs.Run.{Run}
+use Rattle.ldom_journal.specs.declared.entry.Entry.{Entry}
+use Rattle.lanes_settle.specs.Settle.{SettleEntry}
+use Rattle.lanes_world.specs.Lines.{AreSteps, Line, Turn}
+use Rattle.lanes_world.specs.World.{WorldState, WorldStep}
+use Rattle.world_parts.specs.Parts.{Adds}
+
+-- THESE TURNS were made, each with its entry, whatever line they are in
+pub record TurnsMade (turns : List Turn) (w : WorldState) (old new : List Entry) (v : WorldState) : Type 0 where
+  pub entries : List SettleEntry
+  pub adds : (line : Line) → Adds line old new entries
+  pub steps : AreSteps turns entries
+  pub run : Run WorldStep w entries v
+
+-- and so far a front of them
+pub record TurnsBegun (turns : List Turn) (w : WorldState) (old new : List Entry) (v : WorldState) : Type 0 where
+  pub made : List Turn
+  pub left : List Turn
+  pub turns_are : turns ≡ made ++ left
+  pub turned : TurnsMade made w old new v

@@ -1,0 +1,66 @@
+// What a line of a script says, done to a world.
+
+ghost use Rattle.std.specs.Prelude.{◌≡◌, length, OnErr, OnOk};
+ghost use Rattle.ldom_journal.specs.LaneEvents.{lane_number};
+ghost use Rattle.ldom_journal.specs.Report.{accepted_count};
+ghost use Rattle.settle_loop.specs.Issued.{issued_on};
+ghost use Rattle.world_parts.specs.Lines.{IsForDisks, line_of};
+ghost use Rattle.world_parts.specs.Parts.{Fits, FitsSoFar};
+
+use crate::world::World;
+use domain_script::{Event, Lane};
+use ldom_journal::Journal;
+use vio_bytes::NoMemory;
+use vio_io::Store;
+
+impl<D: Store> World<D> {
+    /// Does what a line of the script says, and adds its part to the journal. After want of memory the journal holds
+    /// every step that was made and no other.
+    pub fn apply(&mut self, event: &Event, journal: &mut Journal) -> Result<(), NoMemory>
+        requires event { IsForDisks (length self.old.lanes) event.now }
+        requires agrees { accepted_count journal.old.entries ≡ issued_on self.old.lanes }
+        ensures fits { OnOk result (Fits self.old (line_of event.now) journal.old.entries journal.new.entries self.new) }
+        ensures so_far { OnErr result (FitsSoFar self.old (line_of event.now) journal.old.entries
+            journal.new.entries self.new) }
+        ensures agrees { accepted_count journal.new.entries ≡ issued_on self.new.lanes }
+        ensures many { length self.new.lanes ≡ length self.old.lanes }
+    {
+        self.act_on(event, journal)
+    }
+
+    // Each kind of line by the function that does it.
+    fn act_on(&mut self, event: &Event, journal: &mut Journal) -> Result<(), NoMemory>
+        requires event { IsForDisks (length self.old.lanes) event.now }
+        requires agrees { accepted_count journal.old.entries ≡ issued_on self.old.lanes }
+        ensures fits { OnOk result (Fits self.old (line_of event.now) journal.old.entries journal.new.entries self.new) }
+        ensures so_far { OnErr result (FitsSoFar self.old (line_of event.now) journal.old.entries
+            journal.new.entries self.new) }
+        ensures agrees { accepted_count journal.new.entries ≡ issued_on self.new.lanes }
+    {
+        match event {
+            Event::Blank => Ok(()),
+            Event::Disk(_) => Ok(()),
+            Event::Issue { disk, request } => self.issue(*disk, request, journal),
+            Event::Settle => self.settle(journal),
+            Event::Step { end, count } => {
+                self.steps(number_of(end.lane), end.side, *count, journal)
+            }
+            Event::Round { count } => self.rounds(*count, journal),
+            Event::Reset { end } => self.reset(number_of(end.lane), end.side, journal),
+            Event::Restart { end } => self.restart(number_of(end.lane), journal),
+            Event::Stop { disk } => self.stop(*disk, journal),
+            Event::Start { disk } => self.start(*disk, journal),
+            Event::Lose { end } => self.lose(number_of(end.lane), end.side, journal),
+            Event::Tick { lane } => self.tick(number_of(*lane), journal),
+        }
+    }
+}
+
+/// The number of the disk that a lane is of.
+fn number_of(lane: Lane) -> u32
+    ensures { result ≡ lane_number lane }
+{
+    match lane {
+        Lane::Disk(disk) => disk,
+    }
+}

@@ -1,0 +1,252 @@
+// What a script does to a lane beside asking and stepping it: resets, restarts, stops, starts, losses and ticks.
+
+ghost use Rattle.std.specs.Prelude.{◌≡◌, ◌<◌, length, None, OnErr, OnOk};
+ghost use Rattle.domain_script.specs.declared.event.Lane.TheVariants.{Disk};
+ghost use Rattle.ldom_journal.specs.LaneEvents.{end_of};
+ghost use Rattle.ldom_journal.specs.Report.{accepted_count};
+ghost use Rattle.ldom_journal.specs.declared.entry.Entry.TheVariants as the_entry;
+ghost use Rattle.ldom_journal.specs.declared.entry.Who.TheVariants as the_who;
+ghost use Rattle.ldom_world.specs.Called.{call_of};
+ghost use Rattle.ldom_world.specs.OneLane.{LaneAnswers};
+ghost use Rattle.lanes_world.specs.Lines.{AnswersCall, Calls, Loses, Resets, Restarts, Starts, Stops, Ticks};
+ghost use Rattle.settle_loop.specs.Issued.{issued_on};
+ghost use Rattle.world_parts.specs.Parts.{Fits, FitsSoFar};
+
+use crate::entries::{client_of, end_of, name_of, server_of};
+use crate::world::World;
+use disk_lane::DiskLane;
+use domain_script::{EndName, Lane, Side};
+use ldom_journal::{Entry, Journal, Who};
+use vio_bytes::NoMemory;
+use vio_io::Store;
+use vio_tag::Cause;
+
+/// A call of a lane.
+#[derive(Clone, Copy)]
+pub enum LaneCall {
+    Reset(Side),
+    Restart,
+    Stop,
+    Start,
+    Lose(Side),
+    Tick,
+}
+
+impl<D: Store> World<D> {
+    /// Resets an end, but a stopped server's.
+    pub(crate) fn reset(
+        &mut self,
+        disk: u32,
+        side: Side,
+        journal: &mut Journal,
+    ) -> Result<(), NoMemory>
+        requires disk { disk < length self.old.lanes }
+        requires agrees { accepted_count journal.old.entries ≡ issued_on self.old.lanes }
+        ensures fits { OnOk result (Fits self.old (Calls disk (Resets (end_of side))) journal.old.entries
+            journal.new.entries self.new) }
+        ensures so_far { OnErr result (FitsSoFar self.old (Calls disk (Resets (end_of side))) journal.old.entries
+            journal.new.entries self.new) }
+        ensures agrees { accepted_count journal.new.entries ≡ issued_on self.new.lanes }
+    {
+        self.answer_call(disk, LaneCall::Reset(side), journal)
+    }
+
+    /// Restarts a server, but a stopped one.
+    pub(crate) fn restart(&mut self, disk: u32, journal: &mut Journal) -> Result<(), NoMemory>
+        requires disk { disk < length self.old.lanes }
+        requires agrees { accepted_count journal.old.entries ≡ issued_on self.old.lanes }
+        ensures fits { OnOk result (Fits self.old (Calls disk Restarts) journal.old.entries journal.new.entries
+            self.new) }
+        ensures so_far { OnErr result (FitsSoFar self.old (Calls disk Restarts) journal.old.entries
+            journal.new.entries self.new) }
+        ensures agrees { accepted_count journal.new.entries ≡ issued_on self.new.lanes }
+    {
+        self.answer_call(disk, LaneCall::Restart, journal)
+    }
+
+    /// Stops a server that runs.
+    pub(crate) fn stop(&mut self, disk: u32, journal: &mut Journal) -> Result<(), NoMemory>
+        requires disk { disk < length self.old.lanes }
+        requires agrees { accepted_count journal.old.entries ≡ issued_on self.old.lanes }
+        ensures fits { OnOk result (Fits self.old (Calls disk Stops) journal.old.entries journal.new.entries
+            self.new) }
+        ensures so_far { OnErr result (FitsSoFar self.old (Calls disk Stops) journal.old.entries journal.new.entries
+            self.new) }
+        ensures agrees { accepted_count journal.new.entries ≡ issued_on self.new.lanes }
+    {
+        self.answer_call(disk, LaneCall::Stop, journal)
+    }
+
+    /// Starts a server that is stopped.
+    pub(crate) fn start(&mut self, disk: u32, journal: &mut Journal) -> Result<(), NoMemory>
+        requires disk { disk < length self.old.lanes }
+        requires agrees { accepted_count journal.old.entries ≡ issued_on self.old.lanes }
+        ensures fits { OnOk result (Fits self.old (Calls disk Starts) journal.old.entries journal.new.entries
+            self.new) }
+        ensures so_far { OnErr result (FitsSoFar self.old (Calls disk Starts) journal.old.entries
+            journal.new.entries self.new) }
+        ensures agrees { accepted_count journal.new.entries ≡ issued_on self.new.lanes }
+    {
+        self.answer_call(disk, LaneCall::Start, journal)
+    }
+
+    /// Loses the packet that has waited longest for an end.
+    pub(crate) fn lose(
+        &mut self,
+        disk: u32,
+        side: Side,
+        journal: &mut Journal,
+    ) -> Result<(), NoMemory>
+        requires disk { disk < length self.old.lanes }
+        requires agrees { accepted_count journal.old.entries ≡ issued_on self.old.lanes }
+        ensures fits { OnOk result (Fits self.old (Calls disk (Loses (end_of side))) journal.old.entries
+            journal.new.entries self.new) }
+        ensures so_far { OnErr result (FitsSoFar self.old (Calls disk (Loses (end_of side))) journal.old.entries
+            journal.new.entries self.new) }
+        ensures agrees { accepted_count journal.new.entries ≡ issued_on self.new.lanes }
+    {
+        self.answer_call(disk, LaneCall::Lose(side), journal)
+    }
+
+    /// Nothing comes any more for a client, which is reset where it isn't finished.
+    pub(crate) fn tick(&mut self, disk: u32, journal: &mut Journal) -> Result<(), NoMemory>
+        requires disk { disk < length self.old.lanes }
+        requires agrees { accepted_count journal.old.entries ≡ issued_on self.old.lanes }
+        ensures fits { OnOk result (Fits self.old (Calls disk Ticks) journal.old.entries journal.new.entries
+            self.new) }
+        ensures so_far { OnErr result (FitsSoFar self.old (Calls disk Ticks) journal.old.entries journal.new.entries
+            self.new) }
+        ensures agrees { accepted_count journal.new.entries ≡ issued_on self.new.lanes }
+    {
+        self.answer_call(disk, LaneCall::Tick, journal)
+    }
+
+    // Calls a lane once there is room for the entry.
+    fn answer_call(
+        &mut self,
+        disk: u32,
+        call: LaneCall,
+        journal: &mut Journal,
+    ) -> Result<(), NoMemory>
+        requires disk { disk < length self.old.lanes }
+        requires agrees { accepted_count journal.old.entries ≡ issued_on self.old.lanes }
+        ensures fits { OnOk result (Fits self.old (Calls disk (call_of call)) journal.old.entries
+            journal.new.entries self.new) }
+        ensures so_far { OnErr result (FitsSoFar self.old (Calls disk (call_of call)) journal.old.entries
+            journal.new.entries self.new) }
+        ensures agrees { accepted_count journal.new.entries ≡ issued_on self.new.lanes }
+    {
+        journal.reserve(1)?;
+        let entry = call_lane(&mut self.lanes[disk as usize], disk, call);
+        journal.push(entry);
+        Ok(())
+    }
+}
+
+/// Calls a lane, and gives the entry of what came of it.
+fn call_lane(lane: &mut DiskLane, disk: u32, call: LaneCall) -> Entry
+    ensures answers { LaneAnswers (Calls disk (call_of call)) disk (AnswersCall (call_of call)) lane.old result
+        lane.new }
+    ensures shape { lane.new.shape ≡ lane.old.shape }
+{
+    match call {
+        LaneCall::Reset(side) => reset_end(lane, disk, side),
+        LaneCall::Restart => restart_server(lane, disk),
+        LaneCall::Stop => stop_server(lane, disk),
+        LaneCall::Start => start_server(lane, disk),
+        LaneCall::Lose(side) => lose_packet(lane, disk, side),
+        LaneCall::Tick => tick_client(lane, disk),
+    }
+}
+
+fn reset_end(lane: &mut DiskLane, disk: u32, side: Side) -> Entry
+    ensures answers { LaneAnswers (Calls disk (Resets (end_of side))) disk (AnswersCall (Resets (end_of side)))
+        lane.old result lane.new }
+    ensures shape { lane.new.shape ≡ lane.old.shape }
+{
+    let end = name_of(disk, side);
+    if lane.reset(end_of(side)) {
+        reset_entry(end, Cause::Asked)
+    } else {
+        Entry::Calm { who: Who::End(end) }
+    }
+}
+
+fn restart_server(lane: &mut DiskLane, disk: u32) -> Entry
+    ensures answers { LaneAnswers (Calls disk Restarts) disk (AnswersCall Restarts) lane.old result lane.new }
+    ensures shape { lane.new.shape ≡ lane.old.shape }
+{
+    let end = server_of(disk);
+    if lane.restart() {
+        reset_entry(end, Cause::Restart)
+    } else {
+        Entry::Calm { who: Who::End(end) }
+    }
+}
+
+fn stop_server(lane: &mut DiskLane, disk: u32) -> Entry
+    ensures answers { LaneAnswers (Calls disk Stops) disk (AnswersCall Stops) lane.old result lane.new }
+    ensures shape { lane.new.shape ≡ lane.old.shape }
+{
+    if lane.stop() {
+        Entry::Stopped { disk }
+    } else {
+        calm_lane(disk)
+    }
+}
+
+fn start_server(lane: &mut DiskLane, disk: u32) -> Entry
+    ensures answers { LaneAnswers (Calls disk Starts) disk (AnswersCall Starts) lane.old result lane.new }
+    ensures shape { lane.new.shape ≡ lane.old.shape }
+{
+    if lane.start() {
+        Entry::Started { disk }
+    } else {
+        calm_lane(disk)
+    }
+}
+
+fn lose_packet(lane: &mut DiskLane, disk: u32, side: Side) -> Entry
+    ensures answers { LaneAnswers (Calls disk (Loses (end_of side))) disk (AnswersCall (Loses (end_of side)))
+        lane.old result lane.new }
+    ensures shape { lane.new.shape ≡ lane.old.shape }
+{
+    let end = name_of(disk, side);
+    match lane.lose(end_of(side)) {
+        Some(packet) => Entry::Lost { end, packet },
+        None => Entry::Calm { who: Who::End(end) },
+    }
+}
+
+/// Ticks a client, and gives the entry: it is reset where it isn't finished.
+fn tick_client(lane: &mut DiskLane, disk: u32) -> Entry
+    ensures answers { LaneAnswers (Calls disk Ticks) disk (AnswersCall Ticks) lane.old result lane.new }
+    ensures shape { lane.new.shape ≡ lane.old.shape }
+{
+    if lane.tick() {
+        reset_entry(client_of(disk), Cause::Tick)
+    } else {
+        calm_lane(disk)
+    }
+}
+
+/// A reset that no step gave.
+fn reset_entry(end: EndName, cause: Cause) -> Entry
+    ensures { result ≡ the_entry.Reset end cause None 0 }
+{
+    Entry::Reset {
+        end,
+        cause,
+        packet: None,
+        lost: 0,
+    }
+}
+
+/// Nothing changed on the disk with this number.
+fn calm_lane(disk: u32) -> Entry
+    ensures { result ≡ the_entry.Calm (the_who.Lane (Disk disk)) }
+{
+    Entry::Calm {
+        who: Who::Lane(Lane::Disk(disk)),
+    }
+}

@@ -1,0 +1,80 @@
+// Requests of guests.
+
+ghost use Rattle.std.specs.Prelude.{◌≡◌, ◌<◌, ◌-◌, ◌^◌, length, OnErr, OnOk};
+ghost use Rattle.lanes_world.specs.Lines.{AnswersRequest, Asked};
+ghost use Rattle.ldom_journal.specs.Report.{accepted_count};
+ghost use Rattle.ldom_world.specs.Called.{refused_entry};
+ghost use Rattle.ldom_world.specs.OneLane.{LaneAnswers};
+ghost use Rattle.settle_loop.specs.Issued.{issued_on};
+ghost use Rattle.vdisk_msg.specs.Fills.{IsRequest};
+ghost use Rattle.world_parts.specs.Parts.{Fits, FitsSoFar};
+
+use crate::world::World;
+use disk_lane::{DiskLane, IssueFault};
+use domain_script::{Lane, Request};
+use ldom_journal::{Entry, Journal, KeptRequest, Who, Why};
+use vio_bytes::NoMemory;
+use vio_io::Store;
+
+impl<D: Store> World<D> {
+    /// A guest asks its disk: the request is accepted with its id, or refused, or finds no room.
+    pub(crate) fn issue(
+        &mut self,
+        disk: u32,
+        request: &Request,
+        journal: &mut Journal,
+    ) -> Result<(), NoMemory>
+        requires disk { disk < length self.old.lanes }
+        requires request { IsRequest request.now }
+        requires agrees { accepted_count journal.old.entries ≡ issued_on self.old.lanes }
+        ensures fits { OnOk result (Fits self.old (Asked disk request.now) journal.old.entries journal.new.entries
+            self.new) }
+        ensures so_far { OnErr result (FitsSoFar self.old (Asked disk request.now) journal.old.entries
+            journal.new.entries self.new) }
+        ensures agrees { accepted_count journal.new.entries ≡ issued_on self.new.lanes }
+    {
+        journal.reserve(1)?;
+        let _len = journal.len();
+        let kept = KeptRequest::new(self.alloc, request)?;
+        let entry = ask_lane(&mut self.lanes[disk as usize], disk, request, kept);
+        journal.push(entry);
+        Ok(())
+    }
+}
+
+/// Asks a lane, and gives the entry of what came of it, which keeps this copy of the request where it was accepted.
+fn ask_lane(lane: &mut DiskLane, disk: u32, request: &Request, kept: KeptRequest) -> Entry
+    requires request { IsRequest request.now }
+    requires few { lane.old.client.next_id < 2 ^ 64 - 1 }
+    requires kept { kept ≡ request.now }
+    ensures answers { LaneAnswers (Asked disk request.now) disk (AnswersRequest request.now) lane.old result
+        lane.new }
+    ensures shape { lane.new.shape ≡ lane.old.shape }
+{
+    match lane.issue(request) {
+        Ok(id) => Entry::Accepted {
+            disk,
+            id,
+            request: kept,
+        },
+        Err(fault) => refusal(disk, fault),
+    }
+}
+
+/// The entry of a request that wasn't taken up.
+fn refusal(disk: u32, fault: IssueFault) -> Entry
+    ensures { result ≡ refused_entry disk fault }
+{
+    let who = Who::Lane(Lane::Disk(disk));
+    match fault {
+        IssueFault::Count => Entry::Refused {
+            who,
+            why: Why::Count,
+        },
+        IssueFault::Range => Entry::Refused {
+            who,
+            why: Why::Range,
+        },
+        IssueFault::Full => Entry::Full { who },
+    }
+}

@@ -1,0 +1,17 @@
+//! The world of domains that a script acts on: the lanes of its disks over one image. Each line of the script is done
+//! to the lanes, and what happened is added to the journal, entry by entry. The top call stands on it.
+#![tactic(auto)]
+
+mod applying;
+mod calls;
+mod entries;
+mod issuing;
+mod lanes;
+mod settling;
+mod stepping;
+#[cfg(test)]
+mod tests;
+mod world;
+
+pub use lanes::Lanes;
+pub use world::World;

@@ -1,0 +1,254 @@
+// A settle: rounds, until one in which all lanes are quiet and behind which none gets a tick.
+
+ghost use Rattle.std.specs.Prelude.{◌≡◌, ◌&&◌, ◌*◌, ◌<◌, ◌≤◌, ◌^◌, length, not, slice_get, slice_set, take, Some, IfOk, OnErr, OnOk};
+ghost use Rattle.disk_steps.specs.LaneState.{LaneState};
+ghost use Rattle.lanes_settle.specs.Settle.{most_rounds, pending_on};
+ghost use Rattle.lanes_settle.specs.Ticks.{gets_tick, waits_on};
+ghost use Rattle.lanes_world.specs.Lines.{Settles};
+ghost use Rattle.ldom_journal.specs.Report.{accepted_count};
+ghost use Rattle.ldom_world.specs.SettleParts.{NamesAdd, NamesAddFront, NamesGoOn, RoundAdds, RoundAddsFront};
+ghost use Rattle.ldom_world.specs.SettleParts.{RoundBreaks, RoundGoesOn, TicksAdd, TicksAddFront, TicksGoOn};
+ghost use Rattle.ldom_world.specs.SettleParts.{TurnBreaks, TurnGoesOn};
+ghost use Rattle.settle_loop.specs.Issued.{issued_on};
+ghost use Rattle.settle_loop.specs.RoundMade.{all_true};
+ghost use Rattle.world_parts.specs.Parts.{Fits, FitsSoFar};
+
+use crate::world::{MOST_DISKS, World};
+use disk_lane::DiskLane;
+use domain_script::{Lane, Side};
+use ldom_journal::{Entry, Journal, Who};
+use vio_bytes::NoMemory;
+use vio_io::Store;
+
+impl<D: Store> World<D> {
+    /// Makes rounds until all lanes rest, and ticks those that rest unfinished, once each. Where the most rounds are
+    /// made without that, the lanes that are left over are named.
+    #[tactic(auto, using(crate::proofs::SettlingAdds::rounds_begin))]
+    pub(crate) fn settle(&mut self, journal: &mut Journal) -> Result<(), NoMemory>
+        requires agrees { accepted_count journal.old.entries ≡ issued_on self.old.lanes }
+        ensures fits { OnOk result (Fits self.old (Settles) journal.old.entries journal.new.entries self.new) }
+        ensures so_far { OnErr result (FitsSoFar self.old (Settles) journal.old.entries journal.new.entries self.new) }
+        ensures agrees { accepted_count journal.new.entries ≡ issued_on self.new.lanes }
+    {
+        let mut had = [false; MOST_DISKS];
+        let mut quiet = [true; MOST_DISKS];
+        for _ in 0..self.most_rounds() {
+            if self.settle_turn(&mut had, &mut quiet, journal)? {
+                return Ok(());
+            }
+        }
+        self.name_left(&quiet, journal)
+    }
+
+    /// One round of a settle, with the ticks behind it where all lanes were quiet. Tells whether the settle ended: then
+    /// the journal has its answer.
+    #[tactic(auto, using(crate::proofs::SettlingAdds::turn_is_loud, crate::proofs::SettlingAdds::turn_ticks))]
+    fn settle_turn(
+        &mut self,
+        had: &mut [bool; MOST_DISKS],
+        quiet: &mut [bool; MOST_DISKS],
+        journal: &mut Journal,
+    ) -> Result<bool, NoMemory>
+        requires agrees { accepted_count journal.old.entries ≡ issued_on self.old.lanes }
+        ensures turned { IfOk result (λ ended. TurnGoesOn ended self.old had.old quiet.old journal.old.entries self.new
+            had.new quiet.new journal.new.entries) }
+        ensures breaks { OnErr result (TurnBreaks self.old had.old quiet.old journal.old.entries self.new
+            journal.new.entries) }
+        ensures agrees { accepted_count journal.new.entries ≡ issued_on self.new.lanes }
+    {
+        if !self.settle_round(quiet, journal)? {
+            return Ok(false);
+        }
+        if self.tick_lanes(had, journal)? {
+            return Ok(false);
+        }
+        journal.reserve(1)?;
+        journal.push(Entry::Settled);
+        Ok(true)
+    }
+
+    /// One round, whose steps that idle leave no entry. Tells whether all lanes were quiet in it, and marks those that
+    /// were.
+    #[tactic(auto, using(crate::proofs::SettlingAdds::round_adds_none, crate::proofs::SettlingAdds::round_of_all))]
+    fn settle_round(
+        &mut self,
+        quiet: &mut [bool; MOST_DISKS],
+        journal: &mut Journal,
+    ) -> Result<bool, NoMemory>
+        requires agrees { accepted_count journal.old.entries ≡ issued_on self.old.lanes }
+        ensures made { OnOk result (RoundAdds (length self.old.lanes) self.old quiet.new self.new journal.old.entries
+            journal.new.entries) }
+        ensures calm { IfOk result (λ calm. all_true (take (length self.old.lanes) quiet.new) ≡ calm) }
+        ensures begun { OnErr result (RoundAddsFront self.old self.new journal.old.entries journal.new.entries) }
+        ensures agrees { accepted_count journal.new.entries ≡ issued_on self.new.lanes }
+    {
+        let mut all = true;
+        for disk in 0..self.count() {
+            let calm = self.round_of(disk, quiet, journal)?;
+            all &= calm;
+        }
+        Ok(all)
+    }
+
+    /// The two steps of one lane in a round. Tells whether it was quiet, and marks it so.
+    #[tactic(auto, using(crate::proofs::SettlingAdds::lane_wants, crate::proofs::SettlingAdds::server_wants))]
+    fn round_of(
+        &mut self,
+        disk: u32,
+        quiet: &mut [bool; MOST_DISKS],
+        journal: &mut Journal,
+    ) -> Result<bool, NoMemory>
+        requires disk { disk < length self.old.lanes }
+        requires place { disk < length quiet.old }
+        requires agrees { accepted_count journal.old.entries ≡ issued_on self.old.lanes }
+        ensures made { OnOk result (RoundGoesOn disk self.old quiet.old journal.old.entries self.new quiet.new
+            journal.new.entries) }
+        ensures begun { OnErr result (RoundBreaks disk self.old quiet.old journal.old.entries self.new
+            journal.new.entries) }
+        ensures marked { IfOk result (λ calm. quiet.new ≡ slice_set quiet.old disk calm) }
+        ensures many { length self.new.lanes ≡ length self.old.lanes }
+        ensures agrees { accepted_count journal.new.entries ≡ issued_on self.new.lanes }
+    {
+        let client = self.quiet_step(disk, Side::Client, journal)?;
+        let server = self.quiet_step(disk, Side::Server, journal)?;
+        let calm = client && server;
+        quiet[disk as usize] = calm;
+        Ok(calm)
+    }
+
+    /// Ticks each lane that isn't finished, whose server runs, and that had none in this settle, and tells whether there
+    /// was one.
+    #[tactic(auto, using(crate::proofs::SettlingAdds::ticks_add_none, crate::proofs::SettlingAdds::ticks_of_all, crate::proofs::SettlingAdds::ticks_add_front))]
+    fn tick_lanes(
+        &mut self,
+        had: &mut [bool; MOST_DISKS],
+        journal: &mut Journal,
+    ) -> Result<bool, NoMemory>
+        requires agrees { accepted_count journal.old.entries ≡ issued_on self.old.lanes }
+        ensures ticked { IfOk result (λ some. TicksAdd (length self.old.lanes) self.old had.old some had.new self.new
+            journal.old.entries journal.new.entries) }
+        ensures begun { OnErr result (TicksAddFront self.old had.old self.new journal.old.entries
+            journal.new.entries) }
+        ensures agrees { accepted_count journal.new.entries ≡ issued_on self.new.lanes }
+    {
+        let mut some = false;
+        for disk in 0..self.count() {
+            let ticked = self.tick_of(disk, had, journal)?;
+            some |= ticked;
+        }
+        Ok(some)
+    }
+
+    /// Ticks one lane where it is its turn, and tells whether it was.
+    #[tactic(auto, using(crate::proofs::SettlingLanes::tick_wants))]
+    fn tick_of(
+        &mut self,
+        disk: u32,
+        had: &mut [bool; MOST_DISKS],
+        journal: &mut Journal,
+    ) -> Result<bool, NoMemory>
+        requires disk { disk < length self.old.lanes }
+        requires place { disk < length had.old }
+        requires agrees { accepted_count journal.old.entries ≡ issued_on self.old.lanes }
+        ensures ticked { IfOk result (λ ticked. TicksGoOn disk self.old had.old journal.old.entries ticked self.new
+            had.new journal.new.entries) }
+        ensures same { OnErr result ((self.new ≡ self.old) × (journal.new.entries ≡ journal.old.entries)) }
+        ensures same_marks { OnErr result (had.new ≡ had.old) }
+        ensures many { length self.new.lanes ≡ length self.old.lanes }
+        ensures agrees { accepted_count journal.new.entries ≡ issued_on self.new.lanes }
+    {
+        if !self.gets_tick(disk, had[disk as usize]) {
+            return Ok(false);
+        }
+        self.tick(disk, journal)?;
+        had[disk as usize] = true;
+        Ok(true)
+    }
+
+    /// Names each lane that wasn't quiet in the last round, or isn't finished though its server runs.
+    #[tactic(auto, using(crate::proofs::SettlingAdds::names_add_none, crate::proofs::SettlingAdds::names_of_all))]
+    fn name_left(&self, quiet: &[bool; MOST_DISKS], journal: &mut Journal) -> Result<(), NoMemory>
+        ensures named { OnOk result (NamesAdd (length self.now.lanes) self.now quiet.now journal.old.entries
+            journal.new.entries) }
+        ensures begun { OnErr result (NamesAddFront self.now (length self.now.lanes) quiet.now journal.old.entries
+            journal.new.entries) }
+        ensures accepted { accepted_count journal.new.entries ≡ accepted_count journal.old.entries }
+    {
+        for disk in 0..self.count() {
+            self.name_lane(disk, quiet[disk as usize], journal)?;
+        }
+        Ok(())
+    }
+
+    /// Names one lane where it is left over.
+    #[tactic(auto, using(crate::proofs::SettlingLanes::count_stays))]
+    fn name_lane(&self, disk: u32, calm: bool, journal: &mut Journal) -> Result<(), NoMemory>
+        requires disk { disk < length self.now.lanes }
+        ensures named { OnOk result (NamesGoOn disk self.now calm journal.old.entries journal.new.entries) }
+        ensures same { OnErr result (journal.new.entries ≡ journal.old.entries) }
+        ensures accepted { accepted_count journal.new.entries ≡ accepted_count journal.old.entries }
+    {
+        if self.rests(disk, calm) {
+            return Ok(());
+        }
+        journal.reserve(1)?;
+        journal.push(Entry::Unsettled {
+            who: Who::Lane(Lane::Disk(disk)),
+        });
+        Ok(())
+    }
+
+    /// Whether a lane gets a tick, where `had` says whether it had one before.
+    fn gets_tick(&self, disk: u32, had: bool) -> bool
+        requires disk { disk < length self.now.lanes }
+        ensures { (lane : LaneState) → slice_get self.now.lanes disk ≡ Some lane → result ≡ gets_tick lane had }
+    {
+        !had && self.waits(disk)
+    }
+
+    /// Whether nothing is left to do on a lane, where `calm` says whether it was quiet in the last round.
+    fn rests(&self, disk: u32, calm: bool) -> bool
+        requires disk { disk < length self.now.lanes }
+        ensures { (lane : LaneState) → slice_get self.now.lanes disk ≡ Some lane
+            → result ≡ (calm && not (waits_on lane)) }
+    {
+        calm && !self.waits(disk)
+    }
+
+    /// Whether a lane isn't finished though its server runs.
+    fn waits(&self, disk: u32) -> bool
+        requires disk { disk < length self.now.lanes }
+        ensures { (lane : LaneState) → slice_get self.now.lanes disk ≡ Some lane → result ≡ waits_on lane }
+    {
+        waits_on(&self.lanes[disk as usize])
+    }
+
+    /// How many rounds a settle may make: 4,096 and 64 for each pending request.
+    fn most_rounds(&self) -> u64
+        ensures most { result ≡ most_rounds self.now.lanes }
+        ensures few { length self.now.lanes ≤ 8 }
+    {
+        4096 + 64 * pending_on(&self.lanes)
+    }
+}
+
+/// Whether a lane isn't finished though its server runs.
+#[tactic(auto, using(crate::proofs::SettlingLanes::waits_by))]
+fn waits_on(lane: &DiskLane) -> bool
+    ensures { result ≡ waits_on lane.now }
+{
+    !lane.finished() && lane.running()
+}
+
+/// How many requests are pending on these lanes.
+fn pending_on(lanes: &[DiskLane]) -> u64
+    requires few { length lanes.now ≤ 8 }
+    ensures sum { result ≡ pending_on lanes.now }
+    ensures small { result ≤ 8 * 2 ^ 32 }
+{
+    let mut pending = 0;
+    for lane in lanes {
+        pending += u64::from(lane.pending());
+    }
+    pending
+}
