@@ -1,8 +1,0 @@
-use Rattle.replay_law.proofs.ScriptLaws.{script_kept, cut_off_kept}
-use Rattle.replay_law.proofs.laws.bytes_outside_of_writes_stay.Goals as goal
-
-pub returns-clause-script : goal.returns-clause-script
-returns-clause-script c = script_kept
-
-pub returns-clause-cut_off : goal.returns-clause-cut_off
-returns-clause-cut_off c = cut_off_kept

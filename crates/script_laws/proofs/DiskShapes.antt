@@ -1,0 +1,54 @@
+-- The shapes of declared disks.
+use Rattle.std.proofs.Common.{◌≡◌, ℕ, zero, suc, ◌+◌, ◌≤◌, Some, List, [], ◌∷◌, length, map, slice_get, refl, ap, arith}
+use Rattle.disk_steps.specs.LaneState.{IsShape, LaneState, Shape, fresh}
+use Rattle.domain_script.specs.declared.event.DiskDecl.{DiskDecl}
+use Rattle.domain_script.specs.Declarations.{AreDisks, IsDisk}
+use Rattle.lanes_world.specs.World.{AreShapes, IsWorld, blocks_in}
+use Rattle.world_parts.specs.Declared.{blocks_of, bytes_needed, shape_of, shapes_of}
+
+is_shape : (first : ℕ) (disk : DiskDecl) → IsDisk disk → IsShape (shape_of first disk)
+is_shape first disk is = record {
+  some_blocks = is.some_blocks;
+  most_blocks = is.most_blocks;
+  some_slots = is.least_ring;
+  most_slots = is.most_ring;
+  slots = is.ring_power;
+  some_entries = is.least_queue;
+  most_entries = is.most_queue;
+  entries = is.queue_power;
+}
+
+pub are_shapes : (first : ℕ) (disks : List DiskDecl) → AreDisks disks → AreShapes first (shapes_of first disks)
+are_shapes first [] are = tt
+are_shapes first (disk ∷ disks) are =
+    (is_shape first disk are.0, refl, are_shapes (first + disk.blocks) disks are.1)
+
+pub many_shapes : (first : ℕ) (disks : List DiskDecl) → length (shapes_of first disks) ≡ length disks
+many_shapes first [] = refl
+many_shapes first (disk ∷ disks) = let rest = many_shapes (first + disk.blocks) disks in omega (arith, rest)
+
+same_blocks : (first : ℕ) (disks : List DiskDecl) → blocks_in (shapes_of first disks) ≡ blocks_of disks
+same_blocks first [] = refl
+same_blocks first (disk ∷ disks) = let rest = same_blocks (first + disk.blocks) disks in omega (arith, rest)
+
+-- they are those of a world over an image that has all their bytes
+pub is_world : (disks : List DiskDecl) (faults : ℕ) (content : List ℕ) → AreDisks disks
+    → bytes_needed disks ≤ length content
+    → IsWorld (shapes_of 0 disks) (record { told = Some content; faults = faults })
+is_world disks faults content are within = record {
+  shapes_are = are_shapes 0 disks are;
+  holds = let same = same_blocks 0 disks in omega (arith, same, within);
+}
+
+-- each disk has its shape, at its own place
+pub shape_there : (first : ℕ) (disks : List DiskDecl) (x : ℕ) (disk : DiskDecl) → slice_get disks x ≡ Some disk
+    → (at : ℕ) × (slice_get (shapes_of first disks) x ≡ Some (shape_of at disk))
+shape_there first [] x disk there = absurd (cc there)
+shape_there first (d ∷ disks) zero disk there =
+    let same : d ≡ disk = cc there in (first, ap (λ (y : DiskDecl). Some (shape_of first y)) same)
+shape_there first (d ∷ disks) (suc x) disk there = shape_there (first + d.blocks) disks x disk there
+
+-- a fresh lane has its shape
+pub fresh_shapes : (shapes : List Shape) → map (λ (s : LaneState). s.shape) (map fresh shapes) ≡ shapes
+fresh_shapes [] = refl
+fresh_shapes (shape ∷ shapes) = ap (λ (l : List Shape). shape ∷ l) (fresh_shapes shapes)

@@ -1,0 +1,26 @@
+-- What an end that is up heard is a front of what the other end said, by the log of their lane.
+use Rattle.std.proofs.Common.{◌≡◌, false, List, sym, subst}
+use Rattle.runs.specs.Lawful.{log_of}
+use Rattle.runs.specs.Run.{Run}
+use Rattle.disk_log.specs.DiskLog.{after, nothing_yet}
+use Rattle.disk_steps.specs.DiskEvent.{DiskEvent}
+use Rattle.disk_steps.specs.LaneState.{IsShape, LaneState, Shape, fresh}
+use Rattle.disk_steps.specs.LaneStep.{LaneStep}
+use Rattle.lane_invariant.proofs.Agreeing.{talk_is}
+use Rattle.lane_invariant.proofs.HeardFront.{heard_messages, heard_packets}
+use Rattle.lane_invariant.specs.LaneTalks.{talk_behind}
+use Rattle.lane_law.specs.TalkLog.{TalkLog}
+use Rattle.lane_law.specs.WireAt.{IsUp}
+use Rattle.ldc_queue.specs.declared.end.End.{End}
+use Rattle.script_laws.specs.Lanes.{HearsAFront}
+
+pub hears_a_front : (shape : Shape) (events : List DiskEvent) (s : LaneState) (e : End) → IsShape shape
+    → Run LaneStep (fresh shape) events s → s.wire.forged ≡ false → IsUp e s.wire.wire
+    → HearsAFront e (log_of after (nothing_yet shape) events).talk
+hears_a_front shape events s e sound run clean up =
+    let talk : (log_of after (nothing_yet shape) events).talk ≡ talk_behind events =
+    talk_is (nothing_yet shape) events in
+    subst (λ (t : TalkLog). HearsAFront e t) (sym talk) (record {
+      packets = heard_packets shape events s e sound run clean up;
+      messages = heard_messages shape events s e sound run clean up;
+    })

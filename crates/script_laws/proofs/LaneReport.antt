@@ -1,0 +1,173 @@
+-- What a report tells of the entries of a journal, and of those of lanes: their lines, the ids of completions, and how
+-- many resets there were.
+use Rattle.std.proofs.Common.{◌≡◌, ℕ, ◌+◌, List, [], ◌∷◌, ◌++◌, length, sym, ◌∙◌, ap, arith, length-append}
+use Rattle.std.specs.Prelude.{codes}
+use Rattle.std.specs.List.{flat_map}
+use Rattle.std.proofs.lemmas.List.Concat.{flat_map-append}
+use Rattle.std.proofs.lemmas.List.Elements.{filter_map-append}
+use Rattle.std.proofs.lemmas.List.Sums.{sum_by-append}
+use Rattle.ldc_queue.specs.declared.end.End.{End}
+use Rattle.ldc_queue.specs.declared.end.End.TheVariants.{A, B}
+use Rattle.vdisk_msg.specs.Requests.{BadCount, BadRange, Defect}
+use Rattle.lane_law.specs.WireEvent.{Reset}
+use Rattle.disk_law.proofs.Counted.{completed-append}
+use Rattle.disk_law.specs.Issued.{completed}
+use Rattle.disk_law.specs.ListStep as plain
+use Rattle.disk_steps.specs.DiskEvent.{Asks, Done, Full, OnWire, Refused, Works}
+use Rattle.domain_script.specs.declared.event.DiskDecl.{DiskDecl}
+use Rattle.domain_script.specs.declared.event.Lane.TheVariants.{Disk}
+use Rattle.domain_script.specs.declared.event.Side.{Side}
+use Rattle.domain_script.specs.declared.event.Side.TheVariants.{Client, Server}
+use Rattle.lanes_settle.specs.Settle.{OfLane, SettleEntry, Settled, Unsettled}
+use Rattle.ldom_journal.specs.Bytes.{filled}
+use Rattle.ldom_journal.specs.DiskEvents.{said, said_of_any, whole_history}
+use Rattle.ldom_journal.specs.EntryText.{entry_lines, line_text, report_entries}
+use Rattle.ldom_journal.specs.Report.{accepted_count, done_count, reset_count}
+use Rattle.ldom_journal.specs.declared.entry.Entry.{Entry}
+use Rattle.ldom_journal.specs.declared.entry.Entry.TheVariants as entry
+use Rattle.ldom_journal.specs.declared.entry.Who.TheVariants.{Lane as OfWhole}
+use Rattle.ldom_journal.specs.declared.entry.Why.{Why}
+use Rattle.ldom_journal.specs.declared.entry.Why.TheVariants.{Count, Range}
+use Rattle.ldom_journal.specs.declared.status.Mode.TheVariants as mode
+use Rattle.script_laws.specs.Completed.{completed_ids}
+use Rattle.world_requests.specs.Accepted.{accepted_in}
+
+-- THE LINE of an entry of a lane in the report of a run
+abbrev pub side_of : End → Side
+side_of A = Client
+side_of B = Server
+
+abbrev pub why_of : Defect → Why
+why_of BadCount = Count
+why_of BadRange = Range
+
+abbrev pub run_line : DiskDecl → Entry → List ℕ
+run_line disk e = line_text mode.Run (disk ∷ []) e
+
+abbrev pub lane_text : DiskDecl → SettleEntry → List ℕ
+lane_text disk (OfLane k (Asks (Full request))) = run_line disk (entry.Full (OfWhole (Disk k)))
+lane_text disk (OfLane k (Asks (Refused why request))) = run_line disk (entry.Refused (OfWhole (Disk k)) (why_of why))
+lane_text disk (OfLane k (Works (Done id operation status bytes))) =
+    run_line disk (entry.Done k id operation status (filled bytes))
+lane_text disk (OfLane k (OnWire (Reset e cause packet lost))) =
+    run_line disk (entry.Reset (record { lane = Disk k; side = side_of e }) cause packet lost)
+lane_text disk (OfLane k event) = []
+lane_text disk Settled = codes "settled\n"
+lane_text disk (Unsettled k) = run_line disk (entry.Unsettled (OfWhole (Disk k)))
+
+-- the id that it completes, and whether it is a reset
+abbrev pub lane_ids : SettleEntry → List ℕ
+lane_ids (OfLane k (Works (Done id operation status bytes))) = id ∷ []
+lane_ids _ = []
+
+abbrev pub lane_resets : SettleEntry → ℕ
+lane_resets (OfLane k (OnWire (Reset e cause packet lost))) = 1
+lane_resets _ = 0
+
+-- of entries one behind another
+abbrev pub texts : DiskDecl → List SettleEntry → List ℕ
+texts disk entries = flat_map (lane_text disk) entries
+
+abbrev pub ids_in : List SettleEntry → List ℕ
+ids_in entries = flat_map lane_ids entries
+
+abbrev pub resets_in : List SettleEntry → ℕ
+resets_in [] = 0
+resets_in (x ∷ entries) = lane_resets x + resets_in entries
+
+-- WHAT A REPORT TELLS of entries, but for how many requests were accepted
+pub record Told : Type 0 where
+  pub text : List ℕ
+  pub ids : List ℕ
+  pub done : ℕ
+  pub resets : ℕ
+
+abbrev pub told_part : DiskDecl → List Entry → Told
+told_part disk part = record {
+  text = report_entries mode.Run (disk ∷ []) part;
+  ids = completed_ids part;
+  done = done_count part;
+  resets = reset_count part;
+}
+
+abbrev pub told_lanes : DiskDecl → List SettleEntry → Told
+told_lanes disk entries = record {
+  text = texts disk entries;
+  ids = ids_in entries;
+  done = length (ids_in entries);
+  resets = resets_in entries;
+}
+
+-- a part of a journal tells the same as entries of lanes
+abbrev pub SaysSame : DiskDecl → List Entry → List SettleEntry → Type 0
+SaysSame disk part entries =
+    (told_part disk part ≡ told_lanes disk entries) × (accepted_count part ≡ accepted_in entries)
+
+-- ONE BEHIND THE OTHER
+abbrev joined : Told → Told → Told
+joined s t = record {
+  text = s.text ++ t.text;
+  ids = s.ids ++ t.ids;
+  done = s.done + t.done;
+  resets = s.resets + t.resets;
+}
+
+ids_append : (one two : List Entry) → completed_ids (one ++ two) ≡ completed_ids one ++ completed_ids two
+ids_append one two =
+    ap (λ (es : List plain.DiskEvent). completed es) (filter_map-append (λ (x : Entry). said_of_any (said x)) one two)
+    ∙ completed-append (whole_history one) (whole_history two)
+
+parts_joined : (disk : DiskDecl) (one two : List Entry)
+    → told_part disk (one ++ two) ≡ joined (told_part disk one) (told_part disk two)
+parts_joined disk one two =
+    let text = flat_map-append (entry_lines mode.Run (disk ∷ [])) one two in
+    let ids = ids_append one two in
+    let done : done_count (one ++ two) ≡ done_count one + done_count two = sum_by-append _ one two in
+    let resets : reset_count (one ++ two) ≡ reset_count one + reset_count two = sum_by-append _ one two in
+    λ i. record { text = text i; ids = ids i; done = done i; resets = resets i }
+
+pub texts_append : (disk : DiskDecl) (one two : List SettleEntry)
+    → texts disk (one ++ two) ≡ texts disk one ++ texts disk two
+texts_append disk one two = flat_map-append (lane_text disk) one two
+
+pub ids_in_append : (one two : List SettleEntry) → ids_in (one ++ two) ≡ ids_in one ++ ids_in two
+ids_in_append one two = flat_map-append lane_ids one two
+
+pub resets_append : (one two : List SettleEntry) → resets_in (one ++ two) ≡ resets_in one + resets_in two
+resets_append [] two = omega (arith)
+resets_append (x ∷ one) two = let rest = resets_append one two in omega (arith, rest)
+
+lanes_joined : (disk : DiskDecl) (one two : List SettleEntry)
+    → told_lanes disk (one ++ two) ≡ joined (told_lanes disk one) (told_lanes disk two)
+lanes_joined disk one two =
+    let text = texts_append disk one two in
+    let ids = ids_in_append one two in
+    let done : length (ids_in (one ++ two)) ≡ length (ids_in one) + length (ids_in two) =
+    ap (λ (l : List ℕ). length l) ids ∙ length-append (ids_in one) (ids_in two) in
+    let resets = resets_append one two in
+    λ i. record { text = text i; ids = ids i; done = done i; resets = resets i }
+
+pub told_append : (disk : DiskDecl) (xs ys others more : List SettleEntry) → told_lanes disk xs ≡ told_lanes disk ys
+    → told_lanes disk others ≡ told_lanes disk more → told_lanes disk (xs ++ others) ≡ told_lanes disk (ys ++ more)
+told_append disk xs ys others more first second =
+    lanes_joined disk xs others ∙ ap (λ (t : Told). joined t (told_lanes disk others)) first
+    ∙ ap (λ (t : Told). joined (told_lanes disk ys) t) second ∙ sym (lanes_joined disk ys more)
+
+accepted_append : (one two : List SettleEntry) → accepted_in (one ++ two) ≡ accepted_in one + accepted_in two
+accepted_append [] two = omega (arith)
+accepted_append (OfLane k event ∷ one) two = let rest = accepted_append one two in omega (arith, rest)
+accepted_append (Settled ∷ one) two = accepted_append one two
+accepted_append (Unsettled k ∷ one) two = accepted_append one two
+
+pub says_append : (disk : DiskDecl) (one two : List Entry) (xs ys : List SettleEntry) → SaysSame disk one xs
+    → SaysSame disk two ys
+    → SaysSame disk (one ++ two) (xs ++ ys)
+says_append disk one two xs ys first second =
+    let counted : accepted_count (one ++ two) ≡ accepted_count one + accepted_count two = sum_by-append _ one two in
+    let counts = accepted_append xs ys in
+    let firsts = first.1 in
+    let seconds = second.1 in (
+      parts_joined disk one two ∙ ap (λ (t : Told). joined t (told_part disk two)) first.0
+          ∙ ap (λ (t : Told). joined (told_lanes disk xs) t) second.0 ∙ sym (lanes_joined disk xs ys),
+      omega (arith, counted, counts, firsts, seconds),
+    )

@@ -1,0 +1,104 @@
+-- What a script's journal leads to, also where want of memory cut off its last line: nobody forged a lane, no disk is
+-- left over, and behind each settle all lanes are finished whose servers run.
+use Rattle.std.proofs.Common.{◌≡◌, inl, inr, ℕ, ◌≤◌, List, [], ◌∷◌, ◌++◌, length, map, sym, ap, ◌∙◌, subst, append_assoc, append-nil}
+use Rattle.runs.specs.Run.{Run, run_append}
+use Rattle.disk_law.specs.ListState.{ImageState}
+use Rattle.domain_script.specs.Declarations.{AreDisks}
+use Rattle.domain_script.specs.declared.event.DiskDecl.{DiskDecl}
+use Rattle.domain_script.specs.declared.event.Event.{Event}
+use Rattle.lanes_settle.specs.Rounds.{Each}
+use Rattle.lanes_settle.specs.Settle.{SettleEntry, Settled, Unsettled}
+use Rattle.lanes_settle.specs.Sums.{IsUnforged}
+use Rattle.lanes_world.proofs.Along.{lines_run}
+use Rattle.lanes_world.specs.Lines as world
+use Rattle.lanes_world.specs.World.{WorldState, WorldStep}
+use Rattle.ldom_journal.specs.declared.entry.Entry.{Entry}
+use Rattle.script_laws.proofs.Entries.{IsOfLane, each_in}
+use Rattle.script_laws.proofs.LineEntries.{begins_lanes}
+use Rattle.script_laws.proofs.Places.{InEither, place_in}
+use Rattle.script_laws.proofs.SettleEntries.{AreOfLanes}
+use Rattle.script_laws.proofs.Settling.{FinishedAt, clean_lines, finished_at, none_over}
+use Rattle.script_laws.proofs.DeclaredWorlds.{as_told, lines_told, says_told, told_is}
+use Rattle.script_laws.specs.Told.{told, told_by}
+use Rattle.world_parts.specs.Declared.{shapes_of, world_of}
+use Rattle.world_parts.specs.Lines.{LineStep, line_of}
+use Rattle.world_parts.specs.Script.{FitsCutOff, cut_lines}
+use Rattle.world_requests.proofs.ByLines.{unforged_begun, unforged_behind}
+
+pub record Leads (disks : List DiskDecl) (image : ImageState) (entries : List SettleEntry)
+    (v : WorldState) : Type 0 where
+  pub run : Run WorldStep (world_of disks image) entries v
+  pub unforged : Each IsUnforged v.lanes
+  pub none_left : (before : List SettleEntry) (x : ℕ) (behind : List SettleEntry)
+      → entries ≡ before ++ Unsettled x ∷ behind → ⊥
+  pub finished : (before behind : List SettleEntry) → entries ≡ before ++ Settled ∷ behind
+      → FinishedAt disks image before
+
+-- the parts of all lines but the last, and then its own
+told_more : (lines : List (Event × List Entry)) (line : Event × List Entry)
+    → told (lines ++ line ∷ []) ≡ told lines ++ told_by line
+told_more [] line = append-nil (told_by line)
+told_more (first ∷ lines) line =
+    ap (λ (l : List SettleEntry). told_by first ++ l) (told_more lines line)
+    ∙ sym (append_assoc (told_by first) (told lines) (told_by line))
+
+module _ (disks : List DiskDecl) (image : ImageState) (are : AreDisks disks) (few : length disks ≤ 8) where
+  -- WHOLE LINES
+  whole_lead : (lines : List (world.Line × List SettleEntry)) (v : WorldState)
+      → Run world.LineStep (world_of disks image) lines v → Leads disks image (world.entries_of lines) v
+  whole_lead lines v run = record {
+    run = lines_run (world_of disks image) lines v run;
+    unforged = unforged_behind (shapes_of 0 disks) image lines v run;
+    none_left = none_over disks image are few lines v run;
+    finished = finished_at disks image are few lines v run;
+  }
+
+  pub lines_lead : (lines : List (Event × List Entry)) (v : WorldState) → Run LineStep (world_of disks image) lines v
+      → Leads disks image (told lines) v
+  lines_lead lines v run =
+      subst (λ (l : List SettleEntry). Leads disks image l v) (sym (told_is lines))
+      (whole_lead (map as_told lines) v (lines_told (world_of disks image) lines v run))
+
+  -- A FRONT OF ONE MORE has events of lanes alone
+  module _ (lines : List (world.Line × List SettleEntry)) (w : WorldState)
+      (run : Run world.LineStep (world_of disks image) lines w) (part : List SettleEntry) (of_lanes : AreOfLanes part)
+      (before behind : List SettleEntry) where
+    cut_none : (x : ℕ) → InEither (world.entries_of lines) part before (Unsettled x) behind → ⊥
+    cut_none x (inl at) = none_over disks image are few lines w run before x at.rest at.is
+    cut_none x (inr at) = each_in IsOfLane part at.later (Unsettled x) behind at.is of_lanes
+
+    cut_finished : InEither (world.entries_of lines) part before Settled behind → FinishedAt disks image before
+    cut_finished (inl at) = finished_at disks image are few lines w run before at.rest at.is
+    cut_finished (inr at) = absurd (each_in IsOfLane part at.later Settled behind at.is of_lanes)
+
+  cut_lead : (lines : List (world.Line × List SettleEntry)) (w : WorldState) (line : world.Line)
+      (part : List SettleEntry) (v : WorldState) → Run world.LineStep (world_of disks image) lines w
+      → world.LineBegins w line part v → Leads disks image (world.entries_of lines ++ part) v
+  cut_lead lines w line part v run begun =
+      let clean = clean_lines disks image are few lines w run in
+      let of_lanes = begins_lanes line w.lanes part v.lanes clean begun.begins in
+      record {
+        run = run_append WorldStep (world_of disks image) w v (world.entries_of lines) part
+            (lines_run (world_of disks image) lines w run) begun.run;
+        unforged = unforged_begun (shapes_of 0 disks) image lines w line part v run begun;
+        none_left = λ before x behind is.
+            cut_none lines w run part of_lanes before behind x
+            (place_in (world.entries_of lines) part before (Unsettled x) behind is);
+        finished = λ before behind is.
+            cut_finished lines w run part of_lanes before behind
+            (place_in (world.entries_of lines) part before Settled behind is);
+      }
+
+  pub cut_off_lead : (events : List Event) (journal : List Entry) (v : WorldState)
+      (cut : FitsCutOff 0 (world_of disks image) events journal v) → Leads disks image (told (cut_lines cut)) v
+  cut_off_lead events journal v cut =
+      let lines : List (Event × List Entry) = cut.fits.lines in
+      let last : Event × List Entry = (cut.last, cut.part) in
+      let begun : world.LineBegins cut.middle (line_of cut.last) (told_by last) v =
+      subst (λ (l : List SettleEntry). world.LineBegins cut.middle (line_of cut.last) l v)
+      (sym (says_told last cut.made cut.says)) cut.begins in
+      let is : told (cut_lines cut) ≡ world.entries_of (map as_told lines) ++ told_by last =
+      told_more lines last ∙ ap (λ (l : List SettleEntry). l ++ told_by last) (told_is lines) in
+      subst (λ (l : List SettleEntry). Leads disks image l v) (sym is)
+      (cut_lead (map as_told lines) cut.middle (line_of cut.last) (told_by last) v
+      (lines_told (world_of disks image) lines cut.middle cut.fits.run) begun)

@@ -1,0 +1,104 @@
+-- What each kind of line does: no other lemma lists the kinds.
+use Rattle.std.proofs.Common.{◌≡◌, ℕ, ◌<◌, true, false, List, [], ◌∷◌, length, refl, ap, arith, ◌⊎◌, inl, inr, IsTrue}
+use Rattle.domain_script.specs.declared.event.DiskDecl.{DiskDecl}
+use Rattle.domain_script.specs.declared.event.Event.{Event}
+use Rattle.domain_script.specs.declared.event.Event.TheVariants as line
+use Rattle.domain_script.specs.declared.event.Lane.{Lane}
+use Rattle.domain_script.specs.declared.event.Lane.TheVariants as the_lane
+use Rattle.domain_script.specs.NamesState.{IsLane, NamesState, noted}
+use Rattle.domain_script.specs.Spells.{IsDeclared}
+use Rattle.disk_steps.specs.LaneState.{LaneState}
+use Rattle.lanes_settle.specs.Begun.{RoundFront, SettleFront}
+use Rattle.lanes_settle.specs.Settle.{begin}
+use Rattle.lanes_world.specs.Lines.{AreFirstSteps, BeginsPart, Turn}
+use Rattle.lanes_world.specs.World.{WorldState}
+use Rattle.ldom_journal.specs.LaneEvents.{lane_number}
+use Rattle.script_laws.specs.Attached.{is_opening}
+use Rattle.world_parts.specs.Lines.{IsForDisks, LineStep, line_of}
+
+-- the names behind a line that is neither blank nor a declaration
+abbrev pub closed : NamesState → NamesState
+closed names = record { disks = names.disks; ended = true }
+
+-- what holds of blank lines, of declarations and of all others
+pub by_line : (P : Event → Type 0) → P line.Blank → ((disk : DiskDecl) → P (line.Disk disk))
+    → ((e : Event) → is_opening e ≡ false → ((names : NamesState) → noted names e ≡ closed names) → P e) → (e : Event) → P e
+by_line P blank declared other line.Blank = blank
+by_line P blank declared other (line.Disk disk) = declared disk
+by_line P blank declared other (line.Issue disk request) = other (line.Issue disk request) refl (λ _. refl)
+by_line P blank declared other line.Settle = other line.Settle refl (λ _. refl)
+by_line P blank declared other (line.Step end count) = other (line.Step end count) refl (λ _. refl)
+by_line P blank declared other (line.Round count) = other (line.Round count) refl (λ _. refl)
+by_line P blank declared other (line.Reset end) = other (line.Reset end) refl (λ _. refl)
+by_line P blank declared other (line.Restart end) = other (line.Restart end) refl (λ _. refl)
+by_line P blank declared other (line.Stop disk) = other (line.Stop disk) refl (λ _. refl)
+by_line P blank declared other (line.Start disk) = other (line.Start disk) refl (λ _. refl)
+by_line P blank declared other (line.Lose end) = other (line.Lose end) refl (λ _. refl)
+by_line P blank declared other (line.Tick ticked) = other (line.Tick ticked) refl (λ _. refl)
+
+-- a blank line or a declaration gives no entry
+pub silent : (s : WorldState) (e : Event) → IsTrue (is_opening e) → LineStep s (e, []) s
+silent s e =
+    by_line (λ (x : Event). IsTrue (is_opening x) → LineStep s (x, []) s)
+    (λ _. record { entries = []; says = refl; moves = record { part_of = refl; run = refl } })
+    (λ disk _. record { entries = []; says = refl; moves = record { part_of = refl; run = refl } })
+    (λ x other names is. absurd (cc (other, is))) e
+
+no_steps : (turns : List Turn) → AreFirstSteps turns []
+no_steps turns = record { made = []; left = turns; turns_are = refl; steps = tt }
+
+no_round : (k : ℕ) (lanes : List LaneState) → RoundFront k lanes [] lanes
+no_round k [] = record { is = refl; lanes_stay = refl }
+no_round k (s ∷ lanes) = inl (record { is = refl; lanes_stay = refl })
+
+no_settle : (lanes : List LaneState) → SettleFront lanes [] lanes
+no_settle lanes = record { rounds = []; now = begin lanes; run = refl; later = []; front = inl (omega arith, inl (no_round 0 lanes)); is = refl }
+
+-- of each line no step may have been made
+pub none_begun : (e : Event) (lanes : List LaneState) → BeginsPart (line_of e) lanes [] lanes
+none_begun line.Blank lanes = refl
+none_begun (line.Disk disk) lanes = refl
+none_begun (line.Issue disk request) lanes = refl
+none_begun line.Settle lanes = no_settle lanes
+none_begun (line.Step end count) lanes = no_steps _
+none_begun (line.Round count) lanes = no_steps _
+none_begun (line.Reset end) lanes = refl
+none_begun (line.Restart end) lanes = refl
+none_begun (line.Stop disk) lanes = refl
+none_begun (line.Start disk) lanes = refl
+none_begun (line.Lose end) lanes = refl
+none_begun (line.Tick ticked) lanes = refl
+
+-- a declaration alone adds to the disks
+pub noted_disks : (names : NamesState) (e : Event) → ((disk : DiskDecl) × (e ≡ line.Disk disk)) ⊎ ((noted names e).disks ≡ names.disks)
+noted_disks names e =
+    by_line (λ (x : Event). ((disk : DiskDecl) × (x ≡ line.Disk disk)) ⊎ ((noted names x).disks ≡ names.disks)) (inr refl) (λ disk. inl (disk, refl))
+    (λ x other closes. inr (ap (λ (n : NamesState). n.disks) (closes names))) e
+
+pub stays_ended : (names : NamesState) (e : Event) → names.ended ≡ true → (noted names e).ended ≡ true
+stays_ended names e ended =
+    by_line (λ (x : Event). (noted names x).ended ≡ true) ended (λ disk. ended) (λ x other closes. ap (λ (n : NamesState). n.ended) (closes names)) e
+
+-- any other line ends the declarations
+pub ends : (names : NamesState) (e : Event) → is_opening e ≡ false → (noted names e).ended ≡ true
+ends names e =
+    by_line (λ (x : Event). is_opening x ≡ false → (noted names x).ended ≡ true) (λ other. absurd (cc other)) (λ disk other. absurd (cc other))
+    (λ x _ closes other. ap (λ (n : NamesState). n.ended) (closes names)) e
+
+lane_there : (names : NamesState) (l : Lane) → IsLane names l → lane_number l < length names.disks
+lane_there names (the_lane.Disk k) is = is
+
+-- the event is for one of the disks that are declared
+pub for_declared : (names : NamesState) (e : Event) → IsDeclared names e → IsForDisks (length names.disks) e
+for_declared names line.Blank is = tt
+for_declared names (line.Disk disk) is = tt
+for_declared names (line.Issue disk request) is = is
+for_declared names line.Settle is = tt
+for_declared names (line.Step end count) is = lane_there names end.lane is.0
+for_declared names (line.Round count) is = tt
+for_declared names (line.Reset end) is = lane_there names end.lane is
+for_declared names (line.Restart end) is = lane_there names end.lane is.0
+for_declared names (line.Stop disk) is = is
+for_declared names (line.Start disk) is = is
+for_declared names (line.Lose end) is = lane_there names end.lane is
+for_declared names (line.Tick ticked) is = lane_there names ticked is

@@ -1,0 +1,227 @@
+-- The plain run of a script and the plain list of requests of lanes go side by side: the text, and the ids that were
+-- completed, grow by what each line shows of the plain list.
+use Rattle.std.proofs.Common.{◌≡◌, ℕ, zero, suc, ◌+◌, Bool, true, false, Option, Some, None, List, [], ◌∷◌, ◌++◌, length, map, refl, sym, ◌∙◌, ap, subst, arith, append_assoc}
+use Rattle.std.specs.Prelude.{codes, decimal, nat_le}
+use Rattle.std.specs.List.{range_with_len}
+use Rattle.std.proofs.lemmas.Fmt.{decimal_digit}
+use Rattle.std.proofs.lemmas.List.{append-nil}
+use Rattle.vdisk_msg.specs.declared.request.Request.{Request}
+use Rattle.vdisk_msg.specs.declared.request.Request.TheVariants.{Flush, Read, Write}
+use Rattle.vdisk_msg.specs.Requests.{BadCount, BadRange, Defect, defect, operation_of}
+use Rattle.disk_steps.specs.DiskEvent.{Asks, Full, Refused}
+use Rattle.domain_script.specs.declared.event.DiskDecl.{DiskDecl}
+use Rattle.domain_script.specs.declared.event.Event.{Event}
+use Rattle.domain_script.specs.declared.event.Event.TheVariants as event
+use Rattle.domain_script.specs.declared.event.Lane.TheVariants.{Disk}
+use Rattle.lanes_settle.specs.Settle.{OfLane, SettleEntry, Settled}
+use Rattle.ldom_journal.specs.BlockWord.{blocks_text}
+use Rattle.ldom_journal.specs.Bytes.{filled}
+use Rattle.ldom_journal.specs.declared.entry.Entry.TheVariants as entry
+use Rattle.ldom_journal.specs.declared.entry.Who.TheVariants.{Lane as OfWhole}
+use Rattle.ldom_journal.specs.declared.entry.Why.TheVariants.{Count, Range}
+use Rattle.script_laws.proofs.LaneReport.{ids_in, ids_in_append, lane_ids, lane_resets, lane_text, resets_append, resets_in, run_line, texts, texts_append}
+use Rattle.script_laws.specs.PlainRun.{Plain, asked, complete, complete_all, done_line, name_text, plain_line, plain_run, refusal_line, settled}
+use Rattle.world_parts.specs.Declared.{shape_of}
+use Rattle.world_parts.specs.Lines.{line_of}
+use Rattle.world_plain.specs.Plain as lanes
+
+-- THE PLAIN LIST OF REQUESTS: all but the text
+abbrev pub listed : Plain → lanes.Plain
+listed p = record { content = p.content; waiting = p.waiting; completed = p.completed }
+
+-- the ids that it completed
+abbrev pub ids_below : Plain → List ℕ
+ids_below p = range_with_len 0 p.completed
+
+-- IT GROWS by the lines, and by the ids, of these entries, and none of them is a reset
+pub record Grows (disk : DiskDecl) (p : Plain) (entries : List SettleEntry) (q : Plain) : Type 0 where
+  pub text : q.text ≡ p.text ++ texts disk entries
+  pub ids : ids_below q ≡ ids_below p ++ ids_in entries
+  pub resets : resets_in entries ≡ 0
+
+grows_still : (disk : DiskDecl) (p q : Plain) → q.text ≡ p.text → q.completed ≡ p.completed → Grows disk p [] q
+grows_still disk p q text completed = record {
+  text = text ∙ sym (append-nil p.text);
+  ids = ap (range_with_len 0) completed ∙ sym (append-nil (ids_below p));
+  resets = refl;
+}
+
+longer : (all one two more : List ℕ) → all ≡ two ++ more → (first : List ℕ) → two ≡ one ++ first
+    → all ≡ one ++ (first ++ more)
+longer all one two more is first before = is ∙ ap (λ (l : List ℕ). l ++ more) before ∙ append_assoc one first more
+
+grows_on : (disk : DiskDecl) (p m q : Plain) (xs ys : List SettleEntry) → Grows disk p xs m → Grows disk m ys q
+    → Grows disk p (xs ++ ys) q
+grows_on disk p m q xs ys first second =
+    let firsts = first.resets in
+    let seconds = second.resets in
+    let none : resets_in xs + resets_in ys ≡ 0 = omega (arith, firsts, seconds) in
+    record {
+      text = longer q.text p.text m.text (texts disk ys) second.text (texts disk xs) first.text
+          ∙ ap (λ (l : List ℕ). p.text ++ l) (sym (texts_append disk xs ys));
+      ids = longer (ids_below q) (ids_below p) (ids_below m) (ids_in ys) second.ids (ids_in xs) first.ids
+          ∙ ap (λ (l : List ℕ). ids_below p ++ l) (sym (ids_in_append xs ys));
+      resets = resets_append xs ys ∙ none;
+    }
+
+-- by one line, which completes nothing
+grows_line : (disk : DiskDecl) (p : Plain) (x : SettleEntry) (line : List ℕ) → lane_text disk x ≡ line
+    → lane_ids x ≡ [] → lane_resets x ≡ 0
+    → Grows disk p (x ∷ []) (record p { text = p.text ++ line })
+grows_line disk p x line is none never =
+    let resets : lane_resets x + 0 ≡ 0 = omega (arith, never) in
+    record {
+      text = ap (λ (l : List ℕ). p.text ++ l) (sym (append-nil (lane_text disk x) ∙ is));
+      ids = sym (ap (λ (l : List ℕ). ids_below p ++ l) (append-nil (lane_ids x) ∙ none) ∙ append-nil (ids_below p));
+      resets = resets;
+    }
+
+-- LINES that their parts make, where nothing stands before the line feed
+bare : (a b c d : List ℕ) → b ++ c ≡ d → a ++ b ++ [] ++ c ≡ a ++ d
+bare a b c d is =
+    ap (λ (l : List ℕ). l ++ c) (append-nil (a ++ b)) ∙ append_assoc a b c ∙ ap (λ (l : List ℕ). a ++ l) is
+
+refused_count : (disk : DiskDecl)
+    → run_line disk (entry.Refused (OfWhole (Disk 0)) Count) ≡ codes "refused " ++ name_text disk ++ codes " count\n"
+refused_count disk =
+    bare (codes "refused " ++ name_text disk ++ codes " ") (codes "count") (codes "\n") (codes "count\n") refl
+    ∙ append_assoc (codes "refused " ++ name_text disk) (codes " ") (codes "count\n")
+
+refused_range : (disk : DiskDecl)
+    → run_line disk (entry.Refused (OfWhole (Disk 0)) Range) ≡ codes "refused " ++ name_text disk ++ codes " range\n"
+refused_range disk =
+    bare (codes "refused " ++ name_text disk ++ codes " ") (codes "range") (codes "\n") (codes "range\n") refl
+    ∙ append_assoc (codes "refused " ++ name_text disk) (codes " ") (codes "range\n")
+
+full_line : (disk : DiskDecl)
+    → run_line disk (entry.Full (OfWhole (Disk 0))) ≡ codes "full " ++ name_text disk ++ codes "\n"
+full_line disk = ap (λ (l : List ℕ). l ++ codes "\n") (append-nil (codes "full " ++ name_text disk))
+
+pub zero_text : decimal 0 ≡ codes "0"
+zero_text = decimal_digit 0 (omega arith)
+
+-- a completion's word and its status
+status_zero : (a word spaced : List ℕ) → codes " " ++ word ≡ spaced
+    → a ++ codes " " ++ word ++ codes " " ++ decimal 0 ≡ a ++ spaced ++ codes " 0"
+status_zero a word spaced is =
+    ap (λ (l : List ℕ). a ++ codes " " ++ word ++ codes " " ++ l) zero_text
+    ∙ append_assoc (a ++ codes " " ++ word) (codes " ") (codes "0")
+    ∙ ap (λ (l : List ℕ). l ++ codes " 0") (append_assoc a (codes " ") word ∙ ap (λ (l : List ℕ). a ++ l) is)
+
+abbrev done_front : DiskDecl → ℕ → List ℕ
+done_front disk id = codes "done " ++ name_text disk ++ codes " " ++ decimal id
+
+done_text : (disk : DiskDecl) (id : ℕ) (content : List ℕ) (request : Request)
+    → run_line disk (entry.Done 0 id (operation_of request) 0 (filled (lanes.given content request)))
+    ≡ done_line disk id content request
+done_text disk id content (Read block count) =
+    ap (λ (l : List ℕ). l ++ blocks_text (lanes.given content (Read block count)) ++ codes "\n")
+    (status_zero (done_front disk id) (codes "read") (codes " read") refl)
+done_text disk id content (Write block count fill) =
+    ap (λ (l : List ℕ). l ++ [] ++ codes "\n") (status_zero (done_front disk id) (codes "write") (codes " write") refl)
+done_text disk id content Flush =
+    ap (λ (l : List ℕ). l ++ [] ++ codes "\n") (status_zero (done_front disk id) (codes "flush") (codes " flush") refl)
+
+-- A REQUEST, by its defect, and by whether the ring is full
+asked_same : (disk : DiskDecl) (p : Plain) (request : Request) (why : Option Defect) (full : Bool)
+    → listed (asked p request (refusal_line disk why full)) ≡ lanes.asked (listed p) request why full
+asked_same disk p request (Some BadCount) full = refl
+asked_same disk p request (Some BadRange) full = refl
+asked_same disk p request None true = refl
+asked_same disk p request None false = refl
+
+asked_grows : (disk : DiskDecl) (p : Plain) (request : Request) (why : Option Defect) (full : Bool)
+    → Grows disk p (lanes.answer request why full) (asked p request (refusal_line disk why full))
+asked_grows disk p request (Some BadCount) full =
+    grows_line disk p (OfLane 0 (Asks (Refused BadCount request)))
+    (codes "refused " ++ name_text disk ++ codes " count\n") (refused_count disk) refl refl
+asked_grows disk p request (Some BadRange) full =
+    grows_line disk p (OfLane 0 (Asks (Refused BadRange request)))
+    (codes "refused " ++ name_text disk ++ codes " range\n") (refused_range disk) refl refl
+asked_grows disk p request None true =
+    grows_line disk p (OfLane 0 (Asks (Full request)))
+    (codes "full " ++ name_text disk ++ codes "\n") (full_line disk) refl refl
+asked_grows disk p request None false =
+    grows_still disk p (record p { waiting = p.waiting ++ request ∷ [] }) refl refl
+
+-- A SETTLE: one number more for each completion
+range_more : (a n k : ℕ) → a + n ≡ k → range_with_len a (suc n) ≡ range_with_len a n ++ k ∷ []
+range_more a zero k is =
+    let last : a ≡ k = omega (arith, is) in
+    ap (λ (m : ℕ). m ∷ []) last
+range_more a (suc n) k is = ap (λ (l : List ℕ). a ∷ l) (range_more (a + 1) n k (omega (arith, is)))
+
+next_id : (done : ℕ) → range_with_len 0 (done + 1) ≡ range_with_len 0 done ++ done ∷ []
+next_id done =
+    let more : done + 1 ≡ suc done = omega (arith) in
+    let last : 0 + done ≡ done = omega (arith) in
+    ap (range_with_len 0) more ∙ range_more 0 done done last
+
+complete_grows : (disk : DiskDecl) (p : Plain) (request : Request) (behind : List Request)
+    → Grows disk p (lanes.completion (listed p) request ∷ []) (complete disk p request behind)
+complete_grows disk p request behind = record {
+  text = ap (λ (l : List ℕ). p.text ++ l)
+      (sym (append-nil (lane_text disk (lanes.completion (listed p) request))
+      ∙ done_text disk p.completed p.content request));
+  ids = next_id p.completed;
+  resets = refl;
+}
+
+all_grow : (disk : DiskDecl) (p : Plain) (waiting : List Request)
+    → Grows disk p (lanes.completions (listed p) waiting) (complete_all disk p waiting)
+all_grow disk p [] = grows_still disk p p refl refl
+all_grow disk p (request ∷ behind) =
+    let next = complete disk p request behind in
+    grows_on disk p next (complete_all disk next behind) (lanes.completion (listed p) request ∷ [])
+    (lanes.completions (listed next) behind) (complete_grows disk p request behind) (all_grow disk next behind)
+
+all_same : (disk : DiskDecl) (p : Plain) (waiting : List Request)
+    → listed (complete_all disk p waiting) ≡ lanes.complete_all (listed p) waiting
+all_same disk p [] = refl
+all_same disk p (request ∷ behind) = all_same disk (complete disk p request behind) behind
+
+settle_grows : (disk : DiskDecl) (p : Plain)
+    → Grows disk p (lanes.completions (listed p) p.waiting ++ Settled ∷ []) (settled (complete_all disk p p.waiting))
+settle_grows disk p =
+    let done = complete_all disk p p.waiting in
+    grows_on disk p done (settled done) (lanes.completions (listed p) p.waiting) (Settled ∷ [])
+    (all_grow disk p p.waiting)
+    (grows_line disk done Settled (codes "settled\n") refl refl refl)
+
+-- EACH LINE, as the line of lanes that it is
+line_same : (disk : DiskDecl) (p : Plain) (e : Event)
+    → listed (plain_line disk p e) ≡ lanes.plain_line (shape_of 0 disk) (listed p) (line_of e)
+line_same disk p (event.Issue number request) =
+    asked_same disk p request (defect disk.blocks request) (nat_le disk.ring (length p.waiting))
+line_same disk p event.Settle = all_same disk p p.waiting
+line_same disk p _ = refl
+
+line_grows : (disk : DiskDecl) (p : Plain) (e : Event)
+    → Grows disk p (lanes.plain_shows (shape_of 0 disk) (listed p) (line_of e)) (plain_line disk p e)
+line_grows disk p (event.Issue number request) =
+    asked_grows disk p request (defect disk.blocks request) (nat_le disk.ring (length p.waiting))
+line_grows disk p event.Settle = settle_grows disk p
+line_grows disk p _ = grows_still disk p p refl refl
+
+-- LINES one behind another
+pub run_same : (disk : DiskDecl) (p : Plain) (events : List Event)
+    → listed (plain_run disk p events) ≡ lanes.plain_run (shape_of 0 disk) (listed p) (map line_of events)
+run_same disk p [] = refl
+run_same disk p (e ∷ events) =
+    run_same disk (plain_line disk p e) events
+    ∙ ap (λ (l : lanes.Plain). lanes.plain_run (shape_of 0 disk) l (map line_of events)) (line_same disk p e)
+
+pub run_grows : (disk : DiskDecl) (p : Plain) (events : List Event)
+    → Grows disk p (lanes.plain_journal (shape_of 0 disk) (listed p) (map line_of events)) (plain_run disk p events)
+run_grows disk p [] = grows_still disk p p refl refl
+run_grows disk p (e ∷ events) =
+    let next = plain_line disk p e in
+    let shape = shape_of 0 disk in
+    let end = plain_run disk next events in
+    let lines = map line_of events in
+    let listed_next : lanes.Plain = lanes.plain_line shape (listed p) (line_of e) in
+    let rest : Grows disk next (lanes.plain_journal shape listed_next lines) end =
+    subst (λ (l : lanes.Plain). Grows disk next (lanes.plain_journal shape l lines) end) (line_same disk p e)
+    (run_grows disk next events) in
+    grows_on disk p next end (lanes.plain_shows shape (listed p) (line_of e))
+    (lanes.plain_journal shape listed_next lines) (line_grows disk p e) rest

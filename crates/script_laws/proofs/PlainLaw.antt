@@ -1,0 +1,145 @@
+-- A quiet script that fits its journal without a fault is what the plain run makes of it.
+use Rattle.std.proofs.Common.{◌≡◌, ℕ, ◌+◌, ◌*◌, ◌≤◌, List, [], ◌∷◌, ◌++◌, length, map, refl, sym, ◌∙◌, ap, subst, arith, Some}
+use Rattle.std.proofs.lemmas.List.FromFn.{length-range_with_len}
+use Rattle.runs.specs.Run.{Run}
+use Rattle.disk_law.specs.ListState.{ImageState}
+use Rattle.domain_script.specs.Declarations.{IsDisk}
+use Rattle.domain_script.specs.declared.event.DiskDecl.{DiskDecl}
+use Rattle.domain_script.specs.declared.event.Event.{Event}
+use Rattle.lanes_settle.specs.Settle.{SettleEntry}
+use Rattle.lanes_world.proofs.Along.{lines_run}
+use Rattle.lanes_world.specs.Lines.{Line, LineStep, entries_of}
+use Rattle.lanes_world.specs.World.{WorldState, fresh_world}
+use Rattle.ldom_journal.specs.EntryText.{report_entries}
+use Rattle.ldom_journal.specs.Report.{accepted_count, done_count, end_line, report, reset_count}
+use Rattle.ldom_journal.specs.declared.entry.Entry.{Entry}
+use Rattle.ldom_journal.specs.declared.status.Mode.TheVariants as mode
+use Rattle.ldom_journal.specs.declared.status.Status.TheVariants as status
+use Rattle.script_laws.proofs.EndLine.{ends_agree}
+use Rattle.script_laws.proofs.LaneReport.{SaysSame, Told, ids_in, told_lanes, told_part}
+use Rattle.script_laws.proofs.PlainGrows.{Grows, ids_below, listed, run_grows, run_same}
+use Rattle.script_laws.proofs.QuietLanes.{disk_front, disk_shape, quiet_events, whole_image}
+use Rattle.script_laws.proofs.ThroughLanes.{ThroughLanes, all_shown, through_lanes}
+use Rattle.script_laws.specs.PlainRun.{Plain, plain_content, plain_ids, plain_run, plain_text, untouched}
+use Rattle.script_laws.specs.Quiet.{IsQuiet}
+use Rattle.script_laws.specs.Completed.{completed_ids}
+use Rattle.world_parts.specs.Declared.{shape_of, world_of}
+use Rattle.world_parts.specs.Lines.{line_of}
+use Rattle.world_parts.specs.Script.{FitsScript}
+use Rattle.world_plain.proofs.QuietLines.{quiet_lines}
+use Rattle.world_plain.specs.Plain as lanes
+use Rattle.world_plain.specs.Quiet as quiet_world
+use Rattle.world_plain.specs.Quiet.{IsPlain, RunsPlainly, RunsQuietly, lines_of, shown_of}
+use Rattle.world_requests.proofs.Counting.{world_counts}
+use Rattle.world_requests.specs.Accepted.{accepted_in, next_ids}
+
+-- WHAT A QUIET SCRIPT COMES TO: the report's text, the image's bytes and the completed ids are those of the plain run
+pub record PlainLaw (disk : DiskDecl) (content : List ℕ) (events : List Event) (journal : List Entry) (v : WorldState)
+    : Type 0 where
+  pub text : report mode.Run (disk ∷ []) (length events) journal status.Done ≡ plain_text disk content events
+  pub told : v.image.told ≡ Some (plain_content disk content events)
+  pub ids : completed_ids journal ≡ plain_ids disk content events
+
+-- the plain run behind the script
+abbrev ran : DiskDecl → List ℕ → List Event → Plain
+ran disk content events = plain_run disk (untouched content) events
+
+-- THE PLAIN RUN has what the journal tells: its lines, its counts and its ids
+record Tells (disk : DiskDecl) (journal : List Entry) (v : WorldState) (p : Plain) : Type 0 where
+  text : report_entries mode.Run (disk ∷ []) journal ≡ p.text
+  ids : completed_ids journal ≡ ids_below p
+  done : done_count journal ≡ p.completed
+  accepted : accepted_count journal ≡ p.completed + length p.waiting
+  resets : reset_count journal ≡ 0
+  told : v.image.told ≡ Some p.content
+
+-- and what lines of lanes show
+record ShowsPlain (disk : DiskDecl) (content : List ℕ) (events : List Event) (lines : List (Line × List SettleEntry))
+    (v : WorldState) : Type 0 where
+  shows : shown_of lines ≡ lanes.plain_journal (shape_of 0 disk) (lanes.untouched content) (map line_of events)
+  ends : IsPlain (listed (ran disk content events)) v
+
+shows_plain : (disk : DiskDecl) (content : List ℕ) (events : List Event) (lines : List (Line × List SettleEntry))
+    (v : WorldState) → lines_of lines ≡ map line_of events → RunsPlainly (shape_of 0 disk) content lines v
+    → ShowsPlain disk content events lines v
+shows_plain disk content events lines v are runs =
+    let shape = shape_of 0 disk in
+    let start = lanes.untouched content in
+    let end = ap (lanes.plain_run shape start) are ∙ sym (run_same disk (untouched content) events) in
+    record {
+      shows = runs.shows ∙ ap (lanes.plain_journal shape start) are;
+      ends = subst (λ (l : lanes.Plain). IsPlain l v) end runs.ends;
+    }
+
+-- the next id of the one lane counts what was accepted
+accepted_all : (disk : DiskDecl) (image : ImageState) (lines : List (Line × List SettleEntry)) (v : WorldState)
+    (p : lanes.Plain) → IsDisk disk → Run LineStep (fresh_world (shape_of 0 disk ∷ []) image) lines v → IsPlain p v
+    → accepted_in (entries_of lines) ≡ p.completed + length p.waiting
+accepted_all disk image lines v p is run plain =
+    let shape = shape_of 0 disk in
+    let entries_run = lines_run (fresh_world (shape ∷ []) image) lines v run in
+    let sum = world_counts (shape ∷ []) image (entries_of lines) v (disk_shape disk is, refl, tt) entries_run in
+    let ids = ap next_ids plain.lanes in
+    let accepted = plain.accepted in
+    omega (arith, sum, ids, accepted)
+
+tells_plain : (disk : DiskDecl) (content : List ℕ) (events : List Event) (journal : List Entry)
+    (lines : List (Line × List SettleEntry)) (v : WorldState) → SaysSame disk journal (entries_of lines)
+    → (shows : ShowsPlain disk content events lines v)
+    → accepted_in (entries_of lines) ≡ (ran disk content events).completed + length (ran disk content events).waiting
+    → Tells disk journal v (ran disk content events)
+tells_plain disk content events journal lines v says shows accepted =
+    let p = ran disk content events in
+    let shown_same = all_shown disk lines in
+    let told : told_part disk journal ≡ told_lanes disk (shown_of lines) = says.0 ∙ shown_same in
+    let grows : Grows disk (untouched content) (shown_of lines) p =
+    subst (λ (l : List SettleEntry). Grows disk (untouched content) l p) (sym shows.shows)
+    (run_grows disk (untouched content) events) in
+    let ids : ids_in (shown_of lines) ≡ ids_below p = sym grows.ids in
+    let long : length (ids_in (shown_of lines)) ≡ p.completed =
+    ap (λ (l : List ℕ). length l) ids ∙ length-range_with_len 0 p.completed in
+    record {
+      text = ap (λ (t : Told). t.text) told ∙ sym grows.text;
+      ids = ap (λ (t : Told). t.ids) told ∙ ids;
+      done = ap (λ (t : Told). t.done) told ∙ long;
+      accepted = says.1 ∙ accepted;
+      resets = ap (λ (t : Told). t.resets) told ∙ grows.resets;
+      told = shows.ends.told;
+    }
+
+told_plain : (disk : DiskDecl) (content : List ℕ) (events : List Event) (journal : List Entry) (v : WorldState)
+    → Tells disk journal v (ran disk content events) → PlainLaw disk content events journal v
+told_plain disk content events journal v tells =
+    let p = ran disk content events in
+    let lines = length events in
+    let ends = ends_agree journal p lines tells.done tells.accepted tells.resets in
+    record {
+      text = ap (λ (l : List ℕ). l ++ end_line lines journal status.Done) tells.text
+          ∙ ap (λ (l : List ℕ). p.text ++ l) ends;
+      told = tells.told;
+      ids = tells.ids;
+    }
+
+-- A QUIET SCRIPT whose journal fits, over an image that tells its bytes, is long enough and never failed
+pub plain_law : (disk : DiskDecl) (content : List ℕ) (events : List Event) (journal : List Entry) (v : WorldState)
+    → IsDisk disk → 512 * disk.blocks ≤ length content → IsQuiet disk events
+    → FitsScript 0 (world_of (disk ∷ []) (record { told = Some content; faults = 0 })) events journal v
+    → v.image.faults ≡ 0 → PlainLaw disk content events journal v
+plain_law disk content events journal v is holds quiet fits well =
+    let shape = shape_of 0 disk in
+    let image = whole_image content in
+    let w : WorldState = world_of (disk ∷ []) image in
+    let through : ThroughLanes w fits.lines v = through_lanes w fits.lines v fits.run in
+    let are : lines_of through.lanes ≡ map line_of events =
+    through.lines_are ∙ ap (λ (l : List Event). map line_of l) fits.events_are in
+    let quiet_lanes = subst (λ (l : List Line). quiet_world.AreQuiet l) (sym are) (quiet_events disk events quiet) in
+    let runs : RunsQuietly shape image through.lanes v =
+    record { quiet = quiet_lanes; run = through.run; well = well } in
+    let plainly = quiet_lines shape image content through.lanes v (disk_front disk content is holds) runs in
+    let shows = shows_plain disk content events through.lanes v are plainly in
+    let says : SaysSame disk journal (entries_of through.lanes) =
+    subst (λ (l : List Entry). SaysSame disk l (entries_of through.lanes)) fits.parts (through.same disk) in
+    let p = listed (ran disk content events) in
+    let accepted = accepted_all disk image through.lanes v p is through.run shows.ends in
+    let tells = tells_plain disk content events journal through.lanes v says shows accepted in
+    told_plain disk content events journal v tells

@@ -1,0 +1,140 @@
+-- A script, line after line.
+use Rattle.std.proofs.Common.{◌≡◌, ℕ, ◌+◌, ◌≤◌, List, [], ◌∷◌, ◌++◌, length, sym, ◌∙◌, ap, subst, length-append, arith, Bool, true, false, IsTrue, Option, inl, inr, refl}
+use Rattle.domain_script.specs.declared.event.DiskDecl.{DiskDecl}
+use Rattle.domain_script.specs.declared.event.Event.{Event}
+use Rattle.domain_script.specs.declared.event.Event.TheVariants as line
+use Rattle.domain_script.specs.Declarations.{AreDisks}
+use Rattle.domain_script.specs.NamesState.{NamesState, noted}
+use Rattle.domain_script.specs.Spells.{Spells}
+use Rattle.domain_script.proofs.Disks.{are_disks_push}
+use Rattle.domain_script.proofs.ScriptLemmas.{taken_more, taken_none}
+use Rattle.domain_script.proofs.Spelling.{declared_first}
+use Rattle.ldom_journal.specs.declared.status.Status.{Status}
+use Rattle.script_laws.specs.Attached.{AreOpening, is_opening}
+use Rattle.script_laws.specs.Opening.{Opens, OpensAndStops}
+use Rattle.ldom_journal.specs.LinesEnd.{counted_lines}
+use Rattle.script_laws.specs.Reading.{ReadsEvent, StopsAt}
+use Rattle.domain_script.specs.ScriptEvents.{AllSpell, no_names}
+use Rattle.script_laws.specs.Script.{ReadSoFar}
+use Rattle.script_laws.proofs.LineCases.{ends, noted_disks, stays_ended}
+
+pub spell_more : (texts : List (List ℕ)) (text : List ℕ) (first names after : NamesState) (events : List Event) (event : Event) → AllSpell texts first events names → Spells text names event → after ≡ noted names event
+    → AllSpell (texts ++ text ∷ []) first (events ++ event ∷ []) after
+spell_more [] text first names after [] event before spells is = (subst (λ (n : NamesState). Spells text n event) before spells, is ∙ ap (λ (n : NamesState). noted n event) before)
+spell_more [] text first names after (e ∷ events) event before spells is = absurd before
+spell_more (t ∷ texts) text first names after [] event before spells is = absurd before
+spell_more (t ∷ texts) text first names after (e ∷ events) event before spells is = (before.0, spell_more texts text (noted first e) names after events event before.1 spells is)
+
+-- one more line
+pub read_more : (start rest left : Option (List ℕ)) (events : List Event) (event : Event) (names after : NamesState) (count next : ℕ) → ReadSoFar start rest events names count → ReadsEvent rest left names event after
+    → next ≡ count + 1 → next ≤ 20000 → ReadSoFar start left (events ++ event ∷ []) after next
+read_more start rest left events event names after count next so_far reads is few = record {
+  texts = so_far.texts ++ reads.text ∷ [];
+  taken = taken_more start rest left so_far.texts reads.text so_far.taken reads.taken reads.short (omega (arith, few, is, so_far.counts));
+  spell = spell_more so_far.texts reads.text no_names names after events event so_far.spell reads.spells reads.noted_is;
+  counts = is ∙ ap (λ (n : ℕ). n + 1) so_far.counts ∙ sym (length-append so_far.texts (reads.text ∷ []));
+}
+
+-- no line yet
+pub read_none : (start : Option (List ℕ)) (names : NamesState) (count : ℕ) → names ≡ no_names → count ≡ 0 → ReadSoFar start start [] names count
+read_none start names count is zero = record { texts = []; taken = taken_none start; spell = is; counts = zero }
+
+-- blank lines and declarations so far
+pub record OpensSoFar (start left : Option (List ℕ)) (names : NamesState) (count : ℕ) : Type 0 where
+  pub opening : List Event
+  pub are : AreOpening opening
+  pub read : ReadSoFar start left opening names count
+
+pub opens_none : (start : Option (List ℕ)) (names : NamesState) (count : ℕ) → names ≡ no_names → count ≡ 0 → OpensSoFar start start names count
+opens_none start names count is zero = record { opening = []; are = tt; read = read_none start names count is zero }
+
+pub opening-append : (events more : List Event) → AreOpening events → AreOpening more → AreOpening (events ++ more)
+opening-append [] more first second = second
+opening-append (e ∷ events) more first second = (first.0, opening-append events more first.1 second)
+
+pub opening_halves : (events more : List Event) → AreOpening (events ++ more) → AreOpening events × AreOpening more
+opening_halves [] more are = (tt, are)
+opening_halves (e ∷ events) more are = let halves = opening_halves events more are.1 in ((are.0, halves.0), halves.1)
+
+-- a line that is neither blank nor a declaration
+pub other_line : (event : Event) → (AreOpening (event ∷ []) → ⊥) → is_opening event ≡ false
+other_line event other = by_test (is_opening event) (λ is. other (is, tt))
+  where
+    by_test : (b : Bool) → (IsTrue b → ⊥) → b ≡ false
+    by_test true other = absurd (other refl)
+    by_test false other = refl
+
+pub opens_more : (start rest left : Option (List ℕ)) (event : Event) (names after : NamesState) (count next : ℕ) → OpensSoFar start rest names count → ReadsEvent rest left names event after → next ≡ count + 1 → next ≤ 20000 → AreOpening (event ∷ [])
+    → OpensSoFar start left after next
+opens_more start rest left event names after count next so_far reads is few opening = record {
+  opening = so_far.opening ++ event ∷ [];
+  are = opening-append so_far.opening (event ∷ []) so_far.are opening;
+  read = read_more start rest left so_far.opening event names after count next so_far.read reads is few;
+}
+
+pub opens : (start rest left : Option (List ℕ)) (event : Event) (names after : NamesState) (count next : ℕ) → OpensSoFar start rest names count → ReadsEvent rest left names event after → next ≡ count + 1 → next ≤ 20000 → (AreOpening (event ∷ []) → ⊥)
+    → Opens start left event after next
+opens start rest left event names after count next so_far reads is few not_opening = record {
+  opening = so_far.opening;
+  are = so_far.are;
+  read = read_more start rest left so_far.opening event names after count next so_far.read reads is few;
+  other = not_opening;
+  ended = ap (λ (n : NamesState). n.ended) reads.noted_is ∙ ends names event (other_line event not_opening);
+}
+
+pub opens_and_stops : (start rest now : Option (List ℕ)) (held : List ℕ) (why : Status) (names after : NamesState) (count lines : ℕ) → OpensSoFar start rest names count → StopsAt why rest held now names count 0 → lines ≡ counted_lines why count → after ≡ names
+    → OpensAndStops start now why after lines
+opens_and_stops start rest now held why names after count lines so_far stops is same = subst (λ (n : NamesState). OpensAndStops start now why n lines) (sym same) (record {
+  opening = so_far.opening;
+  are = so_far.are;
+  stopped = record { left = rest; count = count; read = so_far.read; held = held; stop = stops; lines_are = is };
+})
+
+-- after the declarations none comes, so an event that is spelled is for one of the disks that were declared before
+pub still_ended : (rest left : Option (List ℕ)) (event : Event) (names after : NamesState) → ReadsEvent rest left names event after → names.ended ≡ true → after.ended ≡ true
+still_ended rest left event names after reads ended = ap (λ (n : NamesState). n.ended) reads.noted_is ∙ stays_ended names event ended
+
+pub same_disks : (rest left : Option (List ℕ)) (event : Event) (names after : NamesState) → ReadsEvent rest left names event after → names.ended ≡ true → after.disks ≡ names.disks
+same_disks rest left event names after reads ended = ap (λ (n : NamesState). n.disks) reads.noted_is ∙ elim (noted_disks names event) [
+  | inl declares ↦
+      let spells : Spells reads.text names (line.Disk declares.0) = subst (λ (e : Event). Spells reads.text names e) declares.1 reads.spells in
+      absurd (cc (ended, (declared_first reads.text names declares.0 spells).open_still))
+  | inr same ↦ same
+]
+
+-- each disk that a script declares is within the limits
+disks_noted : (text : List ℕ) (event : Event) (names : NamesState) → Spells text names event → AreDisks names.disks → AreDisks (noted names event).disks
+disks_noted text event names spelled are = elim (noted_disks names event) [
+  | inl declares ↦
+      let spells : Spells text names (line.Disk declares.0) = subst (λ (e : Event). Spells text names e) declares.1 spelled in
+      subst (λ (e : Event). AreDisks (noted names e).disks) (sym declares.1) (are_disks_push names.disks declares.0 are (declared_first text names declares.0 spells).limits)
+  | inr same ↦ subst AreDisks (sym same) are
+]
+
+pub are_disks : (texts : List (List ℕ)) (names after : NamesState) (events : List Event) → AreDisks names.disks → AllSpell texts names events after → AreDisks after.disks
+are_disks [] names after [] are spell = subst (λ (n : NamesState). AreDisks n.disks) (sym spell) are
+are_disks [] names after (e ∷ es) are spell = absurd spell
+are_disks (x ∷ xs) names after [] are spell = absurd spell
+are_disks (x ∷ xs) names after (e ∷ es) are spell = are_disks xs (noted names e) after es (disks_noted x e names spell.0 are) spell.1
+
+-- and there are at most eight
+few_noted : (text : List ℕ) (event : Event) (names : NamesState) → Spells text names event → length names.disks ≤ 8 → length (noted names event).disks ≤ 8
+few_noted text event names spelled few = elim (noted_disks names event) [
+  | inl declares ↦
+      let spells : Spells text names (line.Disk declares.0) = subst (λ (e : Event). Spells text names e) declares.1 spelled in
+      subst (λ (e : Event). length (noted names e).disks ≤ 8) (sym declares.1)
+      (omega (arith, length-append names.disks (declares.0 ∷ []), (declared_first text names declares.0 spells).few))
+  | inr same ↦ omega (arith, few, ap (λ (l : List DiskDecl). length l) same)
+]
+
+pub few_disks : (texts : List (List ℕ)) (names after : NamesState) (events : List Event) → length names.disks ≤ 8 → AllSpell texts names events after → length after.disks ≤ 8
+few_disks [] names after [] few spell = subst (λ (n : NamesState). length n.disks ≤ 8) (sym spell) few
+few_disks [] names after (e ∷ es) few spell = absurd spell
+few_disks (x ∷ xs) names after [] few spell = absurd spell
+few_disks (x ∷ xs) names after (e ∷ es) few spell = few_disks xs (noted names e) after es (few_noted x e names spell.0 few) spell.1
+
+pub read_few : (start left : Option (List ℕ)) (events : List Event) (names : NamesState) (count : ℕ) → ReadSoFar start left events names count → length names.disks ≤ 8
+read_few start left events names count read = few_disks read.texts no_names names events (omega arith) read.spell
+
+pub read_disks : (start left : Option (List ℕ)) (events : List Event) (names : NamesState) (count : ℕ) → ReadSoFar start left events names count → AreDisks names.disks
+read_disks start left events names count read = are_disks read.texts no_names names events tt read.spell

@@ -1,0 +1,99 @@
+-- Each settle of a script's lines begins over clean lanes, also the one that want of memory cut off.
+use Rattle.std.proofs.Common.{◌≡◌, ◌⊎◌, inl, inr, ◌≤◌, List, [], ◌∷◌, ◌++◌, length, map, refl, sym, ap, ◌∙◌, subst, append-nil}
+use Rattle.runs.specs.Run.{Run, run_split}
+use Rattle.disk_law.specs.ListState.{ImageState}
+use Rattle.disk_steps.specs.LaneState.{LaneState}
+use Rattle.domain_script.specs.Declarations.{AreDisks}
+use Rattle.domain_script.specs.declared.event.DiskDecl.{DiskDecl}
+use Rattle.domain_script.specs.declared.event.Event.{Event}
+use Rattle.domain_script.specs.declared.event.Event.TheVariants.{Settle}
+use Rattle.lanes_settle.specs.Begun.{SettleFront}
+use Rattle.lanes_settle.specs.Settle.{SettleEntry, SettlePart}
+use Rattle.lanes_world.specs.Lines as world
+use Rattle.lanes_world.specs.World.{WorldState}
+use Rattle.ldom_journal.specs.declared.entry.Entry.{Entry}
+use Rattle.script_laws.proofs.LineEntries.{settle_rules}
+use Rattle.script_laws.proofs.Places.{InEither, no_place, place_in}
+use Rattle.script_laws.proofs.Settling.{clean_lines}
+use Rattle.script_laws.proofs.DeclaredWorlds.{as_told, line_told, lines_told, says_told}
+use Rattle.script_laws.specs.Settled.{KeepsRules}
+use Rattle.script_laws.specs.Told.{told_by}
+use Rattle.world_parts.specs.Declared.{world_of}
+use Rattle.world_parts.specs.Lines.{LineStep, line_of}
+use Rattle.world_parts.specs.Script.{FitsCutOff, cut_lines}
+
+-- A SETTLE behind these lines: its part, or a front of it
+pub record SettlesBehind (disks : List DiskDecl) (image : ImageState) (before : List (Event × List Entry))
+    (part : List SettleEntry) : Type 0 where
+  pub at : WorldState
+  pub run : Run LineStep (world_of disks image) before at
+  pub behind : List LaneState
+  pub goes : SettlePart at.lanes part behind ⊎ SettleFront at.lanes part behind
+
+-- so each of these lines that settles
+abbrev pub EachSettles : List DiskDecl → ImageState → List (Event × List Entry) → Type 0
+EachSettles disks image lines =
+    (before : List (Event × List Entry)) (part : List Entry) (behind : List (Event × List Entry))
+    → lines ≡ before ++ (Settle, part) ∷ behind → SettlesBehind disks image before (told_by (Settle, part))
+
+pub whole_settles : (disks : List DiskDecl) (image : ImageState) (lines : List (Event × List Entry)) (v : WorldState)
+    → Run LineStep (world_of disks image) lines v → EachSettles disks image lines
+whole_settles disks image lines v run before part behind is =
+    let whole : Run LineStep (world_of disks image) (before ++ (Settle, part) ∷ behind) v =
+    subst (λ (l : List (Event × List Entry)). Run LineStep (world_of disks image) l v) is run in
+    let split = run_split LineStep (world_of disks image) v before ((Settle, part) ∷ behind) whole in
+    record {
+      at = split.0;
+      run = split.1;
+      behind = split.2.0.lanes;
+      goes = inl (line_told split.0 (Settle, part) split.2.0 split.2.1).part_of;
+    }
+
+-- THE LAST OF THEM, cut off
+only_one : {X : Type 0} (x : X) (later : List X) (y : X) (behind : List X) → x ∷ [] ≡ later ++ y ∷ behind
+    → (later ≡ []) × (x ≡ y)
+only_one {X} x [] y behind is = (refl, cc is)
+only_one {X} x (z ∷ later) y behind is =
+    let none : [] ≡ later ++ y ∷ behind = cc is in
+    absurd (no_place later y behind none)
+
+module _ (disks : List DiskDecl) (image : ImageState) (events : List Event) (journal : List Entry) (v : WorldState)
+    (cut : FitsCutOff 0 (world_of disks image) events journal v) (before : List (Event × List Entry))
+    (part : List Entry) (behind : List (Event × List Entry)) where
+  cut_at : InEither cut.fits.lines ((cut.last, cut.part) ∷ []) before (Settle, part) behind
+      → SettlesBehind disks image before (told_by (Settle, part))
+  cut_at (inl at) = whole_settles disks image cut.fits.lines cut.middle cut.fits.run before part at.rest at.is
+  cut_at (inr at) =
+      let one = only_one (cut.last, cut.part) at.later (Settle, part) behind at.is in
+      let begun : world.LineBegins cut.middle (line_of cut.last) (told_by (cut.last, cut.part)) v =
+      subst (λ (l : List SettleEntry). world.LineBegins cut.middle (line_of cut.last) l v)
+      (sym (says_told (cut.last, cut.part) cut.made cut.says)) cut.begins in
+      let settle : world.LineBegins cut.middle (line_of Settle) (told_by (Settle, part)) v =
+      subst (λ (line : Event × List Entry). world.LineBegins cut.middle (line_of line.0) (told_by line) v) one.1
+      begun in
+      let is : cut.fits.lines ≡ before =
+      sym (append-nil cut.fits.lines) ∙ ap (λ (l : List (Event × List Entry)). cut.fits.lines ++ l) (sym one.0)
+      ∙ sym at.before_is in
+      record {
+        at = cut.middle;
+        run = subst (λ (l : List (Event × List Entry)). Run LineStep (world_of disks image) l cut.middle) is
+            cut.fits.run;
+        behind = v.lanes;
+        goes = inr settle.begins;
+      }
+
+pub cut_settles : (disks : List DiskDecl) (image : ImageState) (events : List Event) (journal : List Entry)
+    (v : WorldState) (cut : FitsCutOff 0 (world_of disks image) events journal v)
+    → EachSettles disks image (cut_lines cut)
+cut_settles disks image events journal v cut before part behind is =
+    cut_at disks image events journal v cut before part behind
+    (place_in cut.fits.lines ((cut.last, cut.part) ∷ []) before (Settle, part) behind is)
+
+-- BY ITS RULES
+pub rules_at : (disks : List DiskDecl) (image : ImageState) → AreDisks disks → length disks ≤ 8
+    → (before : List (Event × List Entry)) (part : List SettleEntry) → SettlesBehind disks image before part
+    → KeepsRules part
+rules_at disks image are few before part of =
+    settle_rules of.at.lanes part of.behind
+    (clean_lines disks image are few (map as_told before) of.at
+    (lines_told (world_of disks image) before of.at of.run)) of.goes

@@ -1,0 +1,148 @@
+-- How long the image of a run is, and that its disks lie within it.
+use Rattle.std.proofs.Common.{◌≡◌, inl, inr, ◌⊎◌, ℕ, ◌+◌, ◌*◌, ◌<◌, ◌≤◌, Bool, List, [], ◌∷◌, ◌++◌, length, map, refl, sym, ap, subst, arith, Option, Some, None, IfSome, replicate}
+use Rattle.std.proofs.Math.ListN.{length-replicate}
+use Rattle.disk_steps.specs.LaneState.{LaneState, Shape}
+use Rattle.domain_script.specs.declared.event.DiskDecl.{DiskDecl}
+use Rattle.domain_script.specs.declared.event.Event.{Event}
+use Rattle.domain_script.specs.NamesState.{NamesState, noted}
+use Rattle.domain_script.specs.ScriptEvents.{AllSpell}
+use Rattle.lanes_settle.specs.Rounds.{Each}
+use Rattle.lanes_world.specs.World.{WorldState}
+use Rattle.ldom_journal.specs.declared.entry.Entry.{Entry}
+use Rattle.ldom_journal.specs.declared.status.Status.{Status}
+use Rattle.ldom_journal.specs.declared.status.Status.TheVariants as status
+use Rattle.ldom_journal.specs.Stops.{IsReaders}
+use Rattle.vio_io.specs.declared.host.AttachFault.{AttachFault}
+use Rattle.vio_io.specs.declared.host.AttachFault.TheVariants.{Failed, Memory}
+use Rattle.script_laws.specs.Going.{Grew, RunsAll}
+use Rattle.script_laws.specs.Replayed.{attach_status, ended_status, start_of}
+use Rattle.script_laws.specs.Sized.{SizeIs}
+use Rattle.script_laws.proofs.Through.{cut_off_shapes, script_shapes}
+use Rattle.world_parts.specs.Declared.{LiesWithin, blocks_of, shape_of, shapes_of}
+use Rattle.world_parts.specs.Endings.{NotBegun, ending}
+use Rattle.world_parts.specs.Script.{FitsCutOff, FitsScript}
+use Rattle.script_laws.proofs.LineCases.{noted_disks}
+use Rattle.script_laws.proofs.Assembly.{by_readers, ended_as}
+
+abbrev pub shape_in : LaneState → Shape
+shape_in s = s.shape
+
+-- where each lane's disk lies within an image, all of them do
+pub needed_within : (first size : ℕ) (disks : List DiskDecl) (lanes : List LaneState) → map shape_in lanes ≡ shapes_of first disks → Each (LiesWithin size) lanes → 512 * first ≤ size
+    → 512 * (first + blocks_of disks) ≤ size
+needed_within first size [] lanes are each from = omega (arith, from)
+needed_within first size (disk ∷ disks) [] are each from = absurd (cc are)
+needed_within first size (disk ∷ disks) (s ∷ lanes) are each from =
+    let one : s.shape ≡ shape_of first disk = cc are in
+    let others : map shape_in lanes ≡ shapes_of (first + disk.blocks) disks = cc are in
+    let begins : s.shape.first ≡ first = ap (λ (x : Shape). x.first) one in
+    let blocks : s.shape.blocks ≡ disk.blocks = ap (λ (x : Shape). x.blocks) one in
+    omega (arith, needed_within (first + disk.blocks) size disks lanes others each.1 (omega (arith, each.0, begins, blocks)))
+
+-- the lanes of a run have the shapes of its disks when it has ended
+grown_shapes : (why : Status) (names : NamesState) (gives : ℕ → Option (List ℕ)) (t : WorldState) (events : List Event) (journal : List Entry) → IsReaders why → Grew why 0 (start_of names gives) events journal t
+    → map shape_in t.lanes ≡ shapes_of 0 names.disks
+grown_shapes why names gives t events journal =
+    by_readers (λ (x : Status). Grew x 0 (start_of names gives) events journal t → map shape_in t.lanes ≡ shapes_of 0 names.disks) whole (λ at fault. whole) whole (λ at kind. whole) (λ either. elim either [ inl fits ↦ whole fits | inr cut ↦ cut_off cut ]) why
+  where
+    whole : FitsScript 0 (start_of names gives) events journal t → map shape_in t.lanes ≡ shapes_of 0 names.disks
+    whole fits = script_shapes names.disks (start_of names gives).image 0 events journal t fits
+
+    cut_off : FitsCutOff 0 (start_of names gives) events journal t → map shape_in t.lanes ≡ shapes_of 0 names.disks
+    cut_off cut = cut_off_shapes names.disks (start_of names gives).image 0 events journal t cut
+
+module _ {D : Type 0} (size : D → ℕ) where
+  -- a run in a world over an image that is long enough
+  pub sized_of : (why : Status) (faulty : Bool) (least : ℕ) (told : Option (List ℕ)) (image : D) → IsReaders why → least ≤ size image → IfSome told (λ bytes. least ≤ length bytes) → SizeIs size (ended_status why faulty) least told (Some image)
+  sized_of why faulty least told image readers enough long =
+      ended_as (λ (w : Status). SizeIs size w least told (Some image)) why faulty readers (λ is. is)
+      (by_readers (λ (w : Status). SizeIs size w least told (Some image)) (enough, long) (λ at fault. (enough, long)) (enough, long) (λ at kind. (enough, long)) (enough, long) why readers)
+
+  -- the same, its parts said otherwise
+  pub sized_as : (gives : ℕ → Option (List ℕ)) (why ended : Status) (names now_named : NamesState) (image disk : Option D) → ended ≡ why → now_named ≡ names → disk ≡ image
+      → SizeIs size why (512 * blocks_of names.disks) (gives (512 * blocks_of names.disks)) image → SizeIs size ended (512 * blocks_of now_named.disks) (gives (512 * blocks_of now_named.disks)) disk
+  sized_as gives why ended names now_named image disk status_is names_are image_is sized =
+      subst (λ (w : Status). SizeIs size w (512 * blocks_of now_named.disks) (gives (512 * blocks_of now_named.disks)) disk) (sym status_is)
+      (subst (λ (n : NamesState). SizeIs size why (512 * blocks_of n.disks) (gives (512 * blocks_of n.disks)) disk) (sym names_are)
+      (subst (λ (d : Option D). SizeIs size why (512 * blocks_of names.disks) (gives (512 * blocks_of names.disks)) d) (sym image_is) sized))
+
+  -- a run without an image
+  pub sized_none : (why : Status) (least : ℕ) (told : Option (List ℕ)) → IsReaders why → SizeIs size why least told None
+  sized_none why least told readers = by_readers (λ (w : Status). SizeIs size w least told None) tt (λ at fault. tt) tt (λ at kind. tt) tt why readers
+
+  longs : (least : ℕ) (told : Option (List ℕ)) (image : Option D) → IfSome image (λ disk. (least ≤ size disk) × IfSome told (λ bytes. least ≤ length bytes)) → IfSome image (λ disk. IfSome told (λ bytes. least ≤ length bytes))
+  longs least told None sized = tt
+  longs least told (Some disk) sized = sized.1
+
+  -- either what was told is long enough, or nothing was begun
+  pub long_or_none : (why : Status) (least : ℕ) (told : Option (List ℕ)) (image : Option D) → SizeIs size why least told image → IfSome image (λ disk. IfSome told (λ bytes. least ≤ length bytes)) ⊎ (ending why ≡ NotBegun)
+  long_or_none (status.ImageSize need have) least told image sized = inr refl
+  long_or_none status.Done least told image sized = inl (longs least told image sized)
+  long_or_none status.Usage least told image sized = inl (longs least told image sized)
+  long_or_none (status.Script at fault) least told image sized = inl (longs least told image sized)
+  long_or_none status.SourceFault least told image sized = inl (longs least told image sized)
+  long_or_none status.SinkFault least told image sized = inl (longs least told image sized)
+  long_or_none status.HostFault least told image sized = inl (longs least told image sized)
+  long_or_none status.StoreFault least told image sized = inl (longs least told image sized)
+  long_or_none (status.Limit at kind) least told image sized = inl (longs least told image sized)
+  long_or_none status.NoMemory least told image sized = inl (longs least told image sized)
+
+  -- a disk that attaching made of zeros is never too short
+  pub zeros_are_long : (why : Status) (least need have : ℕ) (told : Option (List ℕ)) (image : Option D) → why ≡ status.ImageSize need have → told ≡ Some (replicate least 0) → SizeIs size why least told image → ⊥
+  zeros_are_long why least need have told image is zeros sized =
+      let short : SizeIs size (status.ImageSize need have) least (Some (replicate least 0)) image =
+      subst (λ (w : Status). SizeIs size w least (Some (replicate least 0)) image) is (subst (λ (o : Option (List ℕ)). SizeIs size why least o image) zeros sized) in
+      omega (arith, short.1, short.3, length-replicate {A = ℕ} least 0)
+
+  -- nor is one that is as long as the disks of the script's names need
+  pub long_enough : (why : Status) (least most need have : ℕ) (told : Option (List ℕ)) (image : Option D) → why ≡ status.ImageSize need have → least ≤ most → IfSome image (λ disk. most ≤ size disk) → SizeIs size why least told image → ⊥
+  long_enough why least most need have told None is within enough sized =
+      let short = subst (λ (w : Status). SizeIs size w least told None) is sized in absurd short.2
+  long_enough why least most need have told (Some disk) is within enough sized =
+      let short : SizeIs size (status.ImageSize need have) least told (Some disk) = subst (λ (w : Status). SizeIs size w least told (Some disk)) is sized in
+      omega (arith, short.1, short.2, enough, within)
+
+-- an image that tells as many bytes as it has tells enough where it has enough
+pub long_told : (told : Option (List ℕ)) (size least : ℕ) → IfSome told (λ bytes. length bytes ≡ size) → least ≤ size → IfSome told (λ bytes. least ≤ length bytes)
+long_told None size least is enough = tt
+long_told (Some bytes) size least is enough = omega (arith, is, enough)
+
+module _ {D : Type 0} (size : D → ℕ) where
+  -- the image that was attached is too short
+  pub sized_short : (need have least : ℕ) (told : Option (List ℕ)) (image : D) → need ≡ least → have ≡ size image → have < need → IfSome told (λ bytes. length bytes ≡ size image) → SizeIs size (status.ImageSize need have) least told (Some image)
+  sized_short need have least told image needs has short long = (needs, omega (arith, needs, short), sym has, subst (λ (n : ℕ). IfSome told (λ bytes. length bytes ≡ n)) (sym has) long)
+
+  -- none was attached
+  pub sized_refused : (fault : AttachFault) (least : ℕ) (told : Option (List ℕ)) → SizeIs size (attach_status fault) least told None
+  sized_refused Failed least told = tt
+  sized_refused Memory least told = tt
+
+  -- a run in a world that ended
+  pub sized_run : (start now : Option (List ℕ)) (gives : ℕ → Option (List ℕ)) (why : Status) (faulty : Bool) (names after : NamesState) (s t : WorldState) (journal : List Entry) (lines : ℕ) (image : D) → IsReaders why → RunsAll start now names s why after journal t lines
+      → s ≡ start_of names gives → Each (LiesWithin (size image)) t.lanes → IfSome (gives (512 * blocks_of names.disks)) (λ bytes. 512 * blocks_of names.disks ≤ length bytes)
+      → SizeIs size (ended_status why faulty) (512 * blocks_of after.disks) (gives (512 * blocks_of after.disks)) (Some image)
+  sized_run start now gives why faulty names after s t journal lines image readers runs begins within long =
+      let fits : Grew why 0 (start_of names gives) runs.events journal t = subst (λ (x : WorldState). Grew why 0 x runs.events journal t) begins runs.fits in
+      let enough : 512 * (0 + blocks_of names.disks) ≤ size image =
+      needed_within 0 (size image) names.disks t.lanes (grown_shapes why names gives t runs.events journal readers fits) within (omega arith) in
+      subst (λ (disks : List DiskDecl). SizeIs size (ended_status why faulty) (512 * blocks_of disks) (gives (512 * blocks_of disks)) (Some image)) (sym runs.disks)
+      (sized_of size why faulty (512 * blocks_of names.disks) (gives (512 * blocks_of names.disks)) image readers (omega (arith, enough)) long)
+
+-- a declaration alone adds blocks
+more_blocks : (disks : List DiskDecl) (disk : DiskDecl) → blocks_of (disks ++ disk ∷ []) ≡ blocks_of disks + disk.blocks
+more_blocks [] disk = omega arith
+more_blocks (first ∷ disks) disk = omega (arith, more_blocks disks disk)
+
+noted_blocks : (names : NamesState) (e : Event) → blocks_of names.disks ≤ blocks_of (noted names e).disks
+noted_blocks names e = elim (noted_disks names e) [
+  | inl declares ↦
+      subst (λ (x : Event). blocks_of names.disks ≤ blocks_of (noted names x).disks) (sym declares.1) (omega (arith, more_blocks names.disks declares.0))
+  | inr same ↦ omega (arith, ap (λ (l : List DiskDecl). blocks_of l) same)
+]
+
+-- no disk that is declared goes
+pub blocks_stay : (texts : List (List ℕ)) (before after : NamesState) (events : List Event) → AllSpell texts before events after → blocks_of before.disks ≤ blocks_of after.disks
+blocks_stay [] before after [] spell = omega (arith, ap (λ (n : NamesState). blocks_of n.disks) spell)
+blocks_stay [] before after (e ∷ es) spell = absurd spell
+blocks_stay (x ∷ xs) before after [] spell = absurd spell
+blocks_stay (x ∷ xs) before after (e ∷ es) spell = omega (arith, noted_blocks before e, blocks_stay xs (noted before e) after es spell.1)

@@ -1,0 +1,135 @@
+-- Behind a quiet round both ends of a lane are still by its log, whose entries leave out its silent steps.
+use Rattle.std.proofs.Common.{◌≡◌, ◌⊎◌, inl, inr, ℕ, ◌+◌, ◌≤◌, Bool, true, false, List, [], ◌∷◌, ◌++◌, length, Option, Some, None, refl, sym, ap, ◌∙◌, subst}
+use Rattle.std.specs.Prelude.{◌==◌, if◌then◌else◌, ⊤}
+use Rattle.runs.specs.Lawful.{log_append, log_of}
+use Rattle.runs.specs.Run.{Run, run_append}
+use Rattle.disk_log.specs.Agreement.{AgreesWithLog}
+use Rattle.disk_log.specs.DiskLog.{DiskLog, after, nothing_yet}
+use Rattle.disk_log.specs.QuietLaws.{ClientIsIdle, EndIsIdle, ServerIsIdle}
+use Rattle.disk_log.specs.WorkLaws.{IfClient, IfServer}
+use Rattle.disk_log.specs.WorkLog.{ClientCounts, WorkLog}
+use Rattle.disk_steps.specs.DiskEvent.{DiskEvent, Off, OnWire, Turns}
+use Rattle.disk_steps.specs.LaneState.{IsShape, LaneState, Shape, fresh}
+use Rattle.disk_steps.specs.LaneStep.{LaneStep}
+use Rattle.lane_law.specs.WireAt.{IsUp}
+use Rattle.lane_law.specs.WireEvent.{Blocked, Idle}
+use Rattle.lane_law.specs.WireLog.{WireLog}
+use Rattle.lane_lawful.proofs.AgreementRuns.{run_agrees}
+use Rattle.lane_lawful.specs.CalmEnds.{AreStill, HasNoRoom, IsStill}
+use Rattle.lanes_settle.proofs.LaneRounds.{and_left, and_right, quiet_still}
+use Rattle.lanes_settle.specs.Along.{event_at, happened}
+use Rattle.lanes_settle.specs.Rounds.{LaneRound, MakesRound, are_quiet, is_calm, is_quiet}
+use Rattle.lanes_settle.specs.Settle.{OfLane, SettleEntry, Settled, Unsettled, entry_of, round_entries}
+use Rattle.ldc_queue.specs.Wire.{peer_of, waiting_for}
+use Rattle.ldc_queue.specs.declared.end.End.{End}
+use Rattle.ldc_queue.specs.declared.end.End.TheVariants.{A, B}
+use Rattle.script_laws.proofs.Entries.{EachEntry, each_both}
+use Rattle.script_laws.specs.Still.{AreStillBy, IsStillBy}
+
+-- BY THE LOG of a lane, where another log has the same work
+idle_client : (l m : DiskLog) (c : Option ClientCounts) → m.work ≡ l.work → IfClient c (ClientIsIdle m)
+    → IfClient c (ClientIsIdle l)
+idle_client l m None same idle = tt
+idle_client l m (Some c) same idle = record {
+  published = idle.published ∙ ap (λ (w : WorkLog). length w.issued) same;
+  announced = idle.announced;
+  completed = sym (ap (λ (w : WorkLog). w.done) same) ∙ idle.completed;
+}
+
+idle_by : (e : End) (l m : DiskLog) → m.work ≡ l.work → EndIsIdle e m → EndIsIdle e l
+idle_by A l m same idle =
+    idle_client l m l.work.client same
+    (subst (λ (w : WorkLog). IfClient w.client (ClientIsIdle m)) same idle)
+idle_by B l m same idle = subst (λ (w : WorkLog). IfServer w.server ServerIsIdle) same idle
+
+rests_by : (e : End) (s : LaneState) (m l : DiskLog) → m.work ≡ l.work → s.wire ≡ l.wire → s.shape ≡ l.shape
+    → ((waiting_for e s.wire.wire ≡ []) × EndIsIdle e m) ⊎ HasNoRoom (peer_of e) s
+    → ((waiting_for e l.wire.wire ≡ []) × EndIsIdle e l)
+    ⊎ (l.shape.entries ≤ length (waiting_for (peer_of e) l.wire.wire) + 1)
+rests_by e s m l work wire shape (inl rests) =
+    inl (subst (λ (w : WireLog). waiting_for e w.wire ≡ []) wire rests.0, idle_by e l m work rests.1)
+rests_by e s m l work wire shape (inr full) =
+    inr (subst (λ (k : Shape). k.entries ≤ length (waiting_for (peer_of e) l.wire.wire) + 1) shape
+    (subst (λ (w : WireLog). s.shape.entries ≤ length (waiting_for (peer_of e) w.wire) + 1) wire full))
+
+end_still : (e : End) (s : LaneState) (m l : DiskLog) → m.work ≡ l.work → AgreesWithLog s l → IsStill e s m
+    → IsStillBy e l
+end_still e s m l work agrees at = record {
+  up = subst (λ (w : WireLog). IsUp e w.wire) agrees.wire at.up;
+  still = rests_by e s m l work agrees.wire agrees.shape at.still;
+}
+
+server_still : (s : LaneState) (m l : DiskLog) → m.work ≡ l.work → AgreesWithLog s l
+    → (s.stopped ≡ true) ⊎ IsStill B s m → (l.work.stopped ≡ true) ⊎ IsStillBy B l
+server_still s m l work agrees (inl off) = inl (sym agrees.stopped ∙ off)
+server_still s m l work agrees (inr still) = inr (end_still B s m l work agrees still)
+
+both_still : (s : LaneState) (m l : DiskLog) → m.work ≡ l.work → AgreesWithLog s l → AreStill s m → AreStillBy l
+both_still s m l work agrees at = record {
+  client = end_still A s m l work agrees at.client;
+  server = server_still s m l work agrees at.server;
+}
+
+-- CALM EVENTS leave the work as it was
+calm_work : (l : DiskLog) (event : DiskEvent) → is_calm event ≡ true → (after l event).work ≡ l.work
+calm_work l (OnWire (Idle A)) calm = refl
+calm_work l (OnWire (Idle B)) calm = refl
+calm_work l (OnWire (Blocked A)) calm = refl
+calm_work l (OnWire (Blocked B)) calm = refl
+calm_work l (Turns Off) calm = refl
+calm_work l _ calm = absurd (cc calm)
+
+abbrev pub IsCalmEntry : SettleEntry → Type 0
+IsCalmEntry (OfLane k event) = is_calm event ≡ true
+IsCalmEntry Settled = ⊤
+IsCalmEntry (Unsettled k) = ⊤
+
+calm_entry : (k : ℕ) (event : DiskEvent) → is_calm event ≡ true → EachEntry IsCalmEntry (entry_of k event)
+calm_entry k (OnWire (Idle e)) calm = tt
+calm_entry k (Turns Off) calm = tt
+calm_entry k event calm = (calm, tt)
+
+pub calm_round : (k : ℕ) (rounds : List LaneRound) → are_quiet rounds ≡ true
+    → EachEntry IsCalmEntry (round_entries k rounds)
+calm_round k [] quiet = tt
+calm_round k (r ∷ rounds) quiet =
+    let own : is_quiet r ≡ true = and_left (is_quiet r) (are_quiet rounds) quiet in
+    each_both IsCalmEntry (entry_of k r.client ++ entry_of k r.server) (round_entries (k + 1) rounds)
+    (each_both IsCalmEntry (entry_of k r.client) (entry_of k r.server)
+    (calm_entry k r.client (and_left (is_calm r.client) (is_calm r.server) own))
+    (calm_entry k r.server (and_right (is_calm r.client) (is_calm r.server) own)))
+    (calm_round (k + 1) rounds (and_right (is_quiet r) (are_quiet rounds) quiet))
+
+calm_at : (c : Bool) (l : DiskLog) (event : DiskEvent) → is_calm event ≡ true
+    → (log_of after l (if c then event ∷ [] else [])).work ≡ l.work
+calm_at true l event calm = calm_work l event calm
+calm_at false l event calm = refl
+
+calm_log : (x : ℕ) (l : DiskLog) (part : List SettleEntry) → EachEntry IsCalmEntry part
+    → (log_of after l (happened x part)).work ≡ l.work
+calm_log x l [] calm = refl
+calm_log x l (OfLane j event ∷ part) calm =
+    ap (λ (m : DiskLog). m.work) (log_append after l (event_at x (OfLane j event)) (happened x part))
+    ∙ calm_log x (log_of after l (event_at x (OfLane j event))) part calm.1 ∙ calm_at (j == x) l event calm.0
+calm_log x l (Settled ∷ part) calm = calm_log x l part calm.1
+calm_log x l (Unsettled k ∷ part) calm = calm_log x l part calm.1
+
+-- BEHIND A QUIET ROUND
+pub still_by : (shape : Shape) (events : List DiskEvent) (s : LaneState) (r : LaneRound) (t : LaneState) (x : ℕ)
+    (part : List SettleEntry) → IsShape shape → Run LaneStep (fresh shape) events s → MakesRound s r t
+    → is_quiet r ≡ true → EachEntry IsCalmEntry part → Run LaneStep s (happened x part) t
+    → AreStillBy (log_of after (nothing_yet shape) (events ++ happened x part))
+still_by shape events s r t x part sound run made quiet calm moved =
+    let first : DiskLog = log_of after (nothing_yet shape) events in
+    let whole : Run LaneStep (fresh shape) (events ++ happened x part) t =
+    run_append LaneStep (fresh shape) s t events (happened x part) run moved in
+    let client = and_left (is_calm r.client) (is_calm r.server) quiet in
+    let server = and_right (is_calm r.client) (is_calm r.server) quiet in
+    let steps : (after (after first r.client) r.server).work ≡ first.work =
+    calm_work (after first r.client) r.server server ∙ calm_work first r.client client in
+    let entries : (log_of after (nothing_yet shape) (events ++ happened x part)).work ≡ first.work =
+    ap (λ (m : DiskLog). m.work) (log_append after (nothing_yet shape) events (happened x part))
+    ∙ calm_log x first part calm in
+    both_still t (after (after first r.client) r.server)
+    (log_of after (nothing_yet shape) (events ++ happened x part)) (steps ∙ sym entries)
+    (run_agrees shape (events ++ happened x part) t sound whole) (quiet_still s r t made quiet shape events sound run)

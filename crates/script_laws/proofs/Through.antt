@@ -1,0 +1,150 @@
+-- A journal that fits leads the lanes of the declared disks line by line, and what its entries are for them is their
+-- run.
+use Rattle.std.proofs.Common.{◌≡◌, ℕ, zero, suc, Some, List, [], ◌∷◌, ◌++◌, length, map, slice_get, slice_set, sym, ap, ◌∙◌, subst}
+use Rattle.std.specs.List.{flat_map}
+use Rattle.std.proofs.lemmas.List.{length-map}
+use Rattle.runs.specs.Run.{Run, run_append}
+use Rattle.disk_law.specs.ListState.{ImageState}
+use Rattle.disk_steps.specs.LaneState.{LaneState, Shape, fresh}
+use Rattle.domain_script.specs.declared.event.DiskDecl.{DiskDecl}
+use Rattle.domain_script.specs.declared.event.Event.{Event}
+use Rattle.lane_invariant.proofs.RingPages.{same_pages}
+use Rattle.lanes_settle.specs.Rounds.{Each}
+use Rattle.lanes_settle.specs.Settle.{OfLane, SettleEntry, Settled, Unsettled}
+use Rattle.lanes_settle.specs.Sums.{IsUnforged}
+use Rattle.lanes_world.proofs.Along.{lane_step, lines_run}
+use Rattle.lanes_world.specs.Lines.{Line, LineBegins, entries_of}
+use Rattle.lanes_world.specs.Lines as script
+use Rattle.lanes_world.specs.World.{WorldState, WorldStep}
+use Rattle.ldom_journal.specs.declared.entry.Entry.{Entry}
+use Rattle.world_parts.specs.Declared.{shapes_of, world_of}
+use Rattle.world_parts.specs.Lines.{LineStep, all_happened, line_of}
+use Rattle.world_parts.specs.Script.{FitsCutOff, FitsScript, cut_lines}
+use Rattle.world_requests.proofs.ByLines.{unforged_begun, unforged_behind}
+use Rattle.world_words.proofs.LeftOver.{NamesBelow, cut_below, lines_below}
+use Rattle.script_laws.proofs.DiskShapes.{fresh_shapes, many_shapes}
+use Rattle.script_laws.proofs.Tellings.{LinesTell, Telling, entries_told, flat_push, line_first, line_last, means_of, no_lines, part_tells, seen_at}
+
+-- LINES with their parts, as those of a script over lanes
+pub record Through (w : WorldState) (lines : List (Event × List Entry)) (v : WorldState) : Type 0 where
+  pub moved : List (Line × List SettleEntry)
+  pub run : Run script.LineStep w moved v
+  pub tells : LinesTell lines (entries_of moved)
+
+pub lines_through : (w : WorldState) (lines : List (Event × List Entry)) (v : WorldState) → Run LineStep w lines v
+    → Through w lines v
+lines_through w [] v run = record { moved = []; run = run; tells = no_lines }
+lines_through w (line ∷ lines) v run =
+    let step = run.1 in
+    let rest = lines_through run.0 lines v run.2 in
+    record {
+      moved = (line_of line.0, step.entries) ∷ rest.moved;
+      run = (run.0, step.moves, rest.run);
+      tells = line_first line lines step.entries (entries_of rest.moved)
+          (part_tells line.0 line.1 step.entries step.says) rest.tells;
+    }
+
+-- A JOURNAL, entry by entry: what its lines say of each disk, and that what it is for the lanes is a run of theirs
+pub record JournalTells (disks : List DiskDecl) (image : ImageState) (lines : List (Event × List Entry))
+    (journal : List Entry) (v : WorldState) : Type 0 where
+  pub tellings : List Telling
+  pub journal_is : entries_told tellings ≡ journal
+  pub seen : (x : ℕ) → seen_at x tellings ≡ all_happened x lines
+  pub run : Run WorldStep (world_of disks image) (means_of tellings) v
+  pub unforged : Each IsUnforged v.lanes
+  pub below : NamesBelow (length disks) (means_of tellings)
+
+fresh_many : (disks : List DiskDecl) → length (map fresh (shapes_of 0 disks)) ≡ length disks
+fresh_many disks = length-map (shapes_of 0 disks) fresh ∙ many_shapes 0 disks
+
+pub script_tells : (disks : List DiskDecl) (image : ImageState) (entries : ℕ) (events : List Event)
+    (journal : List Entry) (v : WorldState)
+    → (fits : FitsScript entries (world_of disks image) events journal v)
+    → JournalTells disks image fits.lines journal v
+script_tells disks image entries events journal v fits =
+    let w = world_of disks image in
+    let through = lines_through w fits.lines v fits.run in
+    let tells = through.tells in
+    let back : entries_of through.moved ≡ means_of tells.tellings = sym tells.means_are in
+    record {
+      tellings = tells.tellings;
+      journal_is = tells.entries_are ∙ fits.parts;
+      seen = tells.seen;
+      run = subst (λ (l : List SettleEntry). Run WorldStep w l v) back (lines_run w through.moved v through.run);
+      unforged = unforged_behind (shapes_of 0 disks) image through.moved v through.run;
+      below = subst (NamesBelow (length disks)) back
+          (lines_below (length disks) w through.moved v (fresh_many disks) through.run);
+    }
+
+cut_parts : (lines : List (Event × List Entry)) (last : Event × List Entry) (front : List Entry)
+    → flat_map (λ (l : Event × List Entry). l.1) lines ≡ front
+    → flat_map (λ (l : Event × List Entry). l.1) (lines ++ last ∷ []) ≡ front ++ last.1
+cut_parts lines last front is =
+    sym (flat_push (λ (l : Event × List Entry). l.1) lines last) ∙ ap (λ (l : List Entry). l ++ last.1) is
+
+pub cut_off_tells : (disks : List DiskDecl) (image : ImageState) (entries : ℕ) (events : List Event)
+    (journal : List Entry) (v : WorldState)
+    → (cut : FitsCutOff entries (world_of disks image) events journal v)
+    → JournalTells disks image (cut_lines cut) journal v
+cut_off_tells disks image entries events journal v cut =
+    let w = world_of disks image in
+    let m = cut.middle in
+    let through = lines_through w cut.fits.lines m cut.fits.run in
+    let last : Event × List Entry = (cut.last, cut.part) in
+    let tells = line_last cut.fits.lines last (entries_of through.moved) cut.made through.tells
+    (part_tells cut.last cut.part cut.made cut.says) in
+    let back : entries_of through.moved ++ cut.made ≡ means_of tells.tellings = sym tells.means_are in
+    let run = run_append WorldStep w m v (entries_of through.moved) cut.made
+    (lines_run w through.moved m through.run) cut.begins.run in
+    record {
+      tellings = tells.tellings;
+      journal_is = tells.entries_are ∙ cut_parts cut.fits.lines last cut.front cut.fits.parts ∙ sym cut.journal_is;
+      seen = tells.seen;
+      run = subst (λ (l : List SettleEntry). Run WorldStep w l v) back run;
+      unforged = unforged_begun (shapes_of 0 disks) image through.moved m
+          (line_of cut.last) cut.made v through.run cut.begins;
+      below = subst (NamesBelow (length disks)) back
+          (cut_below (length disks) w through.moved m (line_of cut.last) cut.made v (fresh_many disks)
+          through.run cut.begins);
+    }
+
+-- SHAPES STAY
+set_shape : (lanes : List LaneState) (k : ℕ) (s t : LaneState) → slice_get lanes k ≡ Some s → t.shape ≡ s.shape
+    → map (λ (l : LaneState). l.shape) (slice_set lanes k t) ≡ map (λ (l : LaneState). l.shape) lanes
+set_shape [] k s t there is = absurd (cc there)
+set_shape (x ∷ lanes) zero s t there is =
+    let same : x ≡ s = cc there in
+    let shape : t.shape ≡ x.shape = is ∙ sym (ap (λ (l : LaneState). l.shape) same) in
+    ap (λ (shape : Shape). shape ∷ map (λ (l : LaneState). l.shape) lanes) shape
+set_shape (x ∷ lanes) (suc k) s t there is =
+    ap (λ (shapes : List Shape). x.shape ∷ shapes) (set_shape lanes k s t there is)
+
+step_shapes : (w : WorldState) (entry : SettleEntry) (v : WorldState) → WorldStep w entry v
+    → map (λ (s : LaneState). s.shape) v.lanes ≡ map (λ (s : LaneState). s.shape) w.lanes
+step_shapes w (OfLane k event) v step =
+    ap (λ (l : List LaneState). map (λ (s : LaneState). s.shape) l) step.lanes
+    ∙ set_shape w.lanes k step.lane step.after step.there
+    (same_pages step.lane event step.after (lane_step step.lane w.image event step.after v.image step.moves)).shape
+step_shapes w Settled v step = ap (λ (x : WorldState). map (λ (s : LaneState). s.shape) x.lanes) step
+step_shapes w (Unsettled k) v step = ap (λ (x : WorldState). map (λ (s : LaneState). s.shape) x.lanes) step
+
+run_shapes : (w : WorldState) (entries : List SettleEntry) (v : WorldState) → Run WorldStep w entries v
+    → map (λ (s : LaneState). s.shape) v.lanes ≡ map (λ (s : LaneState). s.shape) w.lanes
+run_shapes w [] v run = ap (λ (x : WorldState). map (λ (s : LaneState). s.shape) x.lanes) (sym run)
+run_shapes w (entry ∷ entries) v run = run_shapes run.0 entries v run.2 ∙ step_shapes w entry run.0 run.1
+
+pub script_shapes : (disks : List DiskDecl) (image : ImageState) (entries : ℕ) (events : List Event)
+    (journal : List Entry) (v : WorldState)
+    → FitsScript entries (world_of disks image) events journal v
+    → map (λ (s : LaneState). s.shape) v.lanes ≡ shapes_of 0 disks
+script_shapes disks image entries events journal v fits =
+    let tells = script_tells disks image entries events journal v fits in
+    run_shapes (world_of disks image) (means_of tells.tellings) v tells.run ∙ fresh_shapes (shapes_of 0 disks)
+
+pub cut_off_shapes : (disks : List DiskDecl) (image : ImageState) (entries : ℕ) (events : List Event)
+    (journal : List Entry) (v : WorldState)
+    → FitsCutOff entries (world_of disks image) events journal v
+    → map (λ (s : LaneState). s.shape) v.lanes ≡ shapes_of 0 disks
+cut_off_shapes disks image entries events journal v cut =
+    let tells = cut_off_tells disks image entries events journal v cut in
+    run_shapes (world_of disks image) (means_of tells.tellings) v tells.run ∙ fresh_shapes (shapes_of 0 disks)

@@ -1,0 +1,372 @@
+-- Each tick in the part of a settle over clean lanes comes where its lane's server runs, a packet was lost since the
+-- queues were last emptied, and both ends are still.
+use Rattle.std.proofs.Common.{◌≡◌, ◌⊎◌, inl, inr, ℕ, zero, suc, ◌+◌, ◌<◌, ◌≤◌, Bool, true, false, List, [], ◌∷◌, ◌++◌, length, slice_get, Some, refl, sym, ap, ◌∙◌, subst, arith, append_assoc, append-nil}
+use Rattle.std.proofs.lemmas.Option.{slice_get_within}
+use Rattle.runs.specs.Lawful.{log_of}
+use Rattle.runs.specs.Run.{Run, run_append}
+use Rattle.disk_log.specs.DiskLog.{after, nothing_yet}
+use Rattle.disk_steps.specs.ClientState.{is_finished}
+use Rattle.disk_steps.specs.DiskEvent.{DiskEvent}
+use Rattle.disk_steps.specs.LaneState.{IsShape, LaneState, Shape, fresh}
+use Rattle.disk_steps.specs.LaneStep.{LaneStep}
+use Rattle.disk_steps.specs.Reached.{IsReached}
+use Rattle.lanes_settle.proofs.Falling.{AreClean, rounds_fell}
+use Rattle.lanes_settle.proofs.LaneRounds.{and_left, and_right, quiet_finished, quiet_same, round_keeps}
+use Rattle.lanes_settle.proofs.LaneTicks.{either, waits_where}
+use Rattle.lanes_settle.proofs.Moving.{both_none, happened_both, moves_on, round_moves_lanes, rounds_move_lanes, tick_below}
+use Rattle.lanes_settle.proofs.RoundCounts.{tick_entry}
+use Rattle.lanes_settle.proofs.Together.{gets_where}
+use Rattle.lanes_settle.specs.Along.{LanesMove, happened}
+use Rattle.lanes_settle.specs.Begun.{NamesFront, NoMore, QuietFront, RoundFront, SettleFront, TickFront}
+use Rattle.lanes_settle.specs.Moves.{is_tick}
+use Rattle.lanes_settle.specs.Rounds.{Each, LaneRound, MakeRound, MakesRound, are_quiet, is_quiet}
+use Rattle.lanes_settle.specs.Settle.{GoesOn, OfLane, SettleEntry, SettleRound, Settled, Settles, Settling, TicksBehind}
+use Rattle.lanes_settle.specs.Settle.{begin, entries_of, most_rounds, round_entries, tick_entries}
+use Rattle.lanes_settle.specs.Sums.{IsUnforged}
+use Rattle.lanes_settle.specs.Ticks.{TickLanes, gets_tick, tick, waits_on}
+use Rattle.lanes_world.proofs.LaneLists.{each_there, is_there, lane_moved, many_moved}
+use Rattle.script_laws.proofs.Entries.{EachEntry, each_in}
+use Rattle.script_laws.proofs.Places.{InEither, no_place, place_in}
+use Rattle.script_laws.proofs.SettleTicks.{NoTick, front_none, round_none}
+use Rattle.script_laws.proofs.Stillness.{calm_round, still_by}
+use Rattle.script_laws.specs.Still.{AreStillBy}
+
+-- A TICK of this lane behind so much of the part
+pub record TickAt (x : ℕ) (so_far : List SettleEntry) (start : LaneState) : Type 0 where
+  pub lane : LaneState
+  pub run : Run LaneStep start (happened x so_far) lane
+  pub runs : lane.stopped ≡ false
+  pub lost : lane.wire.lossy ≡ true
+  pub still : (shape : Shape) (events : List DiskEvent) → IsShape shape → Run LaneStep (fresh shape) events start
+      → AreStillBy (log_of after (nothing_yet shape) (events ++ happened x so_far))
+
+abbrev pub TicksStand : List LaneState → List SettleEntry → Type 0
+TicksStand start part =
+    (x : ℕ) (event : DiskEvent) (so_far rest : List SettleEntry) (s : LaneState) → is_tick event ≡ true
+    → part ≡ so_far ++ OfLane x event ∷ rest → slice_get start x ≡ Some s → TickAt x so_far s
+
+none_stand : (start : List LaneState) (part : List SettleEntry) → EachEntry NoTick part → TicksStand start part
+none_stand start part none x event so_far rest s is place there =
+    let never : is_tick event ≡ false = each_in NoTick part so_far (OfLane x event) rest place none in
+    let both : true ≡ false = sym is ∙ never in
+    absurd (cc both)
+
+-- ONE STRETCH BEHIND ANOTHER
+pub record MovedTo (x : ℕ) (part : List SettleEntry) (s : LaneState) (behind : List LaneState) : Type 0 where
+  pub lane : LaneState
+  pub there : slice_get behind x ≡ Some lane
+  pub run : Run LaneStep s (happened x part) lane
+
+pub moved_to : (start : List LaneState) (part : List SettleEntry) (behind : List LaneState) (x : ℕ) (s : LaneState)
+    → LanesMove 0 start part behind → slice_get start x ≡ Some s → MovedTo x part s behind
+moved_to start part behind x s moves there =
+    let many = many_moved 0 start part behind moves in
+    let lane = is_there behind x (omega (arith, slice_get_within start x s there, many)) in
+    record { lane = lane.0; there = lane.1; run = lane_moved 0 x x start part behind s lane.0 (own x) moves there lane.1 }
+  where
+    own : (x : ℕ) → x ≡ 0 + x
+    own x = omega (arith)
+
+two_at : (start : List LaneState) (one : List SettleEntry) (between : List LaneState) (two : List SettleEntry)
+    → LanesMove 0 start one between → TicksStand start one → TicksStand between two
+    → (x : ℕ) (event : DiskEvent) (so_far rest : List SettleEntry) (s : LaneState) → is_tick event ≡ true
+    → slice_get start x ≡ Some s → InEither one two so_far (OfLane x event) rest → TickAt x so_far s
+two_at start one between two moves first second x event so_far rest s is there (inl at) =
+    first x event so_far at.rest s is at.is there
+two_at start one between two moves first second x event so_far rest s is there (inr at) =
+    let m : MovedTo x one s between = moved_to start one between x s moves there in
+    let found : TickAt x at.later m.lane = second x event at.later rest m.lane is at.is m.there in
+    subst (λ (l : List SettleEntry). TickAt x l s) (sym at.before_is) (record {
+      lane = found.lane;
+      run = subst (λ (l : List DiskEvent). Run LaneStep s l found.lane) (sym (happened_both x one at.later))
+          (run_append LaneStep s m.lane found.lane (happened x one) (happened x at.later) m.run found.run);
+      runs = found.runs;
+      lost = found.lost;
+      still = λ shape events sound run.
+          subst (λ (l : List DiskEvent). AreStillBy (log_of after (nothing_yet shape) l))
+          (append_assoc events (happened x one) (happened x at.later)
+          ∙ ap (λ (l : List DiskEvent). events ++ l) (sym (happened_both x one at.later)))
+          (found.still shape (events ++ happened x one) sound
+          (run_append LaneStep (fresh shape) s m.lane events (happened x one) run m.run));
+    })
+
+two_stand : (start : List LaneState) (one : List SettleEntry) (between : List LaneState) (two : List SettleEntry)
+    → LanesMove 0 start one between → TicksStand start one → TicksStand between two → TicksStand start (one ++ two)
+two_stand start one between two moves first second x event so_far rest s is place there =
+    two_at start one between two moves first second x event so_far rest s is there
+    (place_in one two so_far (OfLane x event) rest place)
+
+as_stand : (start : List LaneState) (one two : List SettleEntry) → one ≡ two → TicksStand start two
+    → TicksStand start one
+as_stand start one two is stand = subst (λ (l : List SettleEntry). TicksStand start l) (sym is) stand
+
+-- A FRONT OF THE TICKS: before that of a lane nothing happened to it
+record FirstTick (j x : ℕ) (lanes : List LaneState) (so_far : List SettleEntry) : Type 0 where
+  index : ℕ
+  is : x ≡ j + index
+  lane : LaneState
+  there : slice_get lanes index ≡ Some lane
+  waits : waits_on lane ≡ true
+  none : happened x so_far ≡ []
+
+later_tick : (j x : ℕ) (s : LaneState) (lanes : List LaneState) (so_far : List SettleEntry) (get : Bool)
+    → FirstTick (j + 1) x lanes so_far → FirstTick j x (s ∷ lanes) (tick_entry j get ++ so_far)
+later_tick j x s lanes so_far get at = record {
+  index = suc at.index;
+  is = further at.index at.is;
+  lane = at.lane;
+  there = at.there;
+  waits = at.waits;
+  none = both_none x (tick_entry j get) so_far (tick_below j get x (above at.index at.is)) at.none;
+}
+  where
+    further : (i : ℕ) → x ≡ (j + 1) + i → x ≡ j + suc i
+    further i is = omega (arith, is)
+
+    above : (i : ℕ) → x ≡ (j + 1) + i → j + 1 ≤ x
+    above i is = omega (arith, is)
+
+lane_tick : (j : ℕ) (s : LaneState) (had : Bool) (lanes : List LaneState) (later : List SettleEntry) (x : ℕ)
+    (event : DiskEvent) (so_far rest : List SettleEntry) (get : Bool) → gets_tick s had ≡ get
+    → ((past : List SettleEntry) → later ≡ past ++ OfLane x event ∷ rest → FirstTick (j + 1) x lanes past)
+    → tick_entry j get ++ later ≡ so_far ++ OfLane x event ∷ rest → FirstTick j x (s ∷ lanes) so_far
+lane_tick j s had lanes later x event so_far rest false gets more is =
+    later_tick j x s lanes so_far false (more so_far is)
+lane_tick j s had lanes later x event [] rest true gets more is =
+    let same : OfLane j tick ≡ OfLane x event = cc is in
+    let number : j ≡ x = cc same in
+    record {
+      index = 0;
+      is = omega (arith, number);
+      lane = s;
+      there = refl;
+      waits = (gets_where had (waits_on s) gets).1;
+      none = refl;
+    }
+lane_tick j s had lanes later x event (entry ∷ past) rest true gets more is =
+    let same : OfLane j tick ≡ entry = cc is in
+    let others : later ≡ past ++ OfLane x event ∷ rest = cc is in
+    subst (λ (y : SettleEntry). FirstTick j x (s ∷ lanes) (y ∷ past)) same
+    (later_tick j x s lanes past true (more past others))
+
+none_there : (lanes : List LaneState) (part : List SettleEntry) (behind : List LaneState) (so_far : List SettleEntry)
+    (entry : SettleEntry) (rest : List SettleEntry) → NoMore lanes part behind → part ≡ so_far ++ entry ∷ rest → ⊥
+none_there lanes part behind so_far entry rest none place = no_place so_far entry rest (sym none.is ∙ place)
+
+front_tick : (j : ℕ) (lanes : List LaneState) (marks : List Bool) (part : List SettleEntry) (behind : List LaneState)
+    → TickFront j lanes marks part behind → (x : ℕ) (event : DiskEvent) (so_far rest : List SettleEntry)
+    → part ≡ so_far ++ OfLane x event ∷ rest → FirstTick j x lanes so_far
+front_tick j [] marks part behind none x event so_far rest place =
+    absurd (none_there [] part behind so_far (OfLane x event) rest none place)
+front_tick j (s ∷ lanes) [] part behind none x event so_far rest place =
+    absurd (none_there (s ∷ lanes) part behind so_far (OfLane x event) rest none place)
+front_tick j (s ∷ lanes) (had ∷ marks) part behind (inl none) x event so_far rest place =
+    absurd (none_there (s ∷ lanes) part behind so_far (OfLane x event) rest none place)
+front_tick j (s ∷ lanes) (had ∷ marks) part behind (inr made) x event so_far rest place =
+    lane_tick j s had lanes made.later x event so_far rest (gets_tick s had) refl
+    (λ (past : List SettleEntry) (is : made.later ≡ past ++ OfLane x event ∷ rest).
+    front_tick (j + 1) lanes marks made.later made.others made.more x event past rest is)
+    (sym made.is ∙ place)
+
+-- a lane that waits lost a packet
+abbrev pub WaitsLost : LaneState → Type 0
+WaitsLost t = waits_on t ≡ true → t.wire.lossy ≡ true
+
+record LostAt (x : ℕ) (so_far : List SettleEntry) (s : LaneState) : Type 0 where
+  none : happened x so_far ≡ []
+  runs : s.stopped ≡ false
+  lost : s.wire.lossy ≡ true
+
+front_lost : (lanes : List LaneState) (marks : List Bool) (part : List SettleEntry) (behind : List LaneState)
+    → Each WaitsLost lanes → TickFront 0 lanes marks part behind → (x : ℕ) (event : DiskEvent)
+    (so_far rest : List SettleEntry) (s : LaneState) → part ≡ so_far ++ OfLane x event ∷ rest
+    → slice_get lanes x ≡ Some s → LostAt x so_far s
+front_lost lanes marks part behind lost front x event so_far rest s place there =
+    let first : FirstTick 0 x lanes so_far = front_tick 0 lanes marks part behind front x event so_far rest place in
+    let number : first.index ≡ x = omega (arith, first.is) in
+    let found : slice_get lanes x ≡ Some first.lane =
+    subst (λ (i : ℕ). slice_get lanes i ≡ Some first.lane) number first.there in
+    let both : Some first.lane ≡ Some s = sym found ∙ there in
+    let same : first.lane ≡ s = cc both in
+    let waits : waits_on s ≡ true = subst (λ (l : LaneState). waits_on l ≡ true) same first.waits in
+    record {
+      none = first.none;
+      runs = (waits_where (is_finished s.client) s.stopped waits).1;
+      lost = each_there WaitsLost lanes x s lost there waits;
+    }
+
+-- all ticks are a front of them
+all_ticks : (j : ℕ) (lanes : List LaneState) (marks : List Bool) (behind : List LaneState)
+    → TickLanes lanes marks behind → TickFront j lanes marks (tick_entries j lanes marks) behind
+all_ticks j [] [] [] made = record { is = refl; lanes_stay = refl }
+all_ticks j (s ∷ lanes) (had ∷ marks) (t ∷ behind) made =
+    inr (record {
+      after = t;
+      ticks = made.0;
+      later = tick_entries (j + 1) lanes marks;
+      others = behind;
+      more = all_ticks (j + 1) lanes marks behind made.1;
+      is = refl;
+      rest = refl;
+    })
+all_ticks j _ _ _ made = absurd made
+
+-- BEHIND A QUIET ROUND
+lossy_where : (s : LaneState) (r : LaneRound) (t : LaneState) → IsReached s → IsUnforged s → MakesRound s r t
+    → is_quiet r ≡ true → s.stopped ≡ false → is_finished t.client ≡ false
+    → (s.wire.lossy ≡ true) ⊎ (s.wire.lossy ≡ false) → t.wire.lossy ≡ true
+lossy_where s r t at clean made quiet runs unfinished (inl lossy) =
+    ap (λ (l : LaneState). l.wire.lossy) (quiet_same s r t at clean runs made quiet) ∙ lossy
+lossy_where s r t at clean made quiet runs unfinished (inr whole) =
+    let never : true ≡ false = sym (quiet_finished s r t at clean whole runs made quiet).finished ∙ unfinished in
+    absurd (cc never)
+
+waits_lost : (s : LaneState) (r : LaneRound) (t : LaneState) → IsReached s → IsUnforged s → MakesRound s r t
+    → is_quiet r ≡ true → WaitsLost t
+waits_lost s r t at clean made quiet waits =
+    let both = waits_where (is_finished t.client) t.stopped waits in
+    lossy_where s r t at clean made quiet (sym (round_keeps s r t made).stopped ∙ both.1) both.0 (either s.wire.lossy)
+
+quiet_lost : (lanes : List LaneState) (rounds : List LaneRound) (behind : List LaneState) → Each IsReached lanes
+    → Each IsUnforged lanes → MakeRound lanes rounds behind → are_quiet rounds ≡ true → Each WaitsLost behind
+quiet_lost [] [] [] reached clean made quiet = tt
+quiet_lost (s ∷ lanes) (r ∷ rounds) (t ∷ behind) reached clean made quiet = (
+  waits_lost s r t reached.0 clean.0 made.0 (and_left (is_quiet r) (are_quiet rounds) quiet),
+  quiet_lost lanes rounds behind reached.1 clean.1 made.1 (and_right (is_quiet r) (are_quiet rounds) quiet),
+)
+quiet_lost _ _ _ reached clean made quiet = absurd made
+
+pub record QuietAt (x : ℕ) (s : LaneState) (behind : List LaneState) : Type 0 where
+  pub round : LaneRound
+  pub lane : LaneState
+  pub there : slice_get behind x ≡ Some lane
+  pub made : MakesRound s round lane
+  pub quiet : is_quiet round ≡ true
+
+pub quiet_at : (lanes : List LaneState) (rounds : List LaneRound) (behind : List LaneState) (x : ℕ) (s : LaneState)
+    → MakeRound lanes rounds behind → are_quiet rounds ≡ true → slice_get lanes x ≡ Some s → QuietAt x s behind
+quiet_at [] [] [] x s made quiet there = absurd (cc there)
+quiet_at (y ∷ lanes) (r ∷ rounds) (t ∷ behind) zero s made quiet there =
+    let same : y ≡ s = cc there in
+    record {
+      round = r;
+      lane = t;
+      there = refl;
+      made = subst (λ (l : LaneState). MakesRound l r t) same made.0;
+      quiet = and_left (is_quiet r) (are_quiet rounds) quiet;
+    }
+quiet_at (y ∷ lanes) (r ∷ rounds) (t ∷ behind) (suc x) s made quiet there =
+    let at : QuietAt x s behind =
+    quiet_at lanes rounds behind x s made.1 (and_right (is_quiet r) (are_quiet rounds) quiet) there in
+    record { round = at.round; lane = at.lane; there = at.there; made = at.made; quiet = at.quiet }
+quiet_at _ _ _ x s made quiet there = absurd made
+
+module _ (lanes : List LaneState) (marks : List Bool) (steps : List LaneRound) (between : List LaneState)
+    (later : List SettleEntry) (behind : List LaneState) (clean : AreClean lanes) (made : MakeRound lanes steps between)
+    (quiet : are_quiet steps ≡ true) (front : TickFront 0 between marks later behind) where
+  -- a tick behind all entries of the round
+  behind_round : (x : ℕ) (past : List SettleEntry) (s : LaneState) (at : QuietAt x s between) → LostAt x past at.lane
+      → slice_get lanes x ≡ Some s → TickAt x (round_entries 0 steps ++ past) s
+  behind_round x past s at lost there =
+      let round : List SettleEntry = round_entries 0 steps in
+      let moved : Run LaneStep s (happened x round) at.lane =
+      lane_moved 0 x x lanes round between s at.lane (own x) (round_moves_lanes 0 lanes steps between made) there
+      at.there in
+      let same : happened x (round ++ past) ≡ happened x round =
+      happened_both x round past ∙ ap (λ (l : List DiskEvent). happened x round ++ l) lost.none
+      ∙ append-nil (happened x round) in
+      record {
+        lane = at.lane;
+        run = subst (λ (l : List DiskEvent). Run LaneStep s l at.lane) (sym same) moved;
+        runs = lost.runs;
+        lost = lost.lost;
+        still = λ shape events sound run.
+            subst (λ (l : List DiskEvent). AreStillBy (log_of after (nothing_yet shape) (events ++ l))) (sym same)
+            (still_by shape events s at.round at.lane x round sound run at.made at.quiet (calm_round 0 steps quiet)
+            moved);
+      }
+    where
+      own : (x : ℕ) → x ≡ 0 + x
+      own x = omega (arith)
+
+  quiet_tick : (x : ℕ) (event : DiskEvent) (so_far rest : List SettleEntry) (s : LaneState) → is_tick event ≡ true
+      → slice_get lanes x ≡ Some s → InEither (round_entries 0 steps) later so_far (OfLane x event) rest
+      → TickAt x so_far s
+  quiet_tick x event so_far rest s is there (inl at) =
+      none_stand lanes (round_entries 0 steps) (round_none 0 lanes steps between made) x event so_far at.rest s is at.is
+      there
+  quiet_tick x event so_far rest s is there (inr at) =
+      let found : QuietAt x s between = quiet_at lanes steps between x s made quiet there in
+      let all_lost = quiet_lost lanes steps between clean.reached clean.unforged made quiet in
+      let lost : LostAt x at.later found.lane =
+      front_lost between marks later behind all_lost front x event at.later rest found.lane at.is found.there in
+      subst (λ (l : List SettleEntry). TickAt x l s) (sym at.before_is) (behind_round x at.later s found lost there)
+
+  quiet_front : TicksStand lanes (round_entries 0 steps ++ later)
+  quiet_front x event so_far rest s is place there =
+      quiet_tick x event so_far rest s is there
+      (place_in (round_entries 0 steps) later so_far (OfLane x event) rest place)
+
+-- ALONG THE ROUNDS
+goes_stand : (quiet : Bool) (w : Settling) (steps : List LaneRound) (between : List LaneState)
+    (entries : List SettleEntry) (v : Settling) → AreClean w.lanes → MakeRound w.lanes steps between
+    → are_quiet steps ≡ quiet → TicksBehind quiet w steps between entries v → TicksStand w.lanes entries
+goes_stand false w steps between entries v clean made loud behind =
+    as_stand w.lanes entries (round_entries 0 steps) behind.1
+    (none_stand w.lanes (round_entries 0 steps) (round_none 0 w.lanes steps between made))
+goes_stand true w steps between entries v clean made quiet behind =
+    as_stand w.lanes entries (round_entries 0 steps ++ tick_entries 0 between w.marks) behind.3
+    (quiet_front w.lanes w.marks steps between (tick_entries 0 between w.marks) v.lanes clean made quiet
+    (all_ticks 0 between w.marks v.lanes behind.1))
+
+rounds_stand : (w : Settling) (rounds : List SettleRound) (v : Settling) → AreClean w.lanes → Run GoesOn w rounds v
+    → TicksStand w.lanes (entries_of rounds)
+rounds_stand w [] v clean run = none_stand w.lanes [] tt
+rounds_stand w (round ∷ rounds) v clean run =
+    let once : Run GoesOn w (round ∷ []) run.0 = (run.0, run.1, refl) in
+    let moves : LanesMove 0 w.lanes round.entries run.0.lanes =
+    subst (λ (l : List SettleEntry). LanesMove 0 w.lanes l run.0.lanes) (append-nil round.entries)
+    (rounds_move_lanes w (round ∷ []) run.0 once) in
+    two_stand w.lanes round.entries run.0.lanes (entries_of rounds) moves
+    (goes_stand (are_quiet round.steps) w round.steps run.1.between round.entries run.0 clean run.1.made refl
+    run.1.behind)
+    (rounds_stand run.0 rounds v (rounds_fell w (round ∷ []) run.0 clean once).clean run.2)
+
+-- A SETTLE, and a front of one that made fewer than the most rounds
+pub settles_stand : (start : List LaneState) (part : List SettleEntry) (behind : List LaneState) → AreClean start
+    → Settles start part behind → TicksStand start part
+settles_stand start part behind clean at =
+    let rounds : List SettleEntry = entries_of at.rounds in
+    let last : List SettleEntry = round_entries 0 at.steps in
+    let first = rounds_move_lanes (begin start) at.rounds at.now at.run in
+    let then = round_moves_lanes 0 at.now.lanes at.steps behind at.last.made in
+    as_stand start part (rounds ++ last ++ Settled ∷ []) at.is
+    (two_stand start (rounds ++ last) behind (Settled ∷ []) (moves_on 0 start at.now.lanes behind rounds last first then)
+    (two_stand start rounds at.now.lanes last first (rounds_stand (begin start) at.rounds at.now clean at.run)
+    (none_stand at.now.lanes last (round_none 0 at.now.lanes at.steps behind at.last.made)))
+    (none_stand behind (Settled ∷ []) (tt, tt)))
+
+not_all : (made most : ℕ) → made < most → made ≡ most → ⊥
+not_all made most less all = omega (arith, less, all)
+
+later_stand : (rounds : List SettleRound) (now : Settling) (most : ℕ) (later : List SettleEntry)
+    (behind : List LaneState) → AreClean now.lanes → length rounds < most
+    → ((length rounds < most) × (RoundFront 0 now.lanes later behind ⊎ QuietFront now later behind))
+    ⊎ ((length rounds ≡ most) × NamesFront rounds now later behind) → TicksStand now.lanes later
+later_stand rounds now most later behind clean few (inl (less, inl front)) =
+    none_stand now.lanes later (front_none 0 now.lanes later behind front)
+later_stand rounds now most later behind clean few (inl (less, inr quiet)) =
+    as_stand now.lanes later (round_entries 0 quiet.steps ++ quiet.later) quiet.is
+    (quiet_front now.lanes now.marks quiet.steps quiet.between quiet.later behind clean quiet.made quiet.quiet
+    quiet.ticks)
+later_stand rounds now most later behind clean few (inr (all, names)) = absurd (not_all (length rounds) most few all)
+
+pub begun_stand : (start : List LaneState) (part : List SettleEntry) (behind : List LaneState) → AreClean start
+    → (at : SettleFront start part behind) → length at.rounds < most_rounds start → TicksStand start part
+begun_stand start part behind clean at few =
+    as_stand start part (entries_of at.rounds ++ at.later) at.is
+    (two_stand start (entries_of at.rounds) at.now.lanes at.later
+    (rounds_move_lanes (begin start) at.rounds at.now at.run)
+    (rounds_stand (begin start) at.rounds at.now clean at.run)
+    (later_stand at.rounds at.now (most_rounds start) at.later behind
+    (rounds_fell (begin start) at.rounds at.now clean at.run).clean few at.front))

@@ -1,0 +1,74 @@
+-- What a journal tells of all disks together: the statuses of its completions, and how many of them failed.
+use Rattle.std.proofs.Common.{◌≡◌, inl, inr, ℕ, ◌+◌, Bool, false, cond, List, [], ◌∷◌, refl, sym, ap, ◌∙◌, subst, arith}
+use Rattle.std.specs.List.{All, cons_option, count_by}
+use Rattle.std.proofs.lemmas.List.Elements.{All-cons, All-nil}
+use Rattle.disk_law.specs.ListStep as plain
+use Rattle.domain_script.specs.declared.event.Event.{Event}
+use Rattle.lanes_settle.specs.Settle.{OfLane, SettleEntry, Settled, Unsettled}
+use Rattle.ldom_journal.specs.DiskEvents.{Said, said, said_of_any, whole_history}
+use Rattle.ldom_journal.specs.declared.entry.Entry.{Entry}
+use Rattle.world_faults.proofs.Counted.{count_more}
+use Rattle.world_faults.specs.Failures.{in_entry, is_failed_done}
+use Rattle.script_laws.specs.Failures.{SucceedsOrFails, has_failed}
+use Rattle.script_laws.proofs.EntryKinds.{Kind, SaysNothing, kind_of}
+use Rattle.script_laws.proofs.Tellings.{Telling, entries_told, means_of}
+use Rattle.script_laws.proofs.ToldEntries.{AreTold, IsTold}
+
+-- STATUSES
+entry_status : (many : ℕ) (asked : Event) (e : Entry) (m : SettleEntry) (es : List plain.DiskEvent) → Kind asked e m
+    → IsTold many m
+    → All SucceedsOrFails es → All SucceedsOrFails (cons_option (said_of_any (said e)) es)
+entry_status many asked e m es (inl at) told rest =
+    let event_told : IsTold many (OfLane at.disk at.event) = subst (IsTold many) at.means_is told in
+    subst (λ (s : Said). All SucceedsOrFails (cons_option (said_of_any s) es)) (sym at.said_is)
+    (All-cons SucceedsOrFails at.seen es (at.status event_told.2) rest)
+entry_status many asked e m es (inr (inl other)) told rest =
+    subst (λ (s : Said). All SucceedsOrFails (cons_option (said_of_any s) es)) (sym other.said_is) rest
+entry_status many asked e m es (inr (inr silent)) told rest =
+    subst (λ (s : Said). All SucceedsOrFails (cons_option (said_of_any s) es)) (sym silent.said_is) rest
+
+pub all_statuses : (many : ℕ) (tellings : List Telling) → AreTold many (means_of tellings)
+    → All SucceedsOrFails (whole_history (entries_told tellings))
+all_statuses many [] told = All-nil SucceedsOrFails
+all_statuses many (t ∷ tellings) told =
+    entry_status many t.asked t.entry t.means (whole_history (entries_told tellings))
+    (kind_of t.asked t.entry t.means t.is) told.0
+    (all_statuses many tellings told.1)
+
+-- COUNTS
+abbrev one_count : Bool → ℕ
+one_count b = cond {A = ℕ} b 1 0
+
+nothing_failed : (m : SettleEntry) → SaysNothing m → in_entry is_failed_done m ≡ false
+nothing_failed (OfLane k event) nothing = nothing.1
+nothing_failed Settled nothing = refl
+nothing_failed (Unsettled k) nothing = refl
+
+-- one that isn't counted
+not_counted : (m : SettleEntry) (n : ℕ) → in_entry is_failed_done m ≡ false
+    → n ≡ one_count (in_entry is_failed_done m) + n
+not_counted m n none = let count = ap one_count none in omega (arith, count)
+
+entry_count : (asked : Event) (e : Entry) (m : SettleEntry) (es : List plain.DiskEvent) → Kind asked e m
+    → count_by has_failed (cons_option (said_of_any (said e)) es)
+    ≡ one_count (in_entry is_failed_done m) + count_by has_failed es
+entry_count asked e m es (inl at) =
+    let same : in_entry is_failed_done m ≡ has_failed at.seen = ap (in_entry is_failed_done) at.means_is ∙ at.failed in
+    ap (λ (s : Said). count_by has_failed (cons_option (said_of_any s) es)) at.said_is
+    ∙ count_more has_failed at.seen es
+    ∙ ap (λ (b : Bool). one_count b + count_by has_failed es) (sym same)
+entry_count asked e m es (inr (inl other)) =
+    ap (λ (s : Said). count_by has_failed (cons_option (said_of_any s) es)) other.said_is
+    ∙ not_counted m (count_by has_failed es) (ap (in_entry is_failed_done) other.means_is ∙ other.failed)
+entry_count asked e m es (inr (inr silent)) =
+    ap (λ (s : Said). count_by has_failed (cons_option (said_of_any s) es)) silent.said_is
+    ∙ not_counted m (count_by has_failed es) (nothing_failed m silent.nothing)
+
+pub all_counts : (tellings : List Telling)
+    → count_by has_failed (whole_history (entries_told tellings))
+    ≡ count_by (in_entry is_failed_done) (means_of tellings)
+all_counts [] = refl
+all_counts (t ∷ tellings) =
+    entry_count t.asked t.entry t.means (whole_history (entries_told tellings)) (kind_of t.asked t.entry t.means t.is)
+    ∙ ap (λ (n : ℕ). one_count (in_entry is_failed_done t.means) + n) (all_counts tellings)
+    ∙ sym (count_more (in_entry is_failed_done) t.means (means_of tellings))

@@ -1,0 +1,34 @@
+-- How often the objects outside of a call failed, before it and after it.
+use Rattle.std.specs.Prelude.{◌≡◌, ◌≢◌, ℕ, ◌≤◌}
+use Rattle.vio_io.specs.Causes.{Rose}
+use Rattle.ldom_journal.specs.declared.status.Status.{Status}
+use Rattle.ldom_journal.specs.declared.status.Status.TheVariants.{HostFault, SinkFault, SourceFault}
+use Rattle.script_laws.specs.Clean.{StandsStill}
+
+-- the counts of the source of a script, of the host of its image and of the sink of its report
+pub record Counts : Type 0 where
+  pub source : ℕ
+  pub host : ℕ
+  pub sink : ℕ
+
+abbrev pub counts : ℕ → ℕ → ℕ → Counts
+counts source host sink = record { source = source; host = host; sink = sink }
+
+-- A fault of one of them is answered only where its count rose. Where another status is answered, it stays; a fault of
+-- the sink, which comes last, may hide one of the others. No count falls.
+pub record FaultsTold (status : Status) (before now : Counts) : Type 0 where
+  pub source_fault : status ≡ SourceFault → Rose before.source now.source
+  pub host_fault : status ≡ HostFault → Rose before.host now.host
+  pub sink_fault : status ≡ SinkFault → Rose before.sink now.sink
+  pub source_unfailed : status ≢ SourceFault → status ≢ SinkFault → now.source ≡ before.source
+  pub host_unfailed : status ≢ HostFault → status ≢ SinkFault → now.host ≡ before.host
+  pub sink_unfailed : status ≢ SinkFault → now.sink ≡ before.sink
+  pub source_count : before.source ≤ now.source
+  pub host_count : before.host ≤ now.host
+  pub sink_count : before.sink ≤ now.sink
+
+-- none of them failed
+pub record NoneFailed (before now : Counts) : Type 0 where
+  pub source : StandsStill before.source now.source
+  pub host : StandsStill before.host now.host
+  pub sink : StandsStill before.sink now.sink

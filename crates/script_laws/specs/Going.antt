@@ -1,0 +1,55 @@
+-- The lines of a script after its declarations.
+use Rattle.std.specs.Prelude.{◌≡◌, ◌≢◌, ℕ, ◌+◌, ◌≤◌, ◌⊎◌, List, ◌++◌, length, Option}
+use Rattle.domain_script.specs.declared.event.Event.{Event}
+use Rattle.domain_script.specs.NamesState.{NamesState}
+use Rattle.ldom_journal.specs.declared.entry.Entry.{Entry}
+use Rattle.ldom_journal.specs.declared.status.Status.{Status}
+use Rattle.ldom_journal.specs.declared.status.Status.TheVariants as status
+use Rattle.ldom_journal.specs.LinesEnd.{counted_lines}
+use Rattle.script_laws.specs.Attached.{AreOpening}
+use Rattle.world_parts.specs.Endings.{Ending, MayBeCut, ending}
+use Rattle.script_laws.specs.Reading.{StopsAt}
+use Rattle.script_laws.specs.Replayed.{Stopped}
+use Rattle.domain_script.specs.ScriptLines.{AreShort, TakesLines}
+use Rattle.domain_script.specs.ScriptEvents.{AllSpell}
+use Rattle.world_parts.specs.Script.{FitsScript, FitsCutOff}
+use Rattle.lanes_world.specs.World.{WorldState}
+use Rattle.domain_script.specs.Limits.{most_lines}
+
+-- what the journal got behind so many entries, by how it ended: after want of memory the last line's part may be cut off
+abbrev pub GrewTo : Ending → ℕ → WorldState → List Event → List Entry → WorldState → Type 0
+GrewTo MayBeCut entries s events part t = FitsScript entries s events part t ⊎ FitsCutOff entries s events part t
+GrewTo other entries s events part t = FitsScript entries s events part t
+
+abbrev pub Grew : Status → ℕ → WorldState → List Event → List Entry → WorldState → Type 0
+Grew why entries s events part t = GrewTo (ending why) entries s events part t
+
+-- from the bytes that are still to come, after so many lines, these lines were read
+pub record ReadsOn (start left : Option (List ℕ)) (before : NamesState) (number : ℕ) (events : List Event) (after : NamesState) : Type 0 where
+  pub texts : List (List ℕ)
+  pub taken : TakesLines start left texts
+  pub short : AreShort texts
+  pub few : number + length texts ≤ most_lines
+  pub spell : AllSpell texts before events after
+
+-- they were read and run, and then no further one was taken up
+pub record RunsLines (start now : Option (List ℕ)) (before : NamesState) (old : List Entry) (s : WorldState) (number : ℕ)
+    (why : Status) (after : NamesState) (new : List Entry) (t : WorldState) (lines : ℕ) : Type 0 where
+  pub events : List Event
+  pub left : Option (List ℕ)
+  pub read : ReadsOn start left before number events after
+  pub part : List Entry
+  pub grew : new ≡ old ++ part
+  pub fits : Grew why (length old) s events part t
+  pub held : List ℕ
+  pub stop : StopsAt why left held now after (number + length read.texts) (length new)
+  pub lines_are : lines ≡ counted_lines why (number + length read.texts)
+
+-- From its first line on the script was read and run, and then no further line was taken up.
+pub record RunsAll (start now : Option (List ℕ)) (before : NamesState) (s : WorldState) (why : Status) (after : NamesState) (journal : List Entry) (t : WorldState) (lines : ℕ) : Type 0 where
+  pub events : List Event
+  pub stopped : Stopped start now why events after (length journal) lines
+  pub fits : Grew why 0 s events journal t
+  pub disks : after.disks ≡ before.disks
+  -- but at the input's end, a line came at which the image is attached
+  pub attached : why ≢ status.Done → AreOpening events → ⊥

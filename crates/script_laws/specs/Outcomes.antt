@@ -1,0 +1,37 @@
+-- What the top call did.
+use Rattle.std.specs.Prelude.{◌≡◌, ℕ, ◌⊎◌, List, Option, IfSome}
+use Rattle.std.specs.Io.KnownBytes.{Appends}
+use Rattle.domain_script.specs.NamesState.{NamesState}
+use Rattle.gathered_text.specs.Gathered.{WroteFront}
+use Rattle.ldom_journal.specs.Report.{report}
+use Rattle.ldom_journal.specs.declared.entry.Entry.{Entry}
+use Rattle.ldom_journal.specs.declared.status.Mode.{Mode}
+use Rattle.ldom_journal.specs.declared.status.Status.{Status}
+use Rattle.ldom_journal.specs.declared.status.Status.TheVariants.{SinkFault}
+use Rattle.script_laws.specs.Headline.{Headline}
+use Rattle.script_laws.specs.Admitting.{AdmitsRequests}
+use Rattle.script_laws.specs.Outside.{IsOutsideDisks, KeepsTold}
+use Rattle.script_laws.specs.Replayed.{Replayed, start_of}
+use Rattle.script_laws.specs.Sized.{SizeIs}
+use Rattle.world_parts.specs.Declared.{bytes_needed}
+use Rattle.world_parts.specs.Endings.{ending}
+use Rattle.disk_steps.specs.LaneState.{LaneState}
+
+-- The whole text was written and the status is the run's, or the sink failed after some front of the text.
+abbrev pub Reports : Status → Status → Option (List ℕ) → Option (List ℕ) → List ℕ → Type 0
+Reports ran status old new text = ((status ≡ ran) × Appends old new text) ⊎ ((status ≡ SinkFault) × WroteFront old new text)
+
+-- the script was run, and the report of its journal written as this mode shows it; the source has `now` left
+pub record RunsScript {D : Type 0} (mode : Mode) (content : D → Option (List ℕ)) (faults size : D → ℕ) (script now : Option (List ℕ)) (gives : ℕ → Option (List ℕ))
+    (status : Status) (journal : List Entry) (image : Option D) (lanes : Option (List LaneState)) (old new : Option (List ℕ)) : Type 0 where
+  -- how the run ended before its report
+  pub ran : Status
+  -- how many lines the report counts
+  pub lines : ℕ
+  pub names : NamesState
+  pub replayed : Replayed content faults script now gives ran lines names journal image lanes
+  pub admits : AdmitsRequests (ending ran) names.disks (start_of names gives) replayed.events journal replayed.final
+  pub sized : SizeIs size ran (bytes_needed names.disks) (gives (bytes_needed names.disks)) image
+  pub headline : IfSome image (λ disk. Headline (ending ran) names.disks (start_of names gives) replayed.events journal replayed.final)
+  pub others : IfSome image (λ disk. KeepsTold (gives (bytes_needed names.disks)) (IsOutsideDisks names.disks journal) (content disk))
+  pub reports : Reports ran status old new (report mode names.disks lines journal ran)

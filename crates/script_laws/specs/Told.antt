@@ -1,0 +1,23 @@
+-- What lines with their parts of a journal tell of the lanes of the disks.
+use Rattle.std.specs.List.{filter_map, flat_map}
+use Rattle.std.specs.Prelude.{ℕ, List}
+use Rattle.disk_log.specs.DiskLog.{DiskLog, after, nothing_yet}
+use Rattle.disk_steps.specs.LaneState.{Shape}
+use Rattle.domain_script.specs.declared.event.Event.{Event}
+use Rattle.lanes_settle.specs.Along.{happened}
+use Rattle.lanes_settle.specs.Settle.{SettleEntry}
+use Rattle.ldom_journal.specs.LaneEvents.{world_event}
+use Rattle.ldom_journal.specs.declared.entry.Entry.{Entry}
+use Rattle.runs.specs.Lawful.{log_of}
+use Rattle.world_parts.specs.Lines.{line_of}
+
+-- the entries of one part, and those of all lines one after another
+abbrev pub told_by : Event × List Entry → List SettleEntry
+told_by line = filter_map (world_event (line_of line.0)) line.1
+
+abbrev pub told : List (Event × List Entry) → List SettleEntry
+told lines = flat_map told_by lines
+
+-- THE LOG of the disk with this number: all that the entries tell of it
+abbrev pub log_at : Shape → ℕ → List SettleEntry → DiskLog
+log_at shape x entries = log_of after (nothing_yet shape) (happened x entries)

@@ -1,0 +1,16 @@
+//! What a script's run is, as definitions over lists, and its laws: how far a script is read; what its journal says of
+//! the requests of its disks, of failures and of the image; the headline, which holds of each disk whatever disturbs
+//! it; what a quiet script comes to; and how a run's journal, image and lanes are put together. The top call's contract
+//! cites them. It has no code: its functions carry laws, so they do nothing and promise a theorem.
+#![tactic(auto)]
+
+mod headline;
+mod laws;
+mod plain;
+
+pub use headline::the_headline_holds;
+pub use laws::{
+    bytes_outside_of_writes_stay, completions_succeed_or_fail, entries_have_their_words,
+    failed_completions_are_counted, requests_are_admitted, requests_complete_once_in_order,
+};
+pub use plain::a_quiet_script_runs_plainly;
