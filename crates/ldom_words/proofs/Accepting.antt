@@ -1,15 +1,15 @@
 -- `clap` takes the words that the definition accepts, and reads in them what the definition says.
-use Rattle.std.proofs.Common.{◌≡◌, refl, ℕ, Bool, true, false, List, [], ◌∷◌, codes, Option, Some, None, sym, ◌∙◌, ap, subst}
+use Rattle.std.proofs.Common.{◌≡◌, refl, Bool, true, false, List, [], ◌∷◌, codes, Option, Some, None, ◌∙◌, ap}
 use Rattle.std.specs.Prelude.{◌==◌, ◌&&◌, ◌||◌, not, if◌then◌else◌, option_and_then}
 use Rattle.std.specs.Str.{bytes_eq}
 use Rattle.std.specs.List.{list_all}
 use Rattle.std.specs.Option.{option_map_or}
 use Rattle.clap.specs.Lexer.{long_of, long_of_rest, short_of, short_of_rest, strip_byte}
-use Rattle.clap.specs.Simple.{App, Shape, built, is_simple, names_of, new_shape, subcommand_of}
+use Rattle.clap.specs.Simple.{Shape, built, is_simple, names_of, new_shape, subcommand_of}
 use Rattle.clap.specs.Takes.{bundle_passes, default_passes, flag_word_passes, is_valid, level_passes, settle_passes, step_passes, takes, word_passes}
-use Rattle.clap.specs.Walk.{Held, Rule, Step, Text, Walk, after_step, finished, idle, long_or_other, nothing_held, plain_word, short_or_plain, trailing, value, walk_from, word_met}
+use Rattle.clap.specs.Walk.{Held, Rule, Step, Text, Walk, after_step, finished, idle, long_or_other, nothing_held, short_or_plain, trailing, value, walk_from, word_met}
 use Rattle.clap.proofs.OnLiterals.{clap_on_literals}
-use Rattle.ldom_words.specs.Asking.{DumpOf, RunOver, Wanted, program_app, wanted_in}
+use Rattle.ldom_words.specs.Asking.{DumpOf, RunOver, TraceOver, Wanted, program_app, wanted_in}
 use Rattle.ldom_words.specs.Words.{is_plain_word}
 
 -- to `clap` the word is none of its flags
@@ -27,7 +27,8 @@ plain_value (only ∷ []) plain = record { escape = no_escape (only == 45); long
     no_escape true = refl
     no_escape false = refl
 
-    no_long : (dash : Bool) → option_and_then long_of_rest (option_and_then (strip_byte 45) (if dash then Some [] else None)) ≡ None
+    no_long : (dash : Bool)
+        → option_and_then long_of_rest (option_and_then (strip_byte 45) (if dash then Some [] else None)) ≡ None
     no_long true = refl
     no_long false = refl
 
@@ -41,16 +42,19 @@ plain_value (first ∷ second ∷ rest) plain =
     no_escape true behind other = absurd (cc other)
     no_escape false behind other = refl
 
-    no_long : (dash : Bool) → not dash ≡ true → option_and_then long_of_rest (option_and_then (strip_byte 45) (if dash then Some (second ∷ rest) else None)) ≡ None
+    no_long : (dash : Bool) → not dash ≡ true
+        → option_and_then long_of_rest (option_and_then (strip_byte 45) (if dash then Some (second ∷ rest) else None)) ≡ None
     no_long true other = absurd (cc other)
     no_long false other = refl
 
-    no_short : (dash : Bool) → not dash ≡ true → option_and_then short_of_rest (if dash then Some (second ∷ rest) else None) ≡ None
+    no_short : (dash : Bool) → not dash ≡ true
+        → option_and_then short_of_rest (if dash then Some (second ∷ rest) else None) ≡ None
     no_short true other = absurd (cc other)
     no_short false other = refl
 
 -- the walk hands a value on to the positional
-value_met : (rules : List Rule) (word : Text) (h : Held) → IsValue word → word_met rules [] false idle 1 word h ≡ (h, value)
+value_met : (rules : List Rule) (word : Text) (h : Held) → IsValue word
+    → word_met rules [] false idle 1 word h ≡ (h, value)
 value_met rules word h is =
     ap (λ (b : Bool). if b then (h, trailing 1) else long_or_other rules idle word (long_of word) h) is.escape
     ∙ ap (λ o. long_or_other rules idle word o h) is.long
@@ -62,71 +66,109 @@ value_passes shape word h is =
     ∙ ap (λ o. flag_word_passes shape.rules shape.args_override_self o word h) is.long
     ∙ ap (λ o. option_map_or (λ flags. bundle_passes shape.rules shape.args_override_self flags h) o true) is.short
 
--- the command `run`, as `clap` builds it
-abbrev first_shape : List Shape → Shape
-first_shape [] = new_shape []
-first_shape (shape ∷ shapes) = shape
+-- the two commands over an image
+pub data OverImage : Type 0 where
+  Runs : OverImage
+  Traces : OverImage
 
-abbrev run_shape : Shape
-run_shape = first_shape (built program_app).subs
+abbrev pub name_of : OverImage → Text
+name_of Runs = codes "run"
+name_of Traces = codes "trace"
 
--- the walk over the one word behind `run`, by what was met
-abbrev run_walk : Text → Held × Step → Walk
-run_walk word met = after_step run_shape.rules word (walk_from nothing_held) met.0 met.1
+abbrev pub asks_for : OverImage → Text → Wanted
+asks_for Runs = RunOver
+asks_for Traces = TraceOver
 
-abbrev run_passes : Text → Held × Step → Bool → Bool
-run_passes word met passes =
-    ((passes && step_passes run_shape 1 met.0 met.1) && true)
-    && (settle_passes run_shape.rules run_shape.args_override_self (run_walk word met).held
-    && (list_all default_passes run_shape.rules && is_valid run_shape (finished run_shape.rules (run_walk word met).held) false))
+-- such a command, as `clap` builds it
+abbrev shape_at : OverImage → List Shape → Shape
+shape_at Runs (first ∷ rest) = first
+shape_at Traces (first ∷ second ∷ rest) = second
+shape_at _ _ = new_shape []
 
-level_is : (word : Text) → level_passes run_shape [] nothing_held (word ∷ []) false
-    ≡ run_passes word (word_met run_shape.rules [] false idle 1 word nothing_held) (word_passes run_shape [] false idle word nothing_held)
+abbrev shape_of : OverImage → Shape
+shape_of over = shape_at over (built program_app).subs
+
+-- the walk over the one word behind its name, by what was met
+abbrev image_walk : OverImage → Text → Held × Step → Walk
+image_walk over word met = after_step (shape_of over).rules word (walk_from nothing_held) met.0 met.1
+
+abbrev image_passes : OverImage → Text → Held × Step → Bool → Bool
+image_passes over word met passes =
+    ((passes && step_passes (shape_of over) 1 met.0 met.1) && true)
+    && (settle_passes (shape_of over).rules (shape_of over).args_override_self (image_walk over word met).held
+    && (list_all default_passes (shape_of over).rules && is_valid (shape_of over) (finished (shape_of over).rules (image_walk over word met).held) false))
+
+abbrev image_met : OverImage → Text → Held × Step
+image_met over word = word_met (shape_of over).rules [] false idle 1 word nothing_held
+
+abbrev image_word_passes : OverImage → Text → Bool
+image_word_passes over word = word_passes (shape_of over) [] false idle word nothing_held
+
+level_is : (over : OverImage) (word : Text)
+    → level_passes (shape_of over) [] nothing_held (word ∷ []) false
+    ≡ image_passes over word (image_met over word) (image_word_passes over word)
 unfolding clap_on_literals
-level_is word = refl
+level_is Runs word = refl
+level_is Traces word = refl
 
-level_taken : (word : Text) → run_passes word (nothing_held, value) true ≡ true
+level_taken : (over : OverImage) (word : Text) → image_passes over word (nothing_held, value) true ≡ true
 unfolding clap_on_literals
-level_taken word = refl
+level_taken Runs word = refl
+level_taken Traces word = refl
 
-level : (word : Text) → IsValue word → level_passes run_shape [] nothing_held (word ∷ []) false ≡ true
-level word is =
-    level_is word
-    ∙ ap (λ (met : Held × Step). run_passes word met (word_passes run_shape [] false idle word nothing_held)) (value_met run_shape.rules word nothing_held is)
-    ∙ ap (λ (b : Bool). run_passes word (nothing_held, value) b) (value_passes run_shape word nothing_held is)
-    ∙ level_taken word
+level : (over : OverImage) (word : Text) → IsValue word
+    → level_passes (shape_of over) [] nothing_held (word ∷ []) false ≡ true
+level over word is =
+    level_is over word
+    ∙ ap (λ (met : Held × Step). image_passes over word met (image_word_passes over word)) (value_met (shape_of over).rules word nothing_held is)
+    ∙ ap (λ (b : Bool). image_passes over word (nothing_held, value) b) (value_passes (shape_of over) word nothing_held is)
+    ∙ level_taken over word
 
 -- what is left of the words is the command's
-abbrev all_passes : Text → Bool → Bool
-all_passes word passes =
-    is_simple program_app && (passes && level_passes (built program_app).top (names_of (built program_app)) nothing_held (codes "run" ∷ word ∷ []) true)
+abbrev all_passes : OverImage → Text → Bool → Bool
+all_passes over word passes =
+    is_simple program_app && (passes && level_passes (built program_app).top (names_of (built program_app)) nothing_held (name_of over ∷ word ∷ []) true)
 
-words_are : (word : Text) → takes program_app (codes "run" ∷ word ∷ []) ≡ all_passes word (level_passes run_shape [] nothing_held (word ∷ []) false)
+words_are : (over : OverImage) (word : Text)
+    → takes program_app (name_of over ∷ word ∷ [])
+    ≡ all_passes over word (level_passes (shape_of over) [] nothing_held (word ∷ []) false)
 unfolding clap_on_literals
-words_are word = refl
+words_are Runs word = refl
+words_are Traces word = refl
 
-words_taken : (word : Text) → all_passes word true ≡ true
+words_taken : (over : OverImage) (word : Text) → all_passes over word true ≡ true
 unfolding clap_on_literals
-words_taken word = refl
+words_taken Runs word = refl
+words_taken Traces word = refl
 
--- `run IMAGE` is taken
-pub takes_run : (word : Text) → is_plain_word word ≡ true → takes program_app (codes "run" ∷ word ∷ []) ≡ true
-takes_run word plain = words_are word ∙ ap (λ (b : Bool). all_passes word b) (level word (plain_value word plain)) ∙ words_taken word
+-- `run IMAGE` and `trace IMAGE` are taken
+pub takes_image : (over : OverImage) (word : Text) → is_plain_word word ≡ true
+    → takes program_app (name_of over ∷ word ∷ []) ≡ true
+takes_image over word plain = words_are over word
+    ∙ ap (λ (b : Bool). all_passes over word b) (level over word (plain_value word plain)) ∙ words_taken over word
 
--- and read as it is meant
-abbrev run_reads : Text → Held × Step → Option Wanted
-run_reads word met = wanted_in (Some (run_shape.name, finished run_shape.rules (run_walk word met).held))
+-- and read as they are meant
+abbrev image_reads : OverImage → Text → Held × Step → Option Wanted
+image_reads over word met =
+    wanted_in (Some ((shape_of over).name, finished (shape_of over).rules (image_walk over word met).held))
 
-reads_are : (word : Text) → wanted_in (subcommand_of program_app (codes "run" ∷ word ∷ [])) ≡ run_reads word (word_met run_shape.rules [] false idle 1 word nothing_held)
+reads_are : (over : OverImage) (word : Text)
+    → wanted_in (subcommand_of program_app (name_of over ∷ word ∷ [])) ≡ image_reads over word (image_met over word)
 unfolding clap_on_literals
-reads_are word = refl
+reads_are Runs word = refl
+reads_are Traces word = refl
 
-reads_value : (word : Text) → run_reads word (nothing_held, value) ≡ Some (RunOver word)
+reads_value : (over : OverImage) (word : Text)
+    → image_reads over word (nothing_held, value) ≡ Some (asks_for over word)
 unfolding clap_on_literals
-reads_value word = refl
+reads_value Runs word = refl
+reads_value Traces word = refl
 
-pub reads_run : (word : Text) → is_plain_word word ≡ true → wanted_in (subcommand_of program_app (codes "run" ∷ word ∷ [])) ≡ Some (RunOver word)
-reads_run word plain = reads_are word ∙ ap (λ (met : Held × Step). run_reads word met) (value_met run_shape.rules word nothing_held (plain_value word plain)) ∙ reads_value word
+pub reads_image : (over : OverImage) (word : Text) → is_plain_word word ≡ true
+    → wanted_in (subcommand_of program_app (name_of over ∷ word ∷ [])) ≡ Some (asks_for over word)
+reads_image over word plain =
+    reads_are over word
+    ∙ ap (λ (met : Held × Step). image_reads over word met) (value_met (shape_of over).rules word nothing_held (plain_value word plain)) ∙ reads_value over word
 
 pub takes_dump : takes program_app (codes "dump" ∷ []) ≡ true
 unfolding clap_on_literals

@@ -1,6 +1,6 @@
 -- The command that was met, by its name and its arguments.
-use Rattle.std.proofs.Common.{◌≡◌, ◌∙◌, Bool, true, List, codes, Option, Some, None, sym, ap}
-use Rattle.std.specs.Prelude.{Box, option_map, if◌then◌else◌}
+use Rattle.std.proofs.Common.{◌≡◌, ◌∙◌, Bool, false, List, codes, Option, Some, None, sym, ap}
+use Rattle.std.specs.Prelude.{Box, option_and_then, option_map, if◌then◌else◌}
 use Rattle.std.specs.Box.{box_value}
 use Rattle.std.specs.Str.{bytes_eq}
 use Rattle.clap.specs.Words.{Row, Text, first_of, subcommand_name_of, subcommand_rows_of}
@@ -8,21 +8,29 @@ use Rattle.clap.specs.Simple.{subcommand_rows}
 use Rattle.clap.specs.declared.parser.matches.ArgMatches.{ArgMatches}
 use Rattle.clap.specs.declared.parser.matches.ArgMatches.TheViews.{out-ArgMatches, out-SubCommand}
 use Rattle.clap.specs.declared.parser.matches.SubCommand.{SubCommand}
-use Rattle.ldom_words.specs.Asking.{DumpOf, RunOver, Wanted, wanted_in}
+use Rattle.ldom_words.specs.Asking.{DumpOf, wanted_in, wanted_over}
 
-met_both : {Z : Type 0} (met : Option (Box SubCommand Z)) (name : Text) (rows : List Row) → option_map (λ b. (out-SubCommand (box_value b)).name.now) met ≡ Some name
-    → option_map (λ (p : Text × List Row). p.1) (subcommand_rows met) ≡ Some rows → subcommand_rows met ≡ Some (name, rows)
+met_both : {Z : Type 0} (met : Option (Box SubCommand Z)) (name : Text) (rows : List Row)
+    → option_map (λ b. (out-SubCommand (box_value b)).name.now) met ≡ Some name
+    → option_map (λ (p : Text × List Row). p.1) (subcommand_rows met) ≡ Some rows
+    → subcommand_rows met ≡ Some (name, rows)
 met_both None name rows named has = absurd (cc named)
 met_both (Some b) name rows named has = cc (named, has)
 
 -- a command that was met has its name and its arguments
-met_as : (matches : ArgMatches) (name : Text) (rows : List Row) → subcommand_name_of matches ≡ Some name → option_map (λ (p : Text × List Row). p.1) (subcommand_rows_of matches) ≡ Some rows → subcommand_rows_of matches ≡ Some (name, rows)
+met_as : (matches : ArgMatches) (name : Text) (rows : List Row) → subcommand_name_of matches ≡ Some name
+    → option_map (λ (p : Text × List Row). p.1) (subcommand_rows_of matches) ≡ Some rows
+    → subcommand_rows_of matches ≡ Some (name, rows)
 met_as matches name rows named has = met_both (out-ArgMatches matches).subcommand name rows named has
 
--- if it is `run`, its image is asked for
-pub run_wanted : (matches : ArgMatches) (name : Text) (rows : List Row) (image : Option Text) → subcommand_name_of matches ≡ Some name → option_map (λ (p : Text × List Row). p.1) (subcommand_rows_of matches) ≡ Some rows
-    → bytes_eq name (codes "run") ≡ true → image ≡ first_of (codes "image") rows → option_map RunOver image ≡ wanted_in (subcommand_rows_of matches)
-run_wanted matches name rows image first second tests is =
-    ap (λ (i : Option Text). option_map RunOver i) is
+-- unless it is `dump`, it is asked for over its image
+pub image_wanted : (matches : ArgMatches) (name : Text) (rows : List Row) (image : Option Text)
+    → subcommand_name_of matches ≡ Some name
+    → option_map (λ (p : Text × List Row). p.1) (subcommand_rows_of matches) ≡ Some rows
+    → bytes_eq name (codes "dump") ≡ false
+    → image ≡ first_of (codes "image") rows
+    → option_and_then (wanted_over name) image ≡ wanted_in (subcommand_rows_of matches)
+image_wanted matches name rows image first second tests is =
+    ap (λ (i : Option Text). option_and_then (wanted_over name) i) is
     ∙ sym (ap wanted_in (met_as matches name rows first second)
-    ∙ ap (λ (b : Bool). if b then option_map RunOver (first_of (codes "image") rows) else (if bytes_eq name (codes "dump") then Some DumpOf else None)) tests)
+    ∙ ap (λ (b : Bool). if b then Some DumpOf else option_and_then (wanted_over name) (first_of (codes "image") rows)) tests)

@@ -22,6 +22,11 @@ pub record AsksRun (words : List (List ℕ)) (image : List ℕ) : Type 0 where
   pub are : words ≡ codes "run" ∷ image ∷ []
   pub plain : IsTrue (is_plain_word image)
 
+-- the words `trace IMAGE`
+pub record AsksTrace (words : List (List ℕ)) (image : List ℕ) : Type 0 where
+  pub are : words ≡ codes "trace" ∷ image ∷ []
+  pub plain : IsTrue (is_plain_word image)
+
 -- the word `dump`
 abbrev pub AsksDump : List (List ℕ) → Type 0
 AsksDump words = words ≡ codes "dump" ∷ []

@@ -1,9 +1,9 @@
 // The words as `clap` reads them.
 ghost use Rattle.std.specs.Prelude.{◌≡◌, true, map, option_map, string_bytes, IfOk, IfErr};
 ghost use Rattle.clap.specs.Words.{app_of, subcommand_of, subcommand_rows_of, takes};
-ghost use Rattle.ldom_words.specs.Asking.{program_app, wanted_in, wanted_of};
+ghost use Rattle.ldom_words.specs.Asking.{program_app, wanted_in, wanted_of, with_image_app};
 
-use crate::Asked;
+use crate::words::{Asked, over_image};
 use clap::error::ErrorKind;
 use clap::{Arg, ArgMatches, Command};
 use std::alloc::{AllocError, Global};
@@ -39,17 +39,27 @@ fn refusal_of(kind: ErrorKind) -> Refusal
     }
 }
 
-// The program's commands: `run IMAGE` and `dump`.
+// The program's commands: `run IMAGE`, `trace IMAGE` and `dump`.
 fn program<'a>(alloc: Global) -> Result<Command<'a>, AllocError>
     ensures { IfOk result (λ program. app_of program ≡ program_app) }
 {
+    let program = Command::new(alloc, "ldom").no_binary_name(true);
+    let program = with_command_over_image(alloc, program, "run")?;
+    let program = with_command_over_image(alloc, program, "trace")?;
+    program.subcommand(Command::new(alloc, "dump"))
+}
+
+// The program with one command more, over an image.
+fn with_command_over_image<'a>(
+    alloc: Global,
+    program: Command<'a>,
+    name: &'a str,
+) -> Result<Command<'a>, AllocError>
+    ensures { IfOk result (λ more. app_of more ≡ with_image_app (app_of program.entry) name.entry.now) }
+{
     let image = Arg::new(alloc, "image").required(true);
-    let run = Command::new(alloc, "run").arg(image)?;
-    let dump = Command::new(alloc, "dump");
-    Command::new(alloc, "ldom")
-        .no_binary_name(true)
-        .subcommand(run)?
-        .subcommand(dump)
+    let command = Command::new(alloc, name).arg(image)?;
+    program.subcommand(command)
 }
 
 // What the command that was met asks for.
@@ -57,12 +67,9 @@ fn asked_of<'a>(matches: &ArgMatches<'a>) -> Option<Asked<'a>>
     ensures { option_map wanted_of result ≡ wanted_in (subcommand_rows_of matches.now) }
 {
     let (name, own) = matches.subcommand()?;
-    if name == "run" {
-        let image = own.get_str("image")?;
-        return Some(Asked::Run { image });
-    }
     if name == "dump" {
         return Some(Asked::Dump);
     }
-    None
+    let image = own.get_str("image")?;
+    over_image(name, image)
 }

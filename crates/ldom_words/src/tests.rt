@@ -12,12 +12,17 @@ fn words_of(alloc: Global, line: &str) -> Result<Vec<String>, AllocError> {
 }
 
 #[test]
-fn words_that_are_accepted_ask_for_a_run_or_a_dump(rt: HostRuntime) -> Result<(), Fail> {
+fn words_that_are_accepted_ask_for_a_run_a_trace_or_a_dump(rt: HostRuntime) -> Result<(), Fail> {
     let alloc = rt.alloc();
-    for image in ["-", "disk.img", "help", "run", "a b", "./-x", "ü", "="] {
+    for image in [
+        "-", "disk.img", "help", "run", "trace", "dump", "a b", "./-x", "ü", "=",
+    ] {
         let mut words = words_of(alloc, "run")?;
         words.push(String::from_str(alloc, image)?)?;
         assert_eq!(rt; read_words(alloc, &words), Some(Asked::Run { image }));
+        let mut words = words_of(alloc, "trace")?;
+        words.push(String::from_str(alloc, image)?)?;
+        assert_eq!(rt; read_words(alloc, &words), Some(Asked::Trace { image }));
     }
     let words = words_of(alloc, "dump")?;
     assert_eq!(rt; read_words(alloc, &words), Some(Asked::Dump));
@@ -44,6 +49,17 @@ fn other_words_ask_for_nothing(rt: HostRuntime) -> Result<(), Fail> {
         "run,a,b",
         "run,--,a",
         ",run,-",
+        "trace",
+        "trace,",
+        "trace,--",
+        "trace,-x",
+        "trace,--help",
+        "trace,-,-",
+        "trace,--,a",
+        ",trace,-",
+        "traces,-",
+        "Trace,-",
+        "run,trace,-",
         "dump,-",
         "dump,",
         "dump,--",

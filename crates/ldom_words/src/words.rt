@@ -1,7 +1,7 @@
 ghost use Rattle.std.specs.Prelude.{◌≡◌, None, map, option_map, string_bytes};
 ghost use Rattle.std.specs.List.{list_all};
 ghost use Rattle.ldom_words.specs.Words.{all_plain, begins_with_help, is_plain_word};
-ghost use Rattle.ldom_words.specs.Asking.{wanted, wanted_of};
+ghost use Rattle.ldom_words.specs.Asking.{wanted, wanted_of, wanted_over};
 
 use crate::clap_words::{Refusal, parse};
 use std::alloc::Global;
@@ -11,6 +11,9 @@ use std::alloc::Global;
 pub enum Asked<'a> {
     /// `run IMAGE`: a script is run over the image of this name.
     Run { image: &'a str },
+
+    /// `trace IMAGE`: the same run, of which each entry is shown.
+    Trace { image: &'a str },
 
     /// `dump`: packets are dumped.
     Dump,
@@ -38,6 +41,8 @@ fn confirmed<'a>(asked: Option<Asked<'a>>, defined: Option<Asked<'a>>) -> Option
 {
     match (asked, defined) {
         (Some(Asked::Run { image }), Some(Asked::Run { image: named })) if image == named => asked,
+        (Some(Asked::Trace { image }), Some(Asked::Trace { image: named })) if image == named =>
+            asked,
         (Some(Asked::Dump), Some(Asked::Dump)) => asked,
         _ => None,
     }
@@ -48,14 +53,26 @@ fn defined<'a>(words: &'a [String]) -> Option<Asked<'a>>
     ensures { option_map wanted_of result ≡ wanted (map string_bytes words.now) }
 {
     match words {
-        [command, image] if command.as_str() == "run" && is_plain(image.as_str()) => {
-            Some(Asked::Run {
-                image: image.as_str(),
-            })
-        }
         [command] if command.as_str() == "dump" => Some(Asked::Dump),
+        [command, image] if is_plain(image.as_str()) => over_image(
+            command.as_str(),
+            image.as_str(),
+        ),
         _ => None,
     }
+}
+
+// What a command asks for over an image.
+pub(crate) fn over_image<'a>(command: &str, image: &'a str) -> Option<Asked<'a>>
+    ensures { option_map wanted_of result ≡ wanted_over command.now image.now }
+{
+    if command == "run" {
+        return Some(Asked::Run { image });
+    }
+    if command == "trace" {
+        return Some(Asked::Trace { image });
+    }
+    None
 }
 
 // Whether no word is empty, none but `-` alone begins with `-`, and the first isn't `help`.
