@@ -21,10 +21,10 @@ use Rattle.ldom_journal.specs.declared.entry.Entry.{Entry}
 use Rattle.ldom_journal.specs.declared.status.LimitKind.{LimitKind}
 use Rattle.ldom_journal.specs.declared.status.Status.{Status}
 use Rattle.ldom_journal.specs.declared.status.Status.TheVariants as status
-use Rattle.replay_law.specs.Clean.{IsCleanScript, IsFull}
-use Rattle.replay_law.specs.PlainRun.{plain_content, plain_ids, plain_text}
-use Rattle.replay_law.specs.Quiet.{IsQuietScript}
-use Rattle.replay_law.proofs.PlainRows.{a_read_sees_the_write}
+use Rattle.script_laws.specs.Clean.{IsCleanScript, IsFull}
+use Rattle.script_laws.specs.PlainRun.{plain_content, plain_ids, plain_text}
+use Rattle.script_laws.specs.Quiet.{IsQuietScript}
+use Rattle.script_laws.proofs.PlainRows.{a_read_sees_the_write}
 use Rattle.ldom_words.specs.Words.{AsksRun}
 use Rattle.ldom_example.specs.Known.{image, report, script}
 

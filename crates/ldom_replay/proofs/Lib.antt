@@ -1,3 +1,4 @@
+mod Beginning
+mod BlockCounts
+mod Commands
 mod Holding
-mod OneWorld
-mod Refusing

@@ -1,2 +1,1 @@
-pub mod OneDisk
-pub mod Refusals
+pub mod Asking

@@ -1,17 +1,19 @@
-//! The top: a world of domains over an image, and the call that replays a script through it and writes the report.
-//! The program `ldom` and the tests stand on it. For every script each accepted request completes at most once, in
-//! the order of issue; the journal is one part for each line; the report is the journal's.
+//! The top: the call that replays a script through a world of lanes over an image and writes the report, and the laws
+//! of every run. The program `ldom` and the tests stand on it. For every script each accepted request completes at most
+//! once, in the order of issue; the journal is one part for each line; the report is the journal's.
 #![tactic(auto)]
 
+mod blocks;
+mod command;
 mod reading;
 mod run;
 mod top_call;
-mod world;
 
 pub use ldom_journal::{LimitKind, Status};
-pub use replay_law::{
+pub use ldom_world::{Lanes, World};
+pub use script_laws::{
     a_quiet_script_runs_plainly, bytes_outside_of_writes_stay, completions_succeed_or_fail,
-    failed_completions_are_counted,
+    entries_have_their_words, failed_completions_are_counted, requests_are_admitted,
+    requests_complete_once_in_order, the_headline_holds,
 };
 pub use top_call::{Outcome, replay};
-pub use world::World;

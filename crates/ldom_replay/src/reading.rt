@@ -7,12 +7,13 @@ ghost use Rattle.domain_script.specs.Spells.{IsDeclared};
 ghost use Rattle.ldom_journal.specs.LinesEnd.{counted_lines, most_entries};
 ghost use Rattle.ldom_journal.specs.Stops.{stop_lines, stop_status};
 ghost use Rattle.ldom_journal.specs.Failing.{Fails};
-ghost use Rattle.replay_law.specs.Reading.{ReadsEvent, StopsAt};
+ghost use Rattle.script_laws.specs.Reading.{ReadsEvent, StopsAt};
 ghost use Rattle.domain_script.specs.Limits.{most_lines};
 
 use crate::run::Run;
 use domain_script::{Event, Lines, Names, parse_into};
 use ldom_journal::{Journal, MOST_ENTRIES, Status, Stop, next_line};
+use ldom_world::Lanes;
 use std::alloc::Global;
 use vio_bytes::NoMemory;
 use vio_io::{Source, Store};
@@ -97,13 +98,20 @@ impl Reader {
         self.lines.number()
     }
 
-    /// The run of what was read, with this status, this image, and so many lines for its report.
-    pub fn into_run<D: Store>(self, status: Status, lines: u32, image: Option<D>) -> Run<D>
+    /// The run of what was read, with this status, this image and these lanes, and so many lines for its report.
+    pub fn into_run<D: Store>(
+        self,
+        status: Status,
+        lines: u32,
+        image: Option<D>,
+        lanes: Option<Lanes>,
+    ) -> Run<D>
         ensures status { result.status ≡ status }
         ensures lines { result.lines ≡ lines }
         ensures names { result.names ≡ self.names }
         ensures journal { result.journal ≡ self.journal }
         ensures image { result.image ≡ image }
+        ensures lanes { result.lanes ≡ lanes }
     {
         Run {
             status,
@@ -111,6 +119,7 @@ impl Reader {
             names: self.names,
             journal: self.journal,
             image,
+            lanes,
         }
     }
 }

@@ -8,19 +8,21 @@ ghost use Rattle.domain_script.specs.Spells.{IsDeclared};
 ghost use Rattle.ldom_journal.specs.Report.{accepted_count};
 ghost use Rattle.ldom_journal.specs.Stops.{stop_lines, stop_status};
 ghost use Rattle.ldom_journal.specs.Failing.{Fails};
-ghost use Rattle.replay_law.specs.Going.{RunsAll, RunsLines};
-ghost use Rattle.replay_law.specs.Attached.{AreOpening};
-ghost use Rattle.replay_law.specs.Opening.{Opened, Opens, OpensAndStops};
-ghost use Rattle.replay_law.specs.Replayed.{Replayed, attach_status, ended_status, start_of};
-ghost use Rattle.replay_law.specs.Sized.{SizeIs};
-ghost use Rattle.replay_law.specs.Worlds.{accepted_in, bytes_needed};
+ghost use Rattle.script_laws.specs.Going.{RunsAll, RunsLines};
+ghost use Rattle.script_laws.specs.Attached.{AreOpening};
+ghost use Rattle.script_laws.specs.Opening.{Opened, Opens, OpensAndStops};
+ghost use Rattle.script_laws.specs.Replayed.{Replayed, attach_status, ended_status, start_of};
+ghost use Rattle.script_laws.specs.Sized.{SizeIs};
+ghost use Rattle.settle_loop.specs.Issued.{issued_on};
+ghost use Rattle.world_parts.specs.Declared.{bytes_needed};
 ghost use Rattle.domain_script.specs.ScriptEvents.{no_names};
 ghost use Rattle.domain_script.specs.Limits.{most_lines};
 
+use crate::blocks::blocks_declared;
 use crate::reading::Reader;
-use crate::world::{World, blocks_declared};
 use domain_script::{Event, Names};
 use ldom_journal::{Journal, Status, Stop};
+use ldom_world::{Lanes, World};
 use std::alloc::Global;
 use vdisk_msg::BLOCK;
 use vio_bytes::NoMemory;
@@ -45,7 +47,6 @@ fn read_opening<S: Source>(reader: &mut Reader, source: &mut S) -> Result<Event,
     ensures stops { IfErr result (λ stop. OpensAndStops (to_come reader.old.lines (S.left source.old))
         (S.left source.new) (stop_status stop reader.new.lines.number) reader.new.names
         (stop_lines stop reader.new.lines.number)) }
-    ensures few { length reader.new.names.disks ≤ 1 }
     ensures source { Fails (result ≡ Err Stop.Source) (S.faults source.old) (S.faults source.new) }
 {
     let mut event = Event::Blank;
@@ -63,7 +64,7 @@ fn is_opening(event: &Event) -> bool
 {
     match event {
         Event::Blank | Event::Disk(_) => true,
-        Event::Issue { .. } | Event::Settle => false,
+        _ => false,
     }
 }
 
@@ -73,8 +74,8 @@ fn run_lines<S: Source, D: Store>(reader: &mut Reader, source: &mut S, world: &m
     requires going { reader.old.lines.stop ≡ Going }
     requires few { reader.old.lines.number ≤ most_lines }
     requires ended { reader.old.names.ended ≡ true }
-    requires many { length world.old.disks ≡ length reader.old.names.disks }
-    requires agrees { accepted_count reader.old.journal.entries ≡ accepted_in world.old.disks }
+    requires many { length world.old.lanes ≡ length reader.old.names.disks }
+    requires agrees { accepted_count reader.old.journal.entries ≡ issued_on world.old.lanes }
 
     ensures runs { RunsLines (to_come reader.old.lines (S.left source.old)) (S.left source.new) reader.old.names
         reader.old.journal.entries world.old reader.old.lines.number
@@ -106,6 +107,9 @@ pub struct Run<D: Store> {
     pub names: Names,
     pub journal: Journal,
     pub image: Option<D>,
+
+    /// The lanes of the disks, where the script was run over them.
+    pub lanes: Option<Lanes>,
 }
 
 /// Runs the script over the image of this name. The run has an image exactly where the host gave one.
@@ -116,7 +120,8 @@ pub fn run_script<H: Host, S: Source>(
     source: &mut S,
 ) -> Run<H::Disk>
     ensures replayed { Replayed H.Disk.content H.Disk.faults (S.left source.old) (S.left source.new)
-        (H.gives host.old name.now) result.status result.lines result.names result.journal.entries result.image }
+        (H.gives host.old name.now) result.status result.lines result.names result.journal.entries result.image
+        result.lanes }
     ensures sized { SizeIs H.Disk.size result.status (bytes_needed result.names.disks)
         (H.gives host.old name.now (bytes_needed result.names.disks)) result.image }
     ensures source { Fails (result.status ≡ Status.SourceFault) (S.faults source.old) (S.faults source.new) }
@@ -132,6 +137,7 @@ pub fn run_script<H: Host, S: Source>(
                 names: Names::new(),
                 journal: Journal::new(alloc),
                 image: None,
+                lanes: None,
             };
         }
     };
@@ -142,7 +148,7 @@ pub fn run_script<H: Host, S: Source>(
             other => {
                 let status = reader.status(other);
                 let lines = reader.counted(other);
-                reader.into_run(status, lines, None)
+                reader.into_run(status, lines, None, None)
             }
         },
     }
@@ -159,13 +165,12 @@ fn attach<H: Host, S: Source>(
 ) -> Run<H::Disk>
     requires going { IsSome first → (reader.lines.stop ≡ Going) × (reader.names.ended ≡ true) }
     requires few { reader.lines.number ≤ most_lines }
-    requires one { length reader.names.disks ≤ 1 }
     requires declared { IfSome first (IsDeclared reader.names) }
     requires journal { reader.journal.entries ≡ [] }
     ensures replayed { (start : Option (List ℕ))
         → Opened start reader.lines.held (S.left source.old) first reader.names reader.lines.number
         → Replayed H.Disk.content H.Disk.faults start (S.left source.new) (H.gives host.old name.now) result.status
-        result.lines result.names result.journal.entries result.image }
+        result.lines result.names result.journal.entries result.image result.lanes }
     ensures sized { (start : Option (List ℕ))
         → Opened start reader.lines.held (S.left source.old) first reader.names reader.lines.number
         → SizeIs H.Disk.size result.status (bytes_needed result.names.disks)
@@ -178,7 +183,7 @@ fn attach<H: Host, S: Source>(
         Ok(image) => run_over(alloc, image, source, reader, first),
         Err(fault) => {
             let lines = reader.number();
-            reader.into_run(status_of(fault), lines, None)
+            reader.into_run(status_of(fault), lines, None, None)
         }
     }
 }
@@ -193,14 +198,13 @@ fn run_over<D: Store, S: Source>(
 ) -> Run<D>
     requires going { IsSome first → (reader.lines.stop ≡ Going) × (reader.names.ended ≡ true) }
     requires few { reader.lines.number ≤ most_lines }
-    requires one { length reader.names.disks ≤ 1 }
     requires declared { IfSome first (IsDeclared reader.names) }
     requires journal { reader.journal.entries ≡ [] }
     ensures replayed { (start : Option (List ℕ)) (gives : ℕ → Option (List ℕ))
         → Opened start reader.lines.held (S.left source.old) first reader.names reader.lines.number
         → D.content image ≡ gives (bytes_needed reader.names.disks) → D.faults image ≡ 0
         → Replayed D.content D.faults start (S.left source.new) gives result.status result.lines result.names
-        result.journal.entries result.image }
+        result.journal.entries result.image result.lanes }
     ensures sized { (start : Option (List ℕ)) (gives : ℕ → Option (List ℕ))
         → Opened start reader.lines.held (S.left source.old) first reader.names reader.lines.number
         → D.content image ≡ gives (bytes_needed reader.names.disks) → D.faults image ≡ 0
@@ -214,11 +218,13 @@ fn run_over<D: Store, S: Source>(
     let need = BLOCK * blocks_declared(&reader.names);
     let have = image.len();
     if have < need {
-        return reader.into_run(Status::ImageSize { need, have }, lines, Some(image));
+        return reader.into_run(Status::ImageSize { need, have }, lines, Some(image), None);
     }
     match World::new(alloc, &reader.names, image) {
         Ok(world) => run_world(source, reader, world, first),
-        Err((NoMemory, given_back)) => reader.into_run(Status::NoMemory, lines, Some(given_back)),
+        Err((NoMemory, given_back)) => {
+            reader.into_run(Status::NoMemory, lines, Some(given_back), None)
+        }
     }
 }
 
@@ -231,15 +237,15 @@ fn run_world<S: Source, D: Store>(
 ) -> Run<D>
     requires going { IsSome first → (reader.lines.stop ≡ Going) × (reader.names.ended ≡ true) }
     requires few { reader.lines.number ≤ most_lines }
-    requires many { length world.disks ≡ length reader.names.disks }
+    requires many { length world.lanes ≡ length reader.names.disks }
     requires declared { IfSome first (IsDeclared reader.names) }
     requires journal { reader.journal.entries ≡ [] }
-    requires fresh { accepted_in world.disks ≡ 0 }
+    requires fresh { issued_on world.lanes ≡ 0 }
     ensures replayed { (start : Option (List ℕ)) (gives : ℕ → Option (List ℕ))
         → Opened start reader.lines.held (S.left source.old) first reader.names reader.lines.number
         → world ≡ start_of reader.names gives
         → Replayed D.content D.faults start (S.left source.new) gives result.status result.lines result.names
-        result.journal.entries result.image }
+        result.journal.entries result.image result.lanes }
     ensures sized { (start : Option (List ℕ)) (gives : ℕ → Option (List ℕ))
         → Opened start reader.lines.held (S.left source.old) first reader.names reader.lines.number
         → world ≡ start_of reader.names gives
@@ -254,7 +260,8 @@ fn run_world<S: Source, D: Store>(
     let stop = run_first(first, &mut reader, source, &mut world);
     let status = ended(reader.status(stop), world.faulty());
     let lines = reader.counted(stop);
-    reader.into_run(status, lines, Some(world.finish()))
+    let (image, lanes) = world.finish();
+    reader.into_run(status, lines, Some(image), Some(lanes))
 }
 
 // The status of a run that came so far: at the input's end a faulty image has its own.
@@ -276,10 +283,10 @@ fn run_first<S: Source, D: Store>(
 ) -> Stop
     requires going { IsSome first → (reader.old.lines.stop ≡ Going) × (reader.old.names.ended ≡ true) }
     requires few { reader.old.lines.number ≤ most_lines }
-    requires many { length world.old.disks ≡ length reader.old.names.disks }
+    requires many { length world.old.lanes ≡ length reader.old.names.disks }
     requires declared { IfSome first (IsDeclared reader.old.names) }
     requires journal { reader.old.journal.entries ≡ [] }
-    requires fresh { accepted_in world.old.disks ≡ 0 }
+    requires fresh { issued_on world.old.lanes ≡ 0 }
     ensures runs { (start : Option (List ℕ))
         → Opened start reader.old.lines.held (S.left source.old) first reader.old.names reader.old.lines.number
         → RunsAll start (S.left source.new) reader.old.names world.old (stop_status result reader.new.lines.number)

@@ -1,5 +1,5 @@
 ghost use Rattle.std.specs.Prelude.{◌≡◌, ◌≢◌, ◌≤◌, ◌*◌, ◌⊎◌, ℕ, [], map, codes, string_bytes, ◌^◌};
-ghost use Rattle.std.specs.Prelude.{◌<◌, length, Some, List, IfSome, IsNone, IsSome, OnErr, OnOk};
+ghost use Rattle.std.specs.Prelude.{◌<◌, length, Some, List, IfSome, IsNone, OnErr, OnOk};
 ghost use Rattle.std.specs.List.{All};
 ghost use Rattle.std.specs.Io.KnownBytes.{Appends};
 ghost use Rattle.vio_io.specs.Causes.{Rose};
@@ -14,23 +14,24 @@ ghost use Rattle.ldom_journal.specs.HasWords.{HasWords};
 ghost use Rattle.ldom_journal.specs.Report.{report, usage_line};
 ghost use Rattle.ldom_dump.specs.DumpReport.{Dumps};
 ghost use Rattle.ldom_dump.specs.Whole.{IsWhole};
-ghost use Rattle.replay_law.specs.Counts.{FaultsTold, NoneFailed, counts};
-ghost use Rattle.replay_law.specs.Clean.{EndsClean, IsCleanScript, NeverFails, StandsStill};
-ghost use Rattle.replay_law.specs.Failures.{SucceedOrFail, failed_count};
-ghost use Rattle.replay_law.specs.Outside.{IsOutsideAccepted, KeepsGiven};
+ghost use Rattle.script_laws.specs.Counts.{FaultsTold, NoneFailed, counts};
+ghost use Rattle.script_laws.specs.Clean.{EndsClean, IsCleanScript, NeverFails, StandsStill};
+ghost use Rattle.script_laws.specs.Failures.{SucceedOrFail, failed_count};
 ghost use Rattle.ldom_journal.specs.DiskEvents.{history};
-ghost use Rattle.replay_law.specs.Outcomes.{Reports, RunsScript};
-ghost use Rattle.replay_law.specs.Quiet.{IsQuietScript};
+ghost use Rattle.script_laws.specs.Outcomes.{Reports, RunsScript};
+ghost use Rattle.script_laws.specs.Quiet.{IsQuietScript};
 ghost use Rattle.domain_script.specs.ScriptEvents.{AllSpell, no_names};
-ghost use Rattle.replay_law.specs.Whole.{RunsPlainly, RunsWhole};
-ghost use Rattle.replay_law.specs.Worlds.{bytes_needed};
+ghost use Rattle.script_laws.specs.Whole.{RunsPlainly, RunsWhole};
+ghost use Rattle.world_parts.specs.Declared.{bytes_needed};
 ghost use Rattle.ldom_words.specs.Words.{AsksDump, AsksRun};
+ghost use Rattle.ldom_replay.specs.Asking.{AsksFor, AsksNoRun};
 
+use crate::command::{Command, command_of};
 use crate::run::{Run, run_script};
 use domain_script::Names;
 use ldom_dump::dump;
 use ldom_journal::{Journal, Mode, Status, write_end};
-use ldom_words::{Asked, read_words};
+use ldom_world::Lanes;
 use std::alloc::Global;
 use vio_io::{Failed, Host, Sink, Source, Store};
 
@@ -40,11 +41,16 @@ pub struct Outcome<D: Store> {
     pub status: Status,
     pub journal: Journal,
     pub image: Option<D>,
+
+    /// The lanes of the script's disks as they stand behind its last step, by their numbers in the order of
+    /// declaration, where it was run over an image.
+    pub lanes: Option<Lanes>,
 }
 
 /// Does what the words of a command line say, without the program's name: `run IMAGE` runs the script that the source
-/// gives over the image that the host has under this name, and writes the short report to the sink; `dump` writes the
-/// fields of the packets that it gives in hexadecimal digits. Other words are answered by the usage line.
+/// gives over the image that the host has under this name, and writes the short report to the sink; `trace IMAGE` does
+/// the same, and its report shows each entry; `dump` writes the fields of the packets that it gives in hexadecimal
+/// digits. Other words are answered by the usage line.
 pub fn replay<H: Host, S: Source, K: Sink>(
     alloc: Global,
     words: &[String],
@@ -54,18 +60,17 @@ pub fn replay<H: Host, S: Source, K: Sink>(
 ) -> Outcome<H::Disk>
     // The script is run up to where it stops, the journal is one part for each line, and the report is the journal's.
     // At status 7 alone the image is too short; it keeps what the host gave wherever no accepted write names a block.
-    ensures runs { (image : List ℕ) → AsksRun (map string_bytes words.now) image
-        → RunsScript H.Disk.content H.Disk.faults H.Disk.size (S.left script.old) (S.left script.new)
-        (H.gives host.old image) result.status result.journal.entries result.image
+    ensures runs { (mode : Mode) (image : List ℕ) → AsksFor mode (map string_bytes words.now) image
+        → RunsScript mode H.Disk.content H.Disk.faults H.Disk.size (S.left script.old) (S.left script.new)
+        (H.gives host.old image) result.status result.journal.entries result.image result.lanes
         (K.written out.old) (K.written out.new) }
 
     // At status 0 the script was run to its end: the journal fits all its events, and the whole report was written.
-    ensures whole { (image : List ℕ) → AsksRun (map string_bytes words.now) image
+    ensures whole { (mode : Mode) (image : List ℕ) → AsksFor mode (map string_bytes words.now) image
         → (bytes : List ℕ) (events : List Event) (names : NamesState) → S.left script.old ≡ Some bytes
         → AllSpell (script_lines bytes) no_names events names → result.status ≡ Status.Done
-        → RunsWhole H.Disk.content H.Disk.faults (H.gives host.old image) names events result.journal.entries
-        result.image
-        (K.written out.old) (K.written out.new) }
+        → RunsWhole mode H.Disk.content H.Disk.faults (H.gives host.old image) names events result.journal.entries
+        result.image (K.written out.old) (K.written out.new) }
 
     // So a quiet script over an image that tells its bytes is what the plain run makes of it.
     ensures quiet { (image : List ℕ) → AsksRun (map string_bytes words.now) image
@@ -78,15 +83,9 @@ pub fn replay<H: Host, S: Source, K: Sink>(
     // For every disk: completions are in the order of issue, each request's at most once.
     ensures once { (disk : ℕ) → CompletesOnceInOrder (history disk result.journal.entries) }
 
-    // An image that a host gave, and whose bytes it tells, keeps them but for what accepted writes name.
-    ensures outside { (image : List ℕ) → AsksRun (map string_bytes words.now) image
-        → ((least : ℕ) → IsSome (H.gives host.old image least))
-        → IfSome result.image (λ disk. KeepsGiven (H.gives host.old image)
-        (IsOutsideAccepted result.journal.entries) (H.Disk.content disk)) }
-
     // A script without faults and within the limits, over `-` or an image that is as long as its disks, is run to its
     // end, where no count rose and memory suffices, or to a line that begins with too many entries.
-    ensures complete { (image : List ℕ) → AsksRun (map string_bytes words.now) image
+    ensures complete { (mode : Mode) (image : List ℕ) → AsksFor mode (map string_bytes words.now) image
         → (bytes : List ℕ) → S.left script.old ≡ Some bytes → (clean : IsCleanScript bytes)
         → NoneFailed (counts (S.faults script.old) (H.faults host.old) (K.faults out.old))
         (counts (S.faults script.new) (H.faults host.new) (K.faults out.new))
@@ -95,7 +94,7 @@ pub fn replay<H: Host, S: Source, K: Sink>(
         → EndsClean result.status result.journal.entries }
 
     // So over a source, a host and a disk whose types never fail, where the sink doesn't either.
-    ensures infallible { (image : List ℕ) → AsksRun (map string_bytes words.now) image
+    ensures infallible { (mode : Mode) (image : List ℕ) → AsksFor mode (map string_bytes words.now) image
         → (bytes : List ℕ) → S.left script.old ≡ Some bytes → (clean : IsCleanScript bytes)
         → NeverFails S.faults → NeverFails H.faults → NeverFails H.Disk.faults
         → (image ≢ codes "-" → IfSome result.image (λ disk. bytes_needed clean.names.disks ≤ H.Disk.size disk))
@@ -120,13 +119,12 @@ pub fn replay<H: Host, S: Source, K: Sink>(
         → (result.status ≡ Status.Done) ⊎ (result.status ≡ Status.NoMemory) }
 
     // Other words are no command.
-    ensures usage { ((image : List ℕ) → AsksRun (map string_bytes words.now) image → ⊥)
-        → (AsksDump (map string_bytes words.now) → ⊥)
+    ensures usage { AsksNoRun (map string_bytes words.now) → (AsksDump (map string_bytes words.now) → ⊥)
         → Reports Status.Usage result.status (K.written out.old) (K.written out.new) usage_line }
 
-    // What isn't a run has no journal and no image.
-    ensures nothing { ((image : List ℕ) → AsksRun (map string_bytes words.now) image → ⊥)
-        → (result.journal.entries ≡ []) × IsNone result.image }
+    // What isn't a run has no journal, no image and no lanes.
+    ensures nothing { AsksNoRun (map string_bytes words.now)
+        → (result.journal.entries ≡ []) × IsNone result.image × IsNone result.lanes }
 
     // A fault of the source, the host or the sink is answered only where its count rose, and each other status where it
     // didn't, but that a fault of the sink comes last. At status 0 the image never failed either.
@@ -135,9 +133,11 @@ pub fn replay<H: Host, S: Source, K: Sink>(
         (counts (S.faults script.new) (H.faults host.new) (K.faults out.new)) }
     ensures image_unfailed { result.status ≡ Status.Done → IfSome result.image (λ image. H.Disk.faults image ≡ 0) }
 {
-    match read_words(alloc, words) {
-        Some(Asked::Run { image }) => report_run(run_script(alloc, image, host, script), out),
-        Some(Asked::Dump) => report_dump(alloc, script, out),
+    match command_of(alloc, words) {
+        Some(Command::Script { mode, image }) => {
+            report_run(mode, run_script(alloc, image, host, script), out)
+        }
+        Some(Command::Dump) => report_dump(alloc, script, out),
         None => report_usage(Journal::new(alloc), out),
     }
 }
@@ -154,7 +154,7 @@ fn report_dump<D: Store, S: Source, K: Sink>(
         → ¬ Rose (S.faults script.old) (S.faults script.new) → ¬ Rose (K.faults out.old) (K.faults out.new)
         → (result.status ≡ Status.Done) ⊎ (result.status ≡ Status.NoMemory) }
     ensures journal { result.journal ≡ record { entries = []; room = 0 } }
-    ensures image { IsNone result.image }
+    ensures none { IsNone result.image × IsNone result.lanes }
     ensures source_fault { result.status ≡ Status.SourceFault → Rose (S.faults script.old) (S.faults script.new) }
     ensures sink_fault { result.status ≡ Status.SinkFault → Rose (K.faults out.old) (K.faults out.new) }
     ensures no_host { result.status ≢ Status.HostFault }
@@ -168,18 +168,20 @@ fn report_dump<D: Store, S: Source, K: Sink>(
         status: dump(alloc, script, out),
         journal: Journal::new(alloc),
         image: None,
+        lanes: None,
     }
 }
 
-// Writes the report of a run.
-fn report_run<D: Store, K: Sink>(run: Run<D>, out: &mut K) -> Outcome<D>
+// Writes the report of a run as the mode shows it.
+fn report_run<D: Store, K: Sink>(mode: Mode, run: Run<D>, out: &mut K) -> Outcome<D>
     requires words { All (HasWords run.names.disks) run.journal.entries }
     requires ran { run.status ≢ Status.Usage }
     ensures reports { Reports run.status result.status (K.written out.old) (K.written out.new)
-        (report Mode.Run run.names.disks run.lines run.journal.entries run.status) }
+        (report mode run.names.disks run.lines run.journal.entries run.status) }
     ensures journal { result.journal ≡ run.journal }
     ensures small { length result.journal.entries < 2 ^ 63 }
     ensures image { result.image ≡ run.image }
+    ensures lanes { result.lanes ≡ run.lanes }
     ensures sink_fault { result.status ≡ Status.SinkFault → (run.status ≢ Status.SinkFault)
         → Rose (K.faults out.old) (K.faults out.new) }
     ensures other { result.status ≢ Status.SinkFault → result.status ≡ run.status }
@@ -192,8 +194,9 @@ fn report_run<D: Store, K: Sink>(run: Run<D>, out: &mut K) -> Outcome<D>
         names,
         journal,
         image,
+        lanes,
     } = run;
-    let status = match write_report(&journal, &names, lines, &status, out) {
+    let status = match write_report(mode, &journal, &names, lines, &status, out) {
         Ok(()) => status,
         Err(Failed) => Status::SinkFault,
     };
@@ -202,10 +205,12 @@ fn report_run<D: Store, K: Sink>(run: Run<D>, out: &mut K) -> Outcome<D>
         status,
         journal,
         image,
+        lanes,
     }
 }
 
 fn write_report<K: Sink>(
+    mode: Mode,
     journal: &Journal,
     names: &Names,
     lines: u32,
@@ -215,14 +220,14 @@ fn write_report<K: Sink>(
     requires words { All (HasWords names.now.disks) journal.now.entries }
     requires ran { status.now ≢ Status.Usage }
     ensures ok { OnOk result (Appends (K.written out.old) (K.written out.new)
-        (report Mode.Run names.now.disks lines journal.now.entries status.now)) }
+        (report mode names.now.disks lines journal.now.entries status.now)) }
     ensures err { OnErr result (WroteFront (K.written out.old) (K.written out.new)
-        (report Mode.Run names.now.disks lines journal.now.entries status.now)) }
+        (report mode names.now.disks lines journal.now.entries status.now)) }
     ensures unfailed { OnOk result (K.faults out.new ≡ K.faults out.old) }
     ensures count { K.faults out.old ≤ K.faults out.new }
     ensures cause { OnErr result (Rose (K.faults out.old) (K.faults out.new)) }
 {
-    journal.write_text(Mode::Run, names, out)?;
+    journal.write_text(mode, names, out)?;
     write_end(journal, lines, status, out)
 }
 
@@ -231,7 +236,7 @@ fn report_usage<D: Store, K: Sink>(journal: Journal, out: &mut K) -> Outcome<D>
     requires { journal.entries ≡ [] }
     ensures reports { Reports Status.Usage result.status (K.written out.old) (K.written out.new) usage_line }
     ensures journal { result.journal ≡ journal }
-    ensures image { IsNone result.image }
+    ensures none { IsNone result.image × IsNone result.lanes }
     ensures sink_fault { result.status ≡ Status.SinkFault → Rose (K.faults out.old) (K.faults out.new) }
     ensures sink_unfailed { result.status ≢ Status.SinkFault → K.faults out.new ≡ K.faults out.old }
     ensures sink_count { K.faults out.old ≤ K.faults out.new }
@@ -244,5 +249,6 @@ fn report_usage<D: Store, K: Sink>(journal: Journal, out: &mut K) -> Outcome<D>
         status,
         journal,
         image: None,
+        lanes: None,
     }
 }

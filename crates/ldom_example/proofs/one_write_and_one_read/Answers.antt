@@ -2,8 +2,9 @@
 use Rattle.std.proofs.Common.{Global, ◌≡◌, ◌∙◌, ap, refl, inl, inr, [], ◌∷◌, ◌++◌, map, codes, List, ℕ, Some}
 use Rattle.std.specs.String.{string_bytes}
 use Rattle.infallible_io.specs.States.{GrowingSinkState}
-use Rattle.replay_law.specs.PlainRun.{plain_text}
+use Rattle.script_laws.specs.PlainRun.{plain_text}
 use Rattle.ldom_example.specs.Known.{script}
+use Rattle.ldom_journal.specs.declared.status.Mode.TheVariants as mode
 use Rattle.ldom_example.proofs.KnownRun.{asks_zeros, clean, disk, events, full_limit, ids_are, image_is, quiet, text_is, zeros}
 use Rattle.ldom_example.proofs.one_write_and_one_read.Goals as goal
 
@@ -32,7 +33,7 @@ returns-in-Done-clause-ids c =
 pub unreachable-requires : goal.unreachable-requires
 unreachable-requires c =
     let asks = asks_zeros _ (ap (map (string_bytes {Z = Global})) c.deref.ensures.value ∙ c.in_ok-words.ensures) in
-    elim (c.replay-outcome.ensures.infallible (codes "-") asks script (ap Some c.in_ok-script.ensures) clean (λ _. refl) (λ _. refl) (λ _. refl) (λ other. absurd (other refl)) c.in_default.not-SinkFault) [
+    elim (c.replay-outcome.ensures.infallible mode.Run (codes "-") asks script (ap Some c.in_ok-script.ensures) clean (λ _. refl) (λ _. refl) (λ _. refl) (λ other. absurd (other refl)) c.in_default.not-SinkFault) [
       | inl done ↦ c.in_default.not-Done done
       | inr (inl memory) ↦ c.in_default.not-NoMemory memory
       | inr (inr full) ↦ let limit = full_limit c.replay-outcome.result.status c.replay-outcome.result.journal.entries full in c.in_default.not-Limit limit.0 limit.1 limit.2

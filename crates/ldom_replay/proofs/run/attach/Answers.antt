@@ -1,9 +1,9 @@
 use Rattle.std.proofs.Common.{◌≡◌, ◌*◌, ◌∙◌, [], ℕ, None, refl, ap, subst, sym}
 use Rattle.ldom_journal.specs.JournalState.{JournalState}
-use Rattle.replay_law.specs.Replayed.{attach_status}
-use Rattle.replay_law.specs.Worlds.{blocks_of}
-use Rattle.replay_law.proofs.Assembly.{replayed_as, replayed_refused}
-use Rattle.replay_law.proofs.Sizes.{sized_as, sized_refused}
+use Rattle.script_laws.specs.Replayed.{attach_status}
+use Rattle.world_parts.specs.Declared.{blocks_of}
+use Rattle.script_laws.proofs.Assembly.{replayed_as, replayed_refused}
+use Rattle.script_laws.proofs.Sizes.{sized_as, sized_refused}
 use Rattle.ldom_replay.proofs.Holding.{gave_as, gave_one}
 use Rattle.ldom_replay.proofs.run.attach.Goals as goal
 
@@ -26,9 +26,9 @@ returns-in-Err-clause-replayed g c start opened =
     let now = g.S.Source.left c.args.source.now in
     let read = c.args.reader in
     replayed_as g.H.Disk.Store.content g.H.Disk.Store.faults start now gives (attach_status c.in-Err.fault) c.into_run.result.status read.lines.number c.into_run.result.lines
-    read.names c.into_run.result.names [] c.into_run.result.journal.entries None c.into_run.result.image
+    read.names c.into_run.result.names [] c.into_run.result.journal.entries None c.into_run.result.image None c.into_run.result.lanes
     (c.into_run.ensures.status ∙ c.status_of.ensures) (c.into_run.ensures.lines ∙ c.number-lines.ensures) c.into_run.ensures.names
-    (ap (λ (j : JournalState). j.entries) c.into_run.ensures.journal ∙ c.requires.journal) c.into_run.ensures.image
+    (ap (λ (j : JournalState). j.entries) c.into_run.ensures.journal ∙ c.requires.journal) c.into_run.ensures.image c.into_run.ensures.lanes
     (replayed_refused g.H.Disk.Store.content g.H.Disk.Store.faults start now gives c.in-Err.fault read.lines.held c.args.first read.names read.lines.number None tt (λ _. refl) opened)
 
 pub returns-in-Err-clause-sized : goal.returns-in-Err-clause-sized

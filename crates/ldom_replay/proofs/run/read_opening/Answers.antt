@@ -1,6 +1,6 @@
 use Rattle.std.proofs.Common.{◌∙◌, refl}
 use Rattle.domain_script.specs.LinesState.{to_come}
-use Rattle.replay_law.proofs.ReadLemmas.{opens, opens_more, one_disk}
+use Rattle.script_laws.proofs.ReadLemmas.{opens, opens_more}
 use Rattle.ldom_replay.proofs.run.read_opening.Goals as goal
 
 pub loop-event-preserved : goal.loop-event-preserved
@@ -11,7 +11,6 @@ loop-event-preserved g c =
     record {
       going = c.in_ok-read_event.ensures.next.2;
       few = c.in_ok-read_event.ensures.next.1;
-      one = one_disk rest left c.read_event.new.event c.loop-event.reader.names c.read_event.new.self.names c.in_ok-read_event.ensures.event c.loop-event.invariant.one;
       so_far = opens_more start rest left c.read_event.new.event c.loop-event.reader.names c.read_event.new.self.names c.loop-event.reader.lines.number c.read_event.new.self.lines.number
           c.loop-event.invariant.so_far c.in_ok-read_event.ensures.event c.in_ok-read_event.ensures.next.0 c.in_ok-read_event.ensures.next.1 (c.if-not-is_opening.ensures.0 refl);
       journal = c.in_ok-read_event.ensures.journal ∙ c.loop-event.invariant.journal;

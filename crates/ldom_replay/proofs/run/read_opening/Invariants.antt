@@ -1,14 +1,13 @@
-use Rattle.std.proofs.Common.{◌≡◌, ◌-◌, ◌≤◌, length}
+use Rattle.std.proofs.Common.{◌≡◌, ◌-◌, ◌≤◌}
 use Rattle.domain_script.specs.declared.lines.LinesStop.TheVariants.{Going}
 use Rattle.domain_script.specs.LinesState.{to_come}
-use Rattle.replay_law.proofs.ReadLemmas.{OpensSoFar}
+use Rattle.script_laws.proofs.ReadLemmas.{OpensSoFar}
 use Rattle.ldom_replay.proofs.run.read_opening.Given as goal
 
 abbrev pub invariant-loop-event : goal.invariant-loop-event
 invariant-loop-event g l = record {
   going : l.reader.lines.stop ≡ Going;
   few : l.reader.lines.number ≤ 20000;
-  one : length l.reader.names.disks ≤ 1;
   so_far : OpensSoFar (to_come l.fn.reader.lines (g.S.Source.left l.fn.source)) (to_come l.reader.lines (g.S.Source.left l.source)) l.reader.names l.reader.lines.number;
   journal : l.reader.journal ≡ l.fn.reader.journal;
   unfailed : g.S.Source.faults l.source ≡ g.S.Source.faults l.fn.source;

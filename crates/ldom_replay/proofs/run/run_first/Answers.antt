@@ -1,14 +1,16 @@
-use Rattle.std.proofs.Common.{◌∙◌, List, Option, subst, sym}
-use Rattle.replay_law.proofs.History.{fits_many}
+use Rattle.std.proofs.Common.{◌∙◌, List, Option, IfSome, subst, sym}
 use Rattle.domain_script.specs.LinesState.{to_come}
 use Rattle.domain_script.specs.declared.event.Event.{Event}
 use Rattle.ldom_journal.specs.declared.entry.Entry.{Entry}
 use Rattle.ldom_journal.specs.declared.status.Status.TheVariants as status
 use Rattle.ldom_journal.specs.Stops.{stop_lines, stop_status}
-use Rattle.replay_law.specs.Going.{RunsAll}
-use Rattle.replay_law.specs.Opening.{Opened}
-use Rattle.replay_law.specs.Parts.{Fits, FitsSoFar}
-use Rattle.replay_law.proofs.Assembly.{runs_all, runs_first_cut, runs_none_more}
+use Rattle.script_laws.specs.Going.{RunsAll}
+use Rattle.script_laws.specs.Opening.{Opened}
+use Rattle.world_parts.specs.Lines.{IsForDisks, line_of}
+use Rattle.world_parts.specs.Parts.{Fits, FitsSoFar}
+use Rattle.domain_script.specs.Spells.{IsDeclared}
+use Rattle.script_laws.proofs.LineCases.{for_declared}
+use Rattle.script_laws.proofs.Assembly.{runs_all, runs_first_cut, runs_none_more}
 use Rattle.ldom_replay.proofs.run.run_first.Goals as goal
 
 pub returns-in-None-clause-runs : goal.returns-in-None-clause-runs
@@ -24,7 +26,7 @@ returns-in-Ok-clause-runs g c start opened =
     runs_all start (to_come c.args.reader.now.lines now) (g.S.Source.left c.run_lines.new.source) c.in-Some.event c.args.reader.now.names c.run_lines.new.reader.names c.args.world.now c.apply.new.self c.run_lines.new.world c.apply.new.journal.entries c.run_lines.new.reader.journal.entries
     c.args.reader.now.lines.number (stop_lines c.run_lines.result c.run_lines.new.reader.lines.number) (stop_status c.run_lines.result c.run_lines.new.reader.lines.number)
     (subst (λ (first : Option Event). Opened start c.args.reader.now.lines.held now first c.args.reader.now.names c.args.reader.now.lines.number) c.in-Some.is opened)
-    (subst (λ (l : List Entry). Fits c.args.world.now c.in-Some.event l c.apply.new.journal.entries c.apply.new.self) c.requires.journal c.in-Ok.ensures.fits)
+    (subst (λ (l : List Entry). Fits c.args.world.now (line_of c.in-Some.event) l c.apply.new.journal.entries c.apply.new.self) c.requires.journal c.in-Ok.ensures.fits)
     c.run_lines.ensures.runs
 
 pub returns-in-Err-clause-runs : goal.returns-in-Err-clause-runs
@@ -32,8 +34,14 @@ returns-in-Err-clause-runs g c start opened =
     let now = g.S.Source.left c.args.source.now in
     runs_first_cut start now c.args.reader.now.lines.held c.in-Some.event c.args.reader.now.names c.args.world.now c.apply.new.self c.apply.new.journal.entries c.args.reader.now.lines.number
     (subst (λ (first : Option Event). Opened start c.args.reader.now.lines.held now first c.args.reader.now.names c.args.reader.now.lines.number) c.in-Some.is opened)
-    (subst (λ (l : List Entry). FitsSoFar c.args.world.now c.in-Some.event l c.apply.new.journal.entries c.apply.new.self) c.requires.journal c.in-Err.ensures.so_far)
+    (subst (λ (l : List Entry). FitsSoFar c.args.world.now (line_of c.in-Some.event) l c.apply.new.journal.entries c.apply.new.self) c.requires.journal c.in-Err.ensures.so_far)
 
 pub run_lines-requires-clause-many : goal.run_lines-requires-clause-many
 run_lines-requires-clause-many g c =
-    fits_many c.args.world.now c.apply.new.self c.in-Some.event c.args.reader.now.journal.entries c.apply.new.journal.entries c.in-Ok.ensures.fits ∙ c.requires.many
+    c.in-Ok.ensures.many ∙ c.requires.many
+
+pub apply-requires-clause-event : goal.apply-requires-clause-event
+apply-requires-clause-event g c =
+    let names = c.args.reader.now.names in
+    let declared : IsDeclared names c.in-Some.event = subst (λ (first : Option Event). IfSome first (IsDeclared names)) c.in-Some.is c.requires.declared in
+    subst (λ n. IsForDisks n c.in-Some.event) (sym c.requires.many) (for_declared names c.in-Some.event declared)

@@ -1,16 +1,15 @@
 use Rattle.std.proofs.Common.{◌≡◌, ◌∙◌, List, length, ap, refl, subst, sym}
 use Rattle.ldom_journal.specs.JournalState.{JournalState}
 use Rattle.ldom_journal.specs.declared.status.Status.{Status}
-use Rattle.replay_law.specs.Going.{RunsLines}
-use Rattle.replay_law.specs.Parts.{Fits, FitsSoFar}
+use Rattle.script_laws.specs.Going.{RunsLines}
 use Rattle.domain_script.specs.LinesState.{to_come}
 use Rattle.ldom_journal.specs.Stops.{stop_lines, stop_status}
-use Rattle.replay_law.proofs.ReadLemmas.{same_disks, still_ended}
-use Rattle.replay_law.proofs.History.{fits_many}
-use Rattle.replay_law.proofs.LineCases.{for_declared}
-use Rattle.replay_law.specs.Parts.{IsForDisk}
+use Rattle.script_laws.proofs.ReadLemmas.{same_disks, still_ended}
+use Rattle.script_laws.proofs.LineCases.{for_declared}
+use Rattle.world_parts.specs.Lines.{IsForDisks, line_of}
+use Rattle.world_parts.specs.Parts.{Fits, FitsSoFar}
 use Rattle.domain_script.specs.declared.event.DiskDecl.{DiskDecl}
-use Rattle.replay_law.proofs.RunLemmas.{runs_cut, runs_more, runs_none, runs_stop}
+use Rattle.script_laws.proofs.RunLemmas.{runs_cut, runs_more, runs_none, runs_stop}
 use Rattle.ldom_replay.proofs.run.run_lines.Goals as goal
 
 pub loop-stop-init : goal.loop-stop-init
@@ -35,13 +34,13 @@ loop-stop-preserved g c =
       going = c.in-Ok.ensures.next.2;
       few = c.in-Ok.ensures.next.1;
       ended = still_ended rest left c.read_event.new.event c.loop-stop.reader.names c.read_event.new.self.names c.in-Ok.ensures.event c.loop-stop.invariant.ended;
-      many = fits_many c.loop-stop.world c.apply.new.self c.read_event.new.event c.read_event.new.self.journal.entries c.apply.new.journal.entries c.in-Ok-apply.ensures.fits
+      many = c.in-Ok-apply.ensures.many
           ∙ c.loop-stop.invariant.many ∙ sym (ap (λ (l : List DiskDecl). length l) (same_disks rest left c.read_event.new.event c.loop-stop.reader.names c.read_event.new.self.names c.in-Ok.ensures.event c.loop-stop.invariant.ended));
       agrees = c.in-Ok-apply.ensures.agrees;
       so_far = runs_more start rest left c.args.reader.now.names c.loop-stop.reader.names c.read_event.new.self.names c.args.reader.now.journal.entries c.loop-stop.reader.journal.entries c.apply.new.journal.entries
           c.args.world.now c.loop-stop.world c.apply.new.self c.args.reader.now.lines.number c.loop-stop.reader.lines.number c.read_event.new.self.lines.number c.read_event.new.event
           c.loop-stop.invariant.so_far c.in-Ok.ensures.event c.in-Ok.ensures.next.0 c.in-Ok.ensures.next.1 c.in-Ok.ensures.below
-          (subst (λ (j : JournalState). Fits c.loop-stop.world c.read_event.new.event j.entries c.apply.new.journal.entries c.apply.new.self) c.in-Ok.ensures.journal c.in-Ok-apply.ensures.fits);
+          (subst (λ (j : JournalState). Fits c.loop-stop.world (line_of c.read_event.new.event) j.entries c.apply.new.journal.entries c.apply.new.self) c.in-Ok.ensures.journal c.in-Ok-apply.ensures.fits);
       unfailed = c.in-Ok.ensures.source.unfailed (λ is. cc) ∙ c.loop-stop.invariant.unfailed;
     }
 
@@ -51,7 +50,7 @@ returns-in-Err-apply-clause-runs g c =
     c.args.reader.now.names c.loop-stop.reader.names c.read_event.new.self.names c.args.reader.now.journal.entries c.loop-stop.reader.journal.entries c.apply.new.journal.entries
     c.args.world.now c.loop-stop.world c.apply.new.self c.args.reader.now.lines.number c.loop-stop.reader.lines.number c.read_event.new.self.lines.number c.read_event.new.event
     c.loop-stop.invariant.so_far c.in-Ok.ensures.event c.in-Ok.ensures.next.0 c.in-Ok.ensures.next.1 c.in-Ok.ensures.below
-    (subst (λ (j : JournalState). FitsSoFar c.loop-stop.world c.read_event.new.event j.entries c.apply.new.journal.entries c.apply.new.self) c.in-Ok.ensures.journal c.in-Err-apply.ensures.so_far)
+    (subst (λ (j : JournalState). FitsSoFar c.loop-stop.world (line_of c.read_event.new.event) j.entries c.apply.new.journal.entries c.apply.new.self) c.in-Ok.ensures.journal c.in-Err-apply.ensures.so_far)
 
 pub returns-in-Err-clause-runs : goal.returns-in-Err-clause-runs
 returns-in-Err-clause-runs g c =
@@ -70,6 +69,6 @@ apply-requires-clause-event g c =
     let rest = to_come c.loop-stop.reader.lines (g.S.Source.left c.loop-stop.source) in
     let left = to_come c.read_event.new.self.lines (g.S.Source.left c.read_event.new.source) in
     let names = c.read_event.new.self.names in
-    let many : length names.disks ≡ length c.loop-stop.world.disks =
+    let many : length names.disks ≡ length c.loop-stop.world.lanes =
     ap (λ (l : List DiskDecl). length l) (same_disks rest left c.read_event.new.event c.loop-stop.reader.names names c.in-Ok.ensures.event c.loop-stop.invariant.ended) ∙ sym c.loop-stop.invariant.many in
-    subst (λ n. IsForDisk n c.read_event.new.event) many (for_declared names c.read_event.new.event c.in-Ok.ensures.declared)
+    subst (λ n. IsForDisks n c.read_event.new.event) many (for_declared names c.read_event.new.event c.in-Ok.ensures.declared)

@@ -2,8 +2,8 @@ use Rattle.std.proofs.Common.{◌≡◌, ◌-◌, ◌≤◌, true, length}
 use Rattle.domain_script.specs.declared.lines.LinesStop.TheVariants.{Going}
 use Rattle.domain_script.specs.LinesState.{to_come}
 use Rattle.ldom_journal.specs.Report.{accepted_count}
-use Rattle.replay_law.specs.Worlds.{accepted_in}
-use Rattle.replay_law.proofs.RunLemmas.{RunsSoFar}
+use Rattle.settle_loop.specs.Issued.{issued_on}
+use Rattle.script_laws.proofs.RunLemmas.{RunsSoFar}
 use Rattle.ldom_replay.proofs.run.run_lines.Given as goal
 
 abbrev pub invariant-loop-stop : goal.invariant-loop-stop
@@ -11,8 +11,8 @@ invariant-loop-stop g l = record {
   going : l.reader.lines.stop ≡ Going;
   few : l.reader.lines.number ≤ 20000;
   ended : l.reader.names.ended ≡ true;
-  many : length l.world.disks ≡ length l.reader.names.disks;
-  agrees : accepted_count l.reader.journal.entries ≡ accepted_in l.world.disks;
+  many : length l.world.lanes ≡ length l.reader.names.disks;
+  agrees : accepted_count l.reader.journal.entries ≡ issued_on l.world.lanes;
   so_far : RunsSoFar (to_come l.fn.reader.lines (g.S.Source.left l.fn.source)) l.fn.reader.names l.fn.reader.journal.entries l.fn.world l.fn.reader.lines.number
       (to_come l.reader.lines (g.S.Source.left l.source)) l.reader.names l.reader.journal.entries l.world l.reader.lines.number;
   unfailed : g.S.Source.faults l.source ≡ g.S.Source.faults l.fn.source;

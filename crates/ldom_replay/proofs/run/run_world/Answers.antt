@@ -3,9 +3,9 @@ use Rattle.ldom_journal.specs.JournalState.{JournalState}
 use Rattle.ldom_journal.specs.declared.status.Status.{Status}
 use Rattle.ldom_journal.specs.Stops.{stop_lines, stop_status}
 use Rattle.ldom_journal.proofs.StopLemmas.{readers_of}
-use Rattle.replay_law.specs.Replayed.{ended_status}
-use Rattle.replay_law.proofs.Assembly.{replayed_as, replayed_of}
-use Rattle.replay_law.proofs.Sizes.{sized_as, sized_run}
+use Rattle.script_laws.specs.Replayed.{ended_status}
+use Rattle.script_laws.proofs.Assembly.{replayed_as, replayed_of}
+use Rattle.script_laws.proofs.Sizes.{sized_as, sized_run}
 use Rattle.ldom_replay.proofs.run.run_world.Goals as goal
 
 pub returns-clause-replayed : goal.returns-clause-replayed
@@ -16,12 +16,12 @@ returns-clause-replayed g c start gives opened begins =
     let ended_is : c.ended-status.result ≡ ended_status why c.faulty.result = c.ended-status.ensures ∙ ap (λ (w : Status). ended_status w c.faulty.result) c.status.ensures in
     let status_is : c.into_run.result.status ≡ ended_status why c.faulty.result = c.into_run.ensures.status ∙ ended_is in
     replayed_as g.D.Store.content g.D.Store.faults start now gives (ended_status why c.faulty.result) c.into_run.result.status (stop_lines c.run_first-stop.result read.lines.number) c.into_run.result.lines
-    read.names c.into_run.result.names read.journal.entries c.into_run.result.journal.entries (Some c.finish.result) c.into_run.result.image
+    read.names c.into_run.result.names read.journal.entries c.into_run.result.journal.entries (Some c.finish-image.result.0) c.into_run.result.image (Some c.finish-image.result.1) c.into_run.result.lanes
     status_is (c.into_run.ensures.lines ∙ c.counted-lines.ensures) c.into_run.ensures.names
-    (ap (λ (j : JournalState). j.entries) c.into_run.ensures.journal) c.into_run.ensures.image
+    (ap (λ (j : JournalState). j.entries) c.into_run.ensures.journal) c.into_run.ensures.image c.into_run.ensures.lanes
     (replayed_of g.D.Store.content g.D.Store.faults start now gives why c.faulty.result c.args.reader.names read.names c.args.world c.run_first-stop.new.world
-    read.journal.entries (stop_lines c.run_first-stop.result read.lines.number) c.finish.result (readers_of c.run_first-stop.result read.lines.number) (c.run_first-stop.ensures.runs start opened) begins
-    c.finish.ensures.content c.finish.ensures.faults c.faulty.ensures)
+    read.journal.entries (stop_lines c.run_first-stop.result read.lines.number) c.finish-image.result.0 c.finish-image.result.1 (readers_of c.run_first-stop.result read.lines.number) (c.run_first-stop.ensures.runs start opened) begins
+    c.finish-image.ensures.content c.finish-image.ensures.faults c.finish-image.ensures.lanes c.faulty.ensures)
 
 pub returns-clause-sized : goal.returns-clause-sized
 returns-clause-sized g c start gives opened begins long =
@@ -30,7 +30,7 @@ returns-clause-sized g c start gives opened begins long =
     let why : Status = stop_status c.run_first-stop.result read.lines.number in
     let ended_is : c.ended-status.result ≡ ended_status why c.faulty.result = c.ended-status.ensures ∙ ap (λ (w : Status). ended_status w c.faulty.result) c.status.ensures in
     let status_is : c.into_run.result.status ≡ ended_status why c.faulty.result = c.into_run.ensures.status ∙ ended_is in
-    sized_as g.D.Store.size gives (ended_status why c.faulty.result) c.into_run.result.status read.names c.into_run.result.names (Some c.finish.result) c.into_run.result.image
+    sized_as g.D.Store.size gives (ended_status why c.faulty.result) c.into_run.result.status read.names c.into_run.result.names (Some c.finish-image.result.0) c.into_run.result.image
     status_is c.into_run.ensures.names c.into_run.ensures.image
     (sized_run g.D.Store.size start now gives why c.faulty.result c.args.reader.names read.names c.args.world c.run_first-stop.new.world read.journal.entries (stop_lines c.run_first-stop.result read.lines.number)
-    c.finish.result (readers_of c.run_first-stop.result read.lines.number) (c.run_first-stop.ensures.runs start opened) begins c.finish.ensures.size long)
+    c.finish-image.result.0 (readers_of c.run_first-stop.result read.lines.number) (c.run_first-stop.ensures.runs start opened) begins c.finish-image.ensures.size long)

@@ -1,0 +1,23 @@
+-- The words that ask for a run, by what its report shows.
+use Rattle.std.specs.Prelude.{ℕ, List, Option, Some, None}
+use Rattle.ldom_journal.specs.declared.status.Mode.{Mode}
+use Rattle.ldom_journal.specs.declared.status.Mode.TheVariants as mode
+use Rattle.ldom_words.specs.Words.{AsksDump, AsksRun, AsksTrace}
+use Rattle.ldom_replay.specs.declared.command.Command.{Command}
+use Rattle.ldom_replay.specs.declared.command.Command.TheVariants.{Script, Dump}
+
+-- a script is run over the image of this name; no words ask for the end line alone
+abbrev pub AsksFor : Mode → List (List ℕ) → List ℕ → Type 0
+AsksFor mode.Run words image = AsksRun words image
+AsksFor mode.Trace words image = AsksTrace words image
+AsksFor mode.EndOnly words image = ⊥
+
+-- they ask for no run
+abbrev pub AsksNoRun : List (List ℕ) → Type 0
+AsksNoRun words = (shown : Mode) (image : List ℕ) → AsksFor shown words image → ⊥
+
+-- what the words ask for
+abbrev pub IsCommand : List (List ℕ) → Option Command → Type 0
+IsCommand words (Some (Script shown image)) = AsksFor shown words image.now
+IsCommand words (Some Dump) = AsksDump words
+IsCommand words None = AsksNoRun words × (AsksDump words → ⊥)
