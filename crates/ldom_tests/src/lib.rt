@@ -2,4 +2,12 @@
 #![tactic(auto)]
 
 #[cfg(test)]
+mod disturbances;
+#[cfg(test)]
+mod lanes;
+#[cfg(test)]
+mod replaying;
+#[cfg(test)]
 mod scripts;
+#[cfg(test)]
+mod traces;

@@ -1,39 +1,13 @@
+use crate::replaying::{compare, words_of};
 use flat_store::{ListHost, MemStore};
 use ldom_replay::{Outcome, replay};
-use std::alloc::{AllocError, Global};
+use std::alloc::Global;
 use std::process::Abort;
 use std::test::Fail;
 use vio_io::{ListSink, ListSource, Store};
 
 // The end line with no counts but its lines.
 const EMPTY: &str = "end lines=0 accepted=0 done=0 pending=0 resets=0 frames=0 status=0\n";
-
-fn words_of(alloc: Global, words: &[&str]) -> Result<Vec<String>, AllocError> {
-    let mut all = Vec::new(alloc);
-    for word in words {
-        all.push(String::from_str(alloc, word)?)?;
-    }
-    Ok(all)
-}
-
-// Replays a script that a source gives in pieces of 16 bytes, and compares its report and its status.
-fn compare(
-    rt: &impl Abort,
-    alloc: Global,
-    words: &[&str],
-    script: &[u8],
-    report: &str,
-    status: u8,
-) -> Result<Outcome<MemStore>, Fail> {
-    let words = words_of(alloc, words)?;
-    let mut host = ListHost::new(alloc, "img", &[], &[], false)?;
-    let mut source = ListSource::new(alloc, script, 16, &[])?;
-    let mut sink = ListSink::new(alloc, 65_536, &[])?;
-    let outcome = replay(alloc, &words, &mut host, &mut source, &mut sink);
-    assert_eq!(rt; sink.bytes(), report.as_bytes(), "the report of {status}");
-    assert_eq!(rt; outcome.status.number(), status);
-    Ok(outcome)
-}
 
 #[test]
 fn scripts_have_their_reports(rt: HostRuntime) -> Result<(), Fail> {
@@ -66,7 +40,7 @@ fn scripts_have_their_reports(rt: HostRuntime) -> Result<(), Fail> {
         ),
         // A word that isn't of this stage.
         (
-            "disk d0 64 8 16\nstep d0.c 1\n",
+            "disk d0 64 8 16\ninject d0.c 01\n",
             "end lines=2 accepted=0 done=0 pending=0 resets=0 frames=0 status=2 at=2 fault=word\n",
             2,
         ),
@@ -95,6 +69,7 @@ fn scripts_have_their_reports(rt: HostRuntime) -> Result<(), Fail> {
 fn other_words_are_answered_by_the_usage_line(rt: HostRuntime) -> Result<(), Fail> {
     for words in [
         ["run"].as_slice(),
+        ["trace"].as_slice(),
         ["run", ""].as_slice(),
         ["run", "-x"].as_slice(),
         ["run", "img", "img"].as_slice(),
