@@ -6,23 +6,24 @@ ghost use Rattle.dom_memory.specs.Pages.{HasPages};
 use std::alloc::Global;
 use std::marker::Model;
 use vio_bytes::NoMemory;
+use zero_pages::ZeroPages;
 
 /// The bytes of a page.
 pub const PAGE: usize = 8192;
 
-/// The memory of a domain, 1 to 1,028 pages of 8,192 bytes.
+/// The memory of a domain, 1 to 1,028 pages of 8,192 bytes, of which what was never written isn't touched.
 #[derive(Drop)]
 pub struct Memory {
-    bytes: Vec<u8>,
+    bytes: ZeroPages,
     pages: u32,
 }
 
 impl Model for Memory {
     ghost Value = { List ℕ };
 
-    ghost view = { λ m. m.bytes.items };
+    ghost view = { λ m. m.bytes };
 
-    ghost invariant = { λ m. HasPages m.bytes.items m.pages };
+    ghost invariant = { λ m. HasPages m.bytes m.pages };
 }
 
 impl Memory {
@@ -32,7 +33,7 @@ impl Memory {
         requires most { pages ≤ 1028 }
         ensures { IfOk result (λ m. m ≡ replicate (8192 * pages) 0) }
     {
-        let bytes = vec![in alloc; 0; PAGE * pages as usize]?;
+        let bytes = ZeroPages::new(alloc, PAGE / zero_pages::PAGE * pages as usize)?;
         Ok(Memory { bytes, pages })
     }
 
@@ -48,8 +49,7 @@ impl Memory {
         requires { at + length buf.old ≤ length self.now }
         ensures { buf.new ≡ range_at at (length buf.old) self.now }
     {
-        let at = at as usize;
-        buf.copy_from_slice(&self.bytes[at..at + buf.len()]);
+        self.bytes.read(at as usize, buf);
     }
 
     /// Writes the bytes to the place `at` on. All other bytes stay.
@@ -58,14 +58,6 @@ impl Memory {
         ensures written { self.new ≡ put_at at bytes.now self.old }
         ensures same_length { length self.new ≡ length self.old }
     {
-        put_range(&mut self.bytes, at as usize, bytes);
+        self.bytes.write(at as usize, bytes);
     }
-}
-
-fn put_range(memory: &mut [u8], at: usize, bytes: &[u8])
-    requires { at + length bytes.now ≤ length memory.old }
-    ensures written { memory.new ≡ put_at at bytes.now memory.old }
-    ensures same_length { length memory.new ≡ length memory.old }
-{
-    memory[at..at + bytes.len()].copy_from_slice(bytes);
 }

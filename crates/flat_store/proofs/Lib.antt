@@ -1,3 +1,2 @@
 pub mod Outside
-pub mod PageLoops
-pub mod Zeros
+pub mod ZeroSizes

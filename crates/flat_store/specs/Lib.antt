@@ -4,4 +4,3 @@ pub mod Hosts
 pub mod ListHostState
 pub mod MemStoreState
 pub mod StdFileState
-pub mod Zeros

@@ -10,7 +10,6 @@ mod mem_store;
 mod region;
 mod std_file;
 mod std_host;
-mod zero_pages;
 mod zero_store;
 
 pub use file_store::FileStore;

@@ -1,17 +1,15 @@
-ghost use Rattle.std.specs.Prelude.{◌≡◌, ◌+◌, ◌-◌, ◌%◌, ◌^◌, ◌<◌, ◌≤◌, ◌↔◌, Some, length, [], replicate, refl, IsErr, IsTrue, IfOk, OnErr, OnOk};
-ghost use Rattle.vio_bytes.specs.Place.{put_at};
+ghost use Rattle.std.specs.Prelude.{◌≡◌, ◌≤◌, ◌↔◌, Some, length, [], replicate, refl, IsErr, IsTrue, IfOk, OnErr, OnOk};
 ghost use Rattle.vio_io.specs.Causes.{Rose, next_count};
 ghost use Rattle.vio_io.specs.FaultPlan.{after_call, fails_next, unused};
 ghost use Rattle.vio_io.specs.Stores.{IsUnitRange, KeepsOutside, ReadsRange, WritesRange};
-ghost use Rattle.vio_bytes.specs.Range.{range_at};
 
-use crate::zero_pages::{PAGE, ZeroPages};
 use std::alloc::Global;
 use std::marker::Model;
 use vio_io::{Failed, FaultPlan, NoMemory, Store};
+use zero_pages::{PAGE, ZeroPages};
 
-/// A store in memory that begins as zeros, and whose calls never fail. Memory is taken for all of it, but only pages that
-/// a call wrote lie there: the others are zeros without being touched.
+/// A store in memory that begins as zeros, and whose calls never fail. Memory is taken for all of it, but only pages
+/// that a call wrote lie there: the others are zeros without being touched.
 #[derive(Drop)]
 pub struct ZeroStore {
     /// Those of the size and, where it ends within a page, more zeros behind it.
@@ -33,7 +31,7 @@ impl Model for ZeroStore {
 
 impl ZeroStore {
     /// A store of so many zeros.
-    #[tactic(auto, using(crate::proofs::Zeros::size_zeros))]
+    #[tactic(auto, using(crate::proofs::ZeroSizes::size_zeros))]
     pub fn new(alloc: Global, size: usize) -> Result<Self, NoMemory>
         ensures { IfOk result (λ s. s ≡ record { bytes = replicate size 0; plan = unused [] }) }
     {
@@ -76,7 +74,7 @@ impl Store for ZeroStore {
         ensures plan { self.new.plan ≡ after_call self.old.plan }
     {
         self.plan.call()?;
-        read_pages(&self.pages, at as usize, buf);
+        self.pages.read(at as usize, buf);
         Ok(())
     }
 
@@ -96,7 +94,7 @@ impl Store for ZeroStore {
         ensures refused { OnErr result (self.new.bytes ≡ self.old.bytes) }
     {
         self.plan.call()?;
-        write_pages(&mut self.pages, at as usize, bytes);
+        self.pages.write(at as usize, bytes);
         Ok(())
     }
 
@@ -118,40 +116,4 @@ impl Store for ZeroStore {
     fn faulty(&self) -> bool {
         self.plan.faults() > 0
     }
-}
-
-/// Reads from a place, page by page.
-fn read_pages(pages: &ZeroPages, at: usize, buf: &mut [u8])
-    requires within { at + length buf.old ≤ length pages.now }
-    requires end { at + length buf.old < 2 ^ 64 }
-    ensures { buf.new ≡ range_at at (length buf.old) pages.now }
-{
-    let mut done = 0;
-    while done < buf.len() {
-        let end = done + page_rest(at + done).min(buf.len() - done);
-        pages.read(at + done, &mut buf[done..end]);
-        done = end;
-    }
-}
-
-/// Writes at a place, page by page.
-fn write_pages(pages: &mut ZeroPages, at: usize, bytes: &[u8])
-    requires within { at + length bytes.now ≤ length pages.old }
-    requires end { at + length bytes.now < 2 ^ 64 }
-    ensures written { pages.new ≡ put_at at bytes.now pages.old }
-    ensures same_length { length pages.new ≡ length pages.old }
-{
-    let mut done = 0;
-    while done < bytes.len() {
-        let end = done + page_rest(at + done).min(bytes.len() - done);
-        pages.write(at + done, &bytes[done..end]);
-        done = end;
-    }
-}
-
-/// The bytes from a place to the end of its page.
-fn page_rest(at: usize) -> usize
-    ensures { result ≡ 4096 - at % 4096 }
-{
-    PAGE - at % PAGE
 }

@@ -1,7 +1,0 @@
-use Rattle.std.proofs.Common.{ℕ, ◌*◌, ◌<◌, List, length, sym, subst}
-use Rattle.flat_store.proofs.Zeros.{within_pages}
-use Rattle.flat_store.proofs.zero_pages.ZeroPages.read.Goals as goal
-
-pub read_place-requires-clause-within : goal.read_place-requires-clause-within
-read_place-requires-clause-within c = subst (λ (l : List ℕ). c.args.at < 4096 * length l) (sym c.deref.ensures.value)
-    (within_pages c.self.inside.kept.items c.self.inside.places.items c.args.self.now c.args.at c.self.invariant.0 c.self.view_is c.requires.within)

@@ -1,0 +1,2 @@
+pub mod PageLoops
+pub mod Zeros
