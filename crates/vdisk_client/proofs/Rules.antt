@@ -1,6 +1,6 @@
 -- What is known of a client where a rule is its next step.
-use Rattle.std.proofs.Common.{◌≡◌, ℕ, ◌-◌, ◌<◌, Bool, true, false, List, Option, Some, None, slice_get, nat_lt, refl, subst, arith}
-use Rattle.std.specs.Prelude.{if◌then◌else◌, ⊤}
+use Rattle.std.proofs.Common.{◌≡◌, ℕ, ◌-◌, ◌<◌, Bool, true, false, List, Option, Some, None, slice_get, nat_lt, refl, subst, ◌∙◌, arith}
+use Rattle.std.specs.Prelude.{if◌then◌else◌, is_some, ⊤}
 use Rattle.std.proofs.lemmas.Bool.Decides.{nat_tests}
 use Rattle.cookie_copy.specs.Faults.{is_up}
 use Rattle.ldc_link.specs.Putting.{owes}
@@ -67,6 +67,18 @@ module _ (s : ClientState) (at : Seen) where
       (λ _. completes_known s.session (puts_or_takes s at) refl
       (if_known (is_urgent s) (puts_first s) (takes_first at.first (puts_first s)) (λ _. puts_known) (λ calm. takes_known at.first refl calm)))
       (λ _. tt)
+
+-- in session no message of the handshake is owed
+says_on : (s : ClientState) (owed : Option Message) → is_some owed ≡ false → says s owed ≡ in_session s s.session
+says_on s None none = refl
+says_on s (Some message) none = absurd (cc)
+
+-- what is put where the link owes nothing
+pub puts_owed : (s : ClientState) → owes s.link ≡ false → puts_first s ≡ says s s.shake.owed
+puts_owed s nothing = rw nothing refl
+
+pub puts_on : (s : ClientState) → owes s.link ≡ false → is_some s.shake.owed ≡ false → puts_first s ≡ in_session s s.session
+puts_on s nothing none = puts_owed s nothing ∙ says_on s s.shake.owed none
 
 -- what is known of this rule
 pub known : (s : ClientState) (at : Seen) (rule : ClientRule) → client_rule s at ≡ rule → Known s at rule

@@ -25,7 +25,7 @@ const VIO_DRING_ACTIVE: u8 = 1;
 
 impl ClientEnd {
     ghost use Rattle.disk_steps.specs.ClientPutting.{announcement, holding, is_announcing};
-    ghost use Rattle.disk_steps.specs.ClientRule.{Announces, Says, in_session, publishes, puts_first};
+    ghost use Rattle.disk_steps.specs.ClientRule.{Announces, Says, in_session, publishes, puts_first, says};
     ghost use Rattle.disk_steps.specs.ClientState.{first_id, opened_session};
     ghost use Rattle.disk_steps.specs.EndPuts.{EndsShake, ending, put_opens};
     ghost use Rattle.vdisk_client.specs.Calls.{Steps, rule_of};
@@ -36,11 +36,11 @@ impl ClientEnd {
     /// Puts the packet that the link owes, or else a message that the handshake owes, or else goes on in session.
     pub(crate) fn put_first(
         &mut self,
-        owed: &Option<Message>,
+        owes_message: bool,
         channel: &mut Channel,
         memory: &mut Memory,
     ) -> ClientOut
-        requires owed { owed.now ≡ self.old.shake.owed }
+        requires owed { owes_message ≡ is_some self.old.shake.owed }
         requires up { channel.old.wire.end_a ≡ Up }
         requires rule { rule_of self.old channel.old ≡ puts_first self.old }
         requires stands { Stands self.old }
@@ -51,9 +51,26 @@ impl ClientEnd {
         if self.link.owes() {
             return self.put(channel, memory);
         }
-        match owed {
-            Some(message) => self.say(message, channel, memory),
-            None => self.go_on(channel, memory),
+        if owes_message {
+            return self.say_owed(channel, memory);
+        }
+        self.go_on(channel, memory)
+    }
+
+    /// Says the message that the handshake owes.
+    fn say_owed(&mut self, channel: &mut Channel, memory: &mut Memory) -> ClientOut
+        requires up { channel.old.wire.end_a ≡ Up }
+        requires rule { rule_of self.old channel.old ≡ says self.old self.old.shake.owed }
+        requires owed { is_some self.old.shake.owed ≡ true }
+        requires nothing { owes self.old.link ≡ false }
+        requires stands { Stands self.old }
+        requires room { HoldsRing self.old.slots memory.old }
+        ensures step { Steps self.old channel.old memory.old result self.new channel.new memory.new }
+        ensures same_length { length memory.new ≡ length memory.old }
+    {
+        match self.shake.next() {
+            Some(message) => self.say(&message, channel, memory),
+            None => unreachable!(),
         }
     }
 

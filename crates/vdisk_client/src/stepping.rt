@@ -15,7 +15,9 @@ impl ClientEnd {
     ghost use Rattle.vdisk_client.specs.Standing.{Stands};
 
     /// An end that isn't up joins; an acknowledged request is completed; what is urgent is put; a packet that waits is
-    /// taken; and then the rest is put, announced and published.
+    /// taken; and then the rest is put, announced and published. It stands apart: inlined into its callers, its answer would
+    /// be copied field by field through each of them.
+    #[inline(never)]
     pub(crate) fn step(&mut self, channel: &mut Channel, memory: &mut Memory) -> ClientOut
         requires stands { Stands self.old }
         requires room { HoldsRing self.old.slots memory.old }
@@ -29,11 +31,11 @@ impl ClientEnd {
         if let Some(session) = self.acknowledged() {
             return self.complete(session, channel, memory);
         }
-        let owed = self.shake.next();
-        if !self.is_urgent(owed.is_some()) && channel.waiting(End::A) > 0 {
+        let owes_message = self.owes_message();
+        if !self.is_urgent(owes_message) && channel.waiting(End::A) > 0 {
             return self.take(channel);
         }
-        self.put_first(&owed, channel, memory)
+        self.put_first(owes_message, channel, memory)
     }
 
     /// The session, where an acknowledged request isn't done.
@@ -49,6 +51,13 @@ impl ClientEnd {
             Some(session) if session.has_acknowledged() => Some(session),
             _ => None,
         }
+    }
+
+    /// Whether the handshake owes a message. A message is long, so it is fetched only where it is said.
+    fn owes_message(&self) -> bool
+        ensures { result ≡ is_some self.now.shake.owed }
+    {
+        self.shake.next().is_some()
     }
 
     /// What goes before taking: a packet of the link's handshake, all of the handshake of the session, and in session

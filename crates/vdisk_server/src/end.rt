@@ -1,6 +1,6 @@
 // What a server holds of its lane.
 
-ghost use Rattle.std.specs.Prelude.{◌≡◌, None, IfOk, option_map};
+ghost use Rattle.std.specs.Prelude.{◌≡◌, false, None, is_some, IfOk, option_map};
 ghost use Rattle.ldc_link.specs.declared.phase.Role.TheVariants.{Responder};
 ghost use Rattle.ldc_queue.specs.ChannelView.{configured_channel};
 ghost use Rattle.ldc_queue.specs.declared.end.End.TheVariants.{B};
@@ -161,6 +161,24 @@ impl ServerEnd {
         match self.shake.next() {
             Some(message) => Some(message),
             None => self.owed_answer(),
+        }
+    }
+
+    /// Whether a message is to be offered next. A message is long, so it is made only where it is said.
+    pub fn owes_message(&self) -> bool
+        ensures some { result ≡ is_some (owed_message (state_of self.now)) }
+        ensures none { result ≡ false → owed_message (state_of self.now) ≡ None }
+    {
+        self.shake.next().is_some() || self.owes_answer()
+    }
+
+    /// Whether each descriptor of a range is finished.
+    fn owes_answer(&self) -> bool
+        ensures { result ≡ is_some (session_owes (state_of self.now) (state_of self.now).session) }
+    {
+        match self.session {
+            Some(session) => session.range.is_some() && session.finished == session.asked,
+            None => false,
         }
     }
 

@@ -1,6 +1,6 @@
 // The rules of a step, in their order: the first that applies is the step.
 
-ghost use Rattle.std.specs.Prelude.{◌≡◌, ◌+◌, ◌*◌, ◌≤◌, [], length, None, Some, true, false};
+ghost use Rattle.std.specs.Prelude.{◌≡◌, ◌+◌, ◌*◌, ◌≤◌, [], length, None, Some, is_some, true, false};
 ghost use Rattle.cookie_copy.specs.Faults.{PagesWithin, is_up as is_configured};
 ghost use Rattle.ldc_link.specs.LinkState.{is_up, offered};
 ghost use Rattle.ldc_link.specs.Putting.{owes};
@@ -14,6 +14,7 @@ ghost use Rattle.disk_steps.specs.ServerRule.{Joins, server_rule, serves, takes_
 ghost use Rattle.vdisk_server.specs.Answering.{Calls, KeepsStore, SameDisk, Serves, StepsAlone, WithinDisk, channel_after, sees};
 ghost use Rattle.vdisk_server.specs.Fields.{ring_session, state_of};
 ghost use Rattle.vdisk_server.specs.Putting.{PutsNext, PutsRightly, noted};
+ghost use Rattle.vdisk_server.specs.Rules.{owed_message};
 ghost use Rattle.vdisk_server.specs.Standing.{Stands};
 
 use crate::answers::ServerOut;
@@ -28,7 +29,8 @@ use vio_io::Store;
 use vio_tag::{Message, encode};
 
 impl ServerEnd {
-    /// One step.
+    /// One step. It stands apart: inlined into its callers, its answer would be copied field by field through each of them.
+    #[inline(never)]
     pub fn step<D: Store>(
         &mut self,
         channel: &mut Channel,
@@ -54,8 +56,8 @@ impl ServerEnd {
         if self.link.owes() {
             return self.put(channel);
         }
-        if let Some(message) = self.owed_message() {
-            return self.say(&message, channel);
+        if self.owes_message() {
+            return self.say_owed(channel);
         }
         if let Some(session) = self.in_hand() {
             return self.serve(session, channel, table, memory, store);
@@ -131,7 +133,23 @@ impl ServerEnd {
         }
     }
 
-    // A message is owed: it is offered, and its first packet is put.
+    // A message is owed: it is said.
+    fn say_owed(&mut self, channel: &mut Channel) -> ServerOut
+        requires stands { Stands (state_of self.old) }
+        requires up { state_in B channel.old.wire ≡ Up }
+        requires free { owes self.old.link ≡ false }
+        requires owed { is_some (owed_message (state_of self.old)) ≡ true }
+        ensures step { StepsAlone (state_of self.old) channel.old result (state_of self.new) }
+        ensures channel { channel.new ≡ channel_after result channel.old }
+        ensures disk { SameDisk (state_of self.old) (state_of self.new) }
+    {
+        match self.owed_message() {
+            Some(message) => self.say(&message, channel),
+            None => unreachable!(),
+        }
+    }
+
+    // The message is offered, and its first packet is put.
     fn say(&mut self, message: &Message, channel: &mut Channel) -> ServerOut
         requires up { state_in B channel.old.wire ≡ Up }
         requires form { IsWellFormed message.now }

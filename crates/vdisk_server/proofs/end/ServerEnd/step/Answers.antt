@@ -1,13 +1,11 @@
 use Rattle.std.proofs.Common.{ap, sym, ◌∙◌}
-use Rattle.ldc_link.specs.LinkState.{offered}
-use Rattle.vio_tag.specs.Spelling.{canonical}
 use Rattle.disk_steps.specs.ServerPutting.{server_holds}
 use Rattle.disk_steps.specs.ServerRule.{ServerRule}
 use Rattle.disk_steps.specs.ServerState.{ServerState}
 use Rattle.vdisk_server.specs.Answering.{sees}
 use Rattle.vdisk_server.specs.Fields.{state_of}
 use Rattle.vdisk_server.proofs.PutSteps.{puts_step}
-use Rattle.vdisk_server.proofs.RuleOrder.{rule_puts, rule_says}
+use Rattle.vdisk_server.proofs.RuleOrder.{rule_puts}
 use Rattle.vdisk_server.proofs.StoreSteps.{alone_serves}
 use Rattle.vdisk_server.proofs.end.ServerEnd.step.Goals as goal
 
@@ -25,15 +23,10 @@ returns-then-owes-clause-step g c =
     (rule_puts before (sees c.args.channel.now) (sym c.is_up.ensures ∙ c.if-not-is_up.false) (sym c.owes.ensures ∙ c.if-owes.true)))
     c.put.ensures.put)
 
-pub returns-in-Some-clause-step : goal.returns-in-Some-clause-step
-returns-in-Some-clause-step g c =
-    let before : ServerState = state_of c.args.self.now in
-    alone_serves before c.args.channel.now c.args.table.now c.args.memory.now (g.D.Store.content c.args.store.now) c.say.result (state_of c.say.new.self)
-    (puts_step before (record before { link = offered (canonical c.in-Some.message) c.args.self.now.link }) c.args.channel.now c.say.result (state_of c.say.new.self)
-    (ap (λ (r : ServerRule). server_holds r before)
-    (rule_says before (sees c.args.channel.now) c.in-Some.message (sym c.is_up.ensures ∙ c.if-not-is_up.false) (sym c.owes.ensures ∙ c.if-owes.false)
-    (sym c.owed_message.ensures ∙ c.in-Some.is)))
-    c.say.ensures.put)
+pub returns-then-owes_message-clause-step : goal.returns-then-owes_message-clause-step
+returns-then-owes_message-clause-step g c =
+    alone_serves (state_of c.args.self.now) c.args.channel.now c.args.table.now c.args.memory.now (g.D.Store.content c.args.store.now) c.say_owed.result
+    (state_of c.say_owed.new.self) c.say_owed.ensures.step
 
 pub returns-clause-step : goal.returns-clause-step
 returns-clause-step g c =

@@ -1,0 +1,20 @@
+use Rattle.std.proofs.Common.{ap, sym, ◌∙◌}
+use Rattle.cookie_copy.specs.Faults.{is_up as is_configured}
+use Rattle.ldc_link.specs.LinkState.{offered}
+use Rattle.vio_tag.specs.Spelling.{canonical}
+use Rattle.disk_steps.specs.ServerPutting.{server_holds}
+use Rattle.disk_steps.specs.ServerRule.{ServerRule}
+use Rattle.disk_steps.specs.ServerState.{ServerState}
+use Rattle.vdisk_server.specs.Answering.{sees}
+use Rattle.vdisk_server.specs.Fields.{state_of}
+use Rattle.vdisk_server.proofs.PutSteps.{puts_step}
+use Rattle.vdisk_server.proofs.RuleOrder.{rule_says}
+use Rattle.vdisk_server.proofs.end.ServerEnd.say_owed.Goals as goal
+
+pub returns-clause-step : goal.returns-clause-step
+returns-clause-step c =
+    let before : ServerState = state_of c.args.self.now in
+    puts_step before (record before { link = offered (canonical c.in-Some.message) c.args.self.now.link }) c.args.channel.now c.say.result (state_of c.say.new.self)
+    (ap (λ (r : ServerRule). server_holds r before)
+    (rule_says before (sees c.args.channel.now) c.in-Some.message (ap is_configured c.requires.up) c.requires.free (sym c.owed_message.ensures ∙ c.in-Some.is)))
+    c.say.ensures.put
