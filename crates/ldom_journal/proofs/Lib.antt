@@ -1,4 +1,3 @@
-pub mod BlockWords
-pub mod PackedBlocks
 pub mod ReportLines
 pub mod StopLemmas
+pub mod ZeroDigits

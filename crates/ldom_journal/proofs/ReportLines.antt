@@ -1,29 +1,79 @@
 -- The lines of a report, one after another.
-use Rattle.std.proofs.Common.{◌≡◌, refl, ℕ, ◌+◌, ◌<◌, List, [], ◌∷◌, ◌++◌, append_assoc, length, get_or, take, drop, sym, ap, ◌∙◌}
-use Rattle.std.proofs.lemmas.List.{take_more, flat_map_more, take-append-drop}
-use Rattle.std.specs.List.{flat_map}
+use Rattle.std.proofs.Common.{◌≡◌, refl, ℕ, ◌+◌, ◌≤◌, Bool, false, List, [], ◌∷◌, ◌++◌, length, append_assoc, append-nil, sym, ap, subst, ◌∙◌, arith}
+use Rattle.std.specs.Prelude.{All, if◌then◌else◌}
+use Rattle.std.proofs.lemmas.List.{length-append}
+use Rattle.std.proofs.lemmas.List.Elements.{All-head, All-nil, All-tail}
 use Rattle.domain_script.specs.declared.event.DiskDecl.{DiskDecl}
-use Rattle.ldom_journal.specs.declared.entry.Entry.{Entry}
+use Rattle.ldom_entries.specs.Seen.{PassesUnseen}
+use Rattle.ldom_entries.specs.declared.entry.Entry.{Entry}
 use Rattle.ldom_journal.specs.declared.status.Mode.{Mode}
+use Rattle.ldom_journal.specs.declared.status.Mode.TheVariants.{Run}
 use Rattle.ldom_journal.specs.declared.status.Status.{Status}
 use Rattle.ldom_journal.specs.declared.status.Status.TheVariants.{Done, Usage, Script, SourceFault, SinkFault, HostFault, StoreFault, ImageSize, Limit, NoMemory}
-use Rattle.ldom_journal.specs.EntryText.{report_entries}
+use Rattle.ldom_journal.specs.EntryText.{entry_lines, line_text, report_entries, shows}
+use Rattle.ldom_journal.specs.LeftOut.{LeavesOut}
 use Rattle.ldom_journal.specs.Report.{last_line, usage_line, report}
 
--- the lines of one entry more
-pub flat_map-take_more : {X : Type 0} (f : X → List ℕ) (xs : List X) (i : ℕ) (x : X) → i < length xs → x ≡ get_or xs i x → flat_map f (take i xs) ++ f x ≡ flat_map f (take (i + 1) xs)
-flat_map-take_more f xs i x lt is =
-    flat_map_more f [] (take i xs) x
-    ∙ ap (λ y. flat_map f (take i xs ++ y ∷ [])) is
-    ∙ ap (flat_map f) (sym (take_more xs i x lt))
+-- entries that the mode doesn't show have no lines
+unshown_lines : (mode : Mode) (disks : List DiskDecl) (left_out rest : List Entry) → All (λ entry. shows mode entry ≡ false) left_out
+    → report_entries mode disks (left_out ++ rest) ≡ report_entries mode disks rest
+unshown_lines mode disks [] rest unshown = refl
+unshown_lines mode disks (entry ∷ left_out) rest unshown =
+    let P : Entry → Type 0 = λ e. shows mode e ≡ false in
+    ap (λ (b : Bool). (if b then line_text mode disks entry else []) ++ report_entries mode disks (left_out ++ rest))
+    (All-head P entry left_out unshown)
+    ∙ unshown_lines mode disks left_out rest (All-tail P entry left_out unshown)
 
--- and of all after them
-pub flat_map-front : {X : Type 0} (f : X → List ℕ) (xs ys : List X) → flat_map f (xs ++ ys) ≡ flat_map f xs ++ flat_map f ys
-flat_map-front f [] ys = refl
-flat_map-front f (x ∷ xs) ys = ap (λ (l : List ℕ). f x ++ l) (flat_map-front f xs ys) ∙ sym (append_assoc (f x) (flat_map f xs) (flat_map f ys))
+-- so the lines of what is left are the same
+pub lines_left : (mode : Mode) (disks : List DiskDecl) (old new : List Entry) → LeavesOut mode old new
+    → report_entries mode disks old ≡ report_entries mode disks new
+lines_left mode disks old new leaves =
+    ap (report_entries mode disks) leaves.are ∙ unshown_lines mode disks leaves.left_out new leaves.unshown
 
-pub flat_map-rest : {X : Type 0} (f : X → List ℕ) (xs : List X) (i : ℕ) → flat_map f xs ≡ flat_map f (take i xs) ++ flat_map f (drop i xs)
-flat_map-rest f xs i = ap (flat_map f) (sym (take-append-drop i xs)) ∙ flat_map-front f (take i xs) (drop i xs)
+-- what holds of each entry holds of each that is left, and no more are left
+all_behind : (P : Entry → Type 0) (front rest : List Entry) → All P (front ++ rest) → All P rest
+all_behind P [] rest all = all
+all_behind P (entry ∷ front) rest all = all_behind P front rest (All-tail P entry (front ++ rest) all)
+
+pub all_left : (P : Entry → Type 0) (mode : Mode) (old new : List Entry) → LeavesOut mode old new → All P old → All P new
+all_left P mode old new leaves all =
+    all_behind P leaves.left_out new (subst (λ (l : List Entry). All P l) leaves.are all)
+
+pub fewer_left : (mode : Mode) (old new : List Entry) → LeavesOut mode old new → length new ≤ length old
+fewer_left mode old new leaves =
+    let long : length old ≡ length leaves.left_out + length new =
+    ap (λ (l : List Entry). length l) leaves.are ∙ length-append leaves.left_out new in
+    omega (arith, long)
+
+-- nothing is left out; or what no user of the disks sees, in a run
+pub leaves_none : (mode : Mode) (old new : List Entry) → old ≡ new → LeavesOut mode old new
+leaves_none mode old new same =
+    record { left_out = []; are = same; unshown = All-nil (λ (e : Entry). shows mode e ≡ false) }
+
+pub leaves_unseen : (mode : Mode) (old middle new : List Entry) → mode ≡ Run → PassesUnseen old middle → middle ≡ new → LeavesOut mode old new
+leaves_unseen mode old middle new run passes same = record {
+  left_out = passes.passed;
+  are = passes.are ∙ ap (λ (l : List Entry). passes.passed ++ l) same;
+  unshown =
+      subst (λ (m : Mode). All (λ (e : Entry). shows m e ≡ false) passes.passed) (sym run) passes.unseen;
+}
+
+pub ruleset leaving_out = (leaves_none, leaves_unseen)
+
+-- THE LINES OF ONE ENTRY MORE: of `entries`, the lines so far are written, and `entry` is the first of those that are
+-- left and shown
+pub next_lines : (mode : Mode) (disks : List DiskDecl) (whole so_far : List ℕ) (rest left : List Entry) (entry : Entry)
+    → whole ≡ so_far ++ report_entries mode disks rest → LeavesOut mode rest (entry ∷ left) → whole ≡ so_far ++ entry_lines mode disks entry ++ report_entries mode disks left
+next_lines mode disks whole so_far rest left entry is leaves =
+    is
+    ∙ ap (λ (l : List ℕ). so_far ++ l) (lines_left mode disks rest (entry ∷ left) leaves)
+    ∙ sym (append_assoc so_far (entry_lines mode disks entry) (report_entries mode disks left))
+
+-- and where none is left
+pub no_lines : (mode : Mode) (disks : List DiskDecl) (whole so_far : List ℕ) (rest : List Entry)
+    → whole ≡ so_far ++ report_entries mode disks rest → LeavesOut mode rest [] → so_far ≡ whole
+no_lines mode disks whole so_far rest is leaves =
+    sym (is ∙ ap (λ (l : List ℕ). so_far ++ l) (lines_left mode disks rest [] leaves) ∙ append-nil so_far)
 
 -- a report is the lines of its entries and its last line; that of a wrong command line has no entries
 pub report_parts : (mode : Mode) (disks : List DiskDecl) (lines : ℕ) (entries : List Entry) (status : Status) → (status ≡ Usage → entries ≡ [])

@@ -14,15 +14,16 @@ use Rattle.domain_script.specs.declared.event.Side.{Side}
 use Rattle.domain_script.specs.declared.event.Side.TheVariants.{Client, Server}
 use Rattle.vdisk_msg.specs.declared.request.Request.{Request}
 use Rattle.vdisk_msg.specs.declared.request.Request.TheVariants.{Read, Write, Flush}
-use Rattle.ldom_journal.specs.declared.entry.Who.{Who}
-use Rattle.ldom_journal.specs.declared.entry.Who.TheVariants.{Lane as OfLane, End as OfEnd}
-use Rattle.ldom_journal.specs.declared.entry.Why.{Why}
-use Rattle.ldom_journal.specs.declared.entry.Why.TheVariants.{Count, Range}
-use Rattle.ldom_journal.specs.declared.entry.Entry.{Entry}
-use Rattle.ldom_journal.specs.declared.entry.Entry.TheVariants as entry
+use Rattle.ldom_entries.specs.declared.entry.Who.{Who}
+use Rattle.ldom_entries.specs.declared.entry.Who.TheVariants.{Lane as OfLane, End as OfEnd}
+use Rattle.ldom_entries.specs.declared.entry.Why.{Why}
+use Rattle.ldom_entries.specs.declared.entry.Why.TheVariants.{Count, Range}
+use Rattle.ldom_entries.specs.declared.entry.Entry.{Entry}
+use Rattle.ldom_entries.specs.declared.entry.Entry.TheVariants as entry
 use Rattle.ldom_journal.specs.declared.status.Mode.{Mode}
 use Rattle.ldom_journal.specs.declared.status.Mode.TheVariants.{Run, Trace, EndOnly}
-use Rattle.ldom_journal.specs.BlockWord.{blocks_text}
+use Rattle.ldom_entries.specs.BlockWord.{blocks_text}
+pub use Rattle.ldom_entries.specs.Seen.{is_seen}
 
 -- a disk's name, nothing where there is no disk
 abbrev pub declared_name : Option DiskDecl → List ℕ
@@ -156,16 +157,6 @@ head_text mode disks (entry.Reset e cause packet lost) = reset_text mode disks e
 -- an entry's line
 abbrev pub line_text : Mode → List DiskDecl → Entry → List ℕ
 line_text mode disks entry = head_text mode disks entry ++ read_text entry ++ codes "\n"
-
--- the entries that a user of the disks sees
-abbrev pub is_seen : Entry → Bool
-is_seen (entry.Full who) = true
-is_seen (entry.Refused who why) = true
-is_seen entry.Settled = true
-is_seen (entry.Unsettled who) = true
-is_seen (entry.Done disk id operation status bytes) = true
-is_seen (entry.Reset e cause packet lost) = true
-is_seen other = false
 
 -- whether a mode shows an entry
 abbrev pub shows : Mode → Entry → Bool

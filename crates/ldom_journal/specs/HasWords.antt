@@ -6,10 +6,10 @@ use Rattle.domain_script.specs.declared.event.Lane.{Lane}
 use Rattle.domain_script.specs.declared.event.Lane.TheVariants.{Disk}
 use Rattle.vio_tag.specs.declared.cause.Cause.{Cause}
 use Rattle.vio_tag.specs.declared.cause.Cause.TheVariants as the_cause
-use Rattle.ldom_journal.specs.declared.entry.Who.{Who}
-use Rattle.ldom_journal.specs.declared.entry.Who.TheVariants.{Lane as OfLane, End as OfEnd}
-use Rattle.ldom_journal.specs.declared.entry.Entry.{Entry}
-use Rattle.ldom_journal.specs.declared.entry.Entry.TheVariants as entry
+use Rattle.ldom_entries.specs.declared.entry.Who.{Who}
+use Rattle.ldom_entries.specs.declared.entry.Who.TheVariants.{Lane as OfLane, End as OfEnd}
+use Rattle.ldom_entries.specs.declared.entry.Entry.{Entry}
+use Rattle.ldom_entries.specs.declared.entry.Entry.TheVariants as entry
 
 -- what is named is declared: a disk, a lane, an end
 abbrev pub IsLane : List DiskDecl → Lane → Type 0

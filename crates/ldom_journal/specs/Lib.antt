@@ -1,14 +1,10 @@
-pub mod BlockWord
-pub mod Bytes
 pub mod DiskEvents
 pub mod EntryText
 pub mod Failing
 pub mod HasWords
-pub mod JournalState
-pub mod Kept
 pub mod LaneEvents
+pub mod LeftOut
 pub mod LinesEnd
-pub mod Packed
 pub mod Report
 pub mod Status
 pub mod Stops

@@ -1,7 +1,5 @@
 -- Why a reader gave no further line, as a status.
 use Rattle.std.specs.Prelude.{◌≡◌, ◌≢◌, ℕ, ◌+◌, ◌<◌, List, [], Option, IfSome}
-use Rattle.domain_script.specs.declared.lines.LinesFault.{LinesFault}
-use Rattle.domain_script.specs.declared.lines.LinesFault.TheVariants.{Source, Long, Many, Memory}
 use Rattle.domain_script.specs.ScriptLines.{BeginsWithLonger}
 use Rattle.ldom_journal.specs.declared.status.LimitKind.{LimitKind}
 use Rattle.ldom_journal.specs.declared.status.LimitKind.TheVariants.{Lines, Bytes, Entries}

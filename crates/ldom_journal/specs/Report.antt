@@ -1,10 +1,10 @@
 -- The end line, and the whole text of a report.
-use Rattle.std.specs.Prelude.{ℕ, ◌-◌, Bool, true, false, List, [], ◌++◌, count_by, codes, decimal}
+use Rattle.std.specs.Prelude.{ℕ, ◌-◌, List, [], ◌++◌, codes, decimal}
 use Rattle.domain_script.specs.declared.event.DiskDecl.{DiskDecl}
 use Rattle.domain_script.specs.declared.event.LineFault.{LineFault}
 use Rattle.domain_script.specs.declared.event.LineFault.TheVariants.{Word, Hex}
-use Rattle.ldom_journal.specs.declared.entry.Entry.{Entry}
-use Rattle.ldom_journal.specs.declared.entry.Entry.TheVariants as entry
+use Rattle.ldom_entries.specs.declared.entry.Entry.{Entry}
+pub use Rattle.ldom_entries.specs.Counts.{is_accepted, is_done, is_reset, accepted_count, done_count, reset_count}
 use Rattle.ldom_journal.specs.declared.status.Mode.{Mode}
 use Rattle.ldom_journal.specs.declared.status.LimitKind.{LimitKind}
 use Rattle.ldom_journal.specs.declared.status.LimitKind.TheVariants.{Lines, Bytes, Entries}
@@ -12,33 +12,6 @@ use Rattle.ldom_journal.specs.declared.status.Status.{Status}
 use Rattle.ldom_journal.specs.declared.status.Status.TheVariants.{Usage, Script, ImageSize, Limit}
 use Rattle.ldom_journal.specs.EntryText.{report_entries}
 use Rattle.ldom_journal.specs.Status.{status_number}
-
--- whether a request was taken up
-abbrev pub is_accepted : Entry → Bool
-is_accepted (entry.Accepted disk id request) = true
-is_accepted other = false
-
--- whether a request was completed
-abbrev pub is_done : Entry → Bool
-is_done (entry.Done disk id operation status bytes) = true
-is_done other = false
-
--- whether an end was reset
-abbrev pub is_reset : Entry → Bool
-is_reset (entry.Reset e cause packet lost) = true
-is_reset other = false
-
--- how many requests were taken up
-abbrev pub accepted_count : List Entry → ℕ
-accepted_count entries = count_by is_accepted entries
-
--- how many requests were completed
-abbrev pub done_count : List Entry → ℕ
-done_count entries = count_by is_done entries
-
--- how often an end was reset
-abbrev pub reset_count : List Entry → ℕ
-reset_count entries = count_by is_reset entries
 
 -- why a line spells no event, or no packet
 abbrev pub fault_text : LineFault → List ℕ

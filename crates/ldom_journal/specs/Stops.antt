@@ -1,5 +1,5 @@
 -- Why no further line of a source is taken up.
-use Rattle.std.specs.Prelude.{◌≡◌, ℕ, ◌+◌, ◌-◌, List, Option, ⊤}
+use Rattle.std.specs.Prelude.{ℕ, ◌+◌, ◌-◌, List, Option, ⊤}
 use Rattle.std.specs.Io.KnownBytes.{IsAtEnd, Keeps}
 use Rattle.domain_script.specs.declared.lines.LinesFault.{LinesFault}
 use Rattle.domain_script.specs.declared.lines.LinesFault.TheVariants as reader

@@ -1,60 +1,21 @@
 ghost use Rattle.std.specs.Prelude.{◌≡◌, ◌+◌, ◌≤◌, ◌++◌, length, OnOk, OnErr};
 ghost use Rattle.std.specs.Io.KnownBytes.{Appends};
 ghost use Rattle.gathered_text.specs.Gathered.{WroteFront};
-ghost use Rattle.ldom_journal.specs.Report.{accepted_count, cause_text, counts_text, done_count, end_line, fault_text, is_accepted, is_done, is_reset, last_line, limit_text, reset_count, resets_text};
+ghost use Rattle.ldom_journal.specs.Report.{cause_text, counts_text, end_line, fault_text, last_line, limit_text, resets_text};
 ghost use Rattle.vio_io.specs.Causes.{Rose};
 
-use crate::{Entry, Journal, LimitKind, Status};
+use crate::{Journal, LimitKind, Status};
 use domain_script::LineFault;
 use gathered_text::{TEXT_ROOM, Text};
 use vio_io::{Failed, Sink};
 
-/// Whether a request was taken up.
-fn is_accepted(entry: &Entry) -> bool
-    ensures { result ≡ is_accepted entry.now }
-{
-    matches!(entry, Entry::Accepted { .. })
-}
-
-/// Whether a request was completed.
-fn is_done(entry: &Entry) -> bool
-    ensures { result ≡ is_done entry.now }
-{
-    matches!(entry, Entry::Done { .. })
-}
-
-/// Whether an end was reset.
-fn is_reset(entry: &Entry) -> bool
-    ensures { result ≡ is_reset entry.now }
-{
-    matches!(entry, Entry::Reset { .. })
-}
-
-fn count_accepted(entries: &[Entry]) -> usize
-    ensures { result ≡ accepted_count entries.now }
-{
-    entries.iter().filter(|entry| is_accepted(entry)).count()
-}
-
-fn count_done(entries: &[Entry]) -> usize
-    ensures { result ≡ done_count entries.now }
-{
-    entries.iter().filter(|entry| is_done(entry)).count()
-}
-
-fn count_resets(entries: &[Entry]) -> usize
-    ensures { result ≡ reset_count entries.now }
-{
-    entries.iter().filter(|entry| is_reset(entry)).count()
-}
-
-fn push_counts(text: &mut Text, entries: &[Entry])
+fn push_counts(text: &mut Text, journal: &Journal)
     requires { length text.old + 100 ≤ TEXT_ROOM }
-    ensures text { text.new ≡ text.old ++ counts_text entries.now }
+    ensures text { text.new ≡ text.old ++ counts_text journal.now.entries }
     ensures len { length text.new ≤ length text.old + 100 }
 {
-    let accepted = count_accepted(entries) as u64;
-    let done = count_done(entries) as u64;
+    let accepted = journal.accepted() as u64;
+    let done = journal.done() as u64;
     text.push(b" accepted=");
     text.push_number(accepted);
     text.push(b" done=");
@@ -63,13 +24,13 @@ fn push_counts(text: &mut Text, entries: &[Entry])
     text.push_number(accepted.saturating_sub(done));
 }
 
-fn push_resets(text: &mut Text, entries: &[Entry])
+fn push_resets(text: &mut Text, journal: &Journal)
     requires { length text.old + 100 ≤ TEXT_ROOM }
-    ensures text { text.new ≡ text.old ++ resets_text entries.now }
+    ensures text { text.new ≡ text.old ++ resets_text journal.now.entries }
     ensures len { length text.new ≤ length text.old + 100 }
 {
     text.push(b" resets=");
-    text.push_number(count_resets(entries) as u64);
+    text.push_number(journal.resets() as u64);
     text.push(b" frames=0");
 }
 
@@ -124,27 +85,27 @@ pub fn push_cause(text: &mut Text, status: &Status)
     }
 }
 
-fn push_end_line(text: &mut Text, entries: &[Entry], lines: u32, status: &Status)
+fn push_end_line(text: &mut Text, journal: &Journal, lines: u32, status: &Status)
     requires { length text.old + 400 ≤ TEXT_ROOM }
-    ensures { text.new ≡ text.old ++ end_line lines entries.now status.now }
+    ensures { text.new ≡ text.old ++ end_line lines journal.now.entries status.now }
 {
     text.push(b"end lines=");
     text.push_number(u64::from(lines));
-    push_counts(text, entries);
-    push_resets(text, entries);
+    push_counts(text, journal);
+    push_resets(text, journal);
     text.push(b" status=");
     text.push_number(u64::from(status.number()));
     push_cause(text, status);
     text.push(b"\n");
 }
 
-fn push_last_line(text: &mut Text, entries: &[Entry], lines: u32, status: &Status)
+fn push_last_line(text: &mut Text, journal: &Journal, lines: u32, status: &Status)
     requires { length text.old + 400 ≤ TEXT_ROOM }
-    ensures { text.new ≡ text.old ++ last_line lines entries.now status.now }
+    ensures { text.new ≡ text.old ++ last_line lines journal.now.entries status.now }
 {
     match status {
         Status::Usage => text.push(b"usage: ldom COMMAND [WORD]\n"),
-        _ => push_end_line(text, entries, lines, status),
+        _ => push_end_line(text, journal, lines, status),
     }
 }
 
@@ -163,6 +124,6 @@ pub fn write_end<K: Sink>(
     ensures cause { OnErr result (Rose (K.faults out.old) (K.faults out.new)) }
 {
     let mut text = Text::new();
-    push_last_line(&mut text, journal.entries(), lines, status);
+    push_last_line(&mut text, journal, lines, status);
     text.flush(out)
 }

@@ -1,15 +1,12 @@
-//! The journal: what happened in a run, entry by entry, and the text of its report. The world writes it, and whoever
-//! asks for a report reads it. Each entry is a plain value, room is taken before it is needed, and the text that is
-//! written is exactly the report of the entries.
+//! The text of a report: a line for each entry of a run's journal that its mode shows, and the last line with what was
+//! counted. The journal is a crate below and is handed on from here: the world writes it, and whoever asks for a report
+//! reads it. The text that is written is exactly the report of the entries.
 #![tactic(auto)]
 
+mod array_text;
 mod block_words;
-mod bytes;
 mod cause_text;
 mod end_line;
-mod entry;
-mod journal;
-mod kept_request;
 mod line_names;
 mod line_words;
 mod lines;
@@ -20,13 +17,11 @@ mod stop;
 #[cfg(test)]
 mod tests;
 
-pub use bytes::Bytes;
 pub use cookie_copy::CopyFault;
 pub use domain_script::{EndName, Lane, LineFault, Names, Request, Side};
 pub use end_line::{push_cause, write_end};
-pub use entry::{Entry, Who, Why};
-pub use journal::Journal;
-pub use kept_request::KeptRequest;
+pub use ldom_entries::{Bytes, Entries, Entry, EntryRef, Journal, KeptRequest, Who, Why};
+pub use lines::write_text;
 pub use status::{LimitKind, Mode, Status};
 pub use stop::{MOST_ENTRIES, Stop, next_line};
 pub use vdisk_msg::{VD_OP_BREAD, VD_OP_BWRITE, VD_OP_FLUSH};

@@ -1,9 +1,11 @@
 // The lines of a report.
-ghost use Rattle.std.specs.Prelude.{◌≡◌, ◌+◌, ◌≤◌, ◌++◌, length, take, All, OnOk, OnErr};
+ghost use Rattle.std.specs.Prelude.{◌≡◌, ◌+◌, ◌≤◌, [], ◌∷◌, ◌++◌, length, take, All, IfSome, IsNone, OnOk, OnErr};
 ghost use Rattle.std.specs.Io.KnownBytes.{Appends};
 ghost use Rattle.ldom_journal.specs.EntryText.{entry_lines, head_text, is_seen, line_text, read_text, report_entries, shows};
 ghost use Rattle.gathered_text.specs.Gathered.{Gathers, WroteFront};
 ghost use Rattle.ldom_journal.specs.HasWords.{HasWords};
+ghost use Rattle.ldom_journal.specs.LeftOut.{LeavesOut};
+ghost use Rattle.ldom_entries.specs.Told.{told};
 ghost use Rattle.vio_io.specs.Causes.{Rose};
 
 use crate::block_words::put_blocks;
@@ -13,7 +15,7 @@ use crate::step_lines::{
     push_carried, push_descriptor, push_finished, push_joined, push_moved, push_packet, push_reset,
     push_stored,
 };
-use crate::{Entry, Mode, VD_OP_BREAD};
+use crate::{Entries, EntryRef, Journal, Mode, VD_OP_BREAD};
 use domain_script::Names;
 use gathered_text::{TEXT_ROOM, Text};
 use vio_io::{Failed, Sink};
@@ -22,23 +24,24 @@ use vio_io::{Failed, Sink};
 const LINE_ROOM: usize = 4096;
 
 /// Whether a user of the disks sees an entry.
-fn is_seen(entry: &Entry) -> bool
-    ensures { result ≡ is_seen entry.now }
+fn is_seen(entry: &EntryRef<'_>) -> bool
+    ensures { result ≡ is_seen (told entry.now) }
 {
     matches!(
         entry,
-        Entry::Full { .. }
-            | Entry::Refused { .. }
-            | Entry::Settled
-            | Entry::Unsettled { .. }
-            | Entry::Done { .. }
-            | Entry::Reset { .. }
+        EntryRef::Full { .. }
+            | EntryRef::Refused { .. }
+            | EntryRef::Settled
+            | EntryRef::Unsettled { .. }
+            | EntryRef::Done { .. }
+            | EntryRef::Read { .. }
+            | EntryRef::Reset { .. }
     )
 }
 
 /// Whether a mode shows an entry.
-fn is_shown(mode: Mode, entry: &Entry) -> bool
-    ensures { result ≡ shows mode entry.now }
+fn is_shown(mode: Mode, entry: &EntryRef<'_>) -> bool
+    ensures { result ≡ shows mode (told entry.now) }
 {
     match mode {
         Mode::Run => is_seen(entry),
@@ -48,50 +51,58 @@ fn is_shown(mode: Mode, entry: &Entry) -> bool
 }
 
 /// An entry's line before the words of a read and the line feed.
-fn push_head(text: &mut Text, mode: Mode, entry: &Entry, names: &Names)
-    requires words { HasWords names.now.disks entry.now }
+fn push_head(text: &mut Text, mode: Mode, entry: &EntryRef<'_>, names: &Names)
+    requires words { HasWords names.now.disks (told entry.now) }
     requires room { length text.old + LINE_ROOM ≤ TEXT_ROOM }
-    ensures { text.new ≡ text.old ++ head_text mode names.now.disks entry.now }
+    ensures { text.new ≡ text.old ++ head_text mode names.now.disks (told entry.now) }
 {
     match entry {
-        Entry::Accepted { disk, id, request } => push_accepted(text, *disk, *id, request, names),
-        Entry::Full { who } => push_about(text, b"full ", *who, names),
-        Entry::Refused { who, why } => push_refused(text, *who, *why, names),
-        Entry::Lost { end, packet } => push_packet(text, b"lost ", *end, packet, names),
-        Entry::Stopped { disk } => push_of_disk(text, b"stopped ", *disk, names),
-        Entry::Started { disk } => push_of_disk(text, b"started ", *disk, names),
-        Entry::Calm { who } => push_about(text, b"calm ", *who, names),
-        Entry::Settled => text.push(b"settled"),
-        Entry::Unsettled { who } => push_about(text, b"unsettled ", *who, names),
-        Entry::Idle { end } => push_end(text, b"idle ", *end, names),
-        Entry::Off { end } => push_end(text, b"off ", *end, names),
-        Entry::Blocked { end } => push_end(text, b"blocked ", *end, names),
-        Entry::Joined { end, lost } => push_joined(text, *end, *lost, names),
-        Entry::Took { end, packet, opens } => push_carried(
+        EntryRef::Accepted { disk, id, request } => push_accepted(text, *disk, *id, request, names),
+        EntryRef::Full { who } => push_about(text, b"full ", *who, names),
+        EntryRef::Refused { who, why } => push_refused(text, *who, *why, names),
+        EntryRef::Lost { end, packet } => push_packet(text, b"lost ", *end, packet, names),
+        EntryRef::Stopped { disk } => push_of_disk(text, b"stopped ", *disk, names),
+        EntryRef::Started { disk } => push_of_disk(text, b"started ", *disk, names),
+        EntryRef::Calm { who } => push_about(text, b"calm ", *who, names),
+        EntryRef::Settled => text.push(b"settled"),
+        EntryRef::Unsettled { who } => push_about(text, b"unsettled ", *who, names),
+        EntryRef::Idle { end } => push_end(text, b"idle ", *end, names),
+        EntryRef::Off { end } => push_end(text, b"off ", *end, names),
+        EntryRef::Blocked { end } => push_end(text, b"blocked ", *end, names),
+        EntryRef::Joined { end, lost } => push_joined(text, *end, *lost, names),
+        EntryRef::Took { end, packet, opens } => push_carried(
             text, b"took ", *end, packet, *opens, names,
         ),
-        Entry::Sent { end, packet, opens } => push_carried(
+        EntryRef::Sent { end, packet, opens } => push_carried(
             text, b"sent ", *end, packet, *opens, names,
         ),
-        Entry::Published { end, id } => push_end_number(text, b"published ", *end, *id, names),
-        Entry::Done {
+        EntryRef::Published { end, id } => push_end_number(text, b"published ", *end, *id, names),
+        EntryRef::Done {
             disk,
             id,
             operation,
             status,
-            ..
         } => push_done(text, *disk, *id, *operation, *status, names),
-        Entry::Desc { end, slot, bytes } => push_descriptor(text, *end, *slot, bytes, names),
-        Entry::Moved { end, unit, fault } => push_moved(text, *end, *unit, *fault, names),
-        Entry::Stored {
+        EntryRef::Read {
+            disk,
+            id,
+            operation,
+            status,
+            bytes: _,
+        } => push_done(text, *disk, *id, *operation, *status, names),
+        EntryRef::Desc { end, slot, bytes } => push_descriptor(text, *end, *slot, bytes, names),
+        EntryRef::Moved { end, unit, fault } => push_moved(text, *end, *unit, *fault, names),
+        EntryRef::Stored {
             end,
             operation,
             block,
             count,
             failed,
         } => push_stored(text, *end, *operation, *block, *count, *failed, names),
-        Entry::Finished { end, slot, status } => push_finished(text, *end, *slot, *status, names),
-        Entry::Reset {
+        EntryRef::Finished { end, slot, status } => push_finished(
+            text, *end, *slot, *status, names,
+        ),
+        EntryRef::Reset {
             end,
             cause,
             packet,
@@ -101,15 +112,16 @@ fn push_head(text: &mut Text, mode: Mode, entry: &Entry, names: &Names)
 }
 
 /// The words of a read with status 0.
-fn put_read<K: Sink>(text: &mut Text, entry: &Entry, out: &mut K) -> Result<(), Failed>
-    ensures told { OnOk result (Gathers (K.written out.old) (K.written out.new) text.new (text.old ++ read_text entry.now)) }
-    ensures front { OnErr result (WroteFront (K.written out.old) (K.written out.new) (text.old ++ read_text entry.now)) }
+#[tactic(auto, unfolding(ldom_entries::specs::BlockWord::blocks_text))]
+fn put_read<K: Sink>(text: &mut Text, entry: &EntryRef<'_>, out: &mut K) -> Result<(), Failed>
+    ensures told { OnOk result (Gathers (K.written out.old) (K.written out.new) text.new (text.old ++ read_text (told entry.now))) }
+    ensures front { OnErr result (WroteFront (K.written out.old) (K.written out.new) (text.old ++ read_text (told entry.now))) }
     ensures ok { OnOk result (K.faults out.new ≡ K.faults out.old) }
     ensures count { K.faults out.old ≤ K.faults out.new }
     ensures cause { OnErr result (Rose (K.faults out.old) (K.faults out.new)) }
 {
     match entry {
-        Entry::Done {
+        EntryRef::Read {
             operation: VD_OP_BREAD,
             status: 0,
             bytes,
@@ -123,13 +135,13 @@ fn put_read<K: Sink>(text: &mut Text, entry: &Entry, out: &mut K) -> Result<(), 
 fn put_line<K: Sink>(
     text: &mut Text,
     mode: Mode,
-    entry: &Entry,
+    entry: &EntryRef<'_>,
     names: &Names,
     out: &mut K,
 ) -> Result<(), Failed>
-    requires words { HasWords names.now.disks entry.now }
-    ensures told { OnOk result (Gathers (K.written out.old) (K.written out.new) text.new (text.old ++ line_text mode names.now.disks entry.now)) }
-    ensures front { OnErr result (WroteFront (K.written out.old) (K.written out.new) (text.old ++ line_text mode names.now.disks entry.now)) }
+    requires words { HasWords names.now.disks (told entry.now) }
+    ensures told { OnOk result (Gathers (K.written out.old) (K.written out.new) text.new (text.old ++ line_text mode names.now.disks (told entry.now))) }
+    ensures front { OnErr result (WroteFront (K.written out.old) (K.written out.new) (text.old ++ line_text mode names.now.disks (told entry.now))) }
     ensures ok { OnOk result (K.faults out.new ≡ K.faults out.old) }
     ensures count { K.faults out.old ≤ K.faults out.new }
     ensures cause { OnErr result (Rose (K.faults out.old) (K.faults out.new)) }
@@ -146,13 +158,13 @@ fn put_line<K: Sink>(
 fn put_entry<K: Sink>(
     text: &mut Text,
     mode: Mode,
-    entry: &Entry,
+    entry: &EntryRef<'_>,
     names: &Names,
     out: &mut K,
 ) -> Result<(), Failed>
-    requires words { HasWords names.now.disks entry.now }
-    ensures told { OnOk result (Gathers (K.written out.old) (K.written out.new) text.new (text.old ++ entry_lines mode names.now.disks entry.now)) }
-    ensures front { OnErr result (WroteFront (K.written out.old) (K.written out.new) (text.old ++ entry_lines mode names.now.disks entry.now)) }
+    requires words { HasWords names.now.disks (told entry.now) }
+    ensures told { OnOk result (Gathers (K.written out.old) (K.written out.new) text.new (text.old ++ entry_lines mode names.now.disks (told entry.now))) }
+    ensures front { OnErr result (WroteFront (K.written out.old) (K.written out.new) (text.old ++ entry_lines mode names.now.disks (told entry.now))) }
     ensures ok { OnOk result (K.faults out.new ≡ K.faults out.old) }
     ensures count { K.faults out.old ≤ K.faults out.new }
     ensures cause { OnErr result (Rose (K.faults out.old) (K.faults out.new)) }
@@ -164,23 +176,37 @@ fn put_entry<K: Sink>(
     }
 }
 
-/// Writes the lines of all entries that the mode shows.
-pub fn write_entries<K: Sink>(
-    entries: &[Entry],
+/// The next entry that is to be looked at: in a run, the next that a user of the disks sees. None where the mode shows
+/// no further one.
+#[tactic(auto, using(crate::proofs::ReportLines::leaving_out))]
+fn next_to_show<'a>(entries: &mut Entries<'a>, mode: Mode) -> Option<EntryRef<'a>>
+    ensures some { IfSome result (λ entry. LeavesOut mode entries.old (told entry ∷ entries.new)) }
+    ensures none { IsNone result → LeavesOut mode entries.old [] }
+{
+    if let Mode::Run = mode {
+        entries.pass_unseen();
+    }
+    entries.next_entry()
+}
+
+/// Writes the lines of the entries that the mode shows. After `Failed` a front of their text was written.
+pub fn write_text<K: Sink>(
+    journal: &Journal,
     mode: Mode,
     names: &Names,
     out: &mut K,
 ) -> Result<(), Failed>
-    requires words { All (HasWords names.now.disks) entries.now }
-    ensures told { OnOk result (Appends (K.written out.old) (K.written out.new) (report_entries mode names.now.disks entries.now)) }
-    ensures front { OnErr result (WroteFront (K.written out.old) (K.written out.new) (report_entries mode names.now.disks entries.now)) }
+    requires words { All (HasWords names.now.disks) journal.now.entries }
+    ensures told { OnOk result (Appends (K.written out.old) (K.written out.new) (report_entries mode names.now.disks journal.now.entries)) }
+    ensures front { OnErr result (WroteFront (K.written out.old) (K.written out.new) (report_entries mode names.now.disks journal.now.entries)) }
     ensures ok { OnOk result (K.faults out.new ≡ K.faults out.old) }
     ensures count { K.faults out.old ≤ K.faults out.new }
     ensures cause { OnErr result (Rose (K.faults out.old) (K.faults out.new)) }
 {
     let mut text = Text::new();
-    for entry in entries {
-        put_entry(&mut text, mode, entry, names, out)?;
+    let mut rest = journal.entries();
+    while let Some(entry) = next_to_show(&mut rest, mode) {
+        put_entry(&mut text, mode, &entry, names, out)?;
     }
     text.flush(out)
 }

@@ -96,7 +96,7 @@ pub fn push_refused(text: &mut Text, who: Who, why: Why, names: &Names)
     text.push(why_word(why));
 }
 
-pub fn push_done(text: &mut Text, disk: u32, id: u64, operation: u8, status: u32, names: &Names)
+pub fn push_done(text: &mut Text, disk: u32, id: u64, operation: u8, status: u64, names: &Names)
     requires declared { disk < length names.now.disks }
     requires least { 1 ≤ operation }
     requires most { operation ≤ 3 }
@@ -107,5 +107,5 @@ pub fn push_done(text: &mut Text, disk: u32, id: u64, operation: u8, status: u32
     text.push(b" ");
     text.push(operation_word(operation));
     text.push(b" ");
-    text.push_number(u64::from(status));
+    text.push_number(status);
 }

@@ -6,6 +6,7 @@ ghost use Rattle.ldom_journal.specs.EntryText.{bytes_text, call_text, end_text, 
 ghost use Rattle.ldom_journal.specs.HasWords.{HasFault, IsEnd};
 
 use crate::Mode;
+use crate::array_text::push_array;
 use crate::cause_text::push_reset_cause;
 use crate::line_names::{push_end, push_end_number};
 use crate::line_words::{failed_word, fault_word, opens_word, operation_word};
@@ -13,18 +14,25 @@ use crate::request_lines::push_range;
 use cookie_copy::CopyFault;
 use domain_script::{EndName, Names};
 use gathered_text::{TEXT_ROOM, Text};
+use trimmed_arrays::TrimmedArray;
 use vio_tag::Cause;
 
 /// An end and a packet, after the kind of their entry.
-pub fn push_packet(text: &mut Text, kind: &[u8], end: EndName, packet: &[u8; 64], names: &Names)
+pub fn push_packet(
+    text: &mut Text,
+    kind: &[u8],
+    end: EndName,
+    packet: &TrimmedArray<'_>,
+    names: &Names,
+)
     requires declared { IsEnd names.now.disks end }
-    requires room { length text.old + length kind.now + 139 ≤ TEXT_ROOM }
+    requires room { length text.old + length kind.now + 521 ≤ TEXT_ROOM }
     ensures text { text.new ≡ text.old ++ bytes_text kind.now names.now.disks end packet.now }
-    ensures len { length text.new ≤ length text.old + length kind.now + 139 }
+    ensures len { length text.new ≤ length text.old + length kind.now + 521 }
 {
     push_end(text, kind, end, names);
     text.push(b" ");
-    text.push_hex(packet);
+    push_array(text, packet);
 }
 
 /// The same, and whether the session opened.
@@ -32,44 +40,50 @@ pub fn push_carried(
     text: &mut Text,
     kind: &[u8],
     end: EndName,
-    packet: &[u8; 64],
+    packet: &TrimmedArray<'_>,
     opens: bool,
     names: &Names,
 )
     requires declared { IsEnd names.now.disks end }
-    requires room { length text.old + length kind.now + 200 ≤ TEXT_ROOM }
+    requires room { length text.old + length kind.now + 600 ≤ TEXT_ROOM }
     ensures { text.new ≡ text.old ++ bytes_text kind.now names.now.disks end packet.now ++ opens_text opens }
 {
     push_packet(text, kind, end, packet, names);
     text.push(opens_word(opens));
 }
 
-pub fn push_joined(text: &mut Text, end: EndName, lost: u32, names: &Names)
+pub fn push_joined(text: &mut Text, end: EndName, lost: u64, names: &Names)
     requires declared { IsEnd names.now.disks end }
     requires room { length text.old + 100 ≤ TEXT_ROOM }
     ensures { text.new ≡ text.old ++ end_text (codes "joined ") names.now.disks end ++ codes " lost=" ++ decimal lost }
 {
     push_end(text, b"joined ", end, names);
     text.push(b" lost=");
-    text.push_number(u64::from(lost));
+    text.push_number(lost);
 }
 
-pub fn push_descriptor(text: &mut Text, end: EndName, slot: u32, bytes: &[u8; 128], names: &Names)
+pub fn push_descriptor(
+    text: &mut Text,
+    end: EndName,
+    slot: u64,
+    bytes: &TrimmedArray<'_>,
+    names: &Names,
+)
     requires declared { IsEnd names.now.disks end }
-    requires room { length text.old + 400 ≤ TEXT_ROOM }
+    requires room { length text.old + 600 ≤ TEXT_ROOM }
     ensures { text.new ≡ text.old ++ number_text (codes "desc ") names.now.disks end slot ++ codes " " ++ encode_lower bytes.now }
 {
-    push_end_number(text, b"desc ", end, u64::from(slot), names);
+    push_end_number(text, b"desc ", end, slot, names);
     text.push(b" ");
-    text.push_hex(bytes);
+    push_array(text, bytes);
 }
 
-pub fn push_moved(text: &mut Text, end: EndName, unit: u32, fault: Option<CopyFault>, names: &Names)
+pub fn push_moved(text: &mut Text, end: EndName, unit: u64, fault: Option<CopyFault>, names: &Names)
     requires declared { IsEnd names.now.disks end }
     requires room { length text.old + 100 ≤ TEXT_ROOM }
     ensures { text.new ≡ text.old ++ moved_text names.now.disks end unit fault }
 {
-    push_end_number(text, b"moved ", end, u64::from(unit), names);
+    push_end_number(text, b"moved ", end, unit, names);
     text.push(b" ");
     text.push(fault_word(fault));
 }
@@ -117,39 +131,39 @@ pub fn push_stored(
     text.push(failed_word(failed));
 }
 
-pub fn push_finished(text: &mut Text, end: EndName, slot: u32, status: u32, names: &Names)
+pub fn push_finished(text: &mut Text, end: EndName, slot: u64, status: u64, names: &Names)
     requires declared { IsEnd names.now.disks end }
     requires room { length text.old + 100 ≤ TEXT_ROOM }
     ensures { text.new ≡ text.old ++ number_text (codes "finished ") names.now.disks end slot ++ codes " " ++ decimal status }
 {
-    push_end_number(text, b"finished ", end, u64::from(slot), names);
+    push_end_number(text, b"finished ", end, slot, names);
     text.push(b" ");
-    text.push_number(u64::from(status));
+    text.push_number(status);
 }
 
 /// How many frames were lost, where some were.
-fn push_lost(text: &mut Text, lost: u32)
+fn push_lost(text: &mut Text, lost: u64)
     requires { length text.old + 26 ≤ TEXT_ROOM }
     ensures text { text.new ≡ text.old ++ lost_text lost }
     ensures len { length text.new ≤ length text.old + 26 }
 {
     if lost > 0 {
         text.push(b" lost=");
-        text.push_number(u64::from(lost));
+        text.push_number(lost);
     }
 }
 
-fn push_took_packet(text: &mut Text, packet: &[u8; 64])
-    requires { length text.old + 140 ≤ TEXT_ROOM }
+fn push_took_packet(text: &mut Text, packet: &TrimmedArray<'_>)
+    requires { length text.old + 516 ≤ TEXT_ROOM }
     ensures { text.new ≡ text.old ++ codes " took=" ++ encode_lower packet.now }
 {
     text.push(b" took=");
-    text.push_hex(packet);
+    push_array(text, packet);
 }
 
 /// The packet that a reset took, which a trace shows.
-fn push_took(text: &mut Text, mode: Mode, packet: &Option<[u8; 64]>)
-    requires { length text.old + 140 ≤ TEXT_ROOM }
+fn push_took(text: &mut Text, mode: Mode, packet: &Option<TrimmedArray<'_>>)
+    requires { length text.old + 516 ≤ TEXT_ROOM }
     ensures { text.new ≡ text.old ++ took_text mode packet.now }
 {
     match (mode, packet) {
@@ -177,13 +191,13 @@ pub fn push_reset(
     mode: Mode,
     end: EndName,
     cause: Cause,
-    packet: &Option<[u8; 64]>,
-    lost: u32,
+    packet: &Option<TrimmedArray<'_>>,
+    lost: u64,
     names: &Names,
 )
     requires declared { IsEnd names.now.disks end }
     requires fault { HasFault cause }
-    requires room { length text.old + 400 ≤ TEXT_ROOM }
+    requires room { length text.old + 700 ≤ TEXT_ROOM }
     ensures { text.new ≡ text.old ++ reset_text mode names.now.disks end cause packet.now lost }
 {
     push_reset_head(text, end, cause, names);

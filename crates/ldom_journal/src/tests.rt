@@ -66,7 +66,7 @@ pub(crate) fn shown(alloc: Global, mode: Mode, entry: Entry) -> Result<ListSink,
     let names = one_disk();
     let journal = journal_of(alloc, entry)?;
     let mut sink = ListSink::new(alloc, 4096, &[])?;
-    journal.write_text(mode, &names, &mut sink)?;
+    write_text(&journal, mode, &names, &mut sink)?;
     Ok(sink)
 }
 
@@ -183,22 +183,6 @@ fn trace_alone_shows_accepted(rt: HostRuntime) -> Result<(), Fail> {
 }
 
 #[test]
-fn bytes_fill_into_their_room(rt: HostRuntime) -> Result<(), Fail> {
-    let alloc = rt.alloc();
-    let mut bytes = Bytes::with_room(alloc, 1029)?;
-    let mut all = [0xab; 1029];
-    all[500..505].copy_from_slice(b"abcde");
-    bytes.fill(&all[..512]);
-    bytes.fill(&all[512..514]);
-    bytes.fill(&all[514..]);
-    assert_eq!(rt; bytes.to_vec(alloc)?.as_slice(), all.as_slice());
-    assert_eq!(rt; bytes.len(), 1029);
-    assert!(rt; !bytes.is_empty());
-    assert!(rt; Bytes::empty(alloc).is_empty());
-    Ok(())
-}
-
-#[test]
 fn a_journal_keeps_its_entries_in_order(rt: HostRuntime) -> Result<(), Fail> {
     let alloc = rt.alloc();
     let mut journal = Journal::new(alloc);
@@ -208,8 +192,8 @@ fn a_journal_keeps_its_entries_in_order(rt: HostRuntime) -> Result<(), Fail> {
     }
     note(&mut journal, Entry::Full { who: D0 })?;
     assert_eq!(rt; journal.len(), 1001);
-    assert!(rt; matches!(journal.get(0), Some(Entry::Settled)));
-    assert!(rt; matches!(journal.get(1000), Some(Entry::Full { .. })));
+    assert!(rt; matches!(journal.get(0), Some(EntryRef::Settled)));
+    assert!(rt; matches!(journal.get(1000), Some(EntryRef::Full { .. })));
     assert!(rt; journal.get(1001).is_none());
     Ok(())
 }

@@ -30,7 +30,7 @@ use crate::command::{Command, command_of};
 use crate::run::{Run, run_script};
 use domain_script::Names;
 use ldom_dump::dump;
-use ldom_journal::{Journal, Mode, Status, write_end};
+use ldom_journal::{Journal, Mode, Status, write_end, write_text};
 use ldom_world::Lanes;
 use std::alloc::Global;
 use vio_io::{Failed, Host, Sink, Source, Store};
@@ -227,7 +227,7 @@ fn write_report<K: Sink>(
     ensures count { K.faults out.old ≤ K.faults out.new }
     ensures cause { OnErr result (Rose (K.faults out.old) (K.faults out.new)) }
 {
-    journal.write_text(mode, names, out)?;
+    write_text(journal, mode, names, out)?;
     write_end(journal, lines, status, out)
 }
 

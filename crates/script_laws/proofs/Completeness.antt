@@ -10,7 +10,7 @@ use Rattle.domain_script.specs.declared.event.Event.{Event}
 use Rattle.domain_script.specs.NamesState.{NamesState}
 use Rattle.domain_script.specs.ScriptLines.{script_lines, with_front, TakesLine, BeginsWithLonger, TakesLines}
 use Rattle.domain_script.specs.Spells.{Spells}
-use Rattle.ldom_journal.specs.declared.entry.Entry.{Entry}
+use Rattle.ldom_entries.specs.declared.entry.Entry.{Entry}
 use Rattle.ldom_journal.specs.declared.status.LimitKind.{LimitKind}
 use Rattle.ldom_journal.specs.declared.status.LimitKind.TheVariants.{Lines, Bytes, Entries}
 use Rattle.ldom_journal.specs.declared.status.Status.{Status}

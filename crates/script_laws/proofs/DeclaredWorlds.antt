@@ -10,7 +10,7 @@ use Rattle.lanes_settle.specs.Settle.{SettleEntry}
 use Rattle.lanes_world.specs.Lines as world
 use Rattle.lanes_world.specs.World.{IsWorld, WorldState}
 use Rattle.ldom_journal.specs.LaneEvents.{world_event}
-use Rattle.ldom_journal.specs.declared.entry.Entry.{Entry}
+use Rattle.ldom_entries.specs.declared.entry.Entry.{Entry}
 use Rattle.script_laws.specs.Told.{told, told_by}
 use Rattle.script_laws.proofs.DiskShapes.{are_shapes, is_world}
 use Rattle.world_parts.specs.Declared.{bytes_needed, image_of, shapes_of}

@@ -11,7 +11,7 @@ use Rattle.domain_script.specs.declared.event.Event.TheVariants as line
 use Rattle.lanes_settle.specs.Along.{event_at, happened}
 use Rattle.lanes_settle.specs.Settle.{OfLane, SettleEntry, Settled, Unsettled}
 use Rattle.ldom_journal.specs.DiskEvents.{Defective, NoRoom, Refusal, Said, disk_event, history, refused, refused_for, request_asked, said_of}
-use Rattle.ldom_journal.specs.declared.entry.Entry.{Entry}
+use Rattle.ldom_entries.specs.declared.entry.Entry.{Entry}
 use Rattle.world_requests.proofs.Filtered.{ComesOf, comes_of, filter_both, one_more}
 use Rattle.world_requests.specs.Requests.{request_event, requests_of}
 use Rattle.script_laws.proofs.EntryKinds.{Kind, SaysNothing, kept, kind_of}

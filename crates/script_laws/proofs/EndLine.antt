@@ -3,7 +3,7 @@ use Rattle.std.proofs.Common.{◌≡◌, ℕ, ◌+◌, ◌-◌, List, [], ◌++�
 use Rattle.std.specs.Prelude.{codes, decimal}
 use Rattle.std.proofs.lemmas.List.{append-nil}
 use Rattle.ldom_journal.specs.Report.{accepted_count, done_count, end_line, reset_count}
-use Rattle.ldom_journal.specs.declared.entry.Entry.{Entry}
+use Rattle.ldom_entries.specs.declared.entry.Entry.{Entry}
 use Rattle.ldom_journal.specs.declared.status.Status.TheVariants as status
 use Rattle.script_laws.proofs.PlainGrows.{zero_text}
 use Rattle.script_laws.specs.PlainRun.{Plain, plain_end}

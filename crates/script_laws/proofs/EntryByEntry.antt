@@ -16,12 +16,12 @@ use Rattle.domain_script.specs.declared.event.Side.TheVariants.{Client, Server}
 use Rattle.lanes_settle.specs.Settle.{OfLane, SettleEntry}
 use Rattle.lanes_world.specs.Lines.{Asked, Call, Calls, Line, Loses, Resets, Restarts, Starts, Stops, Ticks}
 use Rattle.ldom_journal.specs.LaneEvents.{calm_event, called_event, end_of, full_event, if_so, is_end, lane_number, of_client, of_server, refused_event, unsettled_event, world_event}
-use Rattle.ldom_journal.specs.declared.entry.Entry.{Entry}
-use Rattle.ldom_journal.specs.declared.entry.Entry.TheVariants as entry
-use Rattle.ldom_journal.specs.declared.entry.Who.{Who}
-use Rattle.ldom_journal.specs.declared.entry.Who.TheVariants.{Lane as OfWhole, End as OfEnd}
-use Rattle.ldom_journal.specs.declared.entry.Why.{Why}
-use Rattle.ldom_journal.specs.declared.entry.Why.TheVariants.{Count, Range}
+use Rattle.ldom_entries.specs.declared.entry.Entry.{Entry}
+use Rattle.ldom_entries.specs.declared.entry.Entry.TheVariants as entry
+use Rattle.ldom_entries.specs.declared.entry.Who.{Who}
+use Rattle.ldom_entries.specs.declared.entry.Who.TheVariants.{Lane as OfWhole, End as OfEnd}
+use Rattle.ldom_entries.specs.declared.entry.Why.{Why}
+use Rattle.ldom_entries.specs.declared.entry.Why.TheVariants.{Count, Range}
 use Rattle.script_laws.proofs.LaneReport.{SaysSame, says_append}
 use Rattle.world_parts.specs.Parts.{Says}
 

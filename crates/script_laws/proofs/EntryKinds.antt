@@ -17,12 +17,12 @@ use Rattle.domain_script.specs.declared.event.Lane.TheVariants.{Disk}
 use Rattle.domain_script.specs.declared.event.Side.{Side}
 use Rattle.domain_script.specs.declared.event.Side.TheVariants.{Client, Server}
 use Rattle.ldc_queue.specs.declared.end.End.TheVariants.{B}
-use Rattle.ldom_journal.specs.Bytes.{BytesState}
-use Rattle.ldom_journal.specs.declared.entry.Entry.{Entry}
-use Rattle.ldom_journal.specs.declared.entry.Entry.TheVariants as entry
-use Rattle.ldom_journal.specs.declared.entry.Who.{Who}
-use Rattle.ldom_journal.specs.declared.entry.Who.TheVariants.{Lane as OfWhole, End as OfEnd}
-use Rattle.ldom_journal.specs.declared.entry.Why.{Why}
+use Rattle.ldom_entries.specs.Bytes.{BytesState}
+use Rattle.ldom_entries.specs.declared.entry.Entry.{Entry}
+use Rattle.ldom_entries.specs.declared.entry.Entry.TheVariants as entry
+use Rattle.ldom_entries.specs.declared.entry.Who.{Who}
+use Rattle.ldom_entries.specs.declared.entry.Who.TheVariants.{Lane as OfWhole, End as OfEnd}
+use Rattle.ldom_entries.specs.declared.entry.Why.{Why}
 use Rattle.ldom_journal.specs.DiskEvents.{Defective, NoRoom, NotTaken, Nothing, OfDisk, Refusal, defect_of, refused, request_asked, said}
 use Rattle.ldom_journal.specs.LaneEvents.{calm_event, called_event, end_of, full_event, if_so, is_end, lane_number, of_client, of_server, on_wire, refused_event, unsettled_event, world_event}
 use Rattle.world_faults.specs.Failures.{is_failed_done}

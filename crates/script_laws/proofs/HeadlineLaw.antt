@@ -9,7 +9,7 @@ use Rattle.domain_script.specs.declared.event.Event.TheVariants.{Settle}
 use Rattle.lanes_settle.specs.Settle.{SettleEntry}
 use Rattle.lanes_world.proofs.Along.{lanes_run}
 use Rattle.lanes_world.specs.World.{WorldState}
-use Rattle.ldom_journal.specs.declared.entry.Entry.{Entry}
+use Rattle.ldom_entries.specs.declared.entry.Entry.{Entry}
 use Rattle.script_laws.proofs.Disks.{of_disk}
 use Rattle.script_laws.proofs.Leading.{Leads, cut_off_lead, lines_lead}
 use Rattle.script_laws.proofs.SettleLines.{EachSettles, cut_settles, rules_at, whole_settles}

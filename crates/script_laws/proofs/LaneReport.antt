@@ -19,15 +19,15 @@ use Rattle.domain_script.specs.declared.event.Lane.TheVariants.{Disk}
 use Rattle.domain_script.specs.declared.event.Side.{Side}
 use Rattle.domain_script.specs.declared.event.Side.TheVariants.{Client, Server}
 use Rattle.lanes_settle.specs.Settle.{OfLane, SettleEntry, Settled, Unsettled}
-use Rattle.ldom_journal.specs.Bytes.{filled}
+use Rattle.ldom_entries.specs.Bytes.{filled}
 use Rattle.ldom_journal.specs.DiskEvents.{said, said_of_any, whole_history}
 use Rattle.ldom_journal.specs.EntryText.{entry_lines, line_text, report_entries}
 use Rattle.ldom_journal.specs.Report.{accepted_count, done_count, reset_count}
-use Rattle.ldom_journal.specs.declared.entry.Entry.{Entry}
-use Rattle.ldom_journal.specs.declared.entry.Entry.TheVariants as entry
-use Rattle.ldom_journal.specs.declared.entry.Who.TheVariants.{Lane as OfWhole}
-use Rattle.ldom_journal.specs.declared.entry.Why.{Why}
-use Rattle.ldom_journal.specs.declared.entry.Why.TheVariants.{Count, Range}
+use Rattle.ldom_entries.specs.declared.entry.Entry.{Entry}
+use Rattle.ldom_entries.specs.declared.entry.Entry.TheVariants as entry
+use Rattle.ldom_entries.specs.declared.entry.Who.TheVariants.{Lane as OfWhole}
+use Rattle.ldom_entries.specs.declared.entry.Why.{Why}
+use Rattle.ldom_entries.specs.declared.entry.Why.TheVariants.{Count, Range}
 use Rattle.ldom_journal.specs.declared.status.Mode.TheVariants as mode
 use Rattle.script_laws.specs.Completed.{completed_ids}
 use Rattle.world_requests.specs.Accepted.{accepted_in}

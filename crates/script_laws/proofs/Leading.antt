@@ -12,7 +12,7 @@ use Rattle.lanes_settle.specs.Sums.{IsUnforged}
 use Rattle.lanes_world.proofs.Along.{lines_run}
 use Rattle.lanes_world.specs.Lines as world
 use Rattle.lanes_world.specs.World.{WorldState, WorldStep}
-use Rattle.ldom_journal.specs.declared.entry.Entry.{Entry}
+use Rattle.ldom_entries.specs.declared.entry.Entry.{Entry}
 use Rattle.script_laws.proofs.Entries.{IsOfLane, each_in}
 use Rattle.script_laws.proofs.LineEntries.{begins_lanes}
 use Rattle.script_laws.proofs.Places.{InEither, place_in}

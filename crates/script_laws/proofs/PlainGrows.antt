@@ -14,11 +14,11 @@ use Rattle.domain_script.specs.declared.event.Event.{Event}
 use Rattle.domain_script.specs.declared.event.Event.TheVariants as event
 use Rattle.domain_script.specs.declared.event.Lane.TheVariants.{Disk}
 use Rattle.lanes_settle.specs.Settle.{OfLane, SettleEntry, Settled}
-use Rattle.ldom_journal.specs.BlockWord.{blocks_text}
-use Rattle.ldom_journal.specs.Bytes.{filled}
-use Rattle.ldom_journal.specs.declared.entry.Entry.TheVariants as entry
-use Rattle.ldom_journal.specs.declared.entry.Who.TheVariants.{Lane as OfWhole}
-use Rattle.ldom_journal.specs.declared.entry.Why.TheVariants.{Count, Range}
+use Rattle.ldom_entries.specs.BlockWord.{blocks_text}
+use Rattle.ldom_entries.specs.Bytes.{filled}
+use Rattle.ldom_entries.specs.declared.entry.Entry.TheVariants as entry
+use Rattle.ldom_entries.specs.declared.entry.Who.TheVariants.{Lane as OfWhole}
+use Rattle.ldom_entries.specs.declared.entry.Why.TheVariants.{Count, Range}
 use Rattle.script_laws.proofs.LaneReport.{ids_in, ids_in_append, lane_ids, lane_resets, lane_text, resets_append, resets_in, run_line, texts, texts_append}
 use Rattle.script_laws.specs.PlainRun.{Plain, asked, complete, complete_all, done_line, name_text, plain_line, plain_run, refusal_line, settled}
 use Rattle.world_parts.specs.Declared.{shape_of}

@@ -12,7 +12,7 @@ use Rattle.lanes_world.specs.Lines.{Line, LineStep, entries_of}
 use Rattle.lanes_world.specs.World.{WorldState, fresh_world}
 use Rattle.ldom_journal.specs.EntryText.{report_entries}
 use Rattle.ldom_journal.specs.Report.{accepted_count, done_count, end_line, report, reset_count}
-use Rattle.ldom_journal.specs.declared.entry.Entry.{Entry}
+use Rattle.ldom_entries.specs.declared.entry.Entry.{Entry}
 use Rattle.ldom_journal.specs.declared.status.Mode.TheVariants as mode
 use Rattle.ldom_journal.specs.declared.status.Status.TheVariants as status
 use Rattle.script_laws.proofs.EndLine.{ends_agree}

@@ -11,7 +11,7 @@ use Rattle.domain_script.specs.declared.event.Event.{Event}
 use Rattle.lanes_world.specs.World.{WorldState}
 use Rattle.ldom_journal.specs.DiskEvents.{history}
 use Rattle.ldom_journal.specs.HasWords.{HasWords}
-use Rattle.ldom_journal.specs.declared.entry.Entry.{Entry}
+use Rattle.ldom_entries.specs.declared.entry.Entry.{Entry}
 use Rattle.ldom_journal.specs.declared.status.Status.{Status}
 use Rattle.script_laws.specs.Replayed.{Replayed, start_of}
 use Rattle.script_laws.proofs.ScriptLaws.{cut_off_once, cut_off_worded, script_once, script_worded}

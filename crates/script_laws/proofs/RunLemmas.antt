@@ -7,7 +7,7 @@ use Rattle.std.proofs.lemmas.List.Concat.{flat_map-append}
 use Rattle.runs.specs.Run.{run_push}
 use Rattle.domain_script.specs.declared.event.Event.{Event}
 use Rattle.domain_script.specs.NamesState.{NamesState}
-use Rattle.ldom_journal.specs.declared.entry.Entry.{Entry}
+use Rattle.ldom_entries.specs.declared.entry.Entry.{Entry}
 use Rattle.ldom_journal.specs.declared.status.Status.{Status}
 use Rattle.ldom_journal.specs.declared.status.Status.TheVariants as status
 use Rattle.world_parts.specs.Endings.{Ending, MayBeCut, NotBegun, Whole, ending}

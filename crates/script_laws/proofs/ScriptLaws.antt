@@ -18,7 +18,7 @@ use Rattle.lanes_world.proofs.LaneLists.{is_there}
 use Rattle.lanes_world.specs.World.{IsWorld, WorldState}
 use Rattle.ldom_journal.specs.DiskEvents.{history}
 use Rattle.ldom_journal.specs.HasWords.{HasWords}
-use Rattle.ldom_journal.specs.declared.entry.Entry.{Entry}
+use Rattle.ldom_entries.specs.declared.entry.Entry.{Entry}
 use Rattle.world_faults.proofs.WorldLaws.{world_counted}
 use Rattle.world_images.proofs.BehindDisks.{stays_behind}
 use Rattle.world_images.proofs.NamedRuns.{stays_at}

@@ -11,7 +11,7 @@ use Rattle.lanes_settle.specs.Begun.{SettleFront}
 use Rattle.lanes_settle.specs.Settle.{SettleEntry, SettlePart}
 use Rattle.lanes_world.specs.Lines as world
 use Rattle.lanes_world.specs.World.{WorldState}
-use Rattle.ldom_journal.specs.declared.entry.Entry.{Entry}
+use Rattle.ldom_entries.specs.declared.entry.Entry.{Entry}
 use Rattle.script_laws.proofs.LineEntries.{settle_rules}
 use Rattle.script_laws.proofs.Places.{InEither, no_place, place_in}
 use Rattle.script_laws.proofs.Settling.{clean_lines}

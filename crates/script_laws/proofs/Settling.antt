@@ -23,7 +23,7 @@ use Rattle.lanes_world.proofs.Along.{lane_at, lanes_run, lines_run, shape_at}
 use Rattle.lanes_world.proofs.LaneLists.{each_there}
 use Rattle.lanes_world.specs.Lines as world
 use Rattle.lanes_world.specs.World.{WorldState, WorldStep}
-use Rattle.ldom_journal.specs.declared.entry.Entry.{Entry}
+use Rattle.ldom_entries.specs.declared.entry.Entry.{Entry}
 use Rattle.script_laws.proofs.CleanLanes.{AreClean, clean_behind}
 use Rattle.script_laws.proofs.Entries.{LeavesNone, each_in}
 use Rattle.script_laws.proofs.LineEntries.{clean_settles, part_leaves, settle_ends, settles_where}

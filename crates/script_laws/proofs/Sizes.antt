@@ -8,7 +8,7 @@ use Rattle.domain_script.specs.NamesState.{NamesState, noted}
 use Rattle.domain_script.specs.ScriptEvents.{AllSpell}
 use Rattle.lanes_settle.specs.Rounds.{Each}
 use Rattle.lanes_world.specs.World.{WorldState}
-use Rattle.ldom_journal.specs.declared.entry.Entry.{Entry}
+use Rattle.ldom_entries.specs.declared.entry.Entry.{Entry}
 use Rattle.ldom_journal.specs.declared.status.Status.{Status}
 use Rattle.ldom_journal.specs.declared.status.Status.TheVariants as status
 use Rattle.ldom_journal.specs.Stops.{IsReaders}

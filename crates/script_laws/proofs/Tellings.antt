@@ -8,7 +8,7 @@ use Rattle.domain_script.specs.declared.event.Event.{Event}
 use Rattle.lanes_settle.specs.Settle.{SettleEntry}
 use Rattle.ldom_journal.specs.DiskEvents.{disk_event, happened}
 use Rattle.ldom_journal.specs.LaneEvents.{world_event}
-use Rattle.ldom_journal.specs.declared.entry.Entry.{Entry}
+use Rattle.ldom_entries.specs.declared.entry.Entry.{Entry}
 use Rattle.world_parts.specs.Lines.{all_happened, line_of}
 use Rattle.world_parts.specs.Parts.{Says}
 

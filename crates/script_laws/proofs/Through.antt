@@ -16,7 +16,7 @@ use Rattle.lanes_world.proofs.Along.{lane_step, lines_run}
 use Rattle.lanes_world.specs.Lines.{Line, LineBegins, entries_of}
 use Rattle.lanes_world.specs.Lines as script
 use Rattle.lanes_world.specs.World.{WorldState, WorldStep}
-use Rattle.ldom_journal.specs.declared.entry.Entry.{Entry}
+use Rattle.ldom_entries.specs.declared.entry.Entry.{Entry}
 use Rattle.world_parts.specs.Declared.{shapes_of, world_of}
 use Rattle.world_parts.specs.Lines.{LineStep, all_happened, line_of}
 use Rattle.world_parts.specs.Script.{FitsCutOff, FitsScript, cut_lines}

@@ -10,7 +10,7 @@ use Rattle.lanes_settle.specs.Settle.{OfLane, SettleEntry, Settled, Unsettled}
 use Rattle.lanes_world.specs.Lines.{Line, entries_of}
 use Rattle.lanes_world.specs.Lines as lane_lines
 use Rattle.lanes_world.specs.World.{WorldState}
-use Rattle.ldom_journal.specs.declared.entry.Entry.{Entry}
+use Rattle.ldom_entries.specs.declared.entry.Entry.{Entry}
 use Rattle.script_laws.proofs.EntryByEntry.{part_same}
 use Rattle.script_laws.proofs.LaneReport.{SaysSame, says_append, told_append, told_lanes}
 use Rattle.world_parts.specs.Lines.{LineStep, line_of}

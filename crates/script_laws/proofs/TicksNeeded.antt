@@ -22,7 +22,7 @@ use Rattle.lanes_settle.specs.Moves.{is_tick}
 use Rattle.lanes_settle.specs.Settle.{OfLane, SettleEntry, SettlePart}
 use Rattle.lanes_world.proofs.Along.{lane_at, lanes_run, lines_run, shape_at}
 use Rattle.lanes_world.specs.World.{WorldState, WorldStep}
-use Rattle.ldom_journal.specs.declared.entry.Entry.{Entry}
+use Rattle.ldom_entries.specs.declared.entry.Entry.{Entry}
 use Rattle.script_laws.proofs.CleanLanes.{AreClean}
 use Rattle.script_laws.proofs.LineEntries.{clean_settles}
 use Rattle.script_laws.proofs.SettleLines.{EachSettles, SettlesBehind}

@@ -6,7 +6,7 @@ use Rattle.disk_law.specs.ListStep as plain
 use Rattle.domain_script.specs.declared.event.Event.{Event}
 use Rattle.lanes_settle.specs.Settle.{OfLane, SettleEntry, Settled, Unsettled}
 use Rattle.ldom_journal.specs.DiskEvents.{Said, said, said_of_any, whole_history}
-use Rattle.ldom_journal.specs.declared.entry.Entry.{Entry}
+use Rattle.ldom_entries.specs.declared.entry.Entry.{Entry}
 use Rattle.world_faults.proofs.Counted.{count_more}
 use Rattle.world_faults.specs.Failures.{in_entry, is_failed_done}
 use Rattle.script_laws.specs.Failures.{SucceedsOrFails, has_failed}

@@ -11,7 +11,7 @@ use Rattle.domain_script.specs.declared.event.DiskDecl.{DiskDecl}
 use Rattle.domain_script.specs.declared.event.Event.{Event}
 use Rattle.lanes_world.specs.World.{WorldState}
 use Rattle.ldom_journal.specs.Report.{report}
-use Rattle.ldom_journal.specs.declared.entry.Entry.{Entry}
+use Rattle.ldom_entries.specs.declared.entry.Entry.{Entry}
 use Rattle.ldom_journal.specs.declared.status.Mode.{Mode}
 use Rattle.ldom_journal.specs.declared.status.Mode.TheVariants as mode
 use Rattle.ldom_journal.specs.declared.status.Status.{Status}

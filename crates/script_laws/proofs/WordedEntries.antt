@@ -19,12 +19,12 @@ use Rattle.domain_script.specs.declared.event.Lane.{Lane}
 use Rattle.domain_script.specs.declared.event.Lane.TheVariants.{Disk}
 use Rattle.domain_script.specs.declared.event.Side.{Side}
 use Rattle.domain_script.specs.declared.event.Side.TheVariants.{Client, Server}
-use Rattle.ldom_journal.specs.Bytes.{BytesState}
-use Rattle.ldom_journal.specs.declared.entry.Entry.{Entry}
-use Rattle.ldom_journal.specs.declared.entry.Entry.TheVariants as entry
-use Rattle.ldom_journal.specs.declared.entry.Who.{Who}
-use Rattle.ldom_journal.specs.declared.entry.Who.TheVariants.{Lane as OfWhole, End as OfEnd}
-use Rattle.ldom_journal.specs.declared.entry.Why.{Why}
+use Rattle.ldom_entries.specs.Bytes.{BytesState}
+use Rattle.ldom_entries.specs.declared.entry.Entry.{Entry}
+use Rattle.ldom_entries.specs.declared.entry.Entry.TheVariants as entry
+use Rattle.ldom_entries.specs.declared.entry.Who.{Who}
+use Rattle.ldom_entries.specs.declared.entry.Who.TheVariants.{Lane as OfWhole, End as OfEnd}
+use Rattle.ldom_entries.specs.declared.entry.Why.{Why}
 use Rattle.ldom_journal.specs.DiskEvents.{defect_of}
 use Rattle.ldom_journal.specs.HasWords.{HasFault, HasWords, IsDeclared, IsEnd, IsLane, IsCompletion}
 use Rattle.ldom_journal.specs.LaneEvents.{calm_event, called_event, end_of, full_event, if_so, is_end, is_same, lane_number, of_client, of_server, on_wire, refused_event, unsettled_event, world_event}

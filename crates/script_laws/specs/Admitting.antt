@@ -4,7 +4,7 @@ use Rattle.disk_law.specs.Issued.{Admission}
 use Rattle.domain_script.specs.declared.event.DiskDecl.{DiskDecl}
 use Rattle.domain_script.specs.declared.event.Event.{Event}
 use Rattle.lanes_world.specs.World.{WorldState}
-use Rattle.ldom_journal.specs.declared.entry.Entry.{Entry}
+use Rattle.ldom_entries.specs.declared.entry.Entry.{Entry}
 use Rattle.world_parts.specs.Endings.{Ending, MayBeCut, NotBegun, Whole}
 use Rattle.world_parts.specs.Lines.{all_happened}
 use Rattle.world_parts.specs.Script.{FitsCutOff, FitsScript, cut_lines}

@@ -3,7 +3,7 @@ use Rattle.std.specs.Prelude.{◌≡◌, ℕ, Bool, false, ◌==◌, ◌⊎◌, 
 use Rattle.std.specs.List.{All, count_by}
 use Rattle.disk_law.specs.ListStep.{DiskEvent, Done}
 use Rattle.ldom_journal.specs.DiskEvents.{whole_history}
-use Rattle.ldom_journal.specs.declared.entry.Entry.{Entry}
+use Rattle.ldom_entries.specs.declared.entry.Entry.{Entry}
 
 -- 5 is EIO: the image failed
 abbrev pub has_failed : DiskEvent → Bool

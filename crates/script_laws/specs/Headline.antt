@@ -5,7 +5,7 @@ use Rattle.disk_steps.specs.LaneState.{LaneState, Shape}
 use Rattle.domain_script.specs.declared.event.DiskDecl.{DiskDecl}
 use Rattle.domain_script.specs.declared.event.Event.{Event}
 use Rattle.lanes_world.specs.World.{WorldState}
-use Rattle.ldom_journal.specs.declared.entry.Entry.{Entry}
+use Rattle.ldom_entries.specs.declared.entry.Entry.{Entry}
 use Rattle.lanes_settle.specs.Along.{happened}
 use Rattle.lanes_settle.specs.Settle.{SettleEntry}
 use Rattle.world_images.specs.Stays.{StaysBehind}

@@ -7,7 +7,7 @@ use Rattle.disk_law.specs.Issued.{issued}
 use Rattle.disk_law.specs.ListStep.{block_place}
 use Rattle.disk_steps.specs.LaneState.{Shape}
 use Rattle.ldom_journal.specs.DiskEvents.{history}
-use Rattle.ldom_journal.specs.declared.entry.Entry.{Entry}
+use Rattle.ldom_entries.specs.declared.entry.Entry.{Entry}
 use Rattle.world_parts.specs.Declared.{shapes_of}
 
 -- The byte at this place isn't in the blocks that a request writes to a disk, whose blocks begin at this one of the image.

@@ -8,7 +8,7 @@ use Rattle.domain_script.specs.declared.event.Event.TheVariants.{Settle}
 use Rattle.lanes_settle.specs.Moves.{NeverThree, is_tick, ticks_in}
 use Rattle.lanes_settle.specs.Settle.{OfLane, SettleEntry, Settled, Unsettled}
 use Rattle.ldc_queue.specs.declared.end.End.{End}
-use Rattle.ldom_journal.specs.declared.entry.Entry.{Entry}
+use Rattle.ldom_entries.specs.declared.entry.Entry.{Entry}
 use Rattle.script_laws.specs.Still.{AreStillBy}
 use Rattle.script_laws.specs.Told.{log_at, told, told_by}
 

@@ -7,7 +7,7 @@ use Rattle.domain_script.specs.declared.event.Event.{Event}
 use Rattle.lanes_settle.specs.Along.{happened}
 use Rattle.lanes_settle.specs.Settle.{SettleEntry}
 use Rattle.ldom_journal.specs.LaneEvents.{world_event}
-use Rattle.ldom_journal.specs.declared.entry.Entry.{Entry}
+use Rattle.ldom_entries.specs.declared.entry.Entry.{Entry}
 use Rattle.runs.specs.Lawful.{log_of}
 use Rattle.world_parts.specs.Lines.{line_of}
 

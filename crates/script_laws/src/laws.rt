@@ -10,7 +10,7 @@ ghost use Rattle.domain_script.specs.declared.event.Event.{Event};
 ghost use Rattle.lanes_world.specs.World.{WorldState};
 ghost use Rattle.ldom_journal.specs.DiskEvents.{history};
 ghost use Rattle.ldom_journal.specs.HasWords.{HasWords};
-ghost use Rattle.ldom_journal.specs.declared.entry.Entry.{Entry};
+ghost use Rattle.ldom_entries.specs.declared.entry.Entry.{Entry};
 ghost use Rattle.script_laws.specs.Admitting.{AdmitsAll};
 ghost use Rattle.script_laws.specs.Failures.{SucceedOrFail, failed_count};
 ghost use Rattle.script_laws.specs.Outside.{IsOutsideDisks, KeepsOthers};

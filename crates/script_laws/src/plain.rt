@@ -6,7 +6,7 @@ ghost use Rattle.domain_script.specs.declared.event.DiskDecl.{DiskDecl};
 ghost use Rattle.domain_script.specs.declared.event.Event.{Event};
 ghost use Rattle.lanes_world.specs.World.{WorldState};
 ghost use Rattle.ldom_journal.specs.Report.{report};
-ghost use Rattle.ldom_journal.specs.declared.entry.Entry.{Entry};
+ghost use Rattle.ldom_entries.specs.declared.entry.Entry.{Entry};
 ghost use Rattle.ldom_journal.specs.declared.status.Mode.TheVariants as mode;
 ghost use Rattle.ldom_journal.specs.declared.status.Status.TheVariants as status;
 ghost use Rattle.script_laws.specs.PlainRun.{plain_text, plain_content, plain_ids};

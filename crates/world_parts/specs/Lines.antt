@@ -10,7 +10,7 @@ use Rattle.lanes_world.specs.Lines.{Asked, Calls, Line, LineMoves, Loses, Nothin
 use Rattle.lanes_world.specs.World.{WorldState}
 use Rattle.ldom_journal.specs.DiskEvents.{happened}
 use Rattle.ldom_journal.specs.LaneEvents.{end_of, lane_number}
-use Rattle.ldom_journal.specs.declared.entry.Entry.{Entry}
+use Rattle.ldom_entries.specs.declared.entry.Entry.{Entry}
 use Rattle.world_parts.specs.Parts.{Says}
 
 -- what an event asks of a world

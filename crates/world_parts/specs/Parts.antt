@@ -3,7 +3,7 @@ use Rattle.std.specs.Prelude.{◌≡◌, ℕ, Bool, List, [], ◌∷◌, ◌++�
 use Rattle.ldc_queue.specs.declared.end.End.{End}
 use Rattle.disk_steps.specs.DiskEvent.{DiskEvent}
 use Rattle.ldom_journal.specs.LaneEvents.{world_event}
-use Rattle.ldom_journal.specs.declared.entry.Entry.{Entry}
+use Rattle.ldom_entries.specs.declared.entry.Entry.{Entry}
 use Rattle.lane_lawful.specs.CalmEnds.{IsStep}
 use Rattle.lanes_settle.specs.Rounds.{is_calm}
 use Rattle.lanes_settle.specs.Settle.{OfLane, SettleEntry, entry_of}

@@ -7,7 +7,7 @@ use Rattle.lanes_settle.specs.Settle.{SettleEntry}
 use Rattle.lanes_world.specs.Lines.{LineBegins}
 use Rattle.lanes_world.specs.World.{WorldState}
 use Rattle.ldom_journal.specs.LinesEnd.{most_entries}
-use Rattle.ldom_journal.specs.declared.entry.Entry.{Entry}
+use Rattle.ldom_entries.specs.declared.entry.Entry.{Entry}
 use Rattle.world_parts.specs.Lines.{LineStep, line_of}
 use Rattle.world_parts.specs.Parts.{Says}
 

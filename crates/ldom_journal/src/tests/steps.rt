@@ -16,8 +16,8 @@ fn shown_twice(alloc: Global, entry: Entry) -> Result<ListSink, Fail>
     let names = one_disk();
     let journal = journal_of(alloc, entry)?;
     let mut sink = ListSink::new(alloc, 4096, &[])?;
-    journal.write_text(Mode::Trace, &names, &mut sink)?;
-    journal.write_text(Mode::Run, &names, &mut sink)?;
+    write_text(&journal, Mode::Trace, &names, &mut sink)?;
+    write_text(&journal, Mode::Run, &names, &mut sink)?;
     Ok(sink)
 }
 

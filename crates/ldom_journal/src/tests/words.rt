@@ -58,7 +58,7 @@ fn a_failing_sink_gets_a_front_of_the_lines(rt: HostRuntime) -> Result<(), Fail>
     let names = one_disk();
     let journal = journal_of(alloc, read_of(alloc, &without_repetition())?)?;
     let mut whole = ListSink::new(alloc, 200_000, &[])?;
-    journal.write_text(Mode::Run, &names, &mut whole)?;
+    write_text(&journal, Mode::Run, &names, &mut whole)?;
     // A block without repetition has 1,024 digits.
     assert_eq!(rt;
         whole.bytes().len(),
@@ -66,7 +66,7 @@ fn a_failing_sink_gets_a_front_of_the_lines(rt: HostRuntime) -> Result<(), Fail>
     );
     for (call, least) in [(0, 0), (1, 61_440), (2, 122_880)] {
         let mut sink = ListSink::new(alloc, 200_000, &[call])?;
-        let result = journal.write_text(Mode::Run, &names, &mut sink);
+        let result = write_text(&journal, Mode::Run, &names, &mut sink);
         assert_eq!(rt; result, Err(Failed));
         assert!(rt; sink.bytes().len() >= least && sink.bytes().len() < whole.bytes().len());
         assert!(rt; whole.bytes().starts_with(sink.bytes()));

@@ -1,4 +1,4 @@
-use Rattle.std.proofs.Common.{◌≡◌, ℕ, List, ◌++◌, append_assoc, codes, decimal, sym, ap, ◌∙◌}
+use Rattle.std.proofs.Common.{ℕ, List, ◌++◌, append_assoc, codes, decimal, sym, ap, ◌∙◌}
 use Rattle.vio_tag.specs.declared.cause.Cause.{Cause}
 use Rattle.vio_tag.specs.CauseText.{cause_text, numbers}
 use Rattle.ldom_journal.proofs.cause_text.push_reset_cause.Goals as goal

@@ -9,8 +9,8 @@ pub returns : goal.returns
 returns c =
     let text : List ℕ = c.args.text.now in
     let lines : List ℕ = codes "end lines=" ++ decimal c.args.lines in
-    let counts : List ℕ = counts_text c.args.entries.now in
-    let resets : List ℕ = resets_text c.args.entries.now in
+    let counts : List ℕ = counts_text c.args.journal.now.entries in
+    let resets : List ℕ = resets_text c.args.journal.now.entries in
     let word : List ℕ = codes " status=" in
     let status : List ℕ = decimal (status_number c.args.status.now) in
     let cause : List ℕ = cause_text c.args.status.now in

@@ -1,4 +1,5 @@
 use Rattle.std.proofs.Common.{refl, ℕ, List, [], ◌∷◌, ◌++◌, append_assoc, ap, sym, subst, ◌∙◌}
+use Rattle.ldom_entries.specs.Told.{told}
 use Rattle.ldom_journal.specs.EntryText.{head_text, read_text, line_text}
 use Rattle.gathered_text.specs.Gathered.{Gathers}
 use Rattle.gathered_text.proofs.GatheredText.{on_err, gathers_more, gathers_behind, gathers_same, wrote_front_then, wrote_front_behind, wrote_front_of_more}
@@ -7,14 +8,14 @@ use Rattle.ldom_journal.proofs.lines.put_line.Goals as goal
 pub returns-in_err-make_room-clause-front : goal.returns-in_err-make_room-clause-front
 returns-in_err-make_room-clause-front g c =
     let text : List ℕ = c.args.text.now in
-    let line : List ℕ = line_text c.args.mode c.args.names.now.disks c.args.entry.now in
+    let line : List ℕ = line_text c.args.mode c.args.names.now.disks (told c.args.entry.now) in
     on_err c.from_residual.result _ (wrote_front_of_more _ _ text line (text ++ line) refl c.in_err-make_room.ensures.front)
 
 pub returns-in_err-put_read-clause-front : goal.returns-in_err-put_read-clause-front
 returns-in_err-put_read-clause-front g c =
     let text : List ℕ = c.args.text.now in
-    let head : List ℕ = head_text c.args.mode c.args.names.now.disks c.args.entry.now in
-    let read : List ℕ = read_text c.args.entry.now in
+    let head : List ℕ = head_text c.args.mode c.args.names.now.disks (told c.args.entry.now) in
+    let read : List ℕ = read_text (told c.args.entry.now) in
     let headed = gathers_more _ _ c.make_room.new.self c.push_head.new.text text head c.in_ok-make_room.ensures.told c.push_head.ensures in
     on_err c.from_residual-in_err-put_read.result _
     (wrote_front_of_more _ _ (text ++ head ++ read) (10 ∷ []) (text ++ (head ++ read ++ 10 ∷ []))
@@ -24,8 +25,8 @@ returns-in_err-put_read-clause-front g c =
 pub returns-in_err-make_room-2-clause-front : goal.returns-in_err-make_room-2-clause-front
 returns-in_err-make_room-2-clause-front g c =
     let text : List ℕ = c.args.text.now in
-    let head : List ℕ = head_text c.args.mode c.args.names.now.disks c.args.entry.now in
-    let read : List ℕ = read_text c.args.entry.now in
+    let head : List ℕ = head_text c.args.mode c.args.names.now.disks (told c.args.entry.now) in
+    let read : List ℕ = read_text (told c.args.entry.now) in
     let headed = gathers_more _ _ c.make_room.new.self c.push_head.new.text text head c.in_ok-make_room.ensures.told c.push_head.ensures in
     let worded = gathers_behind _ _ _ c.push_head.new.text c.put_read.new.text text head read headed c.in_ok-put_read.ensures.told in
     on_err c.from_residual-in_err-make_room-2.result _
@@ -34,8 +35,8 @@ returns-in_err-make_room-2-clause-front g c =
 pub returns-clause-told : goal.returns-clause-told
 returns-clause-told g c =
     let text : List ℕ = c.args.text.now in
-    let head : List ℕ = head_text c.args.mode c.args.names.now.disks c.args.entry.now in
-    let read : List ℕ = read_text c.args.entry.now in
+    let head : List ℕ = head_text c.args.mode c.args.names.now.disks (told c.args.entry.now) in
+    let read : List ℕ = read_text (told c.args.entry.now) in
     let headed = gathers_more _ _ c.make_room.new.self c.push_head.new.text text head c.in_ok-make_room.ensures.told c.push_head.ensures in
     let worded = gathers_behind _ _ _ c.push_head.new.text c.put_read.new.text text head read headed c.in_ok-put_read.ensures.told in
     let roomy = gathers_same _ _ _ c.put_read.new.text c.make_room-2.new.self (text ++ (head ++ read)) worded c.in_ok-make_room-2.ensures.told in

@@ -1,5 +1,5 @@
 use Rattle.std.proofs.Common.{◌≡◌, ◌*◌, ◌∙◌, [], ℕ, None, refl, ap, subst, sym}
-use Rattle.ldom_journal.specs.JournalState.{JournalState}
+use Rattle.ldom_entries.specs.JournalState.{JournalState}
 use Rattle.script_laws.specs.Replayed.{attach_status}
 use Rattle.world_parts.specs.Declared.{blocks_of}
 use Rattle.script_laws.proofs.Assembly.{replayed_as, replayed_refused}

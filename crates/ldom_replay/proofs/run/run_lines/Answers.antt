@@ -1,5 +1,5 @@
 use Rattle.std.proofs.Common.{◌≡◌, ◌∙◌, List, length, ap, refl, subst, sym}
-use Rattle.ldom_journal.specs.JournalState.{JournalState}
+use Rattle.ldom_entries.specs.JournalState.{JournalState}
 use Rattle.ldom_journal.specs.declared.status.Status.{Status}
 use Rattle.script_laws.specs.Going.{RunsLines}
 use Rattle.domain_script.specs.LinesState.{to_come}

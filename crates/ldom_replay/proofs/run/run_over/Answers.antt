@@ -1,6 +1,6 @@
 use Rattle.std.proofs.Common.{◌≡◌, ◌*◌, ◌≤◌, [], ℕ, List, length, None, Some, Option, IfSome, refl, rules, arith, subst, sym, ap, ◌∙◌}
 use Rattle.vio_io.specs.declared.host.AttachFault.TheVariants.{Memory}
-use Rattle.ldom_journal.specs.JournalState.{JournalState}
+use Rattle.ldom_entries.specs.JournalState.{JournalState}
 use Rattle.ldom_journal.specs.declared.status.Status.TheVariants as status
 use Rattle.script_laws.specs.Replayed.{attach_status, start_of}
 use Rattle.lanes_world.specs.World.{WorldState}

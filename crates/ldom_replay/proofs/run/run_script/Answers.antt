@@ -1,11 +1,12 @@
 use Rattle.std.proofs.Common.{List, [], ℕ, ◌*◌, ◌∙◌, Option, None, arith, refl, ap, rules, subst}
-use Rattle.domain_script.specs.LinesState.{LinesState}
-use Rattle.ldom_journal.specs.JournalState.{JournalState}
+use Rattle.domain_script.specs.LinesState.{LinesState, to_come}
+use Rattle.ldom_entries.specs.JournalState.{JournalState}
 use Rattle.ldom_journal.specs.declared.status.Status.{Status}
 use Rattle.ldom_journal.specs.declared.status.Status.TheVariants as status
+use Rattle.ldom_journal.specs.declared.stop.Stop.{Stop}
 use Rattle.ldom_journal.specs.Stops.{stop_lines, stop_status}
 use Rattle.ldom_journal.proofs.StopLemmas.{done_at_end, readers_of}
-use Rattle.script_laws.specs.Opening.{OpensAndStops}
+use Rattle.script_laws.specs.Opening.{Opens, OpensAndStops}
 use Rattle.script_laws.proofs.Assembly.{from_start, replayed_as, replayed_none, replayed_unattached}
 use Rattle.world_parts.specs.Declared.{blocks_of}
 use Rattle.script_laws.proofs.Sizes.{sized_as, sized_none}
@@ -41,3 +42,21 @@ returns-in_default g c =
       host = record { unfailed = search rules; count = omega arith; cause = search rules };
       image = gave_as _ _ None c.into_run.result.image c.into_run.ensures.image refl;
     }
+
+pub returns-in-Ok-read_opening-clause-replayed : goal.returns-in-Ok-read_opening-clause-replayed
+returns-in-Ok-read_opening-clause-replayed g c =
+    let left = g.S.Source.left c.args.source.now in
+    let read = c.read_opening.new.reader in
+    c.attach.ensures.replayed left
+    (subst (λ (start : Option (List ℕ)). Opens start (to_come read.lines (g.S.Source.left c.read_opening.new.source)) c.in-Ok-read_opening.event read.names read.lines.number)
+    (from_start c.in-Ok.reader.lines left (ap (λ (l : LinesState). l.held) c.in-Ok.ensures.lines)) c.in-Ok-read_opening.ensures.opens)
+
+pub returns-in-End-clause-replayed : goal.returns-in-End-clause-replayed
+returns-in-End-clause-replayed g c =
+    let left = g.S.Source.left c.args.source.now in
+    let now = g.S.Source.left c.read_opening.new.source in
+    let read = c.read_opening.new.reader in
+    c.attach-in-End.ensures.replayed left
+    (subst (λ (stop : Stop). OpensAndStops left now (stop_status stop read.lines.number) read.names (stop_lines stop read.lines.number)) c.in-End.is
+    (subst (λ (start : Option (List ℕ)). OpensAndStops start now (stop_status c.in-Err-read_opening.stop read.lines.number) read.names (stop_lines c.in-Err-read_opening.stop read.lines.number))
+    (from_start c.in-Ok.reader.lines left (ap (λ (l : LinesState). l.held) c.in-Ok.ensures.lines)) c.in-Err-read_opening.ensures.stops))

@@ -1,5 +1,5 @@
 use Rattle.std.proofs.Common.{◌≡◌, ◌∙◌, Some, ap}
-use Rattle.ldom_journal.specs.JournalState.{JournalState}
+use Rattle.ldom_entries.specs.JournalState.{JournalState}
 use Rattle.ldom_journal.specs.declared.status.Status.{Status}
 use Rattle.ldom_journal.specs.Stops.{stop_lines, stop_status}
 use Rattle.ldom_journal.proofs.StopLemmas.{readers_of}

@@ -1,8 +1,8 @@
 use Rattle.std.proofs.Common.{◌≡◌, ℕ, ◌*◌, ◌^◌, ◌<◌, ◌≤◌, [], List, length, map, replicate, Option, Some, IfSome, ap, subst, sym, ◌∙◌, refl}
 use Rattle.std.specs.String.{string_bytes}
 use Rattle.disk_law.specs.Issued.{CompletesOnceInOrder}
-use Rattle.ldom_journal.specs.JournalState.{JournalState}
-use Rattle.ldom_journal.specs.declared.entry.Entry.{Entry}
+use Rattle.ldom_entries.specs.JournalState.{JournalState}
+use Rattle.ldom_entries.specs.declared.entry.Entry.{Entry}
 use Rattle.ldom_journal.specs.DiskEvents.{history}
 use Rattle.script_laws.proofs.Completeness.{all_zero, completes, never, still}
 use Rattle.std.proofs.lemmas.List.Elements.{All-nil}

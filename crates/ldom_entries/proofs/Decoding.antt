@@ -1,0 +1,147 @@
+-- Entries by their headers: what is put last is read last.
+use Rattle.std.proofs.Common.{◌≡◌, ℕ, suc, ◌+◌, ◌≤◌, Bool, Option, Some, None, is_some, List, [], ◌∷◌, ◌++◌, length, refl, sym, ap, subst, ◌∙◌, arith}
+use Rattle.std.proofs.Math.Seq.{take-length, drop-length}
+use Rattle.std.proofs.lemmas.List.{take-append-le, drop-append-le, length-append}
+use Rattle.domain_script.specs.declared.event.Side.{Side}
+use Rattle.vdisk_msg.specs.declared.request.Request.{Request}
+use Rattle.vio_tag.specs.declared.cause.Cause.{Cause}
+use Rattle.ldom_entries.specs.Bytes.{BytesState}
+use Rattle.ldom_entries.specs.Beside.{Lists, Share, Holds, join, nothing, rest_of, share_of}
+use Rattle.ldom_entries.specs.Decoded.{AreWhole, end_at, entries_of, entry_of, share, these}
+use Rattle.ldom_entries.specs.PartsState.{PartsState, PutsParts, with_cause}
+use Rattle.ldom_entries.specs.declared.entry.Entry.{Entry}
+use Rattle.ldom_entries.specs.declared.entry.Entry.TheVariants as entry
+use Rattle.ldom_entries.specs.declared.header.Header.{Header}
+use Rattle.ldom_entries.specs.declared.header.Header.TheVariants as header
+
+abbrev made : List ℕ → List (List ℕ) → List (List ℕ) → List BytesState → List Request → List Cause → Lists
+made n p d r q c = record { numbers = n; packets = p; descriptors = d; reads = r; requests = q; causes = c }
+
+lists_same : (a b : Lists) → a.numbers ≡ b.numbers → a.packets ≡ b.packets → a.descriptors ≡ b.descriptors → a.reads ≡ b.reads → a.requests ≡ b.requests → a.causes ≡ b.causes → a ≡ b
+lists_same a b n p d r q c =
+    ap (λ (x : List ℕ). made x a.packets a.descriptors a.reads a.requests a.causes) n
+    ∙ ap (λ (x : List (List ℕ)). made b.numbers x a.descriptors a.reads a.requests a.causes) p
+    ∙ ap (λ (x : List (List ℕ)). made b.numbers b.packets x a.reads a.requests a.causes) d
+    ∙ ap (λ (x : List BytesState). made b.numbers b.packets b.descriptors x a.requests a.causes) r
+    ∙ ap (λ (x : List Request). made b.numbers b.packets b.descriptors b.reads x a.causes) q
+    ∙ ap (λ (x : List Cause). made b.numbers b.packets b.descriptors b.reads b.requests x) c
+
+-- lists behind others leave an entry's share, and come behind what is left
+share_join : (s : Share) (l m : Lists) → Holds s l → share_of s (join l m) ≡ share_of s l
+share_join s l m h =
+    lists_same (share_of s (join l m)) (share_of s l)
+    (take-append-le s.numbers l.numbers m.numbers h.has_numbers)
+    (take-append-le s.packets l.packets m.packets h.has_packets)
+    (take-append-le s.descriptors l.descriptors m.descriptors h.has_descriptors)
+    (take-append-le s.reads l.reads m.reads h.has_reads)
+    (take-append-le s.requests l.requests m.requests h.has_requests)
+    (take-append-le s.causes l.causes m.causes h.has_causes)
+
+rest_join : (s : Share) (l m : Lists) → Holds s l → rest_of s (join l m) ≡ join (rest_of s l) m
+rest_join s l m h =
+    lists_same (rest_of s (join l m)) (join (rest_of s l) m)
+    (drop-append-le s.numbers l.numbers m.numbers h.has_numbers)
+    (drop-append-le s.packets l.packets m.packets h.has_packets)
+    (drop-append-le s.descriptors l.descriptors m.descriptors h.has_descriptors)
+    (drop-append-le s.reads l.reads m.reads h.has_reads)
+    (drop-append-le s.requests l.requests m.requests h.has_requests)
+    (drop-append-le s.causes l.causes m.causes h.has_causes)
+
+longer : {A : Type 0} (n : ℕ) (xs ys : List A) → n ≤ length xs → n ≤ length (xs ++ ys)
+longer n xs ys le =
+    let long : length (xs ++ ys) ≡ length xs + length ys = length-append xs ys in omega (arith, le, long)
+
+holds_join : (s : Share) (l m : Lists) → Holds s l → Holds s (join l m)
+holds_join s l m h = record {
+  has_numbers = longer s.numbers l.numbers m.numbers h.has_numbers;
+  has_packets = longer s.packets l.packets m.packets h.has_packets;
+  has_descriptors = longer s.descriptors l.descriptors m.descriptors h.has_descriptors;
+  has_reads = longer s.reads l.reads m.reads h.has_reads;
+  has_requests = longer s.requests l.requests m.requests h.has_requests;
+  has_causes = longer s.causes l.causes m.causes h.has_causes;
+}
+
+-- the share that takes these lists whole
+abbrev pub whole_share : Lists → Share
+whole_share l = these (length l.numbers) (length l.packets) (length l.descriptors) (length l.reads) (length l.requests) (length l.causes)
+
+share_whole : (l : Lists) → share_of (whole_share l) l ≡ l
+share_whole l =
+    lists_same (share_of (whole_share l) l) l
+    (take-length l.numbers)
+    (take-length l.packets)
+    (take-length l.descriptors)
+    (take-length l.reads)
+    (take-length l.requests)
+    (take-length l.causes)
+
+rest_whole : (l : Lists) → rest_of (whole_share l) l ≡ nothing
+rest_whole l =
+    lists_same (rest_of (whole_share l) l) nothing
+    (drop-length l.numbers)
+    (drop-length l.packets)
+    (drop-length l.descriptors)
+    (drop-length l.reads)
+    (drop-length l.requests)
+    (drop-length l.causes)
+
+holds_whole : (l : Lists) → Holds (whole_share l) l
+holds_whole l = record {
+  has_numbers = omega arith;
+  has_packets = omega arith;
+  has_descriptors = omega arith;
+  has_reads = omega arith;
+  has_requests = omega arith;
+  has_causes = omega arith;
+}
+
+-- one header, with its share beside it
+one_entry : (h : Header) (m : Lists) → share h ≡ whole_share m → entries_of (h ∷ []) m ≡ entry_of h m ∷ []
+one_entry h m is =
+    ap (λ (s : Share). entry_of h (share_of s m) ∷ []) is ∙ ap (λ (l : Lists). entry_of h l ∷ []) (share_whole m)
+
+one_whole : (h : Header) (m : Lists) → share h ≡ whole_share m → AreWhole (h ∷ []) m
+one_whole h m is =
+    subst (λ (s : Share). Holds s m × (rest_of s m ≡ nothing)) (sym is) (holds_whole m, rest_whole m)
+
+-- A FURTHER HEADER, with its share beside it, is a further entry
+entries_join : (headers : List Header) (l m : Lists) (h : Header) → AreWhole headers l → share h ≡ whole_share m → entries_of (headers ++ h ∷ []) (join l m) ≡ entries_of headers l ++ entry_of h m ∷ []
+entries_join [] l m h whole is = ap (λ (x : Lists). entries_of (h ∷ []) (join x m)) whole ∙ one_entry h m is
+entries_join (g ∷ headers) l m h whole is =
+    ap (λ (x : Lists). entry_of g x ∷ entries_of (headers ++ h ∷ []) (rest_of (share g) (join l m))) (share_join (share g) l m whole.0)
+    ∙ ap (λ (x : Lists). entry_of g (share_of (share g) l) ∷ entries_of (headers ++ h ∷ []) x) (rest_join (share g) l m whole.0)
+    ∙ ap (λ (x : List Entry). entry_of g (share_of (share g) l) ∷ x) (entries_join headers (rest_of (share g) l) m h whole.1 is)
+
+whole_join : (headers : List Header) (l m : Lists) (h : Header) → AreWhole headers l → share h ≡ whole_share m → AreWhole (headers ++ h ∷ []) (join l m)
+whole_join [] l m h whole is = subst (λ (x : Lists). AreWhole (h ∷ []) (join x m)) (sym whole) (one_whole h m is)
+whole_join (g ∷ headers) l m h whole is = (
+  holds_join (share g) l m whole.0,
+  subst (AreWhole (headers ++ h ∷ [])) (sym (rest_join (share g) l m whole.0)) (whole_join headers (rest_of (share g) l) m h whole.1 is),
+)
+
+-- the same by what a push leaves
+pub entries_more : (headers later : List Header) (s t : PartsState) (m : Lists) (h : Header) → AreWhole headers s.lists → later ≡ headers ++ h ∷ [] → PutsParts s m t → share h ≡ whole_share m → entries_of later t.lists ≡ entries_of headers s.lists ++ entry_of h m ∷ []
+entries_more headers later s t m h whole more puts is =
+    ap (λ (x : List Header). entries_of x t.lists) more
+    ∙ ap (λ (x : Lists). entries_of (headers ++ h ∷ []) x) puts.lists
+    ∙ entries_join headers s.lists m h whole is
+
+pub whole_more : (headers later : List Header) (s t : PartsState) (m : Lists) (h : Header) → AreWhole headers s.lists → later ≡ headers ++ h ∷ [] → PutsParts s m t → share h ≡ whole_share m → AreWhole later t.lists
+whole_more headers later s t m h whole more puts is =
+    subst (λ (x : List Header). AreWhole x t.lists) (sym more) (subst (λ (x : Lists). AreWhole (headers ++ h ∷ []) x) (sym puts.lists) (whole_join headers s.lists m h whole is))
+
+-- as many entries as headers
+pub entries_count : (headers : List Header) (l : Lists) → length (entries_of headers l) ≡ length headers
+entries_count [] l = refl
+entries_count (h ∷ headers) l = ap suc (entries_count headers (rest_of (share h) l))
+
+-- a reset has its packet beside it where it has one
+pub reset_share : (side : Side) (disk n : ℕ) (cause : Cause) (is : Bool) (packet : Option (List ℕ)) → is ≡ is_some packet → share (header.Reset side is disk) ≡ whole_share (with_cause n cause packet)
+reset_share side disk n cause is None e = ap (λ (b : Bool). share (header.Reset side b disk)) e
+reset_share side disk n cause is (Some p) e = ap (λ (b : Bool). share (header.Reset side b disk)) e
+
+pub reset_entry : (side : Side) (disk n : ℕ) (cause : Cause) (is : Bool) (packet : Option (List ℕ)) → is ≡ is_some packet → entry_of (header.Reset side is disk) (with_cause n cause packet) ≡ entry.Reset (end_at disk side) cause packet n
+reset_entry side disk n cause is None e =
+    ap (λ (b : Bool). entry_of (header.Reset side b disk) (with_cause n cause None)) e
+reset_entry side disk n cause is (Some p) e =
+    ap (λ (b : Bool). entry_of (header.Reset side b disk) (with_cause n cause (Some p))) e

@@ -1,0 +1,47 @@
+-- A reading that passes over what is not seen.
+use Rattle.std.proofs.Common.{◌≡◌, true, false, List, [], ◌∷◌, ◌++◌, append_assoc, sym, ap, subst, ◌∙◌}
+use Rattle.std.proofs.lemmas.List.Elements.{All-append, All-cons, All-nil}
+use Rattle.ldom_entries.proofs.HeaderCounts.{seen_by_kind}
+use Rattle.ldom_entries.specs.Beside.{Lists, rest_of, share_of}
+use Rattle.ldom_entries.specs.Decoded.{entries_of, entry_of, kind_of, share}
+use Rattle.ldom_entries.specs.Seen.{BeginsSeen, PassesUnseen, is_seen}
+use Rattle.ldom_entries.specs.declared.entry.Entry.{Entry}
+use Rattle.ldom_entries.specs.declared.header.Header.{Header}
+
+abbrev IsUnseen : Entry → Type 0
+IsUnseen entry = is_seen entry ≡ false
+
+-- nothing is passed over
+pub passes_none : (old new : List Entry) → old ≡ new → PassesUnseen old new
+passes_none old new same = record { passed = []; are = same; unseen = All-nil IsUnseen }
+
+-- the entry of the first header is
+pub passes_one : (headers behind : List Header) (h : Header) (l m : Lists) → headers ≡ h ∷ behind → is_seen (kind_of h) ≡ false → m ≡ rest_of (share h) l
+    → PassesUnseen (entries_of headers l) (entries_of behind m)
+passes_one headers behind h l m first unseen left =
+    let own : Entry = entry_of h (share_of (share h) l) in
+    record {
+      passed = own ∷ [];
+      are =
+          ap (λ (hs : List Header). entries_of hs l) first
+          ∙ ap (λ (x : Lists). own ∷ entries_of behind x) (sym left);
+      unseen = All-cons IsUnseen own [] (seen_by_kind h (share_of (share h) l) ∙ unseen) (All-nil IsUnseen);
+    }
+
+-- some entries are, and then further ones
+pub passes_more : (old middle new : List Entry) → PassesUnseen old middle → PassesUnseen middle new → PassesUnseen old new
+passes_more old middle new before behind = record {
+  passed = before.passed ++ behind.passed;
+  are =
+      before.are
+      ∙ ap (λ (l : List Entry). before.passed ++ l) behind.are
+      ∙ sym (append_assoc before.passed behind.passed new);
+  unseen = All-append IsUnseen before.passed behind.passed before.unseen behind.unseen;
+}
+
+-- the entry of the first header is seen
+pub begins_seen : (headers behind : List Header) (h : Header) (l : Lists) → headers ≡ h ∷ behind → is_seen (kind_of h) ≡ true → BeginsSeen (entries_of headers l)
+begins_seen headers behind h l first seen =
+    subst (λ (hs : List Header). BeginsSeen (entries_of hs l)) (sym first) (seen_by_kind h (share_of (share h) l) ∙ seen)
+
+pub ruleset passing = (passes_none, passes_one, passes_more, begins_seen)

@@ -1,0 +1,139 @@
+-- The entries by their headers and by what stands beside them.
+use Rattle.std.specs.Prelude.{◌≡◌, ℕ, Bool, true, false, List, [], ◌∷◌, Option, Some, None, slice_index_or}
+use Rattle.domain_script.specs.declared.event.EndName.{EndName}
+use Rattle.domain_script.specs.declared.event.Lane.TheVariants.{Disk}
+use Rattle.domain_script.specs.declared.event.Side.{Side}
+use Rattle.domain_script.specs.declared.event.Side.TheVariants.{Client, Server}
+use Rattle.vdisk_msg.specs.declared.request.Request.{Request}
+use Rattle.vdisk_msg.specs.declared.request.Request.TheVariants.{Flush}
+use Rattle.vio_tag.specs.declared.cause.Cause.{Cause}
+use Rattle.vio_tag.specs.declared.cause.Cause.TheVariants.{Asked}
+use Rattle.ldom_entries.specs.Beside.{Lists, Share, Holds, nothing, rest_of, share_of}
+use Rattle.ldom_entries.specs.Bytes.{BytesState, filled}
+use Rattle.ldom_entries.specs.declared.entry.Entry.{Entry}
+use Rattle.ldom_entries.specs.declared.entry.Entry.TheVariants as entry
+use Rattle.ldom_entries.specs.declared.entry.Who.{Who}
+use Rattle.ldom_entries.specs.declared.entry.Who.TheVariants.{Lane as OfLane, End as OfEnd}
+use Rattle.ldom_entries.specs.declared.header.Header.{Header}
+use Rattle.ldom_entries.specs.declared.header.Header.TheVariants as header
+use Rattle.ldom_entries.specs.declared.header.Part.{Part}
+use Rattle.ldom_entries.specs.declared.header.Part.TheVariants.{Whole, Guest, Service}
+
+-- an end of the disk with this number; and its lane as a whole, or one of its ends
+abbrev pub end_at : ℕ → Side → EndName
+end_at disk side = record { lane = Disk disk; side = side }
+
+abbrev pub who_at : ℕ → Part → Who
+who_at disk Whole = OfLane (Disk disk)
+who_at disk Guest = OfEnd (end_at disk Client)
+who_at disk Service = OfEnd (end_at disk Server)
+
+-- the first number beside an entry, and the second; its packet; its descriptor; its request; its cause
+abbrev pub first_number : Lists → ℕ
+first_number l = slice_index_or l.numbers 0 0
+
+abbrev pub second_number : Lists → ℕ
+second_number l = slice_index_or l.numbers 1 0
+
+abbrev pub packet_in : Lists → List ℕ
+packet_in l = slice_index_or l.packets 0 []
+
+abbrev pub descriptor_in : Lists → List ℕ
+descriptor_in l = slice_index_or l.descriptors 0 []
+
+abbrev pub request_in : Lists → Request
+request_in l = slice_index_or l.requests 0 Flush
+
+abbrev pub cause_in : Lists → Cause
+cause_in l = slice_index_or l.causes 0 Asked
+
+-- what only some have
+abbrev pub read_in : Bool → Lists → BytesState
+read_in true l = slice_index_or l.reads 0 (filled [])
+read_in false l = filled []
+
+abbrev pub packet_where : Bool → Lists → Option (List ℕ)
+packet_where true l = Some (packet_in l)
+packet_where false l = None
+
+abbrev pub one_where : Bool → ℕ
+one_where true = 1
+one_where false = 0
+
+-- so many of each list; so many numbers and packets, and nothing else
+abbrev pub these : ℕ → ℕ → ℕ → ℕ → ℕ → ℕ → Share
+these numbers packets descriptors reads requests causes = record {
+  numbers = numbers;
+  packets = packets;
+  descriptors = descriptors;
+  reads = reads;
+  requests = requests;
+  causes = causes;
+}
+
+abbrev pub needs : ℕ → ℕ → Share
+needs numbers packets = these numbers packets 0 0 0 0
+
+-- HOW MUCH STANDS BESIDE A HEADER
+abbrev pub share : Header → Share
+share (header.Accepted disk) = these 1 0 0 0 1 0
+share (header.Full part disk) = needs 0 0
+share (header.Refused part why disk) = needs 0 0
+share (header.Lost side disk) = needs 0 1
+share (header.Stopped disk) = needs 0 0
+share (header.Started disk) = needs 0 0
+share (header.Calm part disk) = needs 0 0
+share header.Settled = needs 0 0
+share (header.Unsettled part disk) = needs 0 0
+share (header.Idle side disk) = needs 0 0
+share (header.Off side disk) = needs 0 0
+share (header.Blocked side disk) = needs 0 0
+share (header.Joined side disk) = needs 1 0
+share (header.Took side opens disk) = needs 0 1
+share (header.Sent side opens disk) = needs 0 1
+share (header.Published side disk) = needs 1 0
+share (header.Done operation read disk) = these 2 0 0 (one_where read) 0 0
+share (header.Desc side disk) = these 1 0 1 0 0 0
+share (header.Moved side fault disk) = needs 1 0
+share (header.Stored side operation failed disk) = needs 2 0
+share (header.Finished side disk) = needs 2 0
+share (header.Reset side packet disk) = these 1 (one_where packet) 0 0 0 1
+
+-- THE ENTRY of a header and what stands beside it
+abbrev pub entry_of : Header → Lists → Entry
+entry_of (header.Accepted disk) l = entry.Accepted disk (first_number l) (request_in l)
+entry_of (header.Full part disk) l = entry.Full (who_at disk part)
+entry_of (header.Refused part why disk) l = entry.Refused (who_at disk part) why
+entry_of (header.Lost side disk) l = entry.Lost (end_at disk side) (packet_in l)
+entry_of (header.Stopped disk) l = entry.Stopped disk
+entry_of (header.Started disk) l = entry.Started disk
+entry_of (header.Calm part disk) l = entry.Calm (who_at disk part)
+entry_of header.Settled l = entry.Settled
+entry_of (header.Unsettled part disk) l = entry.Unsettled (who_at disk part)
+entry_of (header.Idle side disk) l = entry.Idle (end_at disk side)
+entry_of (header.Off side disk) l = entry.Off (end_at disk side)
+entry_of (header.Blocked side disk) l = entry.Blocked (end_at disk side)
+entry_of (header.Joined side disk) l = entry.Joined (end_at disk side) (first_number l)
+entry_of (header.Took side opens disk) l = entry.Took (end_at disk side) (packet_in l) opens
+entry_of (header.Sent side opens disk) l = entry.Sent (end_at disk side) (packet_in l) opens
+entry_of (header.Published side disk) l = entry.Published (end_at disk side) (first_number l)
+entry_of (header.Done operation read disk) l = entry.Done disk (first_number l) operation (second_number l) (read_in read l)
+entry_of (header.Desc side disk) l = entry.Desc (end_at disk side) (first_number l) (descriptor_in l)
+entry_of (header.Moved side fault disk) l = entry.Moved (end_at disk side) (first_number l) fault
+entry_of (header.Stored side operation failed disk) l = entry.Stored (end_at disk side) operation (first_number l) (second_number l) failed
+entry_of (header.Finished side disk) l = entry.Finished (end_at disk side) (first_number l) (second_number l)
+entry_of (header.Reset side packet disk) l = entry.Reset (end_at disk side) (cause_in l) (packet_where packet l) (first_number l)
+
+-- THE ENTRIES, in order: each takes its share from the front of the lists
+abbrev pub entries_of : List Header → Lists → List Entry
+entries_of [] l = []
+entries_of (h ∷ headers) l = entry_of h (share_of (share h) l) ∷ entries_of headers (rest_of (share h) l)
+
+-- each finds its share, and nothing is left behind the last
+abbrev pub AreWhole : List Header → Lists → Type 0
+AreWhole [] l = l ≡ nothing
+AreWhole (h ∷ headers) l = Holds (share h) l × AreWhole headers (rest_of (share h) l)
+
+-- the kind of a header's entry, which doesn't ask what stands beside it
+abbrev pub kind_of : Header → Entry
+kind_of h = entry_of h nothing

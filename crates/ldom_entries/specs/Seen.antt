@@ -1,0 +1,25 @@
+-- The entries that a user of the disks sees, and a reading that passes over the others.
+use Rattle.std.specs.Prelude.{◌≡◌, Bool, true, false, List, [], ◌∷◌, ◌++◌, All, ⊤}
+use Rattle.ldom_entries.specs.declared.entry.Entry.{Entry}
+use Rattle.ldom_entries.specs.declared.entry.Entry.TheVariants as entry
+
+-- the entries that a user of the disks sees
+abbrev pub is_seen : Entry → Bool
+is_seen (entry.Full who) = true
+is_seen (entry.Refused who why) = true
+is_seen entry.Settled = true
+is_seen (entry.Unsettled who) = true
+is_seen (entry.Done disk id operation status bytes) = true
+is_seen (entry.Reset e cause packet lost) = true
+is_seen other = false
+
+-- of `old` there is `new` left: what was passed over is not seen
+pub record PassesUnseen (old new : List Entry) : Type 0 where
+  pub passed : List Entry
+  pub are : old ≡ passed ++ new
+  pub unseen : All (λ entry. is_seen entry ≡ false) passed
+
+-- the first of the entries is seen, where there is one
+abbrev pub BeginsSeen : List Entry → Type 0
+BeginsSeen [] = ⊤
+BeginsSeen (first ∷ others) = is_seen first ≡ true

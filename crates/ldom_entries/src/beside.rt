@@ -1,0 +1,531 @@
+ghost use Rattle.std.specs.Prelude.{◌≡◌, ◌<◌, ◌≤◌, true, ◌∷◌, length};
+ghost use Rattle.ldom_entries.specs.Beside.{Holds, rest_of, share_of};
+ghost use Rattle.ldom_entries.specs.Decoded.{cause_in, descriptor_in, end_at, entry_of, first_number, needs, one_where, packet_in, packet_where, read_in, request_in, second_number, share, these, who_at};
+ghost use Rattle.ldom_entries.specs.Told.{told};
+ghost use Rattle.ldom_entries.specs.declared.entry.Entry.TheVariants as the_entry;
+
+use crate::entry_ref::EntryRef;
+use crate::header::{Header, Part, end_at, who_at};
+use crate::{Bytes, KeptRequest, Why};
+use cookie_copy::CopyFault;
+use domain_script::Side;
+use std::marker::Model;
+use trimmed_arrays::{TrimmedArray, TrimmedRest};
+use vio_tag::Cause;
+
+/// What stands beside the headers that are still to be read, in their order.
+#[derive(Drop)]
+pub(crate) struct Beside<'a> {
+    numbers: &'a [u64],
+    packets: TrimmedRest<'a>,
+    descriptors: TrimmedRest<'a>,
+    reads: &'a [Bytes],
+    requests: &'a [KeptRequest],
+    causes: &'a [Cause],
+}
+
+impl<'a> Model for Beside<'a> {
+    ghost use Rattle.ldom_entries.specs.Beside.{Lists};
+
+    ghost Value = { Lists };
+
+    ghost view = { λ b. record {
+      numbers = b.numbers.now;
+      packets = b.packets;
+      descriptors = b.descriptors;
+      reads = b.reads.now;
+      requests = b.requests.now;
+      causes = b.causes.now;
+    } };
+}
+
+impl<'a> Beside<'a> {
+    /// These lists.
+    pub(crate) fn new(
+        numbers: &'a [u64],
+        packets: TrimmedRest<'a>,
+        descriptors: TrimmedRest<'a>,
+        reads: &'a [Bytes],
+        requests: &'a [KeptRequest],
+        causes: &'a [Cause],
+    ) -> Self
+        ensures { result ≡ record {
+          numbers = numbers.now;
+          packets = packets.entry;
+          descriptors = descriptors.entry;
+          reads = reads.now;
+          requests = requests.now;
+          causes = causes.now;
+        } }
+    {
+        Beside {
+            numbers,
+            packets,
+            descriptors,
+            reads,
+            requests,
+            causes,
+        }
+    }
+
+    /// Takes the next number.
+    fn number(&mut self) -> u64
+        requires { 0 < length self.old.numbers }
+        ensures number { result ≡ first_number (share_of (needs 1 0) self.old) }
+        ensures rest { self.new ≡ rest_of (needs 1 0) self.old }
+    {
+        let (number, rest) = first_of(self.numbers);
+        self.numbers = rest;
+        *number
+    }
+
+    /// Takes the next two numbers.
+    fn two_numbers(&mut self) -> (u64, u64)
+        requires { 2 ≤ length self.old.numbers }
+        ensures first { result.0 ≡ first_number (share_of (needs 2 0) self.old) }
+        ensures second { result.1 ≡ second_number (share_of (needs 2 0) self.old) }
+        ensures rest { self.new ≡ rest_of (needs 2 0) self.old }
+    {
+        let (first, behind) = first_of(self.numbers);
+        let (second, rest) = first_of(behind);
+        self.numbers = rest;
+        (*first, *second)
+    }
+
+    /// Takes the next packet.
+    fn packet(&mut self) -> TrimmedArray<'a>
+        requires { 0 < length self.old.packets }
+        ensures packet { result ≡ packet_in (share_of (needs 0 1) self.old) }
+        ensures rest { self.new ≡ rest_of (needs 0 1) self.old }
+    {
+        match self.packets.next_array() {
+            Some(packet) => packet,
+            None => unreachable!(),
+        }
+    }
+
+    /// Takes the next packet, if the entry has one.
+    fn packet_where(&mut self, has: bool) -> Option<TrimmedArray<'a>>
+        requires { one_where has ≤ length self.old.packets }
+        ensures packet { result ≡ packet_where has (share_of (needs 0 (one_where has)) self.old) }
+        ensures rest { self.new ≡ rest_of (needs 0 (one_where has)) self.old }
+    {
+        if has { Some(self.packet()) } else { None }
+    }
+
+    /// Takes the next descriptor.
+    fn descriptor(&mut self) -> TrimmedArray<'a>
+        requires { 0 < length self.old.descriptors }
+        ensures descriptor { result ≡ descriptor_in (share_of (these 0 0 1 0 0 0) self.old) }
+        ensures rest { self.new ≡ rest_of (these 0 0 1 0 0 0) self.old }
+    {
+        match self.descriptors.next_array() {
+            Some(descriptor) => descriptor,
+            None => unreachable!(),
+        }
+    }
+
+    /// Takes the bytes of the next read.
+    fn read(&mut self) -> &'a Bytes
+        requires { 0 < length self.old.reads }
+        ensures read { result.now ≡ read_in true (share_of (these 0 0 0 1 0 0) self.old) }
+        ensures rest { self.new ≡ rest_of (these 0 0 0 1 0 0) self.old }
+    {
+        let (read, rest) = first_of(self.reads);
+        self.reads = rest;
+        read
+    }
+
+    /// Takes the next request.
+    fn request(&mut self) -> &'a KeptRequest
+        requires { 0 < length self.old.requests }
+        ensures request { result.now ≡ request_in (share_of (these 0 0 0 0 1 0) self.old) }
+        ensures rest { self.new ≡ rest_of (these 0 0 0 0 1 0) self.old }
+    {
+        let (request, rest) = first_of(self.requests);
+        self.requests = rest;
+        request
+    }
+
+    /// Takes the next cause.
+    fn cause(&mut self) -> Cause
+        requires { 0 < length self.old.causes }
+        ensures cause { result ≡ cause_in (share_of (these 0 0 0 0 0 1) self.old) }
+        ensures rest { self.new ≡ rest_of (these 0 0 0 0 0 1) self.old }
+    {
+        let (cause, rest) = first_of(self.causes);
+        self.causes = rest;
+        *cause
+    }
+
+    /// The entry of a header, whose share is taken from the front of the lists.
+    pub(crate) fn entry(&mut self, header: Header) -> EntryRef<'a>
+        requires { Holds (share header) self.old }
+        ensures told { told result ≡ entry_of header (share_of (share header) self.old) }
+        ensures rest { self.new ≡ rest_of (share header) self.old }
+    {
+        match header {
+            Header::Accepted { disk } => self.accepted(disk),
+            Header::Full { part, disk } => full(part, disk),
+            Header::Refused { part, why, disk } => refused(part, why, disk),
+            Header::Lost { side, disk } => self.lost(side, disk),
+            Header::Stopped { disk } => EntryRef::Stopped { disk },
+            Header::Started { disk } => EntryRef::Started { disk },
+            Header::Calm { part, disk } => calm(part, disk),
+            Header::Settled => EntryRef::Settled,
+            Header::Unsettled { part, disk } => unsettled(part, disk),
+            Header::Idle { side, disk } => idle(side, disk),
+            Header::Off { side, disk } => off(side, disk),
+            Header::Blocked { side, disk } => blocked(side, disk),
+            Header::Joined { side, disk } => self.joined(side, disk),
+            Header::Took { side, opens, disk } => self.took(side, opens, disk),
+            Header::Sent { side, opens, disk } => self.sent(side, opens, disk),
+            Header::Published { side, disk } => self.published(side, disk),
+            Header::Done {
+                operation,
+                read,
+                disk,
+            } => self.done(operation, read, disk),
+            Header::Desc { side, disk } => self.desc(side, disk),
+            Header::Moved { side, fault, disk } => self.moved(side, fault, disk),
+            Header::Stored {
+                side,
+                operation,
+                failed,
+                disk,
+            } => self.stored(side, operation, failed, disk),
+            Header::Finished { side, disk } => self.finished(side, disk),
+            Header::Reset { side, packet, disk } => self.reset(side, packet, disk),
+        }
+    }
+
+    /// Passes over the share of a header, as `entry` takes it, and makes nothing of it.
+    pub(crate) fn pass(&mut self, header: Header)
+        requires { Holds (share header) self.old }
+        ensures { self.new ≡ rest_of (share header) self.old }
+    {
+        match header {
+            Header::Full { .. }
+            | Header::Refused { .. }
+            | Header::Stopped { .. }
+            | Header::Started { .. }
+            | Header::Calm { .. }
+            | Header::Settled
+            | Header::Unsettled { .. }
+            | Header::Idle { .. }
+            | Header::Off { .. }
+            | Header::Blocked { .. } => {}
+            Header::Lost { .. } | Header::Took { .. } | Header::Sent { .. } => {
+                self.packet();
+            }
+            Header::Joined { .. } | Header::Published { .. } | Header::Moved { .. } => {
+                self.number();
+            }
+            Header::Stored { .. } | Header::Finished { .. } => {
+                self.two_numbers();
+            }
+            Header::Accepted { .. } => self.pass_request(),
+            Header::Desc { .. } => self.pass_descriptor(),
+            Header::Done { read, .. } => self.pass_done(read),
+            Header::Reset { packet, .. } => self.pass_reset(packet),
+        }
+    }
+
+    /// Passes over an id and a request.
+    fn pass_request(&mut self)
+        requires { Holds (these 1 0 0 0 1 0) self.old }
+        ensures { self.new ≡ rest_of (these 1 0 0 0 1 0) self.old }
+    {
+        self.number();
+        self.request();
+    }
+
+    /// Passes over a slot and a descriptor.
+    fn pass_descriptor(&mut self)
+        requires { Holds (these 1 0 1 0 0 0) self.old }
+        ensures { self.new ≡ rest_of (these 1 0 1 0 0 0) self.old }
+    {
+        self.number();
+        self.descriptor();
+    }
+
+    /// Passes over an id, a status and, where it is a `read`, the bytes.
+    fn pass_done(&mut self, read: bool)
+        requires { Holds (these 2 0 0 (one_where read) 0 0) self.old }
+        ensures { self.new ≡ rest_of (these 2 0 0 (one_where read) 0 0) self.old }
+    {
+        self.two_numbers();
+        if read {
+            self.read();
+        }
+    }
+
+    /// Passes over a cause, how many frames were lost, and the packet where there is one.
+    fn pass_reset(&mut self, packet: bool)
+        requires { Holds (these 1 (one_where packet) 0 0 0 1) self.old }
+        ensures { self.new ≡ rest_of (these 1 (one_where packet) 0 0 0 1) self.old }
+    {
+        self.number();
+        self.packet_where(packet);
+        self.cause();
+    }
+
+    /// A guest's request was taken up. Beside it: its id, and the request.
+    fn accepted(&mut self, disk: u32) -> EntryRef<'a>
+        requires { Holds (these 1 0 0 0 1 0) self.old }
+        ensures told { let own = share_of (these 1 0 0 0 1 0) self.old in
+            told result ≡ the_entry.Accepted disk (first_number own) (request_in own) }
+        ensures rest { self.new ≡ rest_of (these 1 0 0 0 1 0) self.old }
+    {
+        EntryRef::Accepted {
+            disk,
+            id: self.number(),
+            request: self.request(),
+        }
+    }
+
+    /// The packet that had waited longest for an end was lost. Beside it: the packet.
+    fn lost(&mut self, side: Side, disk: u32) -> EntryRef<'a>
+        requires { Holds (needs 0 1) self.old }
+        ensures told { let own = share_of (needs 0 1) self.old in
+            told result ≡ the_entry.Lost (end_at disk side) (packet_in own) }
+        ensures rest { self.new ≡ rest_of (needs 0 1) self.old }
+    {
+        EntryRef::Lost {
+            end: end_at(disk, side),
+            packet: self.packet(),
+        }
+    }
+
+    /// An end was configured. Beside it: how many frames were lost by that.
+    fn joined(&mut self, side: Side, disk: u32) -> EntryRef<'a>
+        requires { Holds (needs 1 0) self.old }
+        ensures told { let own = share_of (needs 1 0) self.old in
+            told result ≡ the_entry.Joined (end_at disk side) (first_number own) }
+        ensures rest { self.new ≡ rest_of (needs 1 0) self.old }
+    {
+        EntryRef::Joined {
+            end: end_at(disk, side),
+            lost: self.number(),
+        }
+    }
+
+    /// An end took a packet. Beside it: the packet.
+    fn took(&mut self, side: Side, opens: bool, disk: u32) -> EntryRef<'a>
+        requires { Holds (needs 0 1) self.old }
+        ensures told { let own = share_of (needs 0 1) self.old in
+            told result ≡ the_entry.Took (end_at disk side) (packet_in own) opens }
+        ensures rest { self.new ≡ rest_of (needs 0 1) self.old }
+    {
+        EntryRef::Took {
+            end: end_at(disk, side),
+            packet: self.packet(),
+            opens,
+        }
+    }
+
+    /// An end put a packet. Beside it: the packet.
+    fn sent(&mut self, side: Side, opens: bool, disk: u32) -> EntryRef<'a>
+        requires { Holds (needs 0 1) self.old }
+        ensures told { let own = share_of (needs 0 1) self.old in
+            told result ≡ the_entry.Sent (end_at disk side) (packet_in own) opens }
+        ensures rest { self.new ≡ rest_of (needs 0 1) self.old }
+    {
+        EntryRef::Sent {
+            end: end_at(disk, side),
+            packet: self.packet(),
+            opens,
+        }
+    }
+
+    /// The client put a request into its ring. Beside it: its id.
+    fn published(&mut self, side: Side, disk: u32) -> EntryRef<'a>
+        requires { Holds (needs 1 0) self.old }
+        ensures told { let own = share_of (needs 1 0) self.old in
+            told result ≡ the_entry.Published (end_at disk side) (first_number own) }
+        ensures rest { self.new ≡ rest_of (needs 1 0) self.old }
+    {
+        EntryRef::Published {
+            end: end_at(disk, side),
+            id: self.number(),
+        }
+    }
+
+    /// A request was completed. Beside it: its id, its status and, where it is a `read`, the bytes.
+    fn done(&mut self, operation: u8, read: bool, disk: u32) -> EntryRef<'a>
+        requires { Holds (these 2 0 0 (one_where read) 0 0) self.old }
+        ensures told { let own = share_of (these 2 0 0 (one_where read) 0 0) self.old in
+            told result ≡ the_entry.Done disk (first_number own) operation (second_number own) (read_in read own) }
+        ensures rest { self.new ≡ rest_of (these 2 0 0 (one_where read) 0 0) self.old }
+    {
+        let (id, status) = self.two_numbers();
+        if read {
+            EntryRef::Read {
+                disk,
+                id,
+                operation,
+                status,
+                bytes: self.read(),
+            }
+        } else {
+            EntryRef::Done {
+                disk,
+                id,
+                operation,
+                status,
+            }
+        }
+    }
+
+    /// The server fetched the descriptor of a slot. Beside it: the slot, and the descriptor.
+    fn desc(&mut self, side: Side, disk: u32) -> EntryRef<'a>
+        requires { Holds (these 1 0 1 0 0 0) self.old }
+        ensures told { let own = share_of (these 1 0 1 0 0 0) self.old in
+            told result ≡ the_entry.Desc (end_at disk side) (first_number own) (descriptor_in own) }
+        ensures rest { self.new ≡ rest_of (these 1 0 1 0 0 0) self.old }
+    {
+        EntryRef::Desc {
+            end: end_at(disk, side),
+            slot: self.number(),
+            bytes: self.descriptor(),
+        }
+    }
+
+    /// The server copied a unit, or why it couldn't. Beside it: the unit.
+    fn moved(&mut self, side: Side, fault: Option<CopyFault>, disk: u32) -> EntryRef<'a>
+        requires { Holds (needs 1 0) self.old }
+        ensures told { let own = share_of (needs 1 0) self.old in
+            told result ≡ the_entry.Moved (end_at disk side) (first_number own) fault }
+        ensures rest { self.new ≡ rest_of (needs 1 0) self.old }
+    {
+        EntryRef::Moved {
+            end: end_at(disk, side),
+            unit: self.number(),
+            fault,
+        }
+    }
+
+    /// The server called its store. Beside it: the first block, and how many.
+    fn stored(&mut self, side: Side, operation: u8, failed: bool, disk: u32) -> EntryRef<'a>
+        requires { Holds (needs 2 0) self.old }
+        ensures told { let own = share_of (needs 2 0) self.old in
+            told result ≡ the_entry.Stored (end_at disk side) operation (first_number own) (second_number own)
+            failed }
+        ensures rest { self.new ≡ rest_of (needs 2 0) self.old }
+    {
+        let (block, count) = self.two_numbers();
+        EntryRef::Stored {
+            end: end_at(disk, side),
+            operation,
+            block,
+            count,
+            failed,
+        }
+    }
+
+    /// The server gave the descriptor of a slot its status. Beside it: the slot, and the status.
+    fn finished(&mut self, side: Side, disk: u32) -> EntryRef<'a>
+        requires { Holds (needs 2 0) self.old }
+        ensures told { let own = share_of (needs 2 0) self.old in
+            told result ≡ the_entry.Finished (end_at disk side) (first_number own) (second_number own) }
+        ensures rest { self.new ≡ rest_of (needs 2 0) self.old }
+    {
+        let (slot, status) = self.two_numbers();
+        EntryRef::Finished {
+            end: end_at(disk, side),
+            slot,
+            status,
+        }
+    }
+
+    /// An end was reset. Beside it: the cause, the packet where it has one, and how many frames were lost by that.
+    fn reset(&mut self, side: Side, packet: bool, disk: u32) -> EntryRef<'a>
+        requires { Holds (these 1 (one_where packet) 0 0 0 1) self.old }
+        ensures told { let own = share_of (these 1 (one_where packet) 0 0 0 1) self.old in
+            told result ≡
+            the_entry.Reset (end_at disk side) (cause_in own) (packet_where packet own) (first_number own) }
+        ensures rest { self.new ≡ rest_of (these 1 (one_where packet) 0 0 0 1) self.old }
+    {
+        EntryRef::Reset {
+            end: end_at(disk, side),
+            cause: self.cause(),
+            packet: self.packet_where(packet),
+            lost: self.number(),
+        }
+    }
+}
+
+/// As many requests are pending as the ring holds.
+fn full<'a>(part: Part, disk: u32) -> EntryRef<'a>
+    ensures { told result ≡ the_entry.Full (who_at disk part) }
+{
+    EntryRef::Full {
+        who: who_at(disk, part),
+    }
+}
+
+/// A request was refused.
+fn refused<'a>(part: Part, why: Why, disk: u32) -> EntryRef<'a>
+    ensures { told result ≡ the_entry.Refused (who_at disk part) why }
+{
+    EntryRef::Refused {
+        who: who_at(disk, part),
+        why,
+    }
+}
+
+/// What the line asked for changes nothing.
+fn calm<'a>(part: Part, disk: u32) -> EntryRef<'a>
+    ensures { told result ≡ the_entry.Calm (who_at disk part) }
+{
+    EntryRef::Calm {
+        who: who_at(disk, part),
+    }
+}
+
+/// A settle ended though something is left to do here.
+fn unsettled<'a>(part: Part, disk: u32) -> EntryRef<'a>
+    ensures { told result ≡ the_entry.Unsettled (who_at disk part) }
+{
+    EntryRef::Unsettled {
+        who: who_at(disk, part),
+    }
+}
+
+/// An end has nothing to do.
+fn idle<'a>(side: Side, disk: u32) -> EntryRef<'a>
+    ensures { told result ≡ the_entry.Idle (end_at disk side) }
+{
+    EntryRef::Idle {
+        end: end_at(disk, side),
+    }
+}
+
+/// The end of a stopped server was to make a step.
+fn off<'a>(side: Side, disk: u32) -> EntryRef<'a>
+    ensures { told result ≡ the_entry.Off (end_at disk side) }
+{
+    EntryRef::Off {
+        end: end_at(disk, side),
+    }
+}
+
+/// An end has no room for its next packet.
+fn blocked<'a>(side: Side, disk: u32) -> EntryRef<'a>
+    ensures { told result ≡ the_entry.Blocked (end_at disk side) }
+{
+    EntryRef::Blocked {
+        end: end_at(disk, side),
+    }
+}
+
+/// The first of a list, and those behind it.
+fn first_of<T>(list: &[T]) -> (&T, &[T])
+    requires { 0 < length list.now }
+    ensures { list.now ≡ result.0.now ∷ result.1.now }
+{
+    match list {
+        [first, rest @ ..] => (first, rest),
+        [] => unreachable!(),
+    }
+}

@@ -1,0 +1,96 @@
+ghost use Rattle.std.specs.Prelude.{◌≡◌, ◌≤◌, ◌↔◌, [], ◌∷◌, length, Some, IfSome, IsNone, slice_get};
+ghost use Rattle.ldom_entries.specs.Told.{told};
+
+use crate::beside::Beside;
+use crate::entry_ref::EntryRef;
+use crate::header::Header;
+use std::marker::Model;
+
+/// The entries of a journal that are still to be read, in order. A clause sees the list of them.
+#[derive(Drop)]
+pub struct Entries<'a> {
+    headers: &'a [Header],
+    beside: Beside<'a>,
+}
+
+impl<'a> Model for Entries<'a> {
+    ghost use Rattle.std.specs.Prelude.{List};
+    ghost use Rattle.ldom_entries.specs.declared.entry.Entry.{Entry};
+
+    ghost Value = { List Entry };
+
+    ghost use Rattle.ldom_entries.specs.Decoded.{AreWhole, entries_of};
+
+    ghost view = { λ e. entries_of e.headers.now e.beside };
+
+    ghost invariant = { λ e. AreWhole e.headers.now e.beside };
+}
+
+#[tactic(auto, using(crate::proofs::UnseenPassed::passing, crate::proofs::Decoding::entries_count))]
+impl<'a> Entries<'a> {
+    ghost use Rattle.std.specs.Prelude.{◌<◌, IsFalse, IsTrue};
+    ghost use Rattle.ldom_entries.specs.Decoded.{AreWhole, entries_of};
+    ghost use Rattle.ldom_entries.specs.Seen.{BeginsSeen, PassesUnseen};
+
+    /// The entries of these headers and of what stands beside them.
+    pub(crate) fn new(headers: &'a [Header], beside: Beside<'a>) -> Self
+        requires { AreWhole headers.now beside }
+        ensures { result ≡ entries_of headers.now beside.entry }
+    {
+        Entries { headers, beside }
+    }
+
+    /// The next entry. None exactly where no entry is left.
+    pub fn next_entry(&mut self) -> Option<EntryRef<'a>>
+        ensures some { IfSome result (λ entry. self.old ≡ told entry ∷ self.new) }
+        ensures none { IsNone result → self.old ≡ [] }
+        ensures ended { IsNone result → self.new ≡ [] }
+    {
+        match self.headers {
+            [header, rest @ ..] => {
+                let entry = self.beside.entry(*header);
+                self.headers = rest;
+                Some(entry)
+            }
+            [] => None,
+        }
+    }
+
+    /// Passes over the entries up to the next one that a user of the disks sees, and makes nothing of them.
+    pub fn pass_unseen(&mut self)
+        ensures passed { PassesUnseen self.old self.new }
+        ensures stops { BeginsSeen self.new }
+    {
+        while self.pass_one() {}
+    }
+
+    /// Passes over the next entry, where no user of the disks sees it. Answers whether there was such a one.
+    fn pass_one(&mut self) -> bool
+        ensures passed { PassesUnseen self.old self.new }
+        ensures shorter { IsTrue result → length self.new < length self.old }
+        ensures stops { IsFalse result → BeginsSeen self.new }
+    {
+        let Some((header, behind)) = self.headers.split_first() else {
+            return false;
+        };
+        if header.is_seen() {
+            return false;
+        }
+        self.beside.pass(*header);
+        self.headers = behind;
+        true
+    }
+}
+
+/// The k-th entry, counted from 0. None exactly where there are k or fewer.
+#[tactic(auto, using(crate::proofs::Reading::front_read))]
+pub(crate) fn nth(entries: Entries<'_>, k: usize) -> Option<EntryRef<'_>>
+    ensures some { IfSome result (λ entry. slice_get entries.entry k ≡ Some (told entry)) }
+    ensures none { IsNone result ↔ length entries.entry ≤ k }
+{
+    let mut rest = entries;
+    for _ in 0..k {
+        rest.next_entry()?;
+    }
+    rest.next_entry()
+}
