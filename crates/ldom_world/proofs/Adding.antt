@@ -3,7 +3,7 @@ use Rattle.std.proofs.Common.{◌≡◌, Option, Some, List, [], ◌∷◌, ◌+
 use Rattle.lanes_settle.specs.Settle.{SettleEntry}
 use Rattle.lanes_world.specs.Lines.{Line}
 use Rattle.ldom_journal.specs.LaneEvents.{world_event}
-use Rattle.ldom_journal.specs.declared.entry.Entry.{Entry}
+use Rattle.ldom_entries.specs.declared.entry.Entry.{Entry}
 use Rattle.settle_loop.proofs.Places.{map_both}
 use Rattle.world_parts.specs.Parts.{Adds}
 

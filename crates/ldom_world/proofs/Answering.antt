@@ -18,9 +18,9 @@ use Rattle.lanes_settle.specs.Settle.{OfLane, SettleEntry}
 use Rattle.lanes_world.specs.Lines.{AnswersCall, AnswersRequest, Asked, Calls, Loses, Resets, Restarts, Starts, Stops, Ticks}
 use Rattle.ldc_queue.specs.declared.end.End.TheVariants.{B}
 use Rattle.ldom_journal.specs.LaneEvents.{end_of, if_so, is_end, is_same, world_event}
-use Rattle.ldom_journal.specs.declared.entry.Entry.{Entry}
-use Rattle.ldom_journal.specs.declared.entry.Entry.TheVariants as entry
-use Rattle.ldom_journal.specs.declared.entry.Who.TheVariants.{Lane as OfWhole, End as OfEnd}
+use Rattle.ldom_entries.specs.declared.entry.Entry.{Entry}
+use Rattle.ldom_entries.specs.declared.entry.Entry.TheVariants as entry
+use Rattle.ldom_entries.specs.declared.entry.Who.TheVariants.{Lane as OfWhole, End as OfEnd}
 use Rattle.ldom_world.specs.Called.{refused_entry}
 use Rattle.ldom_world.specs.OneLane.{LaneAnswers}
 use Rattle.vdisk_client.specs.Calls.{admitted}

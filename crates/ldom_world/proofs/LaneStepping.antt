@@ -13,14 +13,11 @@ use Rattle.disk_steps.specs.ServerRule.{server_rule}
 use Rattle.lane_law.specs.WireEvent as wire
 use Rattle.lane_law.specs.WireEvent.{ByStep, Giver, giver}
 use Rattle.lane_lawful.specs.CalmEnds.{IsStep}
-use Rattle.lanes_settle.specs.Settle.{OfLane}
-use Rattle.lanes_world.specs.Lines.{Line}
 use Rattle.lanes_world.specs.World.{FaultsAfter, LaneMoves}
 use Rattle.ldc_queue.specs.declared.end.End.TheVariants.{A, B}
-use Rattle.ldom_journal.specs.LaneEvents.{world_event}
-use Rattle.ldom_journal.specs.declared.entry.Entry.{Entry}
+use Rattle.ldom_entries.specs.JournalState.{JournalState}
 use Rattle.ldom_world.specs.Fitting.{HasRoomFor}
-use Rattle.ldom_world.specs.OneLane.{LaneSteps}
+use Rattle.ldom_world.specs.OneLane.{LaneSteps, Leaves}
 use Rattle.vdisk_client.specs.Calls.{client_event, front_count}
 use Rattle.vdisk_client.specs.declared.answers.ClientOut.{ClientOut}
 use Rattle.vdisk_client.specs.declared.answers.ClientOut.TheVariants as client_out
@@ -55,14 +52,15 @@ client_moves (client_out.Published id) last s t i step = (step, refl)
 client_moves (client_out.Done id operation status len) last s t i step = (step, refl)
 client_moves (client_out.Reset cause packet) last s t i step = (step, refl)
 
-pub client_steps : (k : ℕ) (answer : ClientOut) (last : List ℕ) (s t : LaneState) (x : Entry) (i : ImageState)
-    → LaneStep s (client_event answer last) t → ResetsOwn answer
-    → ((line : Line) → world_event line x ≡ Some (OfLane k (client_event answer last))) → LaneSteps k A s i x t i
-client_steps k answer last s t x i step own says = record {
+pub client_steps : (in_settle : Bool) (k : ℕ) (answer : ClientOut) (last : List ℕ) (s t : LaneState)
+    (old new : JournalState) (calm : Bool) (i : ImageState) → LaneStep s (client_event answer last) t
+    → ResetsOwn answer → Leaves in_settle k (client_event answer last) old calm new
+    → LaneSteps in_settle k A s i old calm new t i
+client_steps in_settle k answer last s t old new calm i step own leaves = record {
   event = client_event answer last;
   of_end = client_of_end answer last own;
   moves = client_moves answer last s t i step;
-  says = says;
+  leaves = leaves;
 }
 
 -- WHAT A COMPLETION CARRIES is at most what its request gives
@@ -166,14 +164,15 @@ module _ (s t : LaneState) where
     server_end (Some (server_out.Reset cause packet)) served =
         (refl, server_of_end served.gave cause packet served.step)
 
-    pub server_steps : (k : ℕ) (answer : Option ServerOut) (x : Entry)
+    pub server_steps : (in_settle : Bool) (k : ℕ) (answer : Option ServerOut) (before after : JournalState) (calm : Bool)
         → Served s (content old) (served_event answer) t (content new) → KeepsStoreOf answer old new
         → CallsOf answer (calls old) (calls new) (faults old) (faults new)
-        → ((line : Line) → world_event line x ≡ Some (OfLane k (served_event answer)))
-        → LaneSteps k B s (image_of (content old) (faults old)) x t (image_of (content new) (faults new))
-    server_steps k answer x served keeps counts says = record {
+        → Leaves in_settle k (served_event answer) before calm after
+        → LaneSteps in_settle k B s (image_of (content old) (faults old)) before calm after t
+        (image_of (content new) (faults new))
+    server_steps in_settle k answer before after calm served keeps counts leaves = record {
       event = served_event answer;
       of_end = server_end answer served;
       moves = server_moves answer served keeps counts;
-      says = says;
+      leaves = leaves;
     }

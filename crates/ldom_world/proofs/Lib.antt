@@ -1,5 +1,6 @@
 pub mod Telling
 pub mod Adding
+pub mod Leaving
 pub mod Answering
 pub mod LaneStepping
 pub mod Lifting

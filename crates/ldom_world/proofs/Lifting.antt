@@ -1,6 +1,6 @@
 -- One event of one lane in a world: what it does to the world, which part of the journal it gives, and how many
 -- requests were accepted.
-use Rattle.std.proofs.Common.{◌≡◌, ℕ, zero, suc, ◌+◌, ◌-◌, ◌^◌, ◌<◌, ◌≤◌, Bool, true, false, ◌||◌, cond, List, [], ◌∷◌, ◌++◌, length, slice_get, slice_set, get_or, Some, Result, Ok, Err, refl, sym, ap, subst, ◌∙◌, arith}
+use Rattle.std.proofs.Common.{◌≡◌, ℕ, zero, suc, ◌+◌, ◌-◌, ◌^◌, ◌<◌, ◌≤◌, Bool, true, false, cond, List, [], ◌∷◌, ◌++◌, length, slice_get, slice_set, get_or, Some, Result, Ok, Err, refl, sym, ap, subst, ◌∙◌, arith}
 use Rattle.std.specs.Prelude.{OnErr, OnOk}
 use Rattle.std.proofs.lemmas.List.Sums.{count_by-le-length, sum_by_push}
 use Rattle.runs.specs.Run.{Run}
@@ -8,18 +8,19 @@ use Rattle.disk_law.specs.ListState.{ImageState}
 use Rattle.disk_steps.specs.DiskEvent.{DiskEvent}
 use Rattle.disk_steps.specs.LaneState.{LaneState}
 use Rattle.ldc_queue.specs.declared.end.End.{End}
-use Rattle.lanes_settle.specs.Settle.{OfLane, SettleEntry, Settled, Unsettled, entry_of}
+use Rattle.lanes_settle.specs.Settle.{OfLane, SettleEntry, Settled, Unsettled}
 use Rattle.lanes_world.proofs.Along.{lane_step}
-use Rattle.lanes_world.specs.Lines.{AnswersCall, AnswersRequest, Asked, Call, Calls, Line}
+use Rattle.lanes_world.specs.Lines.{AnswersCall, AnswersRequest, Asked, Call, Calls, Line, Nothing}
 use Rattle.lanes_world.specs.World.{LaneMoves, OneMoves, WorldState, WorldStep}
+use Rattle.ldom_entries.specs.JournalState.{JournalState}
 use Rattle.ldom_journal.specs.LaneEvents.{world_event}
 use Rattle.ldom_journal.specs.Report.{accepted_count, is_accepted}
-use Rattle.ldom_journal.specs.declared.entry.Entry.{Entry}
-use Rattle.ldom_journal.specs.declared.entry.Entry.TheVariants as entry
+use Rattle.ldom_entries.specs.declared.entry.Entry.{Entry}
 use Rattle.ldom_world.proofs.Adding.{none_adds, one_adds}
-use Rattle.ldom_world.proofs.Telling.{entry_tells, left_of}
-use Rattle.ldom_world.specs.OneLane.{EndSteps, LaneAnswers, LaneSteps}
-use Rattle.ldom_world.specs.Resting.{is_blocked, is_silent}
+use Rattle.ldom_world.proofs.Leaving.{entry_left, left_of, none_accepted}
+use Rattle.ldom_world.proofs.Telling.{entry_tells, none_more}
+use Rattle.ldom_world.specs.OneLane.{EndSteps, LaneAnswers, LaneSteps, RecordedBut, Records}
+use Rattle.ldom_world.specs.Resting.{left_out}
 use Rattle.settle_loop.proofs.Keeping.{issued_set, next_is}
 use Rattle.settle_loop.specs.Issued.{issued_on, next_behind}
 use Rattle.vdisk_msg.specs.declared.request.Request.{Request}
@@ -142,94 +143,83 @@ module _ (w v : WorldState) (k : ℕ) (s t : LaneState) (x : Entry) (old new : L
       agrees_after line w v k at.event x old new (one_moves w v k s t at.event w.image there (at.moves w.image) is)
       at.says grew agrees
 
-none_accepted : (x : Entry) → is_silent x ≡ true → cond {A = ℕ} (is_accepted x) 1 0 ≡ 0
-none_accepted (entry.Accepted k id request) silent = absurd (cc silent)
-none_accepted (entry.Full who) silent = refl
-none_accepted (entry.Refused who why) silent = refl
-none_accepted (entry.Lost e packet) silent = refl
-none_accepted (entry.Stopped k) silent = refl
-none_accepted (entry.Started k) silent = refl
-none_accepted (entry.Calm who) silent = refl
-none_accepted entry.Settled silent = refl
-none_accepted (entry.Unsettled who) silent = refl
-none_accepted (entry.Idle e) silent = refl
-none_accepted (entry.Off e) silent = refl
-none_accepted (entry.Blocked e) silent = refl
-none_accepted (entry.Joined e lost) silent = refl
-none_accepted (entry.Took e packet opens) silent = refl
-none_accepted (entry.Sent e packet opens) silent = refl
-none_accepted (entry.Published e id) silent = refl
-none_accepted (entry.Done k id operation status bytes) silent = refl
-none_accepted (entry.Desc e slot bytes) silent = refl
-none_accepted (entry.Moved e unit fault) silent = refl
-none_accepted (entry.Stored e operation block count failed) silent = refl
-none_accepted (entry.Finished e slot status) silent = refl
-none_accepted (entry.Reset e cause packet lost) silent = refl
-
 -- A STEP OF AN END
-pub end_steps : (w v : WorldState) (k : ℕ) (e : End) (s t : LaneState) (x : Entry) (j : ImageState)
-    → slice_get w.lanes k ≡ Some s → LaneSteps k e s w.image x t j
-    → v ≡ record { lanes = slice_set w.lanes k t; image = j } → EndSteps k e w x v
-end_steps w v k e s t x j there at is = record {
+pub end_steps : (in_settle : Bool) (w v : WorldState) (k : ℕ) (e : End) (s t : LaneState) (old : JournalState)
+    (calm : Bool) (new : JournalState) (j : ImageState) → slice_get w.lanes k ≡ Some s
+    → LaneSteps in_settle k e s w.image old calm new t j
+    → v ≡ record { lanes = slice_set w.lanes k t; image = j } → EndSteps in_settle k e w old calm new v
+end_steps in_settle w v k e s t old calm new j there at is = record {
   event = at.event;
   of_end = at.of_end;
   moves = one_moves w v k s t at.event j there at.moves is;
-  says = at.says;
+  leaves = at.leaves;
 }
 
-module _ (w v : WorldState) (k : ℕ) (e : End) (x : Entry) (old new : List Entry) (at : EndSteps k e w x v) where
-  pub makes_step : new ≡ old ++ x ∷ [] → MakesStep k e w old new v
-  makes_step grew = record {
+-- one that is recorded, behind a journal with these entries
+module _ (k : ℕ) (event : DiskEvent) (old new : JournalState) (first : List Entry) (same : old.entries ≡ first) where
+  put_behind : (put : Records k event old new) → new.entries ≡ first ++ put.entry ∷ []
+  put_behind put = put.puts.entries ∙ ap (λ (l : List Entry). l ++ put.entry ∷ []) same
+
+  recorded_adds : Records k event old new → (line : Line) → Adds line first new.entries (OfLane k event ∷ [])
+  recorded_adds put line =
+      one_adds line first new.entries put.entry (OfLane k event) (put_behind put) (put.says line)
+
+  recorded_agrees : (w v : WorldState) → Records k event old new → OneMoves w k event v
+      → accepted_count first ≡ issued_on w.lanes → accepted_count new.entries ≡ issued_on v.lanes
+  recorded_agrees w v put moves agrees =
+      agrees_after Nothing w v k event put.entry first new.entries moves (put.says Nothing) (put_behind put) agrees
+
+  -- or left out
+  left_adds : (out : Bool) → RecordedBut out k event old new → (line : Line)
+      → Adds line first new.entries (left_of out k event)
+  left_adds true stays line =
+      none_adds line first new.entries (ap (λ (j : JournalState). j.entries) stays ∙ same)
+  left_adds false put line = recorded_adds put line
+
+  left_agrees : (w v : WorldState) (out : Bool) → left_out event ≡ out → RecordedBut out k event old new
+      → OneMoves w k event v → accepted_count first ≡ issued_on w.lanes
+      → accepted_count new.entries ≡ issued_on v.lanes
+  left_agrees w v true is stays moves agrees =
+      let next : (n : ℕ) → next_behind event n ≡ n + 0 = λ n. none_accepted event n is ∙ none_more n in
+      omega (
+        arith,
+        issued_moves w v k event 0 moves next,
+        ap (λ (j : JournalState). accepted_count j.entries) stays,
+        ap (λ (l : List Entry). accepted_count l) same,
+        agrees,
+      )
+  left_agrees w v false is put moves agrees = recorded_agrees w v put moves agrees
+
+module _ (w v : WorldState) (k : ℕ) (e : End) (old : JournalState) (calm : Bool) (new : JournalState)
+    (first : List Entry) (same : old.entries ≡ first) where
+  pub makes_step : EndSteps false k e w old calm new v → MakesStep k e w first new.entries v
+  makes_step at = record {
     event = at.event;
     of_end = at.of_end;
     moves = at.moves;
-    adds = λ line. one_adds line old new x (OfLane k at.event) grew (at.says line);
+    adds = recorded_adds k at.event old new first same at.leaves.recorded;
   }
 
-  pub step_agrees : (line : Line) → new ≡ old ++ x ∷ [] → accepted_count old ≡ issued_on w.lanes
-      → accepted_count new ≡ issued_on v.lanes
-  step_agrees line grew agrees = agrees_after line w v k at.event x old new at.moves (at.says line) grew agrees
+  pub step_agrees : EndSteps false k e w old calm new v → accepted_count first ≡ issued_on w.lanes
+      → accepted_count new.entries ≡ issued_on v.lanes
+  step_agrees at agrees = recorded_agrees k at.event old new first same w v at.leaves.recorded at.moves agrees
 
-  -- in a settle: one that is left out, and one that is told
-  as_silent : (silent : Bool) → silent ≡ true → entry_of k at.event ≡ left_of silent k at.event
-      → entry_of k at.event ≡ []
-  as_silent silent is leaves = leaves ∙ ap (λ (b : Bool). left_of b k at.event) is
+  -- in a settle
+  pub makes_quiet_step : EndSteps true k e w old calm new v → MakesQuietStep k e w first new.entries calm v
+  makes_quiet_step at = record {
+    event = at.event;
+    of_end = at.of_end;
+    moves = at.moves;
+    calm_is = at.leaves.calm_is;
+    adds = λ line. subst (λ (l : List SettleEntry). Adds line first new.entries l) (sym (entry_left k at.event))
+        (left_adds k at.event old new first same (left_out at.event) at.leaves.recorded line);
+  }
 
-  pub silent_step : (line : Line) → is_silent x ≡ true → new ≡ old → MakesQuietStep k e w old new true v
-  silent_step line silent same =
-      let tells = entry_tells line x k at.event (at.says line) in
-      record {
-        event = at.event;
-        of_end = at.of_end;
-        moves = at.moves;
-        calm_is = sym (ap (λ (b : Bool). b || is_blocked x) silent) ∙ tells.calm_is;
-        adds = λ other. subst (λ (l : List SettleEntry). Adds other old new l)
-            (sym (as_silent (is_silent x) silent tells.leaves)) (none_adds other old new same);
-      }
+  pub quiet_step_agrees : EndSteps true k e w old calm new v → accepted_count first ≡ issued_on w.lanes
+      → accepted_count new.entries ≡ issued_on v.lanes
+  quiet_step_agrees at agrees =
+      left_agrees k at.event old new first same w v (left_out at.event) refl at.leaves.recorded at.moves agrees
 
-  pub told_step : (line : Line) (calm : Bool) → is_silent x ≡ false → calm ≡ is_blocked x → new ≡ old ++ x ∷ []
-      → MakesQuietStep k e w old new calm v
-  told_step line calm told is grew =
-      let tells = entry_tells line x k at.event (at.says line) in
-      let leaves : entry_of k at.event ≡ OfLane k at.event ∷ [] =
-      tells.leaves ∙ ap (λ (b : Bool). left_of b k at.event) told in
-      record {
-        event = at.event;
-        of_end = at.of_end;
-        moves = at.moves;
-        calm_is = is ∙ sym (ap (λ (b : Bool). b || is_blocked x) told) ∙ tells.calm_is;
-        adds = λ other. subst (λ (l : List SettleEntry). Adds other old new l) (sym leaves)
-            (one_adds other old new x (OfLane k at.event) grew (at.says other));
-      }
-
-  -- a silent step accepts nothing
-  pub silent_agrees : (line : Line) → is_silent x ≡ true → accepted_count old ≡ issued_on w.lanes
-      → accepted_count old ≡ issued_on v.lanes
-  silent_agrees line silent agrees =
-      let tells = entry_tells line x k at.event (at.says line) in
-      omega (
-        arith,
-        issued_moves w v k at.event (cond (is_accepted x) 1 0) at.moves tells.next,
-        agrees,
-        none_accepted x silent,
-      )
+pub steps_many : (in_settle : Bool) (w v : WorldState) (k : ℕ) (e : End) (old : JournalState) (calm : Bool)
+    (new : JournalState) → EndSteps in_settle k e w old calm new v → length v.lanes ≡ length w.lanes
+steps_many in_settle w v k e old calm new at = many_same w v k at.event at.moves

@@ -9,8 +9,8 @@ use Rattle.lanes_settle.specs.Ticks.{no_marks}
 use Rattle.lanes_world.specs.Lines.{Line, LineBegins, LineMoves}
 use Rattle.lanes_world.specs.Lines as script
 use Rattle.lanes_world.specs.World.{WorldState}
-use Rattle.ldom_journal.specs.declared.entry.Entry.{Entry}
-use Rattle.ldom_journal.specs.declared.entry.Entry.TheVariants as entry
+use Rattle.ldom_entries.specs.declared.entry.Entry.{Entry}
+use Rattle.ldom_entries.specs.declared.entry.Entry.TheVariants as entry
 use Rattle.settle_loop.proofs.GoingOn.{fresh_marks, nothing_gone, one_round, one_round_ticked, run_out, settled, wants_in_names, wants_in_round, wants_in_ticks}
 use Rattle.settle_loop.proofs.NamesOn.{names_begin, names_go_on}
 use Rattle.settle_loop.proofs.RoundsOn.{round_begins, round_goes_on, round_wants, round_wants_server}

@@ -12,10 +12,10 @@ use Rattle.lanes_world.specs.Lines.{AnswersCall, Calls, Line, OneEntry, Settles,
 use Rattle.lanes_world.specs.World.{OneMoves, WorldState, WorldStep}
 use Rattle.ldom_journal.specs.LaneEvents.{if_so, world_event}
 use Rattle.ldom_journal.specs.Report.{accepted_count, is_accepted}
-use Rattle.ldom_journal.specs.declared.entry.Entry.{Entry}
-use Rattle.ldom_journal.specs.declared.entry.Entry.TheVariants as entry
-use Rattle.ldom_journal.specs.declared.entry.Who.{Who}
-use Rattle.ldom_journal.specs.declared.entry.Who.TheVariants.{Lane as OfWhole, End as OfEnd}
+use Rattle.ldom_entries.specs.declared.entry.Entry.{Entry}
+use Rattle.ldom_entries.specs.declared.entry.Entry.TheVariants as entry
+use Rattle.ldom_entries.specs.declared.entry.Who.{Who}
+use Rattle.ldom_entries.specs.declared.entry.Who.TheVariants.{Lane as OfWhole, End as OfEnd}
 use Rattle.settle_loop.proofs.Places.{after_one, set_same, take_set_one}
 use Rattle.settle_loop.proofs.TicksOn.{lane_gets_none, lane_gets_tick}
 use Rattle.settle_loop.specs.Names.{name_of}

@@ -8,7 +8,7 @@ use Rattle.lanes_world.specs.Lines.{AreSteps, Rounds, Steps, Turn, round_turns, 
 use Rattle.lanes_world.specs.World.{WorldState, WorldStep}
 use Rattle.ldc_queue.specs.declared.end.End.{End}
 use Rattle.ldc_queue.specs.declared.end.End.TheVariants.{A, B}
-use Rattle.ldom_journal.specs.declared.entry.Entry.{Entry}
+use Rattle.ldom_entries.specs.declared.entry.Entry.{Entry}
 use Rattle.ldom_world.proofs.Adding.{both_add, none_adds}
 use Rattle.ldom_world.specs.TurnsMade.{TurnsBegun, TurnsMade}
 use Rattle.world_parts.specs.Parts.{Fits, FitsSoFar, MakesStep}

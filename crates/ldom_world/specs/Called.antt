@@ -4,10 +4,10 @@ use Rattle.domain_script.specs.declared.event.Lane.TheVariants.{Disk}
 use Rattle.lanes_world.specs.Lines.{Call}
 use Rattle.lanes_world.specs.Lines as script
 use Rattle.ldom_journal.specs.LaneEvents.{end_of}
-use Rattle.ldom_journal.specs.declared.entry.Entry.{Entry}
-use Rattle.ldom_journal.specs.declared.entry.Entry.TheVariants as entry
-use Rattle.ldom_journal.specs.declared.entry.Who.TheVariants as who
-use Rattle.ldom_journal.specs.declared.entry.Why.TheVariants.{Count, Range}
+use Rattle.ldom_entries.specs.declared.entry.Entry.{Entry}
+use Rattle.ldom_entries.specs.declared.entry.Entry.TheVariants as entry
+use Rattle.ldom_entries.specs.declared.entry.Who.TheVariants as who
+use Rattle.ldom_entries.specs.declared.entry.Why.TheVariants.{Count, Range}
 use Rattle.vdisk_client.specs.declared.answers.IssueFault.{IssueFault}
 use Rattle.vdisk_client.specs.declared.answers.IssueFault.TheVariants as fault
 use Rattle.ldom_world.specs.declared.calls.LaneCall.{LaneCall}

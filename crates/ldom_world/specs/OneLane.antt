@@ -1,15 +1,18 @@
--- One event of one lane, and the entry that tells it.
-use Rattle.std.specs.Prelude.{◌≡◌, ℕ, Some}
+-- One event of one lane, and what it leaves in the journal.
+use Rattle.std.specs.Prelude.{◌≡◌, ℕ, Bool, true, false, ◌&&◌, Some}
 use Rattle.ldc_queue.specs.declared.end.End.{End}
 use Rattle.disk_law.specs.ListState.{ImageState}
 use Rattle.disk_steps.specs.DiskEvent.{DiskEvent}
 use Rattle.disk_steps.specs.LaneState.{LaneState}
 use Rattle.lane_lawful.specs.CalmEnds.{IsStep}
+use Rattle.lanes_settle.specs.Rounds.{is_calm}
 use Rattle.lanes_settle.specs.Settle.{OfLane}
 use Rattle.lanes_world.specs.Lines.{Line}
 use Rattle.lanes_world.specs.World.{LaneMoves, OneMoves, WorldState}
+use Rattle.ldom_entries.specs.JournalState.{JournalState, Puts}
 use Rattle.ldom_journal.specs.LaneEvents.{world_event}
-use Rattle.ldom_journal.specs.declared.entry.Entry.{Entry}
+use Rattle.ldom_entries.specs.declared.entry.Entry.{Entry}
+use Rattle.ldom_world.specs.Resting.{left_out}
 
 -- WHAT A LINE ASKED OF A LANE came to, whatever the image: it stays
 pub record LaneAnswers (line : Line) (k : ℕ) (Answers : DiskEvent → Type 0) (s : LaneState) (entry : Entry)
@@ -19,17 +22,35 @@ pub record LaneAnswers (line : Line) (k : ℕ) (Answers : DiskEvent → Type 0) 
   pub moves : (i : ImageState) → LaneMoves s i event t i
   pub says : world_event line entry ≡ Some (OfLane k event)
 
--- A STEP OF AN END of a lane over the image, with its entry, whatever line it is in
-pub record LaneSteps (k : ℕ) (e : End) (s : LaneState) (i : ImageState) (entry : Entry) (t : LaneState)
-    (j : ImageState) : Type 0 where
+-- AN EVENT WAS RECORDED: an entry was put last that tells it, whatever line it is in
+pub record Records (k : ℕ) (event : DiskEvent) (s t : JournalState) : Type 0 where
+  pub entry : Entry
+  pub puts : Puts s entry t
+  pub says : (line : Line) → world_event line entry ≡ Some (OfLane k event)
+
+-- or nothing was, where it is left out
+abbrev pub RecordedBut : Bool → ℕ → DiskEvent → JournalState → JournalState → Type 0
+RecordedBut true k event s t = t ≡ s
+RecordedBut false k event s t = Records k event s t
+
+-- WHAT A STEP LEAVES in the journal, in a settle or not: there one that rests is left out; and whether it was calm
+pub record Leaves (in_settle : Bool) (k : ℕ) (event : DiskEvent) (s : JournalState) (calm : Bool)
+    (t : JournalState) : Type 0 where
+  pub calm_is : calm ≡ is_calm event
+  pub recorded : RecordedBut (in_settle && left_out event) k event s t
+
+-- A STEP OF AN END of a lane over the image, with what it leaves in the journal
+pub record LaneSteps (in_settle : Bool) (k : ℕ) (e : End) (s : LaneState) (i : ImageState) (old : JournalState)
+    (calm : Bool) (new : JournalState) (t : LaneState) (j : ImageState) : Type 0 where
   pub event : DiskEvent
   pub of_end : IsStep e event
   pub moves : LaneMoves s i event t j
-  pub says : (line : Line) → world_event line entry ≡ Some (OfLane k event)
+  pub leaves : Leaves in_settle k event old calm new
 
 -- the same of a lane of a world
-pub record EndSteps (k : ℕ) (e : End) (w : WorldState) (entry : Entry) (v : WorldState) : Type 0 where
+pub record EndSteps (in_settle : Bool) (k : ℕ) (e : End) (w : WorldState) (old : JournalState) (calm : Bool)
+    (new : JournalState) (v : WorldState) : Type 0 where
   pub event : DiskEvent
   pub of_end : IsStep e event
   pub moves : OneMoves w k event v
-  pub says : (line : Line) → world_event line entry ≡ Some (OfLane k event)
+  pub leaves : Leaves in_settle k event old calm new

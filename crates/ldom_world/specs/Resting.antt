@@ -1,19 +1,35 @@
--- Which entries a settle leaves out, and which tell a step that was calm.
-use Rattle.std.specs.Prelude.{Bool, true, false, ◌||◌}
-use Rattle.ldom_journal.specs.declared.entry.Entry.{Entry}
-use Rattle.ldom_journal.specs.declared.entry.Entry.TheVariants as entry
+-- Which answers of an end's step rest, and which find no room; and which events a settle leaves out.
+use Rattle.std.specs.Prelude.{Bool, true, false, Option, Some, None}
+use Rattle.disk_steps.specs.DiskEvent.{DiskEvent, Off, OnWire, Turns}
+use Rattle.lane_law.specs.WireEvent.{Idle}
+use Rattle.vdisk_client.specs.declared.answers.ClientOut.{ClientOut}
+use Rattle.vdisk_client.specs.declared.answers.ClientOut.TheVariants as client_out
+use Rattle.vdisk_server.specs.declared.answers.ServerOut.{ServerOut}
+use Rattle.vdisk_server.specs.declared.answers.ServerOut.TheVariants as server_out
 
--- an end idled, or its server is stopped
-abbrev pub is_silent : Entry → Bool
-is_silent (entry.Idle e) = true
-is_silent (entry.Off e) = true
-is_silent _ = false
+-- an end idled, or its server is stopped: a settle leaves it out
+abbrev pub left_out : DiskEvent → Bool
+left_out (OnWire (Idle e)) = true
+left_out (Turns Off) = true
+left_out _ = false
 
--- an end found no room for its packet
-abbrev pub is_blocked : Entry → Bool
-is_blocked (entry.Blocked e) = true
-is_blocked _ = false
+-- the client had nothing to do
+abbrev pub client_rests : ClientOut → Bool
+client_rests client_out.Idle = true
+client_rests _ = false
 
--- the step was calm
-abbrev pub tells_calm : Entry → Bool
-tells_calm x = is_silent x || is_blocked x
+-- the client found no room for its packet
+abbrev pub client_blocked : ClientOut → Bool
+client_blocked client_out.Blocked = true
+client_blocked _ = false
+
+-- the server is stopped, or had nothing to do
+abbrev pub server_rests : Option ServerOut → Bool
+server_rests None = true
+server_rests (Some server_out.Idle) = true
+server_rests _ = false
+
+-- the server found no room for its packet
+abbrev pub server_blocked : Option ServerOut → Bool
+server_blocked (Some server_out.Blocked) = true
+server_blocked _ = false

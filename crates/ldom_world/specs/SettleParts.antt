@@ -3,7 +3,7 @@ use Rattle.std.specs.Prelude.{◌≡◌, ℕ, ◌+◌, ◌<◌, ◌≤◌, Bool,
 use Rattle.lanes_settle.specs.Settle.{SettleEntry, most_rounds}
 use Rattle.lanes_world.specs.Lines as script
 use Rattle.lanes_world.specs.World.{WorldState}
-use Rattle.ldom_journal.specs.declared.entry.Entry.{Entry}
+use Rattle.ldom_entries.specs.declared.entry.Entry.{Entry}
 use Rattle.settle_loop.specs.Going.{GoneOn}
 use Rattle.settle_loop.specs.Names.{NamesUpTo}
 use Rattle.settle_loop.specs.RoundMade.{RoundBegun, RoundUpTo}

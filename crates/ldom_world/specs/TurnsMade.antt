@@ -1,7 +1,7 @@
 -- Steps of ends, turn by turn, and the part of the journal that they give.
 use Rattle.std.specs.Prelude.{◌≡◌, List, ◌++◌}
 use Rattle.runs.specs.Run.{Run}
-use Rattle.ldom_journal.specs.declared.entry.Entry.{Entry}
+use Rattle.ldom_entries.specs.declared.entry.Entry.{Entry}
 use Rattle.lanes_settle.specs.Settle.{SettleEntry}
 use Rattle.lanes_world.specs.Lines.{AreSteps, Line, Turn}
 use Rattle.lanes_world.specs.World.{WorldState, WorldStep}

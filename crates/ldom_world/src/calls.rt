@@ -4,8 +4,8 @@ ghost use Rattle.std.specs.Prelude.{◌≡◌, ◌<◌, length, None, OnErr, OnO
 ghost use Rattle.domain_script.specs.declared.event.Lane.TheVariants.{Disk};
 ghost use Rattle.ldom_journal.specs.LaneEvents.{end_of};
 ghost use Rattle.ldom_journal.specs.Report.{accepted_count};
-ghost use Rattle.ldom_journal.specs.declared.entry.Entry.TheVariants as the_entry;
-ghost use Rattle.ldom_journal.specs.declared.entry.Who.TheVariants as the_who;
+ghost use Rattle.ldom_entries.specs.declared.entry.Entry.TheVariants as the_entry;
+ghost use Rattle.ldom_entries.specs.declared.entry.Who.TheVariants as the_who;
 ghost use Rattle.ldom_world.specs.Called.{call_of};
 ghost use Rattle.ldom_world.specs.OneLane.{LaneAnswers};
 ghost use Rattle.lanes_world.specs.Lines.{AnswersCall, Calls, Loses, Resets, Restarts, Starts, Stops, Ticks};

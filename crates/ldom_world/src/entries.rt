@@ -1,20 +1,18 @@
-// What an answer of a lane is as an entry of the journal.
+// What an answer of a lane leaves in the journal.
 
-ghost use Rattle.std.specs.Prelude.{◌≡◌, ◌≤◌, ◌||◌, [], Some, length};
+ghost use Rattle.std.specs.Prelude.{◌≡◌, ◌≤◌, ◌<◌, ◌||◌, [], length};
 ghost use Rattle.disk_lane.specs.Events.{served_event};
-ghost use Rattle.disk_steps.specs.DiskEvent.{Done, Works};
 ghost use Rattle.domain_script.specs.declared.event.Lane.TheVariants.{Disk};
 ghost use Rattle.domain_script.specs.declared.event.Side.TheVariants.{Client, Server};
-ghost use Rattle.lanes_settle.specs.Settle.{OfLane};
-ghost use Rattle.lanes_world.specs.Lines.{Line};
-ghost use Rattle.ldom_journal.specs.LaneEvents.{end_of, world_event};
+ghost use Rattle.ldom_journal.specs.LaneEvents.{end_of};
 ghost use Rattle.ldom_world.specs.Fitting.{HasRoomFor};
-ghost use Rattle.ldom_world.specs.Resting.{is_blocked, is_silent};
+ghost use Rattle.ldom_world.specs.OneLane.{Leaves, Records};
+ghost use Rattle.ldom_world.specs.Resting.{client_blocked, client_rests, server_blocked, server_rests};
 ghost use Rattle.vdisk_client.specs.Calls.{client_event};
 
 use disk_lane::{ClientOut, End, ServerOut};
 use domain_script::{EndName, Lane, Side};
-use ldom_journal::{Bytes, Entry};
+use ldom_journal::{Bytes, Journal};
 use std::alloc::Global;
 use std::mem;
 
@@ -52,110 +50,160 @@ pub fn server_of(disk: u32) -> EndName
     name_of(disk, Side::Server)
 }
 
-/// Whether the entry tells that an end idled, or that its server is stopped.
-pub fn is_silent(entry: &Entry) -> bool
-    ensures { result ≡ is_silent entry.now }
-{
-    matches!(entry, Entry::Idle { .. } | Entry::Off { .. })
-}
-
-/// Whether it tells that an end found no room for its packet.
-pub fn is_blocked(entry: &Entry) -> bool
-    ensures { result ≡ is_blocked entry.now }
-{
-    matches!(entry, Entry::Blocked { .. })
-}
-
-/// The entry of a client's step, where these are the bytes of its last completion. What a completion carries is put
-/// into the room that was made for it.
-pub fn client_entry(
+/// Puts what a client's step leaves in the journal, and tells whether the step was calm. In a settle a step that idles
+/// leaves nothing. `last` are the bytes of the client's last completion.
+#[tactic(auto, using(crate::proofs::Leaving::client_leaves_none, crate::proofs::Leaving::client_leaves_entry))]
+pub fn leave_client(
     disk: u32,
-    out: ClientOut,
+    out: &ClientOut,
+    last: &[u8],
+    in_settle: bool,
+    room: &mut Bytes,
+    alloc: Global,
+    journal: &mut Journal,
+) -> bool
+    requires ready { 0 < journal.old.room }
+    requires room { HasRoomFor out.now last.now room.old.room }
+    requires empty { room.old.items ≡ [] }
+    ensures leaves { Leaves in_settle disk (client_event out.now last.now) journal.old result journal.new }
+    ensures empty { room.new.items ≡ [] }
+{
+    let rests = client_rests(out);
+    if in_settle && rests {
+        return true;
+    }
+    record_client(disk, out, last, room, alloc, journal);
+    rests || client_blocked(out)
+}
+
+/// Whether a client had nothing to do.
+fn client_rests(out: &ClientOut) -> bool
+    ensures { result ≡ client_rests out.now }
+{
+    matches!(out, ClientOut::Idle)
+}
+
+/// Whether a client found no room for its packet.
+fn client_blocked(out: &ClientOut) -> bool
+    ensures { result ≡ client_blocked out.now }
+{
+    matches!(out, ClientOut::Blocked)
+}
+
+/// Puts the entry of a client's step last. `last` are the bytes of its last completion; those that a completion carries
+/// are put into the room that was made for them.
+#[tactic(auto, using(crate::proofs::Leaving::recorded))]
+fn record_client(
+    disk: u32,
+    out: &ClientOut,
     last: &[u8],
     room: &mut Bytes,
     alloc: Global,
-) -> Entry
-    requires room { HasRoomFor out last.now room.old.room }
+    journal: &mut Journal,
+)
+    requires ready { 0 < journal.old.room }
+    requires room { HasRoomFor out.now last.now room.old.room }
     requires empty { room.old.items ≡ [] }
-    ensures says { (line : Line) → world_event line result ≡ Some (OfLane disk (client_event out last.now)) }
+    ensures records { Records disk (client_event out.now last.now) journal.old journal.new }
     ensures empty { room.new.items ≡ [] }
 {
     let end = client_of(disk);
     match out {
-        ClientOut::Idle => Entry::Idle { end },
-        ClientOut::Blocked => Entry::Blocked { end },
-        ClientOut::Joined => Entry::Joined { end, lost: 0 },
-        ClientOut::Took { packet, opens } => Entry::Took { end, packet, opens },
-        ClientOut::Sent { packet, opens } => Entry::Sent { end, packet, opens },
-        ClientOut::Published { id } => Entry::Published { end, id },
+        ClientOut::Idle => journal.push_idle(end),
+        ClientOut::Blocked => journal.push_blocked(end),
+        ClientOut::Joined => journal.push_joined(end, 0),
+        ClientOut::Took { packet, opens } => journal.push_took(end, packet, *opens),
+        ClientOut::Sent { packet, opens } => journal.push_sent(end, packet, *opens),
+        ClientOut::Published { id } => journal.push_published(end, *id),
         ClientOut::Done {
             id,
             operation,
             status,
             len: _,
-        } => Entry::Done {
-            disk,
-            id,
-            operation,
-            status,
-            bytes: filled(room, last, alloc),
-        },
-        ClientOut::Reset { cause, packet } => Entry::Reset {
-            end,
-            cause,
-            packet,
-            lost: 0,
-        },
+        } => {
+            let bytes = filled(room, last, alloc);
+            journal.push_done(disk, *id, *operation, *status, bytes);
+        }
+        ClientOut::Reset { cause, packet } => journal.push_reset(end, *cause, packet, 0),
     }
 }
 
-/// These bytes in the room that was made for them, which is used up.
+/// These bytes in the room that was made for them, which is used up; without bytes it stays.
 fn filled(room: &mut Bytes, bytes: &[u8], alloc: Global) -> Bytes
     requires room { length bytes.now ≤ room.old.room }
     requires empty { room.old.items ≡ [] }
     ensures bytes { result.items ≡ bytes.now }
     ensures empty { room.new.items ≡ [] }
+    ensures stays { length bytes.now ≡ 0 → room.new ≡ room.old }
 {
+    if bytes.is_empty() {
+        return Bytes::empty(alloc);
+    }
     let mut all = mem::replace(room, Bytes::empty(alloc));
     all.fill(bytes);
     all
 }
 
-/// The entry of a server's step.
-pub fn server_entry(disk: u32, out: Option<ServerOut>) -> Entry
-    ensures { (line : Line) → world_event line result ≡ Some (OfLane disk (served_event out)) }
+/// Puts what a server's step leaves in the journal, and tells whether the step was calm. In a settle one that idles
+/// leaves nothing, nor does that of a stopped server.
+#[tactic(auto, using(crate::proofs::Leaving::server_leaves_none, crate::proofs::Leaving::server_leaves_entry))]
+pub fn leave_server(
+    disk: u32,
+    out: &Option<ServerOut>,
+    in_settle: bool,
+    journal: &mut Journal,
+) -> bool
+    requires ready { 0 < journal.old.room }
+    ensures leaves { Leaves in_settle disk (served_event out.now) journal.old result journal.new }
+{
+    let rests = server_rests(out);
+    if in_settle && rests {
+        return true;
+    }
+    record_server(disk, out, journal);
+    rests || server_blocked(out)
+}
+
+/// Whether a server is stopped, or had nothing to do.
+fn server_rests(out: &Option<ServerOut>) -> bool
+    ensures { result ≡ server_rests out.now }
+{
+    matches!(out, None | Some(ServerOut::Idle))
+}
+
+/// Whether a server found no room for its packet.
+fn server_blocked(out: &Option<ServerOut>) -> bool
+    ensures { result ≡ server_blocked out.now }
+{
+    matches!(out, Some(ServerOut::Blocked))
+}
+
+/// Puts the entry of a server's step last.
+#[tactic(auto, using(crate::proofs::Leaving::recorded))]
+fn record_server(disk: u32, out: &Option<ServerOut>, journal: &mut Journal)
+    requires ready { 0 < journal.old.room }
+    ensures records { Records disk (served_event out.now) journal.old journal.new }
 {
     let end = server_of(disk);
     let out = match out {
         Some(out) => out,
-        None => return Entry::Off { end },
+        None => return journal.push_off(end),
     };
     match out {
-        ServerOut::Idle => Entry::Idle { end },
-        ServerOut::Blocked => Entry::Blocked { end },
-        ServerOut::Joined => Entry::Joined { end, lost: 0 },
-        ServerOut::Took { packet, opens } => Entry::Took { end, packet, opens },
-        ServerOut::Sent { packet, opens } => Entry::Sent { end, packet, opens },
-        ServerOut::Desc { slot, bytes } => Entry::Desc { end, slot, bytes },
-        ServerOut::Moved { unit, fault } => Entry::Moved { end, unit, fault },
+        ServerOut::Idle => journal.push_idle(end),
+        ServerOut::Blocked => journal.push_blocked(end),
+        ServerOut::Joined => journal.push_joined(end, 0),
+        ServerOut::Took { packet, opens } => journal.push_took(end, packet, *opens),
+        ServerOut::Sent { packet, opens } => journal.push_sent(end, packet, *opens),
+        ServerOut::Desc { slot, bytes } => journal.push_desc(end, *slot, bytes),
+        ServerOut::Moved { unit, fault } => journal.push_moved(end, *unit, *fault),
         ServerOut::Stored {
             operation,
             block,
             count,
             failed,
-        } => Entry::Stored {
-            end,
-            operation,
-            block,
-            count: u64::from(count),
-            failed,
-        },
-        ServerOut::Finished { slot, status } => Entry::Finished { end, slot, status },
-        ServerOut::Reset { cause, packet } => Entry::Reset {
-            end,
-            cause,
-            packet,
-            lost: 0,
-        },
+        } => journal.push_stored(end, *operation, *block, u64::from(*count), *failed),
+        ServerOut::Finished { slot, status } => journal.push_finished(end, *slot, *status),
+        ServerOut::Reset { cause, packet } => journal.push_reset(end, *cause, packet, 0),
     }
 }

@@ -14,11 +14,11 @@ ghost use Rattle.vdisk_client.specs.Calls.{front_count};
 ghost use Rattle.world_parts.specs.Declared.{image_of};
 ghost use Rattle.world_parts.specs.Parts.{Fits, FitsSoFar, MakesQuietStep, MakesStep};
 
-use crate::entries::{client_entry, is_blocked, is_silent, server_entry};
+use crate::entries::{leave_client, leave_server};
 use crate::world::World;
 use disk_lane::DiskLane;
 use domain_script::Side;
-use ldom_journal::{Bytes, Entry, Journal};
+use ldom_journal::{Bytes, Journal};
 use std::alloc::Global;
 use vio_bytes::NoMemory;
 use vio_io::Store;
@@ -103,8 +103,7 @@ impl<D: Store> World<D> {
         ensures agrees { accepted_count journal.new.entries ≡ issued_on self.new.lanes }
     {
         journal.reserve(1)?;
-        let entry = self.step_end(disk, side)?;
-        journal.push(entry);
+        self.step_end(disk, side, false, journal)?;
         Ok(())
     }
 
@@ -125,61 +124,78 @@ impl<D: Store> World<D> {
         ensures agrees { accepted_count journal.new.entries ≡ issued_on self.new.lanes }
     {
         journal.reserve(1)?;
-        let entry = self.step_end(disk, side)?;
-        if is_silent(&entry) {
-            return Ok(true);
-        }
-        let calm = is_blocked(&entry);
-        journal.push(entry);
+        let calm = self.step_end(disk, side, true, journal)?;
         Ok(calm)
     }
 
-    /// One step of an end, and its entry.
-    fn step_end(&mut self, disk: u32, side: Side) -> Result<Entry, NoMemory>
+    /// One step of an end, in a settle or not, into room for its entry. Tells whether it was calm.
+    fn step_end(
+        &mut self,
+        disk: u32,
+        side: Side,
+        in_settle: bool,
+        journal: &mut Journal,
+    ) -> Result<bool, NoMemory>
         requires disk { disk < length self.old.lanes }
-        ensures steps { IfOk result (λ entry. EndSteps disk (end_of side) self.old entry self.new) }
-        ensures same { OnErr result (self.new ≡ self.old) }
+        requires ready { 0 < journal.old.room }
+        ensures steps { IfOk result (λ calm. EndSteps in_settle disk (end_of side) self.old journal.old calm
+            journal.new self.new) }
+        ensures same { OnErr result ((self.new ≡ self.old) × (journal.new ≡ journal.old)) }
     {
         match side {
-            Side::Client => self.step_client(disk),
-            Side::Server => Ok(self.step_server(disk)),
+            Side::Client => self.step_client(disk, in_settle, journal),
+            Side::Server => Ok(self.step_server(disk, in_settle, journal)),
         }
     }
 
-    fn step_client(&mut self, disk: u32) -> Result<Entry, NoMemory>
+    fn step_client(
+        &mut self,
+        disk: u32,
+        in_settle: bool,
+        journal: &mut Journal,
+    ) -> Result<bool, NoMemory>
         requires disk { disk < length self.old.lanes }
-        ensures steps { IfOk result (λ entry. EndSteps disk A self.old entry self.new) }
-        ensures same { OnErr result (self.new ≡ self.old) }
+        requires ready { 0 < journal.old.room }
+        ensures steps { IfOk result (λ calm. EndSteps in_settle disk A self.old journal.old calm journal.new
+            self.new) }
+        ensures same { OnErr result ((self.new ≡ self.old) × (journal.new ≡ journal.old)) }
     {
         let lane = &mut self.lanes[disk as usize];
-        client_step(lane, disk, &mut self.room, self.alloc)
+        client_step(lane, disk, in_settle, &mut self.room, self.alloc, journal)
     }
 
-    fn step_server(&mut self, disk: u32) -> Entry
+    fn step_server(&mut self, disk: u32, in_settle: bool, journal: &mut Journal) -> bool
         requires disk { disk < length self.old.lanes }
-        ensures { EndSteps disk B self.old result self.new }
+        requires ready { 0 < journal.old.room }
+        ensures { EndSteps in_settle disk B self.old journal.old result journal.new self.new }
     {
         let lane = &mut self.lanes[disk as usize];
-        server_step(lane, disk, &mut self.image)
+        server_step(lane, disk, in_settle, &mut self.image, journal)
     }
 }
 
-/// One step of a lane's client, once there is room for what a completion of the first request carries, and its entry.
+/// One step of a lane's client, once there is room for what a completion of the first request carries. Tells whether it
+/// was calm.
 fn client_step(
     lane: &mut DiskLane,
     disk: u32,
+    in_settle: bool,
     room: &mut Bytes,
     alloc: Global,
-) -> Result<Entry, NoMemory>
+    journal: &mut Journal,
+) -> Result<bool, NoMemory>
     requires empty { room.old.items ≡ [] }
-    ensures steps { IfOk result (λ entry. (i : ImageState) → LaneSteps disk A lane.old i entry lane.new i) }
-    ensures same { OnErr result (lane.new ≡ lane.old) }
+    requires ready { 0 < journal.old.room }
+    ensures steps { IfOk result (λ calm. (i : ImageState) → LaneSteps in_settle disk A lane.old i journal.old calm
+        journal.new lane.new i) }
+    ensures same { OnErr result ((lane.new ≡ lane.old) × (journal.new ≡ journal.old)) }
     ensures shape { lane.new.shape ≡ lane.old.shape }
     ensures empty { room.new.items ≡ [] }
 {
     make_room(room, lane.front_len() as usize, alloc)?;
     let out = lane.step_client();
-    Ok(client_entry(disk, out, lane.bytes(), room, alloc))
+    let calm = leave_client(disk, &out, lane.bytes(), in_settle, room, alloc, journal);
+    Ok(calm)
 }
 
 /// Makes room for so many bytes, if there isn't yet.
@@ -194,14 +210,21 @@ fn make_room(room: &mut Bytes, least: usize, alloc: Global) -> Result<(), NoMemo
     Ok(())
 }
 
-/// One step of a lane's server over the image, and its entry.
-fn server_step<D: Store>(lane: &mut DiskLane, disk: u32, image: &mut D) -> Entry
+/// One step of a lane's server over the image. Tells whether it was calm.
+fn server_step<D: Store>(
+    lane: &mut DiskLane,
+    disk: u32,
+    in_settle: bool,
+    image: &mut D,
+    journal: &mut Journal,
+) -> bool
     requires region { LiesWithin (D.size image.old) lane.old }
-    ensures steps { LaneSteps disk B lane.old (image_of (D.content image.old) (D.faults image.old)) result lane.new
-        (image_of (D.content image.new) (D.faults image.new)) }
+    requires ready { 0 < journal.old.room }
+    ensures steps { LaneSteps in_settle disk B lane.old (image_of (D.content image.old) (D.faults image.old))
+        journal.old result journal.new lane.new (image_of (D.content image.new) (D.faults image.new)) }
     ensures size { D.size image.new ≡ D.size image.old }
     ensures shape { lane.new.shape ≡ lane.old.shape }
 {
     let out = lane.step_server(image);
-    server_entry(disk, out)
+    leave_server(disk, &out, in_settle, journal)
 }

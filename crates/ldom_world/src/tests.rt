@@ -6,7 +6,7 @@ ghost use Rattle.world_parts.specs.Lines.{IsForDisks};
 use crate::World;
 use domain_script::{DiskDecl, EndName, Event, Lane, Name, Names, Request, Side};
 use flat_store::MemStore;
-use ldom_journal::{Entry, Journal};
+use ldom_journal::{EntryRef, Journal};
 use std::alloc::Global;
 use std::test::Fail;
 use vio_bytes::NoMemory;
@@ -117,17 +117,17 @@ fn ends(world: &mut World<MemStore>, journal: &mut Journal) -> Result<(), NoMemo
 fn is_read(journal: &Journal) -> bool {
     let done = match journal.get(83) {
         Some(
-            Entry::Done {
-                disk,
-                id,
-                operation,
-                status,
+            EntryRef::Read {
+                disk: 1,
+                id: 0,
+                operation: 1,
+                status: 0,
                 bytes,
             },
-        ) => *disk == 1 && *id == 0 && *operation == 1 && *status == 0 && bytes.len() == 512,
+        ) => bytes.len() == 512,
         _ => false,
     };
-    done && journal.len() == 85 && matches!(journal.get(84), Some(Entry::Settled))
+    done && journal.len() == 85 && matches!(journal.get(84), Some(EntryRef::Settled))
 }
 
 #[test]

@@ -3,8 +3,8 @@ use Rattle.disk_lane.specs.Events.{lost_event}
 use Rattle.disk_steps.specs.LaneStep.{LaneStep}
 use Rattle.domain_script.specs.declared.event.EndName.{EndName}
 use Rattle.ldc_queue.specs.declared.end.End.{End}
-use Rattle.ldom_journal.specs.declared.entry.Entry.TheVariants as entry
-use Rattle.ldom_journal.specs.declared.entry.Who.TheVariants.{End as OfEnd}
+use Rattle.ldom_entries.specs.declared.entry.Entry.TheVariants as entry
+use Rattle.ldom_entries.specs.declared.entry.Who.TheVariants.{End as OfEnd}
 use Rattle.ldom_world.proofs.Answering.{none_lost, was_lost}
 use Rattle.ldom_world.proofs.calls.lose_packet.Goals as goal
 

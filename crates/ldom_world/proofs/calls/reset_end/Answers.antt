@@ -3,8 +3,8 @@ use Rattle.disk_lane.specs.Events.{reset_event}
 use Rattle.disk_steps.specs.LaneStep.{LaneStep}
 use Rattle.domain_script.specs.declared.event.EndName.{EndName}
 use Rattle.ldc_queue.specs.declared.end.End.{End}
-use Rattle.ldom_journal.specs.declared.entry.Entry.TheVariants as entry
-use Rattle.ldom_journal.specs.declared.entry.Who.TheVariants.{End as OfEnd}
+use Rattle.ldom_entries.specs.declared.entry.Entry.TheVariants as entry
+use Rattle.ldom_entries.specs.declared.entry.Who.TheVariants.{End as OfEnd}
 use Rattle.vio_tag.specs.declared.cause.Cause.TheVariants as the_cause
 use Rattle.ldom_world.proofs.Answering.{not_reset, was_reset}
 use Rattle.ldom_world.proofs.calls.reset_end.Goals as goal

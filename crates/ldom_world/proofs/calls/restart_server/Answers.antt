@@ -1,7 +1,7 @@
 use Rattle.std.proofs.Common.{None, ap, ◌∙◌}
 use Rattle.domain_script.specs.declared.event.EndName.{EndName}
-use Rattle.ldom_journal.specs.declared.entry.Entry.TheVariants as entry
-use Rattle.ldom_journal.specs.declared.entry.Who.TheVariants.{End as OfEnd}
+use Rattle.ldom_entries.specs.declared.entry.Entry.TheVariants as entry
+use Rattle.ldom_entries.specs.declared.entry.Who.TheVariants.{End as OfEnd}
 use Rattle.vio_tag.specs.declared.cause.Cause.TheVariants as the_cause
 use Rattle.ldom_world.proofs.Answering.{not_restarted, was_restarted}
 use Rattle.ldom_world.proofs.calls.restart_server.Goals as goal

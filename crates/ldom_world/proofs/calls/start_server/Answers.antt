@@ -1,5 +1,5 @@
 use Rattle.std.proofs.Common.{refl}
-use Rattle.ldom_journal.specs.declared.entry.Entry.TheVariants as entry
+use Rattle.ldom_entries.specs.declared.entry.Entry.TheVariants as entry
 use Rattle.ldom_world.proofs.Answering.{not_started, was_started}
 use Rattle.ldom_world.proofs.calls.start_server.Goals as goal
 

@@ -1,6 +1,6 @@
 use Rattle.std.proofs.Common.{None, ap, ◌∙◌}
 use Rattle.domain_script.specs.declared.event.EndName.{EndName}
-use Rattle.ldom_journal.specs.declared.entry.Entry.TheVariants as entry
+use Rattle.ldom_entries.specs.declared.entry.Entry.TheVariants as entry
 use Rattle.vio_tag.specs.declared.cause.Cause.TheVariants as the_cause
 use Rattle.ldom_world.proofs.Answering.{not_ticked, was_ticked}
 use Rattle.ldom_world.proofs.calls.tick_client.Goals as goal

@@ -1,5 +1,5 @@
 use Rattle.std.proofs.Common.{ap}
-use Rattle.ldom_journal.specs.declared.entry.Entry.TheVariants as entry
+use Rattle.ldom_entries.specs.declared.entry.Entry.TheVariants as entry
 use Rattle.vdisk_msg.specs.declared.request.Request.{Request}
 use Rattle.ldom_world.proofs.Answering.{was_accepted, was_refused}
 use Rattle.ldom_world.proofs.issuing.ask_lane.Goals as goal

@@ -5,6 +5,7 @@ pub returns-clause-steps : goal.returns-clause-steps
 returns-clause-steps g c =
     server_steps c.args.lane.now c.step_server-out.new.self g.D.Store.content g.D.Store.calls g.D.Store.faults
     c.args.image.now c.step_server-out.new.store
-    c.args.disk c.step_server-out.result c.server_entry.result
+    c.args.in_settle c.args.disk c.step_server-out.result c.args.journal.now c.leave_server.new.journal
+    c.leave_server.result
     c.step_server-out.ensures.step c.step_server-out.ensures.store c.step_server-out.ensures.calls
-    c.server_entry.ensures
+    c.leave_server.ensures.leaves

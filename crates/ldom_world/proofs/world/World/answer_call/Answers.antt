@@ -1,7 +1,7 @@
 use Rattle.std.proofs.Common.{List, ◌∷◌, [], ◌++◌, slice_set, ap, ◌∙◌}
 use Rattle.disk_law.specs.ListState.{ImageState}
 use Rattle.lanes_world.specs.Lines.{AnswersCall, Calls}
-use Rattle.ldom_journal.specs.declared.entry.Entry.{Entry}
+use Rattle.ldom_entries.specs.declared.entry.Entry.{Entry}
 use Rattle.ldom_world.proofs.Lifting.{answer_agrees, call_fits}
 use Rattle.ldom_world.proofs.Opened.{lane_set, lane_there, over}
 use Rattle.ldom_world.specs.Called.{call_of}

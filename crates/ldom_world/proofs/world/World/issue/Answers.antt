@@ -2,7 +2,7 @@ use Rattle.std.proofs.Common.{List, ◌∷◌, [], ◌++◌, slice_set, ap, ◌�
 use Rattle.disk_law.specs.ListState.{ImageState}
 use Rattle.lanes_world.specs.Lines.{AnswersRequest, Asked}
 use Rattle.ldom_journal.specs.Report.{accepted_count}
-use Rattle.ldom_journal.specs.declared.entry.Entry.{Entry}
+use Rattle.ldom_entries.specs.declared.entry.Entry.{Entry}
 use Rattle.ldom_world.proofs.Lifting.{answer_agrees, few_issued, request_fits}
 use Rattle.ldom_world.proofs.Opened.{lane_set, lane_there, over}
 use Rattle.world_parts.specs.Declared.{image_of}

@@ -1,6 +1,6 @@
 use Rattle.std.proofs.Common.{rules, ◌∙◌, ◌++◌, List, [], ◌∷◌, ap}
-use Rattle.ldom_journal.specs.declared.entry.Entry.{Entry}
-use Rattle.ldom_journal.specs.declared.entry.Entry.TheVariants as entry
+use Rattle.ldom_entries.specs.declared.entry.Entry.{Entry}
+use Rattle.ldom_entries.specs.declared.entry.Entry.TheVariants as entry
 use Rattle.ldom_world.proofs.SettlingAdds.{on_err, turn_settles, turn_wants_answer, turn_wants_in_round, turn_wants_in_ticks}
 use Rattle.ldom_world.proofs.world.World.settle_turn.Goals as goal
 

@@ -15,10 +15,14 @@ returns g c =
     image_of (g.D.Store.content c.server_step.new.image) (g.D.Store.faults c.server_step.new.image) in
     let lanes = c.self.inside.lanes.items in
     let w : WorldState = c.args.self.now in
+    let old = c.args.journal.now in
+    let new = c.server_step.new.journal in
+    let calm = c.server_step.result in
     let s = c.index_mut-lane.result.now in
     let t = c.server_step.new.lane in
-    end_steps w (over (slice_set lanes c.args.disk t) behind) c.args.disk B s t c.server_step.result behind
+    end_steps c.args.in_settle w (over (slice_set lanes c.args.disk t) behind) c.args.disk B s t old calm new behind
     (lane_there w lanes image c.args.disk s c.self.view_is c.requires.disk c.index_mut-lane.ensures.value)
-    (image_there w lanes image (λ (i : ImageState). LaneSteps c.args.disk B s i c.server_step.result t behind)
+    (image_there w lanes image
+    (λ (i : ImageState). LaneSteps c.args.in_settle c.args.disk B s i old calm new t behind)
     c.self.view_is c.server_step.ensures.steps)
     (one_set w lanes image behind c.args.disk t c.self.view_is)

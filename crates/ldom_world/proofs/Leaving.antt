@@ -1,0 +1,160 @@
+-- What a step leaves in the journal, by its answer: the entry of its event, or none in a settle where it rests.
+use Rattle.std.proofs.Common.{◌≡◌, ℕ, Bool, true, false, ◌||◌, Option, Some, None, List, [], ◌∷◌, refl, sym, ap, subst, ◌∙◌}
+use Rattle.std.specs.Prelude.{◌&&◌}
+use Rattle.disk_lane.specs.Events.{served_event}
+use Rattle.disk_steps.specs.DiskEvent.{Asks, DiskEvent, Off, OnWire, Rests, Started, Stopped, Turns, Works}
+use Rattle.lane_law.specs.WireEvent as wire
+use Rattle.lanes_settle.specs.Rounds.{is_calm}
+use Rattle.lanes_settle.specs.Settle.{OfLane, SettleEntry, entry_of}
+use Rattle.lanes_world.specs.Lines.{Line}
+use Rattle.ldom_entries.specs.JournalState.{JournalState, Puts}
+use Rattle.ldom_journal.specs.LaneEvents.{world_event}
+use Rattle.ldom_entries.specs.declared.entry.Entry.{Entry}
+use Rattle.ldom_world.specs.OneLane.{Leaves, RecordedBut, Records}
+use Rattle.ldom_world.specs.Resting.{client_blocked, client_rests, left_out, server_blocked, server_rests}
+use Rattle.settle_loop.specs.Issued.{next_behind}
+use Rattle.vdisk_client.specs.Calls.{client_event}
+use Rattle.vdisk_client.specs.declared.answers.ClientOut.{ClientOut}
+use Rattle.vdisk_client.specs.declared.answers.ClientOut.TheVariants as client_out
+use Rattle.vdisk_server.specs.declared.answers.ServerOut.{ServerOut}
+use Rattle.vdisk_server.specs.declared.answers.ServerOut.TheVariants as server_out
+
+-- AN ENTRY that was put, and tells the event in whatever line it is
+pub recorded : (k : ℕ) (event : DiskEvent) (x : Entry) (s t : JournalState) → Puts s x t
+    → ((line : Line) → world_event line x ≡ Some (OfLane k event)) → Records k event s t
+recorded k event x s t puts says = record { entry = x; puts = puts; says = says }
+
+-- WHAT A SETTLE LEAVES OUT, and that it accepts nothing
+abbrev pub left_of : Bool → ℕ → DiskEvent → List SettleEntry
+left_of true k event = []
+left_of false k event = OfLane k event ∷ []
+
+pub entry_left : (k : ℕ) (event : DiskEvent) → entry_of k event ≡ left_of (left_out event) k event
+entry_left k (OnWire (wire.Joined e lost)) = refl
+entry_left k (OnWire (wire.Reset e cause packet lost)) = refl
+entry_left k (OnWire (wire.Took e packet opens)) = refl
+entry_left k (OnWire (wire.Sent e packet opens)) = refl
+entry_left k (OnWire (wire.Idle e)) = refl
+entry_left k (OnWire (wire.Blocked e)) = refl
+entry_left k (OnWire (wire.Lost e packet)) = refl
+entry_left k (OnWire (wire.Injected e packet)) = refl
+entry_left k (OnWire (wire.Poked e at bytes)) = refl
+entry_left k (OnWire (wire.Declines declined)) = refl
+entry_left k (Asks admitted) = refl
+entry_left k (Works worked) = refl
+entry_left k (Turns Stopped) = refl
+entry_left k (Turns Started) = refl
+entry_left k (Turns Off) = refl
+entry_left k (Rests calm) = refl
+
+pub none_accepted : (event : DiskEvent) (n : ℕ) → left_out event ≡ true → next_behind event n ≡ n
+none_accepted (OnWire event) n out = refl
+none_accepted (Asks admitted) n out = absurd (cc out)
+none_accepted (Works worked) n out = refl
+none_accepted (Turns switched) n out = refl
+none_accepted (Rests calm) n out = refl
+
+-- THE ANSWERS of a client and of a server: which rest, and which are calm
+pub client_left_out : (answer : ClientOut) (last : List ℕ)
+    → left_out (client_event answer last) ≡ client_rests answer
+client_left_out client_out.Idle last = refl
+client_left_out client_out.Blocked last = refl
+client_left_out client_out.Joined last = refl
+client_left_out (client_out.Took packet opens) last = refl
+client_left_out (client_out.Sent packet opens) last = refl
+client_left_out (client_out.Published id) last = refl
+client_left_out (client_out.Done id operation status len) last = refl
+client_left_out (client_out.Reset cause packet) last = refl
+
+pub client_calm : (answer : ClientOut) (last : List ℕ)
+    → is_calm (client_event answer last) ≡ (client_rests answer || client_blocked answer)
+client_calm client_out.Idle last = refl
+client_calm client_out.Blocked last = refl
+client_calm client_out.Joined last = refl
+client_calm (client_out.Took packet opens) last = refl
+client_calm (client_out.Sent packet opens) last = refl
+client_calm (client_out.Published id) last = refl
+client_calm (client_out.Done id operation status len) last = refl
+client_calm (client_out.Reset cause packet) last = refl
+
+pub server_left_out : (answer : Option ServerOut) → left_out (served_event answer) ≡ server_rests answer
+server_left_out None = refl
+server_left_out (Some server_out.Idle) = refl
+server_left_out (Some server_out.Blocked) = refl
+server_left_out (Some server_out.Joined) = refl
+server_left_out (Some (server_out.Took packet opens)) = refl
+server_left_out (Some (server_out.Sent packet opens)) = refl
+server_left_out (Some (server_out.Desc slot bytes)) = refl
+server_left_out (Some (server_out.Moved unit fault)) = refl
+server_left_out (Some (server_out.Stored operation block count failed)) = refl
+server_left_out (Some (server_out.Finished slot status)) = refl
+server_left_out (Some (server_out.Reset cause packet)) = refl
+
+pub server_calm : (answer : Option ServerOut)
+    → is_calm (served_event answer) ≡ (server_rests answer || server_blocked answer)
+server_calm None = refl
+server_calm (Some server_out.Idle) = refl
+server_calm (Some server_out.Blocked) = refl
+server_calm (Some server_out.Joined) = refl
+server_calm (Some (server_out.Took packet opens)) = refl
+server_calm (Some (server_out.Sent packet opens)) = refl
+server_calm (Some (server_out.Desc slot bytes)) = refl
+server_calm (Some (server_out.Moved unit fault)) = refl
+server_calm (Some (server_out.Stored operation block count failed)) = refl
+server_calm (Some (server_out.Finished slot status)) = refl
+server_calm (Some (server_out.Reset cause packet)) = refl
+
+-- BY AN ANSWER that rests in a settle, and by any other
+second_of : (a b : Bool) → (a && b) ≡ true → b ≡ true
+second_of true b both = both
+second_of false b both = absurd (cc both)
+
+module _ (in_settle : Bool) (k : ℕ) (event : DiskEvent) (s t : JournalState) (rests blocked : Bool)
+    (out_is : left_out event ≡ rests) (calm_is : is_calm event ≡ (rests || blocked)) where
+  pub leaves_none : (in_settle && rests) ≡ true → t ≡ s → Leaves in_settle k event s true t
+  leaves_none out same = record {
+    calm_is = sym (calm_is ∙ ap (λ (b : Bool). b || blocked) (second_of in_settle rests out));
+    recorded = subst (λ (b : Bool). RecordedBut b k event s t)
+        (sym (ap (λ (b : Bool). in_settle && b) out_is ∙ out)) same;
+  }
+
+  pub leaves_entry : (calm : Bool) → (in_settle && rests) ≡ false → calm ≡ (rests || blocked) → Records k event s t
+      → Leaves in_settle k event s calm t
+  leaves_entry calm told is entry_put = record {
+    calm_is = is ∙ sym calm_is;
+    recorded = subst (λ (b : Bool). RecordedBut b k event s t)
+        (sym (ap (λ (b : Bool). in_settle && b) out_is ∙ told)) entry_put;
+  }
+
+module _ (in_settle : Bool) (k : ℕ) (answer : ClientOut) (last : List ℕ) (s t : JournalState) (rests : Bool)
+    (is : rests ≡ client_rests answer) where
+  client_is_calm : is_calm (client_event answer last) ≡ (rests || client_blocked answer)
+  client_is_calm = client_calm answer last ∙ ap (λ (b : Bool). b || client_blocked answer) (sym is)
+
+  pub client_leaves_none : (in_settle && rests) ≡ true → t ≡ s
+      → Leaves in_settle k (client_event answer last) s true t
+  client_leaves_none out same =
+      leaves_none in_settle k (client_event answer last) s t rests (client_blocked answer)
+      (client_left_out answer last ∙ sym is) client_is_calm out same
+
+  pub client_leaves_entry : (calm : Bool) → (in_settle && rests) ≡ false → calm ≡ (rests || client_blocked answer)
+      → Records k (client_event answer last) s t → Leaves in_settle k (client_event answer last) s calm t
+  client_leaves_entry calm told calm_is put =
+      leaves_entry in_settle k (client_event answer last) s t rests (client_blocked answer)
+      (client_left_out answer last ∙ sym is) client_is_calm calm told calm_is put
+
+module _ (in_settle : Bool) (k : ℕ) (answer : Option ServerOut) (s t : JournalState) (rests : Bool)
+    (is : rests ≡ server_rests answer) where
+  server_is_calm : is_calm (served_event answer) ≡ (rests || server_blocked answer)
+  server_is_calm = server_calm answer ∙ ap (λ (b : Bool). b || server_blocked answer) (sym is)
+
+  pub server_leaves_none : (in_settle && rests) ≡ true → t ≡ s → Leaves in_settle k (served_event answer) s true t
+  server_leaves_none out same =
+      leaves_none in_settle k (served_event answer) s t rests (server_blocked answer)
+      (server_left_out answer ∙ sym is) server_is_calm out same
+
+  pub server_leaves_entry : (calm : Bool) → (in_settle && rests) ≡ false → calm ≡ (rests || server_blocked answer)
+      → Records k (served_event answer) s t → Leaves in_settle k (served_event answer) s calm t
+  server_leaves_entry calm told calm_is put =
+      leaves_entry in_settle k (served_event answer) s t rests (server_blocked answer)
+      (server_left_out answer ∙ sym is) server_is_calm calm told calm_is put
