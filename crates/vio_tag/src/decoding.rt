@@ -1,10 +1,10 @@
 // From bytes to a message.
 
-ghost use Rattle.std.specs.Prelude.{◌≡◌, ◌≢◌, ◌-◌, ◌+◌, ◌*◌, ◌≤◌, ◌⊎◌, length, take, drop, replicate, Some, None, IfOk, IfErr, IfSome, IfNone, IsTrue, false};
+ghost use Rattle.std.specs.Prelude.{◌≡◌, ◌≢◌, ◌-◌, ◌+◌, ◌*◌, ◌≤◌, ◌⊎◌, length, take, drop, replicate, Some, None, OnOk, IfOk, IfErr, IfSome, IfNone, IsTrue, false};
 ghost use Rattle.vio_bytes.specs.Place.{number_at};
 ghost use Rattle.map_table.specs.Cookies.{cookies_at};
 ghost use Rattle.ldc_packet.specs.Spelling.{subtype_code};
-ghost use Rattle.vio_tag.specs.Decoding.{Decodes};
+ghost use Rattle.vio_tag.specs.Decoding.{Decodes, decoded};
 ghost use Rattle.vio_tag.specs.Fault.{body_fault, first_fault, is_subtype};
 ghost use Rattle.vio_tag.specs.Form.{HasForm, IsWellFormed, no_cookie};
 ghost use Rattle.vio_tag.specs.Spelling.{SpellsBodyOf, SpellsMessage, addresses_at, bytes_at, count_at, envelope_at, type_at};
@@ -36,12 +36,30 @@ pub fn decode(bytes: &[u8]) -> Result<Message, TagFault>
     ensures only { (message : Message) → IsWellFormed message → SpellsMessage bytes.now message → result ≡ Ok message }
     ensures refused { (fault : TagFault) → first_fault bytes.now ≡ Some fault → result ≡ Err fault }
 {
-    message_of(bytes)
+    let mut message = Message {
+        subtype: Subtype::Info,
+        sid: 0,
+        body: MsgBody::Rdx,
+    };
+    match decode_into(bytes, &mut message) {
+        Ok(()) => Ok(message),
+        Err(fault) => Err(fault),
+    }
 }
 
-fn message_of(bytes: &[u8]) -> Result<Message, TagFault>
-    ensures message { IfOk result (λ message. IsWellFormed message × SpellsMessage bytes.now message) }
-    ensures fault { IfErr result (λ fault. first_fault bytes.now ≡ Some fault) }
+/// The same, written over a message of the caller's. Behind a fault nothing is said of that.
+pub fn decode_into(bytes: &[u8], message: &mut Message) -> Result<(), TagFault>
+    ensures decodes { Decodes bytes.now (decoded result message.new) }
+    ensures only { (spelled : Message) → IsWellFormed spelled → SpellsMessage bytes.now spelled
+        → decoded result message.new ≡ Ok spelled }
+    ensures refused { (fault : TagFault) → first_fault bytes.now ≡ Some fault
+        → decoded result message.new ≡ Err fault }
+{
+    message_into(bytes, message)
+}
+
+fn message_into(bytes: &[u8], message: &mut Message) -> Result<(), TagFault>
+    ensures decodes { Decodes bytes.now (decoded result message.new) }
 {
     if bytes.len() < TAG_LENGTH {
         return Err(TagFault::Short);
@@ -53,9 +71,10 @@ fn message_of(bytes: &[u8]) -> Result<Message, TagFault>
     let Some(subtype) = subtype_of(get_field!(get_u8, TAG, bytes, STYPE)) else {
         return Err(TagFault::Subtype);
     };
-    let body = body_of(kind, bytes)?;
-    let sid = get_field!(get_u32, TAG, bytes, SID);
-    Ok(Message { subtype, sid, body })
+    body_into(kind, bytes, &mut message.body)?;
+    message.subtype = subtype;
+    message.sid = get_field!(get_u32, TAG, bytes, SID);
+    Ok(())
 }
 
 fn subtype_of(code: u8) -> Option<Subtype>
@@ -70,17 +89,28 @@ fn subtype_of(code: u8) -> Option<Subtype>
     }
 }
 
-fn body_of(kind: u8, bytes: &[u8]) -> Result<MsgBody, TagFault>
+fn body_into(kind: u8, bytes: &[u8], body: &mut MsgBody) -> Result<(), TagFault>
     requires long { 8 ≤ length bytes.now }
     requires of_type { (kind ≡ 1) ⊎ (kind ≡ 2) }
-    ensures body { IfOk result (λ body. HasForm body × SpellsBodyOf kind bytes.now body) }
+    ensures body { OnOk result (HasForm body.new × SpellsBodyOf kind bytes.now body.new) }
     ensures fault { IfErr result (λ fault. body_fault kind (envelope_at bytes.now) (count_at bytes.now) (length bytes.now) ≡ Some fault) }
 {
     if kind == VIO_TYPE_CTRL {
-        control_body(bytes)
+        control_into(bytes, body)
     } else {
-        data_body(bytes)
+        data_into(bytes, body)
     }
+}
+
+// Not within its caller, so that a message of the type DATA passes by the long locals of the others.
+#[inline(never)]
+fn control_into(bytes: &[u8], body: &mut MsgBody) -> Result<(), TagFault>
+    requires { 8 ≤ length bytes.now }
+    ensures body { OnOk result (HasForm body.new × SpellsBodyOf 1 bytes.now body.new) }
+    ensures fault { IfErr result (λ fault. body_fault 1 (envelope_at bytes.now) (count_at bytes.now) (length bytes.now) ≡ Some fault) }
+{
+    *body = control_body(bytes)?;
+    Ok(())
 }
 
 /// The body of a message of the type CTRL.
@@ -104,16 +134,17 @@ fn control_body(bytes: &[u8]) -> Result<MsgBody, TagFault>
 }
 
 /// The body of a message of the type DATA.
-fn data_body(bytes: &[u8]) -> Result<MsgBody, TagFault>
+fn data_into(bytes: &[u8], body: &mut MsgBody) -> Result<(), TagFault>
     requires { 8 ≤ length bytes.now }
-    ensures body { IfOk result (λ body. HasForm body × SpellsBodyOf 2 bytes.now body) }
+    ensures body { OnOk result (HasForm body.new × SpellsBodyOf 2 bytes.now body.new) }
     ensures fault { IfErr result (λ fault. body_fault 2 (envelope_at bytes.now) (count_at bytes.now) (length bytes.now) ≡ Some fault) }
 {
     match get_field!(get_u16, TAG, bytes, STYPE_ENV) {
-        envelope @ (VIO_PKT_DATA | VIO_DESC_DATA) => Ok(MsgBody::Plain { envelope }),
-        VIO_DRING_DATA => Ok(dring_data(whole(bytes)?)),
-        _ => Err(TagFault::Envelope),
+        envelope @ (VIO_PKT_DATA | VIO_DESC_DATA) => *body = MsgBody::Plain { envelope },
+        VIO_DRING_DATA => *body = dring_data(whole(bytes)?),
+        _ => return Err(TagFault::Envelope),
     }
+    Ok(())
 }
 
 /// All of the bytes, where they are 56.
