@@ -1,4 +1,5 @@
 pub mod Decoding
 pub mod Fault
 pub mod Form
+pub mod Parts
 pub mod Spelling

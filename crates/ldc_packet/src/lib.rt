@@ -10,12 +10,14 @@ mod flags;
 mod laws;
 mod layout;
 mod packet;
+mod part;
 
 pub use decoding::decode;
 pub use encoding::encode;
 pub use laws::{bytes_decode_once, spellings_are_unique};
 pub use layout::layouts_are_sound;
 pub use packet::{Body, Packet, PacketFault, Subtype};
+pub use part::{PartHead, encode_part, part_head, part_within};
 
 #[cfg(test)]
 mod tests;

@@ -64,3 +64,20 @@ fn the_first_fault_is_told(rt: HostRuntime) -> Result<(), Fail> {
     }
     Ok(())
 }
+
+#[test]
+fn parts_are_read_where_they_lie_and_written_again(rt: HostRuntime) -> Result<(), Fail> {
+    for (input, answer) in PACKETS.inputs.iter().zip(PACKETS.answers) {
+        let bytes = <[u8; 64] as FromHex>::from_hex(*input)?;
+        let Some(head) = part_head(&bytes) else {
+            assert_eq!(rt; bytes[0], 1, "{input}");
+            continue;
+        };
+        let part = part_within(&bytes, head.len);
+        assert_eq!(rt; part.len(), head.len as usize, "{input}");
+        let mut out = [0xff; 64];
+        encode_part(head, part, &mut out);
+        assert_eq!(rt; out, <[u8; 64] as FromHex>::from_hex(answer)?, "{input}");
+    }
+    Ok(())
+}
