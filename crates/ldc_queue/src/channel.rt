@@ -1,5 +1,6 @@
 ghost use Rattle.std.specs.Prelude.{◌≡◌, ◌≢◌, ◌+◌, ◌<◌, ◌≤◌, ◌↔◌, None, [], length, slice_get, IfOk, IsErr, OnErr, OnOk};
 ghost use Rattle.ldc_queue.specs.ChannelView.{channel_with, channel_without_first, closed_channel, configured_channel, fresh_channel, receive_queue, transmit_queue, HasRoom, IsFull};
+ghost use Rattle.ldc_queue.specs.Waiting.{taken_out};
 ghost use Rattle.ldc_queue.specs.Wire.{peer_of, state_of, waiting_for};
 ghost use Rattle.ldc_queue.specs.declared.end.ChannelState.TheVariants.{Up};
 
@@ -134,6 +135,24 @@ impl Channel {
             return Err(NotUp);
         }
         Ok(self.lose(end))
+    }
+
+    /// The same, where the packet is written over the caller's, which stays if none waits. It tells whether one did.
+    pub fn take_into(&mut self, end: End, packet: &mut [u8; 64]) -> Result<bool, NotUp>
+        ensures not_up { IsErr result ↔ (state_of end self.old.wire ≢ Up) }
+        ensures up { OnOk result (state_of end self.old.wire ≡ Up) }
+        ensures first { IfOk result (λ took. taken_out took packet.new ≡ slice_get (waiting_for end self.old.wire) 0) }
+        ensures gone { OnOk result (self.new ≡ channel_without_first end self.old) }
+        ensures refused { OnErr result (self.new ≡ self.old) }
+    {
+        if self.state(end) != ChannelState::Up {
+            return Err(NotUp);
+        }
+        let took = match end {
+            End::A => self.to_a.pop_into(packet),
+            End::B => self.to_b.pop_into(packet),
+        };
+        Ok(took)
     }
 
     /// How many packets wait for the end.

@@ -1,7 +1,7 @@
 // One of a channel's two queues.
 
 ghost use Rattle.std.specs.Prelude.{◌≡◌, ◌+◌, ◌<◌, ◌≤◌, ◌↔◌, [], ◌∷◌, ◌++◌, drop, length, slice_get, IfOk, IsOk, OnErr, OnOk};
-ghost use Rattle.ldc_queue.specs.Waiting.{head_past, tail_place};
+ghost use Rattle.ldc_queue.specs.Waiting.{head_past, tail_place, taken_out};
 
 use circular_buffer::HeapCircularBuffer;
 use std::alloc::Global;
@@ -123,5 +123,23 @@ impl Queue {
             }
             None => None,
         }
+    }
+
+    /// The same, where the packet is written over the caller's, which stays if none waits. It tells whether one did.
+    pub(crate) fn pop_into(&mut self, packet: &mut [u8; 64]) -> bool
+        ensures first { taken_out result packet.new ≡ slice_get self.old.packets 0 }
+        ensures rest { self.new ≡ record {
+          packets = drop 1 self.old.packets;
+          head = head_past self.old.entries self.old.head self.old.packets;
+          entries = self.old.entries;
+        } }
+    {
+        match self.packets.front() {
+            Some(first) => *packet = *first,
+            None => return false,
+        }
+        let _first = self.packets.pop_front();
+        self.head = (self.head + PACKET) % (PACKET * self.entries);
+        true
     }
 }
