@@ -1,16 +1,18 @@
-ghost use Rattle.std.specs.Prelude.{◌≡◌, ◌≢◌, ◌≤◌, ◌↔◌, None, false, true, [], length, drop, ◌<◌, IfSome, IsErr, OnErr, OnOk};
+ghost use Rattle.std.specs.Prelude.{◌≡◌, ◌≢◌, ◌≤◌, ◌↔◌, None, false, true, [], length, drop, ◌<◌, is_some, IfSome, IsErr, OnErr, OnOk};
 ghost use Rattle.std.specs.Option.{option_copied};
 ghost use Rattle.ldc_packet.specs.Form.{IsWellFormed};
+ghost use Rattle.ldc_packet.specs.Parts.{part_packet};
+ghost use Rattle.ldc_packet.specs.Spelling.{canonical};
 ghost use Rattle.ldc_queue.specs.ChannelView.{configured_channel};
 ghost use Rattle.ldc_queue.specs.Wire.{state_of};
 ghost use Rattle.ldc_queue.specs.declared.end.ChannelState.TheVariants.{Up};
 
-use crate::answers::{Busy, SendOut, TakeOut};
+use crate::answers::{Busy, SendOut, Sending, TakeOut, Taking};
 use crate::handshake::{MAJOR, MODE, first_phase};
-use crate::packets::{PART, info, part_bytes, version};
+use crate::packets::{PART, info, version};
 use crate::phase::{LinkPhase, Role};
 use arrayvec::ArrayVec;
-use ldc_packet::{Body, Packet, Subtype, encode};
+use ldc_packet::{Body, Packet, PartHead, Subtype, encode, encode_part};
 use ldc_queue::{Channel, End, PutFault};
 use std::marker::Model;
 use vio_tag::Cause;
@@ -51,7 +53,7 @@ impl Model for Link {
 }
 
 impl Link {
-    ghost use Rattle.ldc_link.specs.Calls.{Sends, Takes};
+    ghost use Rattle.ldc_link.specs.Calls.{Sends, Takes, send_out, take_out};
     ghost use Rattle.ldc_link.specs.LinkState.{cleared, fresh_link, is_up, joined_link, offered};
     ghost use Rattle.ldc_link.specs.Putting.{owes, owes_control};
 
@@ -121,10 +123,15 @@ impl Link {
     }
 
     /// Whether any packet is to be put.
+    #[tactic(auto, using(crate::proofs::Owing::owes_up, crate::proofs::Owing::owes_down))]
     pub fn owes(&self) -> bool
         ensures { result ≡ owes self.now }
     {
-        self.owed_packet().is_some()
+        if self.is_up() {
+            self.owes_part()
+        } else {
+            self.phase.owes()
+        }
     }
 
     /// Puts the packet that is owed, if any and if there is room: that of the handshake, or else the next part of the offered message.
@@ -132,17 +139,30 @@ impl Link {
         requires { state_of end channel.old.wire ≡ Up }
         ensures { Sends end self.old channel.old result self.new channel.new }
     {
-        let Some(packet) = self.owed_packet() else {
-            return SendOut::Nothing;
-        };
-        let mut bytes = [0; 64];
-        encode(&packet, &mut bytes);
-        match channel.put(end, &bytes) {
+        let mut packet = [0; 64];
+        match self.send_into(channel, end, &mut packet) {
+            Sending::Nothing => SendOut::Nothing,
+            Sending::Blocked => SendOut::Blocked,
+            Sending::Sent => SendOut::Sent(packet),
+        }
+    }
+
+    /// The same, where the packet is written over the caller's. It has no meaning unless it was put.
+    #[tactic(auto, using(crate::proofs::Owing::puts_owed, crate::proofs::Owing::nothing_put))]
+    pub fn send_into(&mut self, channel: &mut Channel, end: End, packet: &mut [u8; 64]) -> Sending
+        requires { state_of end channel.old.wire ≡ Up }
+        ensures { Sends end self.old channel.old (send_out result packet.new) self.new channel.new }
+    {
+        if !self.owes() {
+            return Sending::Nothing;
+        }
+        self.write_owed(packet);
+        match channel.put(end, packet) {
             Ok(()) => {
                 self.note_put();
-                SendOut::Sent(bytes)
+                Sending::Sent
             }
-            Err(PutFault::Full) => SendOut::Blocked,
+            Err(PutFault::Full) => Sending::Blocked,
             Err(PutFault::NotUp) => unreachable!(),
         }
     }
@@ -155,13 +175,25 @@ impl Link {
         requires no_message { self.old.whole ≡ None }
         ensures { Takes end self.old channel.old result self.new channel.new }
     {
-        let Ok(Some(packet)) = channel.take(end) else {
-            return TakeOut::Nothing;
-        };
-        match self.take_bytes(&packet) {
-            Ok(()) => TakeOut::Took(packet),
-            Err(cause) => TakeOut::Fault { packet, cause },
+        let mut packet = [0; 64];
+        match self.take_into(channel, end, &mut packet) {
+            Taking::Nothing => TakeOut::Nothing,
+            Taking::Took => TakeOut::Took(packet),
+            Taking::Fault(cause) => TakeOut::Fault { packet, cause },
         }
+    }
+
+    /// The same, where the packet is written over the caller's, which stays if none waits.
+    pub fn take_into(&mut self, channel: &mut Channel, end: End, packet: &mut [u8; 64]) -> Taking
+        requires up { state_of end channel.old.wire ≡ Up }
+        requires nothing_owed { owes_control self.old ≡ false }
+        requires no_message { self.old.whole ≡ None }
+        ensures { Takes end self.old channel.old (take_out result packet.new) self.new channel.new }
+    {
+        if channel.waiting(end) == 0 {
+            return Taking::Nothing;
+        }
+        self.take_first(channel, end, packet)
     }
 
     /// The message that is whole, until `clear_message`.
@@ -207,11 +239,74 @@ impl Link {
 
 // What a link puts.
 impl Link {
-    ghost use Rattle.ldc_link.specs.LinkState.{next_number};
-    ghost use Rattle.ldc_link.specs.Putting.{behind_put, first_part, has_more, owed_packet, part_owed};
+    ghost use Rattle.ldc_link.specs.LinkState.{is_up, next_number};
+    ghost use Rattle.ldc_link.specs.Putting.{behind_put, first_part, has_more, owed_packet, owes, part_owed};
 
-    // The packet that is owed, if any.
-    fn owed_packet(&self) -> Option<Packet>
+    // Whether a part of what was offered is left.
+    #[tactic(auto, using(crate::proofs::Owing::left_part, crate::proofs::Owing::none_left))]
+    fn owes_part(&self) -> bool
+        ensures { result ≡ is_some (part_owed self.now self.now.to_send) }
+    {
+        !self.left().is_empty()
+    }
+
+    // Writes the packet that is owed.
+    #[tactic(auto, using(crate::proofs::Owing::part_spelled))]
+    fn write_owed(&self, bytes: &mut [u8; 64])
+        requires { owes self.now ≡ true }
+        ensures { IfSome (owed_packet self.now) (λ packet. bytes.new ≡ canonical packet) }
+    {
+        if self.is_up() {
+            self.write_part(bytes);
+        } else {
+            self.write_control(bytes);
+        }
+    }
+
+    // Writes the next part of what was offered.
+    fn write_part(&self, bytes: &mut [u8; 64])
+        ensures { bytes.new ≡ canonical (first_part self.now) }
+    {
+        encode_part(self.head_of_part(), self.left(), bytes);
+    }
+
+    fn head_of_part(&self) -> PartHead
+        ensures packet { part_packet result self.now.to_send ≡ first_part self.now }
+        ensures within { result.len ≤ 56 }
+        ensures long { result.len ≤ length self.now.to_send }
+    {
+        let left = self.left().len();
+        PartHead {
+            seqid: self.put_next,
+            start: !self.begun,
+            stop: left <= PART,
+            len: left.min(PART) as u8,
+        }
+    }
+
+    fn left(&self) -> &[u8]
+        ensures { result.now ≡ self.now.to_send }
+    {
+        &self.offered.as_slice()[self.sent..]
+    }
+
+    // Writes the packet of the handshake that is owed. Not within its caller, so that a part passes by the packet that
+    // is made.
+    #[inline(never)]
+    fn write_control(&self, bytes: &mut [u8; 64])
+        requires owes { owes self.now ≡ true }
+        requires not_up { is_up self.now ≡ false }
+        ensures { IfSome (owed_packet self.now) (λ packet. bytes.new ≡ canonical packet) }
+    {
+        match self.owed_control() {
+            Some(packet) => encode(&packet, bytes),
+            None => unreachable!(),
+        }
+    }
+
+    // The packet of the handshake that is owed, if any.
+    fn owed_control(&self) -> Option<Packet>
+        requires { is_up self.now ≡ false }
         ensures packet { result ≡ owed_packet self.now }
         ensures form { IfSome result IsWellFormed }
     {
@@ -222,48 +317,12 @@ impl Link {
             LinkPhase::OwesRts => Some(info(0, Body::Rts { mode: MODE })),
             LinkPhase::OwesRtr => Some(info(0, Body::Rtr { mode: MODE })),
             LinkPhase::OwesRdx => Some(info(self.put_next, Body::Rdx)),
-            LinkPhase::Established => self.owed_part(),
+            LinkPhase::Established => unreachable!(),
             LinkPhase::AwaitsVersAck
             | LinkPhase::AwaitsRtr
             | LinkPhase::AwaitsVersInfo
             | LinkPhase::AwaitsRts
             | LinkPhase::AwaitsRdx => None,
-        }
-    }
-
-    // The next part of what was offered, if any is left.
-    #[tactic(auto, using(crate::proofs::Parts::part_owed_more))]
-    fn owed_part(&self) -> Option<Packet>
-        ensures packet { result ≡ part_owed self.now self.now.to_send }
-        ensures form { IfSome result IsWellFormed }
-    {
-        if self.left().is_empty() {
-            return None;
-        }
-        Some(self.first_part())
-    }
-
-    fn left(&self) -> &[u8]
-        ensures { result.now ≡ self.now.to_send }
-    {
-        &self.offered.as_slice()[self.sent..]
-    }
-
-    fn first_part(&self) -> Packet
-        requires { 0 < length self.now.to_send }
-        ensures packet { result ≡ first_part self.now }
-        ensures form { IsWellFormed result }
-    {
-        let left = self.left();
-        Packet {
-            subtype: Subtype::Info,
-            seqid: self.put_next,
-            body: Body::Part {
-                start: !self.begun,
-                stop: left.len() <= PART,
-                len: left.len().min(PART) as u8,
-                bytes: part_bytes(left),
-            },
         }
     }
 
@@ -294,5 +353,26 @@ impl Link {
         let left = self.offered.len() - self.sent;
         self.begun = left > PART;
         self.sent += left.min(PART);
+    }
+}
+
+// What a link takes.
+impl Link {
+    ghost use Rattle.ldc_link.specs.Calls.{Takes, take_out};
+
+    // Takes the packet that has waited longest. Not within its caller, so that where none waits nothing is done.
+    #[inline(never)]
+    fn take_first(&mut self, channel: &mut Channel, end: End, packet: &mut [u8; 64]) -> Taking
+        requires up { state_of end channel.old.wire ≡ Up }
+        requires no_message { self.old.whole ≡ None }
+        ensures { Takes end self.old channel.old (take_out result packet.new) self.new channel.new }
+    {
+        let Ok(true) = channel.take_into(end, packet) else {
+            return Taking::Nothing;
+        };
+        match self.take_bytes(packet) {
+            Ok(()) => Taking::Took,
+            Err(cause) => Taking::Fault(cause),
+        }
     }
 }

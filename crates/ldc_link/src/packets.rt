@@ -1,9 +1,9 @@
 // The packets that a link puts.
 
-ghost use Rattle.std.specs.Prelude.{◌≡◌, drop, length, min, replicate, ◌-◌};
+ghost use Rattle.std.specs.Prelude.{◌≡◌};
 ghost use Rattle.ldc_packet.specs.declared.packet.Body.TheVariants.{Vers};
 ghost use Rattle.ldc_packet.specs.declared.packet.Subtype.TheVariants.{Info};
-ghost use Rattle.ldc_link.specs.Putting.{control, part_bytes};
+ghost use Rattle.ldc_link.specs.Putting.{control};
 
 use crate::handshake::MINOR;
 use ldc_packet::{Body, Packet, Subtype};
@@ -34,16 +34,4 @@ pub(crate) fn version(subtype: Subtype, major: u16) -> Packet
             minor: MINOR,
         },
     }
-}
-
-/// The first 56 bytes of a message, with zeros behind them where there are fewer.
-pub(crate) fn part_bytes(message: &[u8]) -> [u8; 56]
-    ensures room { length result ≡ 56 }
-    ensures bytes { result ≡ part_bytes message.now }
-    ensures zeros { drop (min (length message.now) 56) result ≡ replicate (56 - min (length message.now) 56) 0 }
-{
-    let len = message.len().min(PART);
-    let mut part = [0; PART];
-    part[..len].copy_from_slice(&message[..len]);
-    part
 }

@@ -5,7 +5,7 @@ ghost use Rattle.ldc_packet.specs.Form.{IsWellFormed};
 
 use crate::link::Link;
 use crate::phase::LinkPhase;
-use ldc_packet::{Body, Packet, Subtype, decode};
+use ldc_packet::{Body, Packet, PartHead, Subtype, decode, part_head, part_within};
 use vio_tag::Cause;
 
 impl Link {
@@ -15,7 +15,22 @@ impl Link {
     ghost use Rattle.ldc_link.specs.Taking.{counted, goes_to, in_turn, link_take, phase_behind_rdx, takes_part, TakesBytes};
 
     /// Takes these bytes, or says why not.
+    #[tactic(auto, using(crate::proofs::Owing::part_taken))]
     pub(crate) fn take_bytes(&mut self, bytes: &[u8; 64]) -> Result<(), Cause>
+        requires { self.old.whole ≡ None }
+        ensures exact { TakesBytes self.old bytes.now (answer_of result self.new) }
+        ensures unchanged { OnErr result (self.new ≡ self.old) }
+    {
+        match part_head(bytes) {
+            Some(head) => self.take_part(head, part_within(bytes, head.len)),
+            None => self.take_other(bytes),
+        }
+    }
+
+    // Takes bytes that are no part, or says why not. Not within its caller, so that a part passes by the packet that is
+    // decoded.
+    #[inline(never)]
+    fn take_other(&mut self, bytes: &[u8; 64]) -> Result<(), Cause>
         requires { self.old.whole ≡ None }
         ensures exact { TakesBytes self.old bytes.now (answer_of result self.new) }
         ensures unchanged { OnErr result (self.new ≡ self.old) }
@@ -47,7 +62,15 @@ impl Link {
                 stop,
                 len,
                 bytes,
-            } => self.take_part(seqid, start, stop, &bytes[..len as usize]),
+            } => {
+                let head = PartHead {
+                    seqid,
+                    start,
+                    stop,
+                    len,
+                };
+                self.take_part(head, &bytes[..len as usize])
+            }
         }
     }
 
@@ -61,14 +84,15 @@ impl Link {
         Ok(())
     }
 
-    fn take_part(&mut self, seqid: u32, start: bool, stop: bool, bytes: &[u8]) -> Result<(), Cause>
+    fn take_part(&mut self, head: PartHead, bytes: &[u8]) -> Result<(), Cause>
         requires { self.old.whole ≡ None }
         ensures exact { answer_of result self.new
-            ≡ in_turn self.old seqid (takes_part self.old (record { start = start; stop = stop; bytes = bytes.now })) }
+            ≡ in_turn self.old head.seqid (takes_part self.old
+            (record { start = head.start; stop = head.stop; bytes = bytes.now })) }
         ensures unchanged { OnErr result (self.new ≡ self.old) }
     {
-        self.check_number(seqid)?;
-        self.hear(start, stop, bytes)?;
+        self.check_number(head.seqid)?;
+        self.hear(head.start, head.stop, bytes)?;
         self.count_taken();
         Ok(())
     }
