@@ -1,3 +1,4 @@
 pub mod Each
 pub mod Getting
 pub mod Putting
+pub mod Taken

@@ -1,5 +1,6 @@
 -- The map table: pages of its domain's memory that the other domain may copy from and to, each by its index.
-use Rattle.std.specs.Prelude.{ℕ, ◌+◌, ◌*◌, ◌^◌, ◌/◌, ◌%◌, List, ◌++◌, Bool, nat_le, if◌then◌else◌, Option, Some, None, Result, Ok, Err, replicate, slice_index_or, is_none, position}
+use Rattle.std.specs.Prelude.{ℕ, ◌+◌, ◌*◌, ◌^◌, ◌/◌, ◌%◌, ◌≤◌, List, ◌++◌, length, Bool, nat_le, if◌then◌else◌, Option, Some, None, Result, Ok, Err, replicate, slice_index_or, is_none, position}
+use Rattle.std.specs.List.{position_or_len}
 use Rattle.byteorder.specs.Endian.{big_bytes}
 use Rattle.map_table.specs.declared.table.Entry.{Entry}
 use Rattle.map_table.specs.declared.table.Spot.{Spot}
@@ -13,6 +14,15 @@ granted table index = slice_index_or table index None
 -- the least index that is free
 abbrev pub first_free : List (Option Entry) → Option ℕ
 first_free table = position is_none table
+
+-- no index below this one is free
+abbrev pub TakenBelow : ℕ → List (Option Entry) → Type 0
+TakenBelow index table = index ≤ position_or_len is_none table
+
+-- what always holds of a table and the index that it begins to look from
+pub record KeepsTaken (table : List (Option Entry)) (index : ℕ) : Type 0 where
+  pub few : length table ≤ 1028
+  pub taken : TakenBelow index table
 
 -- what stands at an address, whose page is granted there
 abbrev pub spot_in : ℕ → Option Entry → Result Spot LookFault

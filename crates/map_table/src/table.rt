@@ -1,7 +1,8 @@
 ghost use Rattle.std.specs.Prelude.{◌≡◌, ◌≢◌, ◌+◌, ◌*◌, ◌<◌, ◌≤◌, List, Option, Some, None, IfOk, OnErr, MatchResult, length, option_map, replicate, set};
 ghost use Rattle.map_table.specs.declared.rights.Rights.{Rights};
 ghost use Rattle.map_table.specs.declared.table.Entry.{Entry};
-ghost use Rattle.map_table.specs.Table.{entry_bytes, entry_word, first_free, granted, look_at, right_bit};
+ghost use Rattle.map_table.specs.Table.{KeepsTaken, TakenBelow, entry_bytes, entry_word, first_free, granted};
+ghost use Rattle.map_table.specs.Table.{look_at, right_bit};
 
 use crate::rights::Rights;
 use std::alloc::Global;
@@ -46,6 +47,8 @@ pub enum LookFault {
 #[derive(Drop)]
 pub struct MapTable {
     entries: Vec<Option<Entry>>,
+    /// No entry below this index is free.
+    taken: usize,
 }
 
 impl Model for MapTable {
@@ -53,7 +56,7 @@ impl Model for MapTable {
 
     ghost view = { λ t. t.entries.items };
 
-    ghost invariant = { λ t. length t.entries.items ≤ 1028 };
+    ghost invariant = { λ t. KeepsTaken t.entries.items t.taken };
 }
 
 const MTE_COPY_W: u64 = 0x400;
@@ -72,7 +75,7 @@ impl MapTable {
         ensures { IfOk result (λ t. t ≡ replicate entries None) }
     {
         let entries = vec![in alloc; None; entries as usize]?;
-        Ok(MapTable { entries })
+        Ok(MapTable { entries, taken: 0 })
     }
 
     /// Grants a page with these rights at the free entry with the least index, which is answered.
@@ -81,8 +84,9 @@ impl MapTable {
         ensures least { MatchResult result (λ index. first_free self.old ≡ Some index) (λ _. first_free self.old ≡ None) }
         ensures granted { MatchResult result (λ index. self.new ≡ set self.old index (Some (record { page = page; rights = rights }))) (λ _. self.new ≡ self.old) }
     {
-        let index = first_free(&self.entries).ok_or(TableFull)?;
+        let index = first_free_behind(&self.entries, self.taken).ok_or(TableFull)?;
         self.entries[index] = Some(Entry { page, rights });
+        self.taken = index + 1;
         Ok(index as u32)
     }
 
@@ -93,6 +97,7 @@ impl MapTable {
     {
         entry_at(&self.entries, index as u64).ok_or(Absent)?;
         self.entries[index as usize] = None;
+        self.taken = self.taken.min(index as usize);
         Ok(())
     }
 
@@ -121,6 +126,16 @@ impl MapTable {
         let entry = entry_at(&self.entries, index as u64)?;
         Some(entry_bytes(&entry))
     }
+}
+
+// The first free entry, looked for behind those that are taken.
+fn first_free_behind(entries: &[Option<Entry>], taken: usize) -> Option<usize>
+    requires within { taken ≤ length entries.now }
+    requires taken { TakenBelow taken entries.now }
+    ensures { result ≡ first_free entries.now }
+{
+    let behind = first_free(&entries[taken..])?;
+    Some(taken + behind)
 }
 
 fn first_free(entries: &[Option<Entry>]) -> Option<usize>
