@@ -65,6 +65,14 @@ entry_allows access (Some entry) = allows access entry.rights
 abbrev pub is_allowed : Access → List (Option Entry) → ℕ → Bool
 is_allowed access table address = entry_allows access (granted table (address / 8192))
 
+-- it has a page size code of 0 and its entry is granted
+abbrev pub is_found : List (Option Entry) → ℕ → Bool
+is_found table address = has_page address && is_mapped table address
+
+-- it has a page size code of 0 and its entry the right
+abbrev pub may_move : Access → List (Option Entry) → ℕ → Bool
+may_move access table address = has_page address && is_allowed access table address
+
 -- each is asked of all addresses before the next
 abbrev pub first_address_fault : Access → List (Option Entry) → List ℕ → Option CopyFault
 first_address_fault access table addresses =

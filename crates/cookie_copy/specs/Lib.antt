@@ -1,4 +1,5 @@
 pub mod Moved
 pub mod Faults
+pub mod OnePage
 pub mod Identity
 pub mod Following

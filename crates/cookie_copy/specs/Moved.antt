@@ -1,5 +1,5 @@
 -- The bytes of cookies, and what a copy moves of them.
-use Rattle.std.specs.Prelude.{ℕ, ◌+◌, ◌*◌, List, [], ◌∷◌, ◌++◌, length, map, set, slice_index, Option, Result, Ok, Err}
+use Rattle.std.specs.Prelude.{ℕ, ◌+◌, ◌-◌, ◌*◌, min, List, [], ◌∷◌, ◌++◌, length, map, set, slice_index, Option, Result, Ok, Err}
 use Rattle.std.specs.List.{range_with_len}
 use Rattle.vio_bytes.specs.Range.{range_at}
 use Rattle.map_table.specs.Table.{look_at}
@@ -37,6 +37,10 @@ moved_in table memory cookies offset n = range_at offset n (bytes_of table memor
 -- the addresses of those bytes
 abbrev pub moved_spots : List Cookie → ℕ → ℕ → List ℕ
 moved_spots cookies offset n = range_at offset n (spots cookies)
+
+-- the addresses of a cookie that a copy moves, which passes over some bytes and has n left to move
+abbrev pub part_spots : Cookie → ℕ → ℕ → List ℕ
+part_spots cookie skip n = range_with_len (cookie.address + skip) (min (cookie.size - skip) n)
 
 -- bytes written to places, one after another
 abbrev pub write_spots : List ℕ → List ℕ → List ℕ → List ℕ

@@ -1,44 +1,55 @@
-// What the addresses of a copy are asked, page by page.
+// What the addresses of a cookie are asked, page by page.
 
-ghost use Rattle.std.specs.Prelude.{◌≡◌, ◌+◌, ◌-◌, ◌^◌, ◌<◌, ◌≤◌, true, ◌&&◌, min};
+ghost use Rattle.std.specs.Prelude.{◌≡◌, ◌≢◌, ◌+◌, ◌^◌, ◌<◌, ◌≤◌, true, ◌&&◌, nat_le};
 ghost use Rattle.std.specs.List.{list_all, range_with_len};
-ghost use Rattle.cookie_copy.specs.Faults.{allows, has_page, is_allowed, is_mapped};
-ghost use Rattle.cookie_copy.specs.Moved.{moved_spots};
+ghost use Rattle.cookie_copy.specs.Faults.{allows, has_page, is_found, may_move};
 
 use crate::fault::Access;
-use crate::window::{Window, page_rest};
+use crate::window::page_rest;
 use map_table::{Cookie, MapTable, Rights};
 
 /// Addresses below it have the page size code 0.
 const TOP: u64 = 1 << 60;
 
-/// What is known of the addresses that were asked: whether the entries of all are granted, and whether
-/// all have the right.
+/// What is known of the addresses that were asked: whether all have the page size code 0, and whether
+/// beyond it the entries of all are granted, and have the right.
 #[derive(Clone, Copy)]
 pub(crate) struct Asked {
+    pub(crate) paged: bool,
     pub(crate) mapped: bool,
     pub(crate) allowed: bool,
 }
 
 impl Asked {
-    const NONE_YET: Asked = Asked {
+    /// Of no address.
+    pub(crate) const NONE_YET: Asked = Asked {
+        paged: true,
         mapped: true,
         allowed: true,
     };
 
-    fn and(self, more: Asked) -> Asked
+    const NO_PAGE: Asked = Asked {
+        paged: false,
+        mapped: false,
+        allowed: false,
+    };
+
+    /// What is known with more that was asked.
+    pub(crate) fn and(self, more: Asked) -> Asked
+        ensures paged { result.paged ≡ (self.paged && more.paged) }
         ensures mapped { result.mapped ≡ (self.mapped && more.mapped) }
         ensures allowed { result.allowed ≡ (self.allowed && more.allowed) }
     {
         Asked {
-            mapped: self.mapped && more.mapped,
-            allowed: self.allowed && more.allowed,
+            paged: self.paged & more.paged,
+            mapped: self.mapped & more.mapped,
+            allowed: self.allowed & more.allowed,
         }
     }
 }
 
 impl Access {
-    fn is_allowed(self, rights: Rights) -> bool
+    pub(crate) fn is_allowed(self, rights: Rights) -> bool
         ensures { result ≡ allows self rights }
     {
         match self {
@@ -48,58 +59,44 @@ impl Access {
     }
 }
 
-/// Whether the addresses of all bytes that are moved have the page size code 0.
-pub(crate) fn have_pages(cookies: &[Cookie], window: Window) -> bool
-    ensures { result ≡ list_all has_page (moved_spots cookies.now window.skip window.len) }
+/// Asks what is moved of a cookie, some bytes behind its first `skip`: its pages only where all of them
+/// have the page size code 0.
+pub(crate) fn ask_part(
+    access: Access,
+    table: &MapTable,
+    cookie: &Cookie,
+    skip: u64,
+    part: u64,
+) -> Asked
+    requires some { part ≢ 0 }
+    requires fits { skip + part < 2 ^ 64 }
+    ensures paged { result.paged ≡ list_all has_page (range_with_len (cookie.now.address + skip) part) }
+    ensures mapped { result.mapped ≡ list_all (is_found table.now) (range_with_len (cookie.now.address + skip) part) }
+    ensures allowed { result.allowed
+        ≡ list_all (may_move access table.now) (range_with_len (cookie.now.address + skip) part) }
 {
-    let mut window = window;
-    for cookie in cookies {
-        if !part_has_page(cookie, &window) {
-            return false;
-        }
-        window = window.behind(cookie);
+    if !ends_in_time(cookie.address, skip + part) {
+        return Asked::NO_PAGE;
     }
-    true
-}
-
-fn part_has_page(cookie: &Cookie, window: &Window) -> bool
-    ensures { result ≡ list_all has_page (range_with_len (cookie.now.address + window.now.skip) (min (cookie.now.size - window.now.skip) window.now.len)) }
-{
-    let part = window.part(cookie);
-    part == 0 || (cookie.address <= TOP && window.skip + part <= TOP - cookie.address)
-}
-
-/// Asks the entries of all bytes that are moved.
-pub(crate) fn ask(access: Access, table: &MapTable, cookies: &[Cookie], window: Window) -> Asked
-    requires { list_all has_page (moved_spots cookies.now window.skip window.len) ≡ true }
-    ensures mapped { result.mapped ≡ list_all (is_mapped table.now) (moved_spots cookies.now window.skip window.len) }
-    ensures allowed { result.allowed ≡ list_all (is_allowed access table.now) (moved_spots cookies.now window.skip window.len) }
-{
-    let mut window = window;
-    let mut asked = Asked::NONE_YET;
-    for cookie in cookies {
-        asked = asked.and(ask_cookie(access, table, cookie, &window));
-        window = window.behind(cookie);
+    let address = cookie.address + skip;
+    if part <= page_rest(address) {
+        return ask_page(access, table, address);
     }
-    asked
+    ask_pages(access, table, address, part)
 }
 
-fn ask_cookie(access: Access, table: &MapTable, cookie: &Cookie, window: &Window) -> Asked
-    requires { list_all has_page (range_with_len (cookie.now.address + window.now.skip) (min (cookie.now.size - window.now.skip) window.now.len)) ≡ true }
-    ensures mapped { result.mapped ≡ list_all (is_mapped table.now) (range_with_len (cookie.now.address + window.now.skip) (min (cookie.now.size - window.now.skip) window.now.len)) }
-    ensures allowed { result.allowed ≡ list_all (is_allowed access table.now) (range_with_len (cookie.now.address + window.now.skip) (min (cookie.now.size - window.now.skip) window.now.len)) }
+fn ends_in_time(address: u64, len: u64) -> bool
+    ensures { result ≡ nat_le (address + len) (2 ^ 60) }
 {
-    let part = window.part(cookie);
-    if part == 0 {
-        return Asked::NONE_YET;
-    }
-    ask_range(access, table, cookie.address + window.skip, part)
+    address <= TOP && len <= TOP - address
 }
 
-fn ask_range(access: Access, table: &MapTable, address: u64, len: u64) -> Asked
+#[inline(never)]
+fn ask_pages(access: Access, table: &MapTable, address: u64, len: u64) -> Asked
     requires { address + len ≤ 2 ^ 60 }
-    ensures mapped { result.mapped ≡ list_all (is_mapped table.now) (range_with_len address len) }
-    ensures allowed { result.allowed ≡ list_all (is_allowed access table.now) (range_with_len address len) }
+    ensures paged { result.paged ≡ true }
+    ensures mapped { result.mapped ≡ list_all (is_found table.now) (range_with_len address len) }
+    ensures allowed { result.allowed ≡ list_all (may_move access table.now) (range_with_len address len) }
 {
     let mut asked = Asked::NONE_YET;
     let mut done = 0;
@@ -112,15 +109,18 @@ fn ask_range(access: Access, table: &MapTable, address: u64, len: u64) -> Asked
 
 fn ask_page(access: Access, table: &MapTable, address: u64) -> Asked
     requires { address < 2 ^ 60 }
-    ensures mapped { result.mapped ≡ is_mapped table.now address }
-    ensures allowed { result.allowed ≡ is_allowed access table.now address }
+    ensures paged { result.paged ≡ true }
+    ensures mapped { result.mapped ≡ is_found table.now address }
+    ensures allowed { result.allowed ≡ may_move access table.now address }
 {
     match table.look(address) {
         Ok(spot) => Asked {
+            paged: true,
             mapped: true,
             allowed: access.is_allowed(spot.rights),
         },
         Err(_) => Asked {
+            paged: true,
             mapped: false,
             allowed: false,
         },

@@ -1,16 +1,16 @@
 // LDC copy.
 
-ghost use Rattle.std.specs.Prelude.{◌≡◌, ◌-◌, Some, None, MatchResult, length};
-ghost use Rattle.std.specs.List.{list_all};
-ghost use Rattle.cookie_copy.specs.Faults.{PagesWithin, both_up, first_copy_fault, held, is_aligned, is_aligned_cookie, is_up};
+ghost use Rattle.std.specs.Prelude.{◌≡◌, Some, None, MatchResult, length};
+ghost use Rattle.cookie_copy.specs.Faults.{PagesWithin, both_up, first_copy_fault, is_up};
 ghost use Rattle.cookie_copy.specs.Moved.{moved_in, moved_out};
 ghost use Rattle.cookie_copy.specs.declared.fault.Access.TheVariants.{Read, Write};
 
-use crate::asking::{ask, have_pages};
+use crate::checking::check;
 use crate::fault::{Access, CopyFault};
-use crate::reading::read_cookies;
+use crate::one_page::moves_in_page;
+use crate::reading::{read_cookies, read_page};
 use crate::window::Window;
-use crate::writing::write_cookies;
+use crate::writing::{write_cookies, write_page};
 use dom_memory::Memory;
 use ldc_queue::{Channel, ChannelState, End};
 use map_table::{Cookie, MapTable};
@@ -78,6 +78,39 @@ fn copy_in_where(
     ensures moved { MatchResult result (λ _. buf.new ≡ moved_in table.now memory.now cookies.now offset (length buf.old)) (λ _. buf.new ≡ buf.old) }
 {
     let len = buf.len() as u64;
+    match moves_in_page(
+        up,
+        Access::Read,
+        table,
+        cookies,
+        Window { skip: offset, len },
+    ) {
+        Some(address) => {
+            read_page(table, memory, address, buf);
+            Ok(())
+        }
+        None => copy_in_parts(up, table, memory, cookies, offset, buf),
+    }
+}
+
+#[inline(never)]
+fn copy_in_parts(
+    up: bool,
+    table: &MapTable,
+    memory: &Memory,
+    cookies: &[Cookie],
+    offset: u64,
+    buf: &mut [u8],
+) -> Result<(), CopyFault>
+    requires { PagesWithin table.now (length memory.now) }
+    ensures fault { MatchResult result
+        (λ _. first_copy_fault up Read table.now cookies.now offset (length buf.old) ≡ None)
+        (λ fault. first_copy_fault up Read table.now cookies.now offset (length buf.old) ≡ Some fault) }
+    ensures moved { MatchResult result
+        (λ _. buf.new ≡ moved_in table.now memory.now cookies.now offset (length buf.old))
+        (λ _. buf.new ≡ buf.old) }
+{
+    let len = buf.len() as u64;
     first_fault(up, Access::Read, table, cookies, offset, len)?;
     read_cookies(table, memory, cookies, offset, buf);
     Ok(())
@@ -94,6 +127,40 @@ fn copy_out_where(
     requires { PagesWithin table.now (length memory.old) }
     ensures fault { MatchResult result (λ _. first_copy_fault up Write table.now cookies.now offset (length bytes.now) ≡ None) (λ fault. first_copy_fault up Write table.now cookies.now offset (length bytes.now) ≡ Some fault) }
     ensures moved { MatchResult result (λ _. memory.new ≡ moved_out table.now memory.old cookies.now offset bytes.now) (λ _. memory.new ≡ memory.old) }
+    ensures same_length { length memory.new ≡ length memory.old }
+{
+    let len = bytes.len() as u64;
+    match moves_in_page(
+        up,
+        Access::Write,
+        table,
+        cookies,
+        Window { skip: offset, len },
+    ) {
+        Some(address) => {
+            write_page(table, memory, address, bytes);
+            Ok(())
+        }
+        None => copy_out_parts(up, table, memory, cookies, offset, bytes),
+    }
+}
+
+#[inline(never)]
+fn copy_out_parts(
+    up: bool,
+    table: &MapTable,
+    memory: &mut Memory,
+    cookies: &[Cookie],
+    offset: u64,
+    bytes: &[u8],
+) -> Result<(), CopyFault>
+    requires { PagesWithin table.now (length memory.old) }
+    ensures fault { MatchResult result
+        (λ _. first_copy_fault up Write table.now cookies.now offset (length bytes.now) ≡ None)
+        (λ fault. first_copy_fault up Write table.now cookies.now offset (length bytes.now) ≡ Some fault) }
+    ensures moved { MatchResult result
+        (λ _. memory.new ≡ moved_out table.now memory.old cookies.now offset bytes.now)
+        (λ _. memory.new ≡ memory.old) }
     ensures same_length { length memory.new ≡ length memory.old }
 {
     let len = bytes.len() as u64;
@@ -116,51 +183,22 @@ fn first_fault(
     if !up {
         return Err(CopyFault::Channel);
     }
-    if !is_aligned(cookies, offset, len) {
+    let window = Window { skip: offset, len };
+    let checked = check(access, table, cookies, window);
+    if !(offset % 8 == 0 && len % 8 == 0 && checked.aligned) {
         return Err(CopyFault::BadAlign);
     }
-    if lack(cookies, offset as u128 + len as u128) > 0 {
+    if checked.left.skip > 0 || checked.left.len > 0 {
         return Err(CopyFault::Short);
     }
-    let window = Window { skip: offset, len };
-    if !have_pages(cookies, window) {
+    if !checked.asked.paged {
         return Err(CopyFault::BadPage);
     }
-    let asked = ask(access, table, cookies, window);
-    if !asked.mapped {
+    if !checked.asked.mapped {
         return Err(CopyFault::NoMap);
     }
-    if !asked.allowed {
+    if !checked.asked.allowed {
         return Err(CopyFault::NoAccess);
     }
     Ok(())
-}
-
-fn is_aligned(cookies: &[Cookie], offset: u64, len: u64) -> bool
-    ensures { result ≡ is_aligned cookies.now offset len }
-{
-    offset % 8 == 0 && len % 8 == 0 && are_aligned(cookies)
-}
-
-fn are_aligned(cookies: &[Cookie]) -> bool
-    ensures { result ≡ list_all is_aligned_cookie cookies.now }
-{
-    cookies.iter().all(|cookie| is_aligned_cookie(cookie))
-}
-
-fn is_aligned_cookie(cookie: &Cookie) -> bool
-    ensures { result ≡ is_aligned_cookie cookie.now }
-{
-    cookie.address % 8 == 0 && cookie.size % 8 == 0
-}
-
-/// How many of so many bytes the cookies don't hold.
-fn lack(cookies: &[Cookie], wanted: u128) -> u128
-    ensures { result ≡ wanted - held cookies.now }
-{
-    let mut left = wanted;
-    for cookie in cookies {
-        left = left.saturating_sub(cookie.size as u128);
-    }
-    left
 }

@@ -6,8 +6,10 @@
 #![tactic(auto)]
 
 mod asking;
+mod checking;
 mod copying;
 mod fault;
+mod one_page;
 mod place;
 mod reading;
 mod window;

@@ -11,6 +11,7 @@ use dom_memory::Memory;
 use map_table::{Cookie, MapTable};
 
 /// Reads the bytes of the cookies from the offset on, as many as `buf` has.
+#[inline(never)]
 pub(crate) fn read_cookies(
     table: &MapTable,
     memory: &Memory,
@@ -28,6 +29,9 @@ pub(crate) fn read_cookies(
     };
     let mut done = 0;
     for cookie in cookies {
+        if window.len == 0 {
+            return;
+        }
         let end = done + window.part(cookie) as usize;
         read_part(table, memory, cookie, &window, &mut buf[done..end]);
         done = end;
@@ -62,7 +66,8 @@ fn read_addresses(table: &MapTable, memory: &Memory, address: u64, buf: &mut [u8
     }
 }
 
-fn read_page(table: &MapTable, memory: &Memory, address: u64, buf: &mut [u8])
+/// Reads bytes of one page.
+pub(crate) fn read_page(table: &MapTable, memory: &Memory, address: u64, buf: &mut [u8])
     requires within { PagesWithin table.now (length memory.now) }
     requires below { address + length buf.old ≤ 2 ^ 60 }
     requires some { address < 2 ^ 60 }

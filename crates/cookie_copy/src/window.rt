@@ -1,6 +1,6 @@
 // The part of cookies that a copy moves.
 
-ghost use Rattle.std.specs.Prelude.{◌≡◌, ◌+◌, ◌-◌, ◌%◌, ◌^◌, ◌<◌, min};
+ghost use Rattle.std.specs.Prelude.{◌≡◌, ◌+◌, ◌-◌, ◌%◌, ◌^◌, ◌<◌, ◌↔◌, IsTrue, min};
 
 use map_table::Cookie;
 
@@ -12,12 +12,33 @@ pub(crate) struct Window {
 }
 
 impl Window {
+    /// Whether it moves no byte of a cookie.
+    pub(crate) fn misses(&self, cookie: &Cookie) -> bool
+        ensures { IsTrue result ↔ (min (cookie.now.size - self.now.skip) self.now.len ≡ 0) }
+    {
+        cookie.size <= self.skip || self.len == 0
+    }
+
     /// How many bytes of a cookie it moves.
     pub(crate) fn part(&self, cookie: &Cookie) -> u64
         ensures part { result ≡ min (cookie.now.size - self.now.skip) self.now.len }
         ensures fits { 0 < result → self.now.skip + result < 2 ^ 64 }
     {
         cookie.size.saturating_sub(self.skip).min(self.len)
+    }
+
+    /// What is left to do behind a cookie of which it moves no byte.
+    pub(crate) fn past(&self, cookie: &Cookie) -> Window
+        requires { min (cookie.now.size - self.now.skip) self.now.len ≡ 0 }
+        ensures { result ≡ record {
+          skip = self.now.skip - cookie.now.size;
+          len = self.now.len - (cookie.now.size - self.now.skip);
+        } }
+    {
+        Window {
+            skip: self.skip.saturating_sub(cookie.size),
+            len: self.len,
+        }
     }
 
     /// What is left to do behind a cookie.

@@ -11,6 +11,7 @@ use dom_memory::Memory;
 use map_table::{Cookie, MapTable};
 
 /// Writes the bytes in the place of those of the cookies from the offset on.
+#[inline(never)]
 pub(crate) fn write_cookies(
     table: &MapTable,
     memory: &mut Memory,
@@ -29,6 +30,9 @@ pub(crate) fn write_cookies(
     };
     let mut done = 0;
     for cookie in cookies {
+        if window.len == 0 {
+            return;
+        }
         let end = done + window.part(cookie) as usize;
         write_part(table, memory, cookie, &window, &bytes[done..end]);
         done = end;
@@ -65,7 +69,8 @@ fn write_addresses(table: &MapTable, memory: &mut Memory, address: u64, bytes: &
     }
 }
 
-fn write_page(table: &MapTable, memory: &mut Memory, address: u64, bytes: &[u8])
+/// Writes bytes of one page.
+pub(crate) fn write_page(table: &MapTable, memory: &mut Memory, address: u64, bytes: &[u8])
     requires within { PagesWithin table.now (length memory.old) }
     requires below { address + length bytes.now ≤ 2 ^ 60 }
     requires some { address < 2 ^ 60 }

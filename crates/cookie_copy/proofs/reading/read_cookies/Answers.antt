@@ -7,7 +7,7 @@ use Rattle.map_table.specs.declared.cookie.Cookie.{Cookie}
 use Rattle.cookie_copy.specs.declared.window.Window.{Window}
 use Rattle.cookie_copy.specs.Faults.{has_page, is_mapped}
 use Rattle.cookie_copy.specs.Moved.{byte_of, moved_spots}
-use Rattle.cookie_copy.proofs.Addresses.{moved_at, moved_end, passed_cookie}
+use Rattle.cookie_copy.proofs.Addresses.{moved_at, moved_end, moved_none, passed_cookie}
 use Rattle.cookie_copy.proofs.Walking.{length-moved}
 use Rattle.cookie_copy.proofs.Steps.{in_end}
 use Rattle.cookie_copy.proofs.Loops.{in_on, mid_long, moved_map, part_long}
@@ -85,5 +85,19 @@ returns c =
     let all : List ℕ = map f (moved_spots cookies c.args.offset n) in
     let long : length all ≡ length buf = length-map (moved_spots cookies c.args.offset n) f ∙ length-moved cookies c.args.offset n c.requires.can.holds ∙ sym same in
     in_end f c.loop-cookie.done (moved_spots (drop c.loop-cookie.cookie-index cookies) w.skip w.len) buf all (moved_end cookies c.loop-cookie.cookie-index w.skip w.len c.loop-cookie-test.false)
+    (omega (arith, c.loop-cookie.invariant.left)) long (c.loop-cookie.invariant.moved ∙ ap (λ (m : ℕ). map f (moved_spots cookies c.args.offset m)) same)
+    ∙ moved_map f cookies c.args.offset n
+
+pub returns-then-window-eq0 : goal.returns-then-window-eq0
+returns-then-window-eq0 c =
+    let f : ℕ → ℕ = byte_of c.args.table.now c.args.memory.now in
+    let cookies : List Cookie = c.args.cookies.now in
+    let w : Window = c.loop-cookie.window in
+    let buf = c.loop-cookie.buf in
+    let n = length c.args.buf.now in
+    let same : length buf ≡ n = omega arith in
+    let all : List ℕ = map f (moved_spots cookies c.args.offset n) in
+    let long : length all ≡ length buf = length-map (moved_spots cookies c.args.offset n) f ∙ length-moved cookies c.args.offset n c.requires.can.holds ∙ sym same in
+    in_end f c.loop-cookie.done (moved_spots (drop c.loop-cookie.cookie-index cookies) w.skip w.len) buf all (moved_none (drop c.loop-cookie.cookie-index cookies) w.skip w.len c.if-window-eq0.true)
     (omega (arith, c.loop-cookie.invariant.left)) long (c.loop-cookie.invariant.moved ∙ ap (λ (m : ℕ). map f (moved_spots cookies c.args.offset m)) same)
     ∙ moved_map f cookies c.args.offset n
