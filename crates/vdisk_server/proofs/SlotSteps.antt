@@ -11,7 +11,6 @@ use Rattle.dring.specs.Slots.{ready_state}
 use Rattle.ldc_queue.specs.ChannelView.{ChannelView}
 use Rattle.map_table.specs.declared.table.Entry.{Entry}
 use Rattle.vdisk_msg.specs.Descriptor.{disk_desc_of}
-use Rattle.vio_handshake.specs.declared.session.Session.{Session}
 use Rattle.vio_tag.specs.declared.cause.Cause.{Cause}
 use Rattle.vio_tag.specs.declared.cause.Cause.TheVariants as the_cause
 use Rattle.disk_steps.specs.Ranges.{wrapped}
@@ -25,10 +24,10 @@ use Rattle.vdisk_server.specs.Answering.{StepsIn, reach_over, sees}
 use Rattle.vdisk_server.specs.Pieces.{EndedFor, Fetched, IsEnding}
 
 -- the slot of a number
-pub slot_is : (n slot : ℕ) (known agreed : Session) → known ≡ agreed → slot ≡ (n - 0) % known.peer_slots → slot ≡ n % agreed.peer_slots
+pub slot_is : (n slot known agreed : ℕ) → known ≡ agreed → slot ≡ (n - 0) % known → slot ≡ n % agreed
 slot_is n slot known agreed same is =
     let none : n - 0 ≡ n = omega arith in
-    is ∙ ap (λ (k : ℕ). k % known.peer_slots) none ∙ ap (λ (session : Session). n % session.peer_slots) same
+    is ∙ ap (λ (k : ℕ). k % known) none ∙ ap (λ (slots : ℕ). n % slots) same
 
 -- at the front of a slot
 front_fault : (s : ServerState) (reach : Reach) (slot : ℕ) (ring : PeerRing) (fault : Option CopyFault) → ring ≡ peer_ring s

@@ -115,13 +115,14 @@ impl ServerEnd {
         channel: &mut Channel,
         cause: Cause,
         packet: Option<[u8; 64]>,
-    ) -> ServerOut
-        ensures answer { result ≡ ServerOut.Reset cause packet }
+        out: &mut ServerOut,
+    )
+        ensures answer { out.new ≡ ServerOut.Reset cause packet }
         ensures state { state_of self.new ≡ joined_server (state_of self.old) }
         ensures channel { channel.new ≡ configured_channel B channel.old }
     {
         self.begin_anew(channel);
-        ServerOut::Reset { cause, packet }
+        *out = ServerOut::Reset { cause, packet };
     }
 
     /// What the handshake agreed on, while the session is open.
@@ -133,6 +134,14 @@ impl ServerEnd {
             Some(session) => session,
             None => unreachable!(),
         }
+    }
+
+    /// The slots of the client's ring.
+    pub fn peer_slots(&self) -> u32
+        requires { self.now.shake.phase ≡ Open }
+        ensures { result ≡ self.now.shake.draft.peer_slots }
+    {
+        self.agreed().peer_slots
     }
 
     /// The client's ring.

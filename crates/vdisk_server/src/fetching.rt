@@ -3,8 +3,6 @@
 ghost use Rattle.std.specs.Prelude.{◌≡◌, ◌≤◌, ◌%◌, ◌<◌, length, None, Some};
 ghost use Rattle.cookie_copy.specs.Faults.{PagesWithin};
 ghost use Rattle.vio_handshake.specs.declared.handshake.Phase.TheVariants.{Open};
-ghost use Rattle.vdisk_msg.specs.Descriptor.{disk_desc_of};
-ghost use Rattle.vdisk_msg.specs.Requested.{header};
 ghost use Rattle.disk_steps.specs.ServerRule.{Fetches, server_rule};
 ghost use Rattle.disk_steps.specs.ServerWork.{cause_of, copy_number, slot_at};
 ghost use Rattle.vdisk_server.specs.Answering.{SameDisk, StepsIn, channel_after, reach_over, sees};
@@ -12,7 +10,7 @@ ghost use Rattle.vdisk_server.specs.Fields.{ring_session, state_of};
 ghost use Rattle.vdisk_server.specs.Pieces.{FetchedOr};
 
 use crate::answers::ServerOut;
-use crate::descriptor::Descriptor;
+use crate::descriptor::header_of;
 use crate::end::ServerEnd;
 use crate::session::RingSession;
 use crate::work::Work;
@@ -21,7 +19,6 @@ use dom_memory::Memory;
 use dring::{RingFault, VIO_DESC_ACCEPTED, fetch, mark, slot_of};
 use ldc_queue::{Channel, End};
 use map_table::MapTable;
-use vio_bytes::put_u8;
 use vio_tag::Cause;
 
 /// The bytes of a descriptor's slot.
@@ -35,41 +32,44 @@ impl ServerEnd {
         channel: &mut Channel,
         table: &MapTable,
         memory: &mut Memory,
-    ) -> ServerOut
+        out: &mut ServerOut,
+    )
         requires open { self.old.shake.phase ≡ Open }
         requires some { 0 < self.old.shake.draft.peer_slots }
         requires few { self.old.shake.draft.peer_slots ≤ 256 }
         requires cookies { self.old.shake.draft.peer_count ≤ 14 }
         requires rule { server_rule (state_of self.old) (sees channel.old) ≡ Fetches (ring_session session) }
         requires pages { PagesWithin table.now (length memory.old) }
-        ensures step { StepsIn (state_of self.old) channel.old table.now memory.old result (state_of self.new) memory.new }
-        ensures channel { channel.new ≡ channel_after result channel.old }
+        ensures step { StepsIn (state_of self.old) channel.old table.now memory.old out.new (state_of self.new) memory.new }
+        ensures channel { channel.new ≡ channel_after out.new channel.old }
         ensures same_length { length memory.new ≡ length memory.old }
         ensures disk { SameDisk (state_of self.old) (state_of self.new) }
     {
-        let slot = slot_of(session.fetched, 0, self.agreed().peer_slots);
-        match self.fetch_ready(slot, channel, table, memory) {
-            Ok(descriptor) => {
-                let bytes = *descriptor.bytes();
+        let slot = slot_of(session.fetched, 0, self.peer_slots());
+        match &self.fetch_ready(slot, channel, table, memory) {
+            Ok(bytes) => {
+                *out = ServerOut::Desc {
+                    slot,
+                    bytes: *bytes,
+                };
                 self.session = Some(RingSession {
                     fetched: session.fetched.wrapping_add(1),
                     ..session
                 });
-                self.work = Some(Work::begin(descriptor, self.region.blocks));
-                ServerOut::Desc { slot, bytes }
+                self.work = Some(Work::begin(bytes, self.region.blocks));
             }
-            Err(cause) => self.reset_for(channel, cause, None),
+            Err(cause) => self.reset_for(channel, *cause, None, out),
         }
     }
 
-    // A descriptor that is READY, marked ACCEPTED.
+    // The bytes of a descriptor that is READY, marked ACCEPTED.
     fn fetch_ready(
         &self,
         slot: u32,
         channel: &Channel,
         table: &MapTable,
         memory: &mut Memory,
-    ) -> Result<Descriptor, Cause>
+    ) -> Result<[u8; SLOT], Cause>
         requires open { self.now.shake.phase ≡ Open }
         requires slot { slot < self.now.shake.draft.peer_slots }
         requires few { self.now.shake.draft.peer_slots ≤ 256 }
@@ -79,26 +79,16 @@ impl ServerEnd {
         ensures same_length { length memory.new ≡ length memory.old }
     {
         let ring = self.peer_ring();
-        let descriptor = match fetch::<SLOT>(channel, End::B, table, memory, &ring, slot) {
-            Ok(bytes) => Descriptor::new(bytes),
+        let bytes = match fetch::<SLOT>(channel, End::B, table, memory, &ring, slot) {
+            Ok(bytes) => bytes,
             Err(fault) => return Err(cause_of(slot, fault)),
         };
-        let header = header_of(VIO_DESC_ACCEPTED, &descriptor);
+        let header = header_of(VIO_DESC_ACCEPTED, &bytes);
         match mark::<SLOT>(channel, End::B, table, memory, &ring, slot, header) {
-            Ok(()) => Ok(descriptor),
+            Ok(()) => Ok(bytes),
             Err(fault) => Err(Cause::Copy(copy_number(fault))),
         }
     }
-}
-
-/// The header of a state, with the ack as it was fetched.
-pub(crate) fn header_of(state: u8, descriptor: &Descriptor) -> [u8; 8]
-    ensures { result ≡ header state (disk_desc_of descriptor.now).ack }
-{
-    let mut header = [0; 8];
-    put_u8(&mut header, 0, state);
-    put_u8(&mut header, 1, descriptor.desc().ack);
-    header
 }
 
 fn cause_of(slot: u32, fault: RingFault) -> Cause

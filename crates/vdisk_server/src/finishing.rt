@@ -12,7 +12,7 @@ ghost use Rattle.vdisk_server.specs.Pieces.{EndedFor, IsEnding};
 use crate::answers::ServerOut;
 use crate::descriptor::Descriptor;
 use crate::end::ServerEnd;
-use crate::fetching::{SLOT, copy_number, header_of};
+use crate::fetching::{SLOT, copy_number};
 use crate::session::RingSession;
 use dom_memory::Memory;
 use dring::{VIO_DESC_DONE, mark, put_word, slot_of};
@@ -33,7 +33,8 @@ impl ServerEnd {
         channel: &mut Channel,
         table: &MapTable,
         memory: &mut Memory,
-    ) -> ServerOut
+        out: &mut ServerOut,
+    )
         requires open { self.old.shake.phase ≡ Open }
         requires some { 0 < self.old.shake.draft.peer_slots }
         requires few { self.old.shake.draft.peer_slots ≤ 256 }
@@ -41,12 +42,12 @@ impl ServerEnd {
         requires rule { server_rule (state_of self.old) (sees channel.old) ≡ serves (ring_session session) (state_of self.old).work }
         requires ends { IsEnding (state_of self.old).work status }
         requires pages { PagesWithin table.now (length memory.old) }
-        ensures step { StepsIn (state_of self.old) channel.old table.now memory.old result (state_of self.new) memory.new }
-        ensures channel { channel.new ≡ channel_after result channel.old }
+        ensures step { StepsIn (state_of self.old) channel.old table.now memory.old out.new (state_of self.new) memory.new }
+        ensures channel { channel.new ≡ channel_after out.new channel.old }
         ensures same_length { length memory.new ≡ length memory.old }
         ensures disk { SameDisk (state_of self.old) (state_of self.new) }
     {
-        let slot = slot_of(session.finished, 0, self.agreed().peer_slots);
+        let slot = slot_of(session.finished, 0, self.peer_slots());
         match self.end_slot(slot, status, channel, table, memory) {
             Ok(()) => {
                 self.session = Some(RingSession {
@@ -54,9 +55,9 @@ impl ServerEnd {
                     ..session
                 });
                 self.work = None;
-                ServerOut::Finished { slot, status }
+                *out = ServerOut::Finished { slot, status };
             }
-            Err(cause) => self.reset_for(channel, cause, None),
+            Err(cause) => self.reset_for(channel, cause, None, out),
         }
     }
 
@@ -97,7 +98,7 @@ impl ServerEnd {
             Ok(()) => {}
             Err(fault) => return Err(Cause::Copy(copy_number(fault))),
         }
-        let header = header_of(VIO_DESC_DONE, descriptor);
+        let header = descriptor.header(VIO_DESC_DONE);
         match mark::<SLOT>(channel, End::B, table, memory, &ring, slot, header) {
             Ok(()) => Ok(()),
             Err(fault) => Err(Cause::Copy(copy_number(fault))),

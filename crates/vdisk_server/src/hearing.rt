@@ -5,7 +5,7 @@ ghost use Rattle.ldc_link.specs.LinkState.{cleared};
 ghost use Rattle.ldc_link.specs.declared.phase.Role.TheVariants.{Responder};
 ghost use Rattle.vio_handshake.specs.Rules.{shake_take};
 ghost use Rattle.vio_handshake.specs.declared.handshake.Phase.TheVariants.{Down, Open};
-ghost use Rattle.disk_steps.specs.ServerTaking.{GoesOn, HearsWhole, Resets, asked, by_handshake, hears_message, takes_info};
+ghost use Rattle.disk_steps.specs.ServerTaking.{GoesOn, HearsWhole, Resets, asked, by_handshake, hears_message, reads, takes_info};
 ghost use Rattle.disk_steps.specs.ServerState.{joined_server};
 ghost use Rattle.vdisk_server.specs.Answering.{SameDisk};
 ghost use Rattle.vdisk_server.specs.Fields.{ring_session, slot_range, state_of};
@@ -29,9 +29,8 @@ impl ServerEnd {
         ensures disk { SameDisk (state_of self.old) (state_of self.new) }
     {
         self.rise(was_up);
-        match self.whole_message() {
-            Some(Ok(message)) => self.hear_message(&message),
-            Some(Err(fault)) => Err(Cause::Tag(fault)),
+        match &self.whole_message() {
+            Some(decoded) => self.hear_decoded(decoded),
             None => Ok(false),
         }
     }
@@ -57,6 +56,18 @@ impl ServerEnd {
         decoded
     }
 
+    fn hear_decoded(&mut self, decoded: &Result<Message, TagFault>) -> Result<bool, Cause>
+        requires { CanHear (state_of self.old) }
+        ensures heard { took result (state_of self.new) ≡ reads (state_of self.old) decoded.now }
+        ensures kept { OnErr result (state_of self.new ≡ state_of self.old) }
+        ensures disk { SameDisk (state_of self.old) (state_of self.new) }
+    {
+        match decoded {
+            Ok(message) => self.hear_message(message),
+            Err(fault) => Err(Cause::Tag(*fault)),
+        }
+    }
+
     // In session an INFO of a range is the server's own, and all else is the handshake's.
     fn hear_message(&mut self, message: &Message) -> Result<bool, Cause>
         requires { CanHear (state_of self.old) }
@@ -67,7 +78,7 @@ impl ServerEnd {
         let Some(session) = self.session else {
             return self.take_handshake(message);
         };
-        match (message.subtype, message.body) {
+        match (message.subtype, &message.body) {
             (
                 Subtype::Info,
                 MsgBody::DringData {
@@ -80,12 +91,12 @@ impl ServerEnd {
             ) => {
                 self.check_sid(message.sid)?;
                 let range = SlotRange {
-                    seq,
-                    start,
-                    end,
-                    state,
+                    seq: *seq,
+                    start: *start,
+                    end: *end,
+                    state: *state,
                 };
-                self.take_info(session, ident, range)
+                self.take_info(session, *ident, range)
             }
             _ => self.take_handshake(message),
         }
@@ -134,7 +145,7 @@ impl ServerEnd {
         ensures kept { OnErr result (state_of self.new ≡ state_of self.old) }
         ensures disk { SameDisk (state_of self.old) (state_of self.new) }
     {
-        let slots = self.agreed().peer_slots;
+        let slots = self.peer_slots();
         self.check_info(session, ident, range)?;
         self.session = Some(RingSession {
             asked: session.asked.wrapping_add(range.count(slots)),

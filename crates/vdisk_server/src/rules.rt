@@ -29,51 +29,51 @@ use vio_io::Store;
 use vio_tag::{Message, encode};
 
 impl ServerEnd {
-    /// One step. It stands apart: inlined into its callers, its answer would be copied field by field through each of them.
-    #[inline(never)]
+    /// One step, whose answer is written into the caller's.
     pub fn step<D: Store>(
         &mut self,
         channel: &mut Channel,
         table: &MapTable,
         memory: &mut Memory,
         store: &mut D,
-    ) -> ServerOut
+        out: &mut ServerOut,
+    )
         requires stands { Stands (state_of self.old) }
         requires region { 512 * (self.old.region.first + self.old.region.blocks) ≤ D.size store.old }
         requires pages { PagesWithin table.now (length memory.old) }
-        ensures step { Serves (state_of self.old) channel.old table.now memory.old (D.content store.old) result (state_of self.new) memory.new (D.content store.new) }
-        ensures channel { channel.new ≡ channel_after result channel.old }
+        ensures step { Serves (state_of self.old) channel.old table.now memory.old (D.content store.old) out.new (state_of self.new) memory.new (D.content store.new) }
+        ensures channel { channel.new ≡ channel_after out.new channel.old }
         ensures same_length { length memory.new ≡ length memory.old }
-        ensures store { KeepsStore result store.old store.new }
-        ensures calls { Calls result (D.calls store.old) (D.calls store.new) (D.faults store.old) (D.faults store.new) }
+        ensures store { KeepsStore out.new store.old store.new }
+        ensures calls { Calls out.new (D.calls store.old) (D.calls store.new) (D.faults store.old) (D.faults store.new) }
         ensures size { D.size store.new ≡ D.size store.old }
-        ensures within { WithinDisk self.old.region.blocks result }
+        ensures within { WithinDisk self.old.region.blocks out.new }
         ensures disk { SameDisk (state_of self.old) (state_of self.new) }
     {
         if !is_up(channel) {
-            return self.join(channel);
+            return self.join(channel, out);
         }
         if self.link.owes() {
-            return self.put(channel);
+            return self.put(channel, out);
         }
         if self.owes_message() {
-            return self.say_owed(channel);
+            return self.say_owed(channel, out);
         }
         if let Some(session) = self.in_hand() {
-            return self.serve(session, channel, table, memory, store);
+            return self.serve(session, channel, table, memory, store, out);
         }
-        self.take(channel)
+        self.take(channel, out)
     }
 
     // The end isn't up: it begins anew.
-    fn join(&mut self, channel: &mut Channel) -> ServerOut
+    fn join(&mut self, channel: &mut Channel, out: &mut ServerOut)
         requires { server_rule (state_of self.old) (sees channel.old) ≡ Joins }
-        ensures step { StepsAlone (state_of self.old) channel.old result (state_of self.new) }
-        ensures channel { channel.new ≡ channel_after result channel.old }
+        ensures step { StepsAlone (state_of self.old) channel.old out.new (state_of self.new) }
+        ensures channel { channel.new ≡ channel_after out.new channel.old }
         ensures disk { SameDisk (state_of self.old) (state_of self.new) }
     {
         self.begin_anew(channel);
-        ServerOut::Joined
+        *out = ServerOut::Joined;
     }
 }
 
@@ -87,24 +87,24 @@ fn is_up(channel: &Channel) -> bool
 // What is put.
 impl ServerEnd {
     // The link owes a packet: it is put, and where it ends a message, what follows is noted.
-    fn put(&mut self, channel: &mut Channel) -> ServerOut
+    fn put(&mut self, channel: &mut Channel, out: &mut ServerOut)
         requires up { state_in B channel.old.wire ≡ Up }
         requires owes { owes self.old.link ≡ true }
         requires answers { PutsRightly (state_of self.old) }
-        ensures put { PutsNext (state_of self.old) channel.old result (state_of self.new) }
-        ensures channel { channel.new ≡ channel_after result channel.old }
+        ensures put { PutsNext (state_of self.old) channel.old out.new (state_of self.new) }
+        ensures channel { channel.new ≡ channel_after out.new channel.old }
         ensures disk { SameDisk (state_of self.old) (state_of self.new) }
     {
         let in_message = self.link.is_up();
         match self.link.send(channel, End::B) {
             SendOut::Sent(packet) => {
                 self.note_put(in_message);
-                ServerOut::Sent {
+                *out = ServerOut::Sent {
                     packet,
                     opens: false,
-                }
+                };
             }
-            SendOut::Blocked => ServerOut::Blocked,
+            SendOut::Blocked => *out = ServerOut::Blocked,
             SendOut::Nothing => unreachable!(),
         }
     }
@@ -134,36 +134,36 @@ impl ServerEnd {
     }
 
     // A message is owed: it is said.
-    fn say_owed(&mut self, channel: &mut Channel) -> ServerOut
+    fn say_owed(&mut self, channel: &mut Channel, out: &mut ServerOut)
         requires stands { Stands (state_of self.old) }
         requires up { state_in B channel.old.wire ≡ Up }
         requires free { owes self.old.link ≡ false }
         requires owed { is_some (owed_message (state_of self.old)) ≡ true }
-        ensures step { StepsAlone (state_of self.old) channel.old result (state_of self.new) }
-        ensures channel { channel.new ≡ channel_after result channel.old }
+        ensures step { StepsAlone (state_of self.old) channel.old out.new (state_of self.new) }
+        ensures channel { channel.new ≡ channel_after out.new channel.old }
         ensures disk { SameDisk (state_of self.old) (state_of self.new) }
     {
         match self.owed_message() {
-            Some(message) => self.say(&message, channel),
+            Some(message) => self.say(&message, channel, out),
             None => unreachable!(),
         }
     }
 
     // The message is offered, and its first packet is put.
-    fn say(&mut self, message: &Message, channel: &mut Channel) -> ServerOut
+    fn say(&mut self, message: &Message, channel: &mut Channel, out: &mut ServerOut)
         requires up { state_in B channel.old.wire ≡ Up }
         requires form { IsWellFormed message.now }
         requires link { is_up self.old.link ≡ true }
         requires free { self.old.link.to_send ≡ [] }
         requires answers { PutsRightly (state_of self.old) }
-        ensures put { PutsNext (record (state_of self.old) { link = offered (canonical message.now) self.old.link }) channel.old result (state_of self.new) }
-        ensures channel { channel.new ≡ channel_after result channel.old }
+        ensures put { PutsNext (record (state_of self.old) { link = offered (canonical message.now) self.old.link }) channel.old out.new (state_of self.new) }
+        ensures channel { channel.new ≡ channel_after out.new channel.old }
         ensures disk { SameDisk (state_of self.old) (state_of self.new) }
     {
         let mut bytes = [0; 256];
         let length = encode(message, &mut bytes);
         let _offered = self.link.offer(&bytes[..length]);
-        self.put(channel)
+        self.put(channel, out);
     }
 }
 
@@ -177,28 +177,35 @@ impl ServerEnd {
         table: &MapTable,
         memory: &mut Memory,
         store: &mut D,
-    ) -> ServerOut
+        out: &mut ServerOut,
+    )
         requires stands { Stands (state_of self.old) }
         requires session { (state_of self.old).session ≡ Some (ring_session session) }
         requires rule { server_rule (state_of self.old) (sees channel.old) ≡ serves (ring_session session) (state_of self.old).work }
         requires region { 512 * (self.old.region.first + self.old.region.blocks) ≤ D.size store.old }
         requires pages { PagesWithin table.now (length memory.old) }
-        ensures step { Serves (state_of self.old) channel.old table.now memory.old (D.content store.old) result (state_of self.new) memory.new (D.content store.new) }
-        ensures channel { channel.new ≡ channel_after result channel.old }
+        ensures step { Serves (state_of self.old) channel.old table.now memory.old (D.content store.old) out.new (state_of self.new) memory.new (D.content store.new) }
+        ensures channel { channel.new ≡ channel_after out.new channel.old }
         ensures same_length { length memory.new ≡ length memory.old }
-        ensures store { KeepsStore result store.old store.new }
-        ensures calls { Calls result (D.calls store.old) (D.calls store.new) (D.faults store.old) (D.faults store.new) }
+        ensures store { KeepsStore out.new store.old store.new }
+        ensures calls { Calls out.new (D.calls store.old) (D.calls store.new) (D.faults store.old) (D.faults store.new) }
         ensures size { D.size store.new ≡ D.size store.old }
-        ensures within { WithinDisk self.old.region.blocks result }
+        ensures within { WithinDisk self.old.region.blocks out.new }
         ensures disk { SameDisk (state_of self.old) (state_of self.new) }
     {
         let Some(work) = &mut self.work else {
-            return self.fetch(session, channel, table, memory);
+            return self.fetch(session, channel, table, memory, out);
         };
         match work.progress {
-            Progress::Reads { unit } => work.read_unit(unit, self.region, &mut self.unit, store),
-            Progress::Writes { unit } => work.write_unit(unit, self.region, &self.unit, store),
-            Progress::Flushes => work.flush(store),
+            Progress::Reads { unit } => work.read_unit(
+                unit,
+                self.region,
+                &mut self.unit,
+                store,
+                out,
+            ),
+            Progress::Writes { unit } => work.write_unit(unit, self.region, &self.unit, store, out),
+            Progress::Flushes => work.flush(store, out),
             Progress::Gives { unit } => work.give_unit(
                 unit,
                 self.region.blocks,
@@ -206,6 +213,7 @@ impl ServerEnd {
                 channel,
                 table,
                 memory,
+                out,
             ),
             Progress::Gathers { unit } => work.gather_unit(
                 unit,
@@ -214,8 +222,9 @@ impl ServerEnd {
                 channel,
                 table,
                 memory,
+                out,
             ),
-            Progress::Ends { status } => self.finish(session, status, channel, table, memory),
+            Progress::Ends { status } => self.finish(session, status, channel, table, memory, out),
         }
     }
 }
@@ -223,24 +232,24 @@ impl ServerEnd {
 // What is taken.
 impl ServerEnd {
     // Nothing else is to be done: the packet that has waited longest is taken, if any.
-    fn take(&mut self, channel: &mut Channel) -> ServerOut
+    fn take(&mut self, channel: &mut Channel, out: &mut ServerOut)
         requires stands { Stands (state_of self.old) }
         requires rule { server_rule (state_of self.old) (sees channel.old) ≡ takes_first (sees channel.old).first }
         requires up { state_in B channel.old.wire ≡ Up }
         requires free { owes self.old.link ≡ false }
         requires nothing_owed { self.old.shake.owed ≡ None }
-        ensures step { StepsAlone (state_of self.old) channel.old result (state_of self.new) }
-        ensures channel { channel.new ≡ channel_after result channel.old }
+        ensures step { StepsAlone (state_of self.old) channel.old out.new (state_of self.new) }
+        ensures channel { channel.new ≡ channel_after out.new channel.old }
         ensures disk { SameDisk (state_of self.old) (state_of self.new) }
     {
         let was_up = self.link.is_up();
         match self.link.take(channel, End::B) {
-            TakeOut::Nothing => ServerOut::Idle,
+            TakeOut::Nothing => *out = ServerOut::Idle,
             TakeOut::Took(packet) => match self.hear(was_up) {
-                Ok(opens) => ServerOut::Took { packet, opens },
-                Err(cause) => self.reset_for(channel, cause, Some(packet)),
+                Ok(opens) => *out = ServerOut::Took { packet, opens },
+                Err(cause) => self.reset_for(channel, cause, Some(packet), out),
             },
-            TakeOut::Fault { packet, cause } => self.reset_for(channel, cause, Some(packet)),
+            TakeOut::Fault { packet, cause } => self.reset_for(channel, cause, Some(packet), out),
         }
     }
 }

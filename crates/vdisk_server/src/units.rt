@@ -42,10 +42,11 @@ const UNIT_BLOCKS: u64 = 16;
 
 // What comes first of a descriptor: its status where it has a defect, else its first unit.
 impl Work {
-    /// A descriptor of a disk of so many blocks, of which nothing is done yet.
-    pub fn begin(descriptor: Descriptor, blocks: u64) -> Work
-        ensures { (bytes : List ℕ) → work_with result bytes ≡ record { bytes = descriptor; progress = first_progress blocks (disk_desc_of descriptor) } }
+    /// The descriptor of these bytes, of a disk of so many blocks, of which nothing is done yet.
+    pub fn begin(bytes: &[u8; 128], blocks: u64) -> Work
+        ensures { (held : List ℕ) → work_with result held ≡ record { bytes = bytes.now; progress = first_progress blocks (disk_desc_of bytes.now) } }
     {
+        let descriptor = Descriptor::new(bytes);
         let progress = first_progress(descriptor.desc(), blocks);
         Work {
             descriptor,
@@ -138,14 +139,15 @@ impl Work {
         region: Region,
         buffer: &mut UnitBuffer,
         store: &mut D,
-    ) -> ServerOut
+        out: &mut ServerOut,
+    )
         requires progress { self.old.progress ≡ kept.Reads unit }
         requires unit { IsUnit region.blocks unit (disk_desc_of self.old.descriptor) }
         requires region { 512 * (region.first + region.blocks) ≤ D.size store.old }
-        ensures piece { PieceOn region.first (work_with self.old buffer.old) (D.content store.old) result (work_with self.new buffer.new) (D.content store.new) }
-        ensures calls { Calls result (D.calls store.old) (D.calls store.new) (D.faults store.old) (D.faults store.new) }
+        ensures piece { PieceOn region.first (work_with self.old buffer.old) (D.content store.old) out.new (work_with self.new buffer.new) (D.content store.new) }
+        ensures calls { Calls out.new (D.calls store.old) (D.calls store.new) (D.faults store.old) (D.faults store.new) }
         ensures size { D.size store.new ≡ D.size store.old }
-        ensures within { WithinDisk region.blocks result }
+        ensures within { WithinDisk region.blocks out.new }
     {
         let _length = store.len();
         let block = self.unit_block(unit, region.blocks);
@@ -153,21 +155,21 @@ impl Work {
         match buffer.read(store, store_place(region, block), size) {
             Ok(()) => {
                 self.progress = Progress::Gives { unit };
-                ServerOut::Stored {
+                *out = ServerOut::Stored {
                     operation: VD_OP_BREAD,
                     block,
                     count: block_count(size),
                     failed: false,
-                }
+                };
             }
             Err(Failed) => {
                 self.note_failure();
-                ServerOut::Stored {
+                *out = ServerOut::Stored {
                     operation: VD_OP_BREAD,
                     block,
                     count: block_count(size),
                     failed: true,
-                }
+                };
             }
         }
     }
@@ -179,15 +181,16 @@ impl Work {
         region: Region,
         buffer: &UnitBuffer,
         store: &mut D,
-    ) -> ServerOut
+        out: &mut ServerOut,
+    )
         requires progress { self.old.progress ≡ kept.Writes unit }
         requires unit { IsUnit region.blocks unit (disk_desc_of self.old.descriptor) }
         requires held { length buffer.now ≡ length_of (work_with self.old buffer.now) unit }
         requires region { 512 * (region.first + region.blocks) ≤ D.size store.old }
-        ensures piece { PieceOn region.first (work_with self.old buffer.now) (D.content store.old) result (work_with self.new buffer.now) (D.content store.new) }
-        ensures calls { Calls result (D.calls store.old) (D.calls store.new) (D.faults store.old) (D.faults store.new) }
+        ensures piece { PieceOn region.first (work_with self.old buffer.now) (D.content store.old) out.new (work_with self.new buffer.now) (D.content store.new) }
+        ensures calls { Calls out.new (D.calls store.old) (D.calls store.new) (D.faults store.old) (D.faults store.new) }
         ensures size { D.size store.new ≡ D.size store.old }
-        ensures within { WithinDisk region.blocks result }
+        ensures within { WithinDisk region.blocks out.new }
     {
         let _length = store.len();
         let block = self.unit_block(unit, region.blocks);
@@ -195,51 +198,51 @@ impl Work {
         match store.write_at(store_place(region, block), bytes) {
             Ok(()) => {
                 self.progress = self.gathers_next(unit);
-                ServerOut::Stored {
+                *out = ServerOut::Stored {
                     operation: VD_OP_BWRITE,
                     block,
                     count: block_count(bytes.len()),
                     failed: false,
-                }
+                };
             }
             Err(Failed) => {
                 self.note_failure();
-                ServerOut::Stored {
+                *out = ServerOut::Stored {
                     operation: VD_OP_BWRITE,
                     block,
                     count: block_count(bytes.len()),
                     failed: true,
-                }
+                };
             }
         }
     }
 
     /// The store is flushed.
-    pub fn flush<D: Store>(&mut self, store: &mut D) -> ServerOut
+    pub fn flush<D: Store>(&mut self, store: &mut D, out: &mut ServerOut)
         requires progress { self.old.progress ≡ kept.Flushes }
-        ensures piece { (first : ℕ) (bytes : List ℕ) → PieceOn first (work_with self.old bytes) (D.content store.old) result (work_with self.new bytes) (D.content store.new) }
-        ensures calls { Calls result (D.calls store.old) (D.calls store.new) (D.faults store.old) (D.faults store.new) }
+        ensures piece { (first : ℕ) (bytes : List ℕ) → PieceOn first (work_with self.old bytes) (D.content store.old) out.new (work_with self.new bytes) (D.content store.new) }
+        ensures calls { Calls out.new (D.calls store.old) (D.calls store.new) (D.faults store.old) (D.faults store.new) }
         ensures size { D.size store.new ≡ D.size store.old }
-        ensures within { (blocks : ℕ) → WithinDisk blocks result }
+        ensures within { (blocks : ℕ) → WithinDisk blocks out.new }
     {
         match store.flush() {
             Ok(()) => {
                 self.progress = Progress::Ends { status: OK };
-                ServerOut::Stored {
+                *out = ServerOut::Stored {
                     operation: VD_OP_FLUSH,
                     block: 0,
                     count: 0,
                     failed: false,
-                }
+                };
             }
             Err(Failed) => {
                 self.note_failure();
-                ServerOut::Stored {
+                *out = ServerOut::Stored {
                     operation: VD_OP_FLUSH,
                     block: 0,
                     count: 0,
                     failed: true,
-                }
+                };
             }
         }
     }
@@ -275,11 +278,12 @@ impl Work {
         channel: &Channel,
         table: &MapTable,
         memory: &mut Memory,
-    ) -> ServerOut
+        out: &mut ServerOut,
+    )
         requires progress { self.old.progress ≡ kept.Gives unit }
         requires unit { IsUnit blocks unit (disk_desc_of self.old.descriptor) }
         requires pages { PagesWithin table.now (length memory.old) }
-        ensures piece { PieceIn (work_with self.old buffer.now) (reach_over channel.now table.now memory.old) result (work_with self.new buffer.now) memory.new }
+        ensures piece { PieceIn (work_with self.old buffer.now) (reach_over channel.now table.now memory.old) out.new (work_with self.new buffer.now) memory.new }
         ensures same_length { length memory.new ≡ length memory.old }
     {
         let offset = UNIT * unit as u64;
@@ -294,14 +298,14 @@ impl Work {
         ) {
             Ok(()) => {
                 self.progress = self.reads_next(unit);
-                ServerOut::Moved { unit, fault: None }
+                *out = ServerOut::Moved { unit, fault: None };
             }
             Err(fault) => {
                 self.progress = Progress::Ends { status: EINVAL };
-                ServerOut::Moved {
+                *out = ServerOut::Moved {
                     unit,
                     fault: Some(fault),
-                }
+                };
             }
         }
     }
@@ -315,25 +319,26 @@ impl Work {
         channel: &Channel,
         table: &MapTable,
         memory: &Memory,
-    ) -> ServerOut
+        out: &mut ServerOut,
+    )
         requires progress { self.old.progress ≡ kept.Gathers unit }
         requires unit { IsUnit blocks unit (disk_desc_of self.old.descriptor) }
         requires pages { PagesWithin table.now (length memory.now) }
-        ensures piece { PieceIn (work_with self.old buffer.old) (reach_over channel.now table.now memory.now) result (work_with self.new buffer.new) memory.now }
+        ensures piece { PieceIn (work_with self.old buffer.old) (reach_over channel.now table.now memory.now) out.new (work_with self.new buffer.new) memory.now }
     {
         let offset = UNIT * unit as u64;
         let size = self.unit_size(unit, blocks);
         match buffer.copy_in(channel, table, memory, self.cookies(), offset, size) {
             Ok(()) => {
                 self.progress = Progress::Writes { unit };
-                ServerOut::Moved { unit, fault: None }
+                *out = ServerOut::Moved { unit, fault: None };
             }
             Err(fault) => {
                 self.progress = Progress::Ends { status: EINVAL };
-                ServerOut::Moved {
+                *out = ServerOut::Moved {
                     unit,
                     fault: Some(fault),
-                }
+                };
             }
         }
     }

@@ -1,17 +1,25 @@
+use Rattle.std.proofs.Common.{ℕ, List, Result, refl, subst}
+use Rattle.vio_tag.specs.declared.cause.Cause.{Cause}
+use Rattle.vdisk_server.specs.Answering.{reach_over}
 use Rattle.vdisk_server.specs.Fields.{ring_session, state_of, work_with}
+use Rattle.vdisk_server.specs.Pieces.{FetchedOr}
 use Rattle.vdisk_server.proofs.SlotSteps.{fetch_resets, fetch_step, slot_is}
 use Rattle.vdisk_server.proofs.end.ServerEnd.fetch.Goals as goal
 
 pub returns-in-Ok-clause-step : goal.returns-in-Ok-clause-step
 returns-in-Ok-clause-step c =
     fetch_step (state_of c.args.self.now) c.args.channel.now c.args.table.now c.args.memory.now c.fetch_ready.new.memory (ring_session c.args.session) c.slot_of-slot.result
-    c.in-Ok.descriptor c.bytes-bytes.result.now (work_with c.begin.result c.args.self.now.unit) c.requires.rule
-    (slot_is c.args.session.fetched c.slot_of-slot.result c.agreed.result c.args.self.now.shake.draft c.agreed.ensures c.slot_of-slot.ensures)
-    c.in-Ok.ensures.fetched c.bytes-bytes.ensures (c.begin.ensures c.args.self.now.unit)
+    c.in-Ok.bytes c.in-Ok.bytes (work_with c.begin.result c.args.self.now.unit) c.requires.rule
+    (slot_is c.args.session.fetched c.slot_of-slot.result c.peer_slots.result c.args.self.now.shake.draft.peer_slots c.peer_slots.ensures c.slot_of-slot.ensures)
+    (subst (λ (r : Result (List ℕ) Cause). FetchedOr r (state_of c.args.self.now) (reach_over c.args.channel.now c.args.table.now c.args.memory.now)
+    c.slot_of-slot.result c.fetch_ready.new.memory) c.in-Ok.is c.fetch_ready.ensures.fetched)
+    refl (c.begin.ensures c.args.self.now.unit)
 
 pub returns-in-Err-clause-step : goal.returns-in-Err-clause-step
 returns-in-Err-clause-step c =
     fetch_resets (state_of c.args.self.now) c.args.channel.now c.args.table.now c.args.memory.now c.fetch_ready.new.memory (ring_session c.args.session) c.slot_of-slot.result
-    c.in-Err.cause c.reset_for.result (state_of c.reset_for.new.self) c.requires.rule
-    (slot_is c.args.session.fetched c.slot_of-slot.result c.agreed.result c.args.self.now.shake.draft c.agreed.ensures c.slot_of-slot.ensures)
-    c.in-Err.ensures.fetched c.reset_for.ensures.answer c.reset_for.ensures.state
+    c.in-Err.cause c.reset_for.new.out (state_of c.reset_for.new.self) c.requires.rule
+    (slot_is c.args.session.fetched c.slot_of-slot.result c.peer_slots.result c.args.self.now.shake.draft.peer_slots c.peer_slots.ensures c.slot_of-slot.ensures)
+    (subst (λ (r : Result (List ℕ) Cause). FetchedOr r (state_of c.args.self.now) (reach_over c.args.channel.now c.args.table.now c.args.memory.now)
+    c.slot_of-slot.result c.fetch_ready.new.memory) c.in-Err.is c.fetch_ready.ensures.fetched)
+    c.reset_for.ensures.answer c.reset_for.ensures.state

@@ -1,3 +1,4 @@
+use Rattle.std.proofs.Common.{refl}
 use Rattle.vdisk_server.specs.Answering.{reach_over}
 use Rattle.vdisk_server.specs.Fields.{state_of}
 use Rattle.vdisk_server.proofs.SlotSteps.{fetch_marked, fetch_not_marked}
@@ -6,8 +7,8 @@ use Rattle.vdisk_server.proofs.end.ServerEnd.fetch_ready.Goals as goal
 pub returns-in-Ok-mark-clause-fetched : goal.returns-in-Ok-mark-clause-fetched
 returns-in-Ok-mark-clause-fetched c =
     fetch_marked (state_of c.args.self.now) (reach_over c.args.channel.now c.args.table.now c.args.memory.now) c.args.slot c.peer_ring-ring.result c.in-Ok.bytes
-    c.new-descriptor.result c.header_of-header.result c.mark.new.memory c.peer_ring-ring.ensures c.in-Ok.ensures.copied c.in-Ok.ensures.fetched
-    c.in-Ok.ensures.ready c.new-descriptor.ensures c.header_of-header.ensures c.in-Ok-mark.ensures.fault c.in-Ok-mark.ensures.written
+    c.in-Ok.bytes c.header_of-header.result c.mark.new.memory c.peer_ring-ring.ensures c.in-Ok.ensures.copied c.in-Ok.ensures.fetched
+    c.in-Ok.ensures.ready refl c.header_of-header.ensures c.in-Ok-mark.ensures.fault c.in-Ok-mark.ensures.written
 
 pub returns-in-Err-mark-clause-fetched : goal.returns-in-Err-mark-clause-fetched
 returns-in-Err-mark-clause-fetched c = (

@@ -14,7 +14,7 @@ use Rattle.vdisk_server.proofs.end.ServerEnd.say_owed.Goals as goal
 pub returns-clause-step : goal.returns-clause-step
 returns-clause-step c =
     let before : ServerState = state_of c.args.self.now in
-    puts_step before (record before { link = offered (canonical c.in-Some.message) c.args.self.now.link }) c.args.channel.now c.say.result (state_of c.say.new.self)
+    puts_step before (record before { link = offered (canonical c.in-Some.message) c.args.self.now.link }) c.args.channel.now c.say.new.out (state_of c.say.new.self)
     (ap (λ (r : ServerRule). server_holds r before)
     (rule_says before (sees c.args.channel.now) c.in-Some.message (ap is_configured c.requires.up) c.requires.free (sym c.owed_message.ensures ∙ c.in-Some.is)))
     c.say.ensures.put

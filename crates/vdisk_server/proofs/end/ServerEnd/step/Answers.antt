@@ -11,24 +11,24 @@ use Rattle.vdisk_server.proofs.end.ServerEnd.step.Goals as goal
 
 pub returns-then-not-is_up-clause-step : goal.returns-then-not-is_up-clause-step
 returns-then-not-is_up-clause-step g c =
-    alone_serves (state_of c.args.self.now) c.args.channel.now c.args.table.now c.args.memory.now (g.D.Store.content c.args.store.now) c.join.result
+    alone_serves (state_of c.args.self.now) c.args.channel.now c.args.table.now c.args.memory.now (g.D.Store.content c.args.store.now) c.join.new.out
     (state_of c.join.new.self) c.join.ensures.step
 
 pub returns-then-owes-clause-step : goal.returns-then-owes-clause-step
 returns-then-owes-clause-step g c =
     let before : ServerState = state_of c.args.self.now in
-    alone_serves before c.args.channel.now c.args.table.now c.args.memory.now (g.D.Store.content c.args.store.now) c.put.result (state_of c.put.new.self)
-    (puts_step before before c.args.channel.now c.put.result (state_of c.put.new.self)
+    alone_serves before c.args.channel.now c.args.table.now c.args.memory.now (g.D.Store.content c.args.store.now) c.put.new.out (state_of c.put.new.self)
+    (puts_step before before c.args.channel.now c.put.new.out (state_of c.put.new.self)
     (ap (λ (r : ServerRule). server_holds r before)
     (rule_puts before (sees c.args.channel.now) (sym c.is_up.ensures ∙ c.if-not-is_up.false) (sym c.owes.ensures ∙ c.if-owes.true)))
     c.put.ensures.put)
 
 pub returns-then-owes_message-clause-step : goal.returns-then-owes_message-clause-step
 returns-then-owes_message-clause-step g c =
-    alone_serves (state_of c.args.self.now) c.args.channel.now c.args.table.now c.args.memory.now (g.D.Store.content c.args.store.now) c.say_owed.result
+    alone_serves (state_of c.args.self.now) c.args.channel.now c.args.table.now c.args.memory.now (g.D.Store.content c.args.store.now) c.say_owed.new.out
     (state_of c.say_owed.new.self) c.say_owed.ensures.step
 
 pub returns-clause-step : goal.returns-clause-step
 returns-clause-step g c =
-    alone_serves (state_of c.args.self.now) c.args.channel.now c.args.table.now c.args.memory.now (g.D.Store.content c.args.store.now) c.take.result
+    alone_serves (state_of c.args.self.now) c.args.channel.now c.args.table.now c.args.memory.now (g.D.Store.content c.args.store.now) c.take.new.out
     (state_of c.take.new.self) c.take.ensures.step

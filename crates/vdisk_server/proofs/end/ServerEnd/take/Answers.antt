@@ -19,7 +19,7 @@ returns-in-Ok-clause-step c =
 pub returns-in-Err-clause-step : goal.returns-in-Err-clause-step
 returns-in-Err-clause-step c =
     let before : ServerState = state_of c.args.self.now in
-    heard_resets before c.args.channel.now c.take.new.self c.is_up-was_up.result c.in-Took.packet c.in-Err.cause c.reset_for.result (state_of c.reset_for.new.self)
+    heard_resets before c.args.channel.now c.take.new.self c.is_up-was_up.result c.in-Took.packet c.in-Err.cause c.reset_for.new.out (state_of c.reset_for.new.self)
     c.requires.rule c.in-Took.ensures.0.0 c.is_up-was_up.ensures c.in-Took.ensures.1 c.in-Err.ensures.heard c.reset_for.ensures.answer
     (c.reset_for.ensures.state ∙ c.in-Err.ensures.kept
     ∙ link_joined before c.take.new.self (link_took before.link c.take.new.self c.in-Took.packet c.in-Took.ensures.1).role)
