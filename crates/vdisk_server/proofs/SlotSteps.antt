@@ -1,5 +1,5 @@
 -- What fetching and finishing a descriptor are as steps.
-use Rattle.std.proofs.Common.{◌≡◌, ℕ, ◌+◌, ◌-◌, ◌*◌, ◌%◌, List, slice_index, Option, Some, None, Ok, Err, inr, refl, sym, ap, ◌∙◌, subst, arith, add-zero}
+use Rattle.std.proofs.Common.{◌≡◌, ℕ, ◌-◌, ◌*◌, ◌%◌, List, slice_index, Option, Some, None, Ok, Err, inr, refl, sym, ap, ◌∙◌, subst, arith, add-zero}
 use Rattle.std.specs.Prelude.{◌==◌}
 use Rattle.cookie_copy.specs.declared.fault.Access.TheVariants.{Read, Write}
 use Rattle.cookie_copy.specs.declared.fault.CopyFault.{CopyFault}
@@ -10,18 +10,17 @@ use Rattle.dring.specs.Reaching.{ring_cookies}
 use Rattle.dring.specs.Slots.{ready_state}
 use Rattle.ldc_queue.specs.ChannelView.{ChannelView}
 use Rattle.map_table.specs.declared.table.Entry.{Entry}
-use Rattle.vdisk_msg.specs.Descriptor.{disk_desc_of}
 use Rattle.vio_tag.specs.declared.cause.Cause.{Cause}
 use Rattle.vio_tag.specs.declared.cause.Cause.TheVariants as the_cause
-use Rattle.disk_steps.specs.Ranges.{wrapped}
 use Rattle.disk_steps.specs.ServerRule.{Fetches, ServerRule, server_rule, serves}
 use Rattle.disk_steps.specs.ServerState.{Progress, ServerSession, ServerState, Work, joined_server, peer_ring}
 use Rattle.disk_steps.specs.ServerStep.{ServerFails, WorkFails}
-use Rattle.disk_steps.specs.ServerWork.{CanFetch, EndFails, FetchFails, Reach, copy_number, first_progress, header_of, slot_at, slot_fetched, with_word, word_fault}
+use Rattle.disk_steps.specs.ServerWork.{CanFetch, EndFails, FetchFails, Reach, copy_number, header_of, slot_at, slot_fetched, with_word, word_fault}
 use Rattle.vdisk_server.specs.declared.answers.ServerOut.{ServerOut}
 use Rattle.vdisk_server.specs.declared.answers.ServerOut.TheVariants as out
 use Rattle.vdisk_server.specs.Answering.{StepsIn, reach_over, sees}
 use Rattle.vdisk_server.specs.Pieces.{EndedFor, Fetched, IsEnding}
+use Rattle.vdisk_server.specs.Rules.{begun_work, one_fetched, one_finished, work_begun, work_ended}
 
 -- the slot of a number
 pub slot_is : (n slot known agreed : ℕ) → known ≡ agreed → slot ≡ (n - 0) % known → slot ≡ n % agreed
@@ -82,11 +81,10 @@ fetch_not_marked s reach slot number ring fetched why same fault is ready marked
     inr (why, (can_fetch s reach slot ring fetched same fault is ready).0, front_fault s reach slot ring (Some why) same marked, ap the_cause.Copy numbered)
 
 -- THE STEPS
-pub fetch_step : (s : ServerState) (c : ChannelView) (table : List (Option Entry)) (memory new : List ℕ) (session : ServerSession) (slot : ℕ) (bytes shown : List ℕ) (work : Work)
-    → server_rule s (sees c) ≡ Fetches session → slot ≡ slot_at s session.descs → Fetched s (reach_over c table memory) slot bytes new
-    → shown ≡ bytes → work ≡ record { bytes = bytes; progress = first_progress s.blocks (disk_desc_of bytes) }
-    → StepsIn s c table memory (out.Desc slot shown) (record s { session = Some (record session { descs = wrapped (session.descs + 1) }); work = Some work }) new
-fetch_step s c table memory new session slot bytes shown work rule at fetched same is = record {
+pub fetch_step : (s : ServerState) (c : ChannelView) (table : List (Option Entry)) (memory new : List ℕ) (session : ServerSession) (slot : ℕ) (bytes : List ℕ) (t : ServerState)
+    → server_rule s (sees c) ≡ Fetches session → s.session ≡ Some session → slot ≡ slot_at s session.descs → Fetched s (reach_over c table memory) slot bytes new
+    → t ≡ work_begun s bytes → StepsIn s c table memory (out.Desc slot bytes) t new
+fetch_step s c table memory new session slot bytes t rule known at fetched is = record {
   leaves = tt;
   step = (
     record {
@@ -95,10 +93,9 @@ fetch_step s c table memory new session slot bytes shown work rule at fetched sa
       slot_is = at;
       fetched = fetched.fetched;
       marked = fetched.marked;
-      bytes_are = same ∙ fetched.bytes_are;
-      is = ap (λ (w : Work). record s { session = Some (record session { descs = wrapped (session.descs + 1) }); work = Some w })
-          (is ∙ ap (λ (xs : List ℕ). let w : Work = record { bytes = xs; progress = first_progress s.blocks (disk_desc_of xs) } in w) (sym same));
-      marked_is = fetched.marked_is ∙ ap (λ (xs : List ℕ). with_word s (reach_over c table memory) slot 0 (header_of 3 xs)) (sym same);
+      bytes_are = fetched.bytes_are;
+      is = is ∙ ap (λ (k : Option ServerSession). record s { session = one_fetched k; work = Some (begun_work s.blocks bytes) }) known;
+      marked_is = fetched.marked_is;
     },
     refl,
   );
@@ -122,10 +119,10 @@ fetch_resets s c table memory new session slot cause answer t rule at fails is s
 
 pub finish_step : (s : ServerState) (c : ChannelView) (table : List (Option Entry)) (memory new : List ℕ) (session : ServerSession) (slot status : ℕ) (work : Option Work)
     → server_rule s (sees c) ≡ serves session work → slot ≡ slot_at s session.finished → IsEnding work status
-    → EndedFor {U = Unit {0}} work (Ok tt) s (reach_over c table memory) slot status new
-    → StepsIn s c table memory (out.Finished slot status) (record s { session = Some (record session { finished = wrapped (session.finished + 1) }); work = None }) new
-finish_step s c table memory new session slot status None rule at ends ended = absurd ends
-finish_step s c table memory new session slot status (Some work) rule at ends ended = record {
+    → EndedFor {U = Unit {0}} work (Ok tt) s (reach_over c table memory) slot status new → (t : ServerState) → s.session ≡ Some session → t ≡ work_ended s
+    → StepsIn s c table memory (out.Finished slot status) t new
+finish_step s c table memory new session slot status None rule at ends ended t known is = absurd ends
+finish_step s c table memory new session slot status (Some work) rule at ends ended t known is = record {
   leaves = tt;
   step = (
     record {
@@ -136,7 +133,7 @@ finish_step s c table memory new session slot status (Some work) rule at ends en
       slot_is = at;
       status_written = ended.status_written;
       done_written = ended.done_written;
-      is = refl;
+      is = is ∙ ap (λ (k : Option ServerSession). record s { session = one_finished k; work = None }) known;
       written_is = ended.written_is;
     },
     refl,

@@ -1,8 +1,11 @@
 -- The rules of a server's step, one by one: what it owes, and the session whose range is in work.
-use Rattle.std.specs.Prelude.{◌==◌, if◌then◌else◌, Option, Some, None}
+use Rattle.std.specs.Prelude.{ℕ, ◌+◌, ◌==◌, if◌then◌else◌, List, Option, Some, None}
+use Rattle.vdisk_msg.specs.Descriptor.{disk_desc_of}
 use Rattle.vio_tag.specs.declared.message.Message.{Message}
+use Rattle.disk_steps.specs.Ranges.{wrapped}
 use Rattle.disk_steps.specs.ServerRule.{answer}
-use Rattle.disk_steps.specs.ServerState.{ServerSession, ServerState, SlotRange}
+use Rattle.disk_steps.specs.ServerState.{ServerSession, ServerState, SlotRange, Work}
+use Rattle.disk_steps.specs.ServerWork.{first_progress}
 
 -- the answer to a range, once each of its descriptors is finished
 abbrev pub answer_owed : ServerState → ServerSession → Option SlotRange → Option Message
@@ -28,3 +31,22 @@ ranged session (Some range) = Some session
 abbrev pub in_hand : Option ServerSession → Option ServerSession
 in_hand None = None
 in_hand (Some session) = ranged session session.range
+
+-- one more descriptor was fetched, of which nothing is done yet
+abbrev pub one_fetched : Option ServerSession → Option ServerSession
+one_fetched None = None
+one_fetched (Some session) = Some (record session { descs = wrapped (session.descs + 1) })
+
+abbrev pub begun_work : ℕ → List ℕ → Work
+begun_work blocks bytes = record { bytes = bytes; progress = first_progress blocks (disk_desc_of bytes) }
+
+abbrev pub work_begun : ServerState → List ℕ → ServerState
+work_begun s bytes = record s { session = one_fetched s.session; work = Some (begun_work s.blocks bytes) }
+
+-- one more descriptor is finished, and none is in work
+abbrev pub one_finished : Option ServerSession → Option ServerSession
+one_finished None = None
+one_finished (Some session) = Some (record session { finished = wrapped (session.finished + 1) })
+
+abbrev pub work_ended : ServerState → ServerState
+work_ended s = record s { session = one_finished s.session; work = None }

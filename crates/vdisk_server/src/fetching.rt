@@ -8,6 +8,7 @@ ghost use Rattle.disk_steps.specs.ServerWork.{cause_of, copy_number, slot_at};
 ghost use Rattle.vdisk_server.specs.Answering.{SameDisk, StepsIn, channel_after, reach_over, sees};
 ghost use Rattle.vdisk_server.specs.Fields.{ring_session, state_of};
 ghost use Rattle.vdisk_server.specs.Pieces.{FetchedOr};
+ghost use Rattle.vdisk_server.specs.Rules.{one_fetched, work_begun};
 
 use crate::answers::ServerOut;
 use crate::descriptor::header_of;
@@ -38,9 +39,11 @@ impl ServerEnd {
         requires some { 0 < self.old.shake.draft.peer_slots }
         requires few { self.old.shake.draft.peer_slots ≤ 256 }
         requires cookies { self.old.shake.draft.peer_count ≤ 14 }
+        requires session { (state_of self.old).session ≡ Some (ring_session session) }
         requires rule { server_rule (state_of self.old) (sees channel.old) ≡ Fetches (ring_session session) }
         requires pages { PagesWithin table.now (length memory.old) }
-        ensures step { StepsIn (state_of self.old) channel.old table.now memory.old out.new (state_of self.new) memory.new }
+        ensures step { StepsIn (state_of self.old) channel.old table.now memory.old out.new (state_of self.new)
+            memory.new }
         ensures channel { channel.new ≡ channel_after out.new channel.old }
         ensures same_length { length memory.new ≡ length memory.old }
         ensures disk { SameDisk (state_of self.old) (state_of self.new) }
@@ -52,13 +55,25 @@ impl ServerEnd {
                     slot,
                     bytes: *bytes,
                 };
-                self.session = Some(RingSession {
-                    fetched: session.fetched.wrapping_add(1),
-                    ..session
-                });
-                self.work = Some(Work::begin(bytes, self.region.blocks));
+                self.begin_work(bytes);
             }
             Err(cause) => self.reset_for(channel, *cause, None, out),
+        }
+    }
+
+    // One more descriptor was fetched, which has these bytes.
+    fn begin_work(&mut self, bytes: &[u8; SLOT])
+        ensures { state_of self.new ≡ work_begun (state_of self.old) bytes.now }
+    {
+        self.work = Some(Work::begin(bytes, self.region.blocks));
+        self.count_fetched();
+    }
+
+    fn count_fetched(&mut self)
+        ensures { state_of self.new ≡ record (state_of self.old) { session = one_fetched (state_of self.old).session } }
+    {
+        if let Some(session) = &mut self.session {
+            session.fetched = session.fetched.wrapping_add(1);
         }
     }
 

@@ -8,6 +8,7 @@ ghost use Rattle.disk_steps.specs.ServerRule.{server_rule, serves};
 ghost use Rattle.vdisk_server.specs.Answering.{SameDisk, StepsIn, channel_after, reach_over, sees};
 ghost use Rattle.vdisk_server.specs.Fields.{ring_session, state_of};
 ghost use Rattle.vdisk_server.specs.Pieces.{EndedFor, IsEnding};
+ghost use Rattle.vdisk_server.specs.Rules.{one_finished, work_ended};
 
 use crate::answers::ServerOut;
 use crate::descriptor::Descriptor;
@@ -39,10 +40,12 @@ impl ServerEnd {
         requires some { 0 < self.old.shake.draft.peer_slots }
         requires few { self.old.shake.draft.peer_slots ≤ 256 }
         requires cookies { self.old.shake.draft.peer_count ≤ 14 }
+        requires session { (state_of self.old).session ≡ Some (ring_session session) }
         requires rule { server_rule (state_of self.old) (sees channel.old) ≡ serves (ring_session session) (state_of self.old).work }
         requires ends { IsEnding (state_of self.old).work status }
         requires pages { PagesWithin table.now (length memory.old) }
-        ensures step { StepsIn (state_of self.old) channel.old table.now memory.old out.new (state_of self.new) memory.new }
+        ensures step { StepsIn (state_of self.old) channel.old table.now memory.old out.new (state_of self.new)
+            memory.new }
         ensures channel { channel.new ≡ channel_after out.new channel.old }
         ensures same_length { length memory.new ≡ length memory.old }
         ensures disk { SameDisk (state_of self.old) (state_of self.new) }
@@ -50,14 +53,27 @@ impl ServerEnd {
         let slot = slot_of(session.finished, 0, self.peer_slots());
         match self.end_slot(slot, status, channel, table, memory) {
             Ok(()) => {
-                self.session = Some(RingSession {
-                    finished: session.finished.wrapping_add(1),
-                    ..session
-                });
-                self.work = None;
+                self.end_work();
                 *out = ServerOut::Finished { slot, status };
             }
             Err(cause) => self.reset_for(channel, cause, None, out),
+        }
+    }
+
+    // One more descriptor is finished, and none is in work.
+    fn end_work(&mut self)
+        ensures { state_of self.new ≡ work_ended (state_of self.old) }
+    {
+        self.work = None;
+        self.count_finished();
+    }
+
+    fn count_finished(&mut self)
+        ensures { state_of self.new
+            ≡ record (state_of self.old) { session = one_finished (state_of self.old).session } }
+    {
+        if let Some(session) = &mut self.session {
+            session.finished = session.finished.wrapping_add(1);
         }
     }
 

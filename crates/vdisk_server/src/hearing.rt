@@ -9,7 +9,7 @@ ghost use Rattle.disk_steps.specs.ServerTaking.{GoesOn, HearsWhole, Resets, aske
 ghost use Rattle.disk_steps.specs.ServerState.{joined_server};
 ghost use Rattle.vdisk_server.specs.Answering.{SameDisk};
 ghost use Rattle.vdisk_server.specs.Fields.{ring_session, slot_range, state_of};
-ghost use Rattle.vdisk_server.specs.Hearing.{CanHear, CanHearWhole, DecodesWhole, risen, took};
+ghost use Rattle.vdisk_server.specs.Hearing.{CanHear, CanHearWhole, risen, took};
 ghost use Rattle.vdisk_server.specs.Standing.{Stands};
 
 use crate::end::ServerEnd;
@@ -29,10 +29,12 @@ impl ServerEnd {
         ensures disk { SameDisk (state_of self.old) (state_of self.new) }
     {
         self.rise(was_up);
-        match &self.whole_message() {
-            Some(decoded) => self.hear_decoded(decoded),
-            None => Ok(false),
-        }
+        let Some(bytes) = self.link.message() else {
+            return Ok(false);
+        };
+        let decoded = decode(bytes);
+        self.link.clear_message();
+        self.hear_decoded(&decoded)
     }
 
     fn rise(&mut self, was_up: bool)
@@ -41,19 +43,6 @@ impl ServerEnd {
         if self.link.is_up() && !was_up {
             self.shake.link_up();
         }
-    }
-
-    // The message that is whole, which goes.
-    fn whole_message(&mut self) -> Option<Result<Message, TagFault>>
-        ensures decoded { DecodesWhole self.old.link.whole result }
-        ensures state { state_of self.new ≡ record (state_of self.old) { link = cleared self.old.link } }
-    {
-        let decoded = match self.link.message() {
-            Some(bytes) => Some(decode(bytes)),
-            None => None,
-        };
-        self.link.clear_message();
-        decoded
     }
 
     fn hear_decoded(&mut self, decoded: &Result<Message, TagFault>) -> Result<bool, Cause>

@@ -41,11 +41,13 @@ impl ServerEnd {
         requires stands { Stands (state_of self.old) }
         requires region { 512 * (self.old.region.first + self.old.region.blocks) ≤ D.size store.old }
         requires pages { PagesWithin table.now (length memory.old) }
-        ensures step { Serves (state_of self.old) channel.old table.now memory.old (D.content store.old) out.new (state_of self.new) memory.new (D.content store.new) }
+        ensures step { Serves (state_of self.old) channel.old table.now memory.old (D.content store.old) out.new
+            (state_of self.new) memory.new (D.content store.new) }
         ensures channel { channel.new ≡ channel_after out.new channel.old }
         ensures same_length { length memory.new ≡ length memory.old }
         ensures store { KeepsStore out.new store.old store.new }
-        ensures calls { Calls out.new (D.calls store.old) (D.calls store.new) (D.faults store.old) (D.faults store.new) }
+        ensures calls { Calls out.new (D.calls store.old) (D.calls store.new) (D.faults store.old)
+            (D.faults store.new) }
         ensures size { D.size store.new ≡ D.size store.old }
         ensures within { WithinDisk self.old.region.blocks out.new }
         ensures disk { SameDisk (state_of self.old) (state_of self.new) }
@@ -143,8 +145,8 @@ impl ServerEnd {
         ensures channel { channel.new ≡ channel_after out.new channel.old }
         ensures disk { SameDisk (state_of self.old) (state_of self.new) }
     {
-        match self.owed_message() {
-            Some(message) => self.say(&message, channel, out),
+        match &self.owed_message() {
+            Some(message) => self.say(message, channel, out),
             None => unreachable!(),
         }
     }
@@ -156,7 +158,8 @@ impl ServerEnd {
         requires link { is_up self.old.link ≡ true }
         requires free { self.old.link.to_send ≡ [] }
         requires answers { PutsRightly (state_of self.old) }
-        ensures put { PutsNext (record (state_of self.old) { link = offered (canonical message.now) self.old.link }) channel.old out.new (state_of self.new) }
+        ensures put { PutsNext (record (state_of self.old) { link = offered (canonical message.now) self.old.link })
+            channel.old out.new (state_of self.new) }
         ensures channel { channel.new ≡ channel_after out.new channel.old }
         ensures disk { SameDisk (state_of self.old) (state_of self.new) }
     {
@@ -184,11 +187,13 @@ impl ServerEnd {
         requires rule { server_rule (state_of self.old) (sees channel.old) ≡ serves (ring_session session) (state_of self.old).work }
         requires region { 512 * (self.old.region.first + self.old.region.blocks) ≤ D.size store.old }
         requires pages { PagesWithin table.now (length memory.old) }
-        ensures step { Serves (state_of self.old) channel.old table.now memory.old (D.content store.old) out.new (state_of self.new) memory.new (D.content store.new) }
+        ensures step { Serves (state_of self.old) channel.old table.now memory.old (D.content store.old) out.new
+            (state_of self.new) memory.new (D.content store.new) }
         ensures channel { channel.new ≡ channel_after out.new channel.old }
         ensures same_length { length memory.new ≡ length memory.old }
         ensures store { KeepsStore out.new store.old store.new }
-        ensures calls { Calls out.new (D.calls store.old) (D.calls store.new) (D.faults store.old) (D.faults store.new) }
+        ensures calls { Calls out.new (D.calls store.old) (D.calls store.new) (D.faults store.old)
+            (D.faults store.new) }
         ensures size { D.size store.new ≡ D.size store.old }
         ensures within { WithinDisk self.old.region.blocks out.new }
         ensures disk { SameDisk (state_of self.old) (state_of self.new) }

@@ -91,11 +91,13 @@ impl Server {
     )
         requires region { 512 * (self.old.first + self.old.blocks) ≤ D.size store.old }
         requires pages { PagesWithin table.now (length memory.old) }
-        ensures step { Serves self.old channel.old table.now memory.old (D.content store.old) out.new self.new memory.new (D.content store.new) }
+        ensures step { Serves self.old channel.old table.now memory.old (D.content store.old) out.new self.new
+            memory.new (D.content store.new) }
         ensures channel { channel.new ≡ channel_after out.new channel.old }
         ensures same_length { length memory.new ≡ length memory.old }
         ensures store { KeepsStore out.new store.old store.new }
-        ensures calls { Calls out.new (D.calls store.old) (D.calls store.new) (D.faults store.old) (D.faults store.new) }
+        ensures calls { Calls out.new (D.calls store.old) (D.calls store.new) (D.faults store.old)
+            (D.faults store.new) }
         ensures size { D.size store.new ≡ D.size store.old }
         ensures within { WithinDisk self.old.blocks out.new }
         ensures disk { SameDisk self.old self.new }

@@ -44,7 +44,8 @@ const UNIT_BLOCKS: u64 = 16;
 impl Work {
     /// The descriptor of these bytes, of a disk of so many blocks, of which nothing is done yet.
     pub fn begin(bytes: &[u8; 128], blocks: u64) -> Work
-        ensures { (held : List ℕ) → work_with result held ≡ record { bytes = bytes.now; progress = first_progress blocks (disk_desc_of bytes.now) } }
+        ensures { (held : List ℕ) → work_with result held
+            ≡ record { bytes = bytes.now; progress = first_progress blocks (disk_desc_of bytes.now) } }
     {
         let descriptor = Descriptor::new(bytes);
         let progress = first_progress(descriptor.desc(), blocks);
@@ -144,8 +145,10 @@ impl Work {
         requires progress { self.old.progress ≡ kept.Reads unit }
         requires unit { IsUnit region.blocks unit (disk_desc_of self.old.descriptor) }
         requires region { 512 * (region.first + region.blocks) ≤ D.size store.old }
-        ensures piece { PieceOn region.first (work_with self.old buffer.old) (D.content store.old) out.new (work_with self.new buffer.new) (D.content store.new) }
-        ensures calls { Calls out.new (D.calls store.old) (D.calls store.new) (D.faults store.old) (D.faults store.new) }
+        ensures piece { PieceOn region.first (work_with self.old buffer.old) (D.content store.old) out.new
+            (work_with self.new buffer.new) (D.content store.new) }
+        ensures calls { Calls out.new (D.calls store.old) (D.calls store.new) (D.faults store.old)
+            (D.faults store.new) }
         ensures size { D.size store.new ≡ D.size store.old }
         ensures within { WithinDisk region.blocks out.new }
     {
@@ -187,8 +190,10 @@ impl Work {
         requires unit { IsUnit region.blocks unit (disk_desc_of self.old.descriptor) }
         requires held { length buffer.now ≡ length_of (work_with self.old buffer.now) unit }
         requires region { 512 * (region.first + region.blocks) ≤ D.size store.old }
-        ensures piece { PieceOn region.first (work_with self.old buffer.now) (D.content store.old) out.new (work_with self.new buffer.now) (D.content store.new) }
-        ensures calls { Calls out.new (D.calls store.old) (D.calls store.new) (D.faults store.old) (D.faults store.new) }
+        ensures piece { PieceOn region.first (work_with self.old buffer.now) (D.content store.old) out.new
+            (work_with self.new buffer.now) (D.content store.new) }
+        ensures calls { Calls out.new (D.calls store.old) (D.calls store.new) (D.faults store.old)
+            (D.faults store.new) }
         ensures size { D.size store.new ≡ D.size store.old }
         ensures within { WithinDisk region.blocks out.new }
     {
@@ -220,8 +225,10 @@ impl Work {
     /// The store is flushed.
     pub fn flush<D: Store>(&mut self, store: &mut D, out: &mut ServerOut)
         requires progress { self.old.progress ≡ kept.Flushes }
-        ensures piece { (first : ℕ) (bytes : List ℕ) → PieceOn first (work_with self.old bytes) (D.content store.old) out.new (work_with self.new bytes) (D.content store.new) }
-        ensures calls { Calls out.new (D.calls store.old) (D.calls store.new) (D.faults store.old) (D.faults store.new) }
+        ensures piece { (first : ℕ) (bytes : List ℕ) → PieceOn first (work_with self.old bytes) (D.content store.old)
+            out.new (work_with self.new bytes) (D.content store.new) }
+        ensures calls { Calls out.new (D.calls store.old) (D.calls store.new) (D.faults store.old)
+            (D.faults store.new) }
         ensures size { D.size store.new ≡ D.size store.old }
         ensures within { (blocks : ℕ) → WithinDisk blocks out.new }
     {
@@ -283,7 +290,8 @@ impl Work {
         requires progress { self.old.progress ≡ kept.Gives unit }
         requires unit { IsUnit blocks unit (disk_desc_of self.old.descriptor) }
         requires pages { PagesWithin table.now (length memory.old) }
-        ensures piece { PieceIn (work_with self.old buffer.now) (reach_over channel.now table.now memory.old) out.new (work_with self.new buffer.now) memory.new }
+        ensures piece { PieceIn (work_with self.old buffer.now) (reach_over channel.now table.now memory.old) out.new
+            (work_with self.new buffer.now) memory.new }
         ensures same_length { length memory.new ≡ length memory.old }
     {
         let offset = UNIT * unit as u64;
@@ -324,7 +332,8 @@ impl Work {
         requires progress { self.old.progress ≡ kept.Gathers unit }
         requires unit { IsUnit blocks unit (disk_desc_of self.old.descriptor) }
         requires pages { PagesWithin table.now (length memory.now) }
-        ensures piece { PieceIn (work_with self.old buffer.old) (reach_over channel.now table.now memory.now) out.new (work_with self.new buffer.new) memory.now }
+        ensures piece { PieceIn (work_with self.old buffer.old) (reach_over channel.now table.now memory.now) out.new
+            (work_with self.new buffer.new) memory.now }
     {
         let offset = UNIT * unit as u64;
         let size = self.unit_size(unit, blocks);

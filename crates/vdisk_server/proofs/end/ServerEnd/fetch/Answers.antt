@@ -1,7 +1,7 @@
-use Rattle.std.proofs.Common.{ℕ, List, Result, refl, subst}
+use Rattle.std.proofs.Common.{ℕ, List, Result, subst}
 use Rattle.vio_tag.specs.declared.cause.Cause.{Cause}
 use Rattle.vdisk_server.specs.Answering.{reach_over}
-use Rattle.vdisk_server.specs.Fields.{ring_session, state_of, work_with}
+use Rattle.vdisk_server.specs.Fields.{ring_session, state_of}
 use Rattle.vdisk_server.specs.Pieces.{FetchedOr}
 use Rattle.vdisk_server.proofs.SlotSteps.{fetch_resets, fetch_step, slot_is}
 use Rattle.vdisk_server.proofs.end.ServerEnd.fetch.Goals as goal
@@ -9,11 +9,11 @@ use Rattle.vdisk_server.proofs.end.ServerEnd.fetch.Goals as goal
 pub returns-in-Ok-clause-step : goal.returns-in-Ok-clause-step
 returns-in-Ok-clause-step c =
     fetch_step (state_of c.args.self.now) c.args.channel.now c.args.table.now c.args.memory.now c.fetch_ready.new.memory (ring_session c.args.session) c.slot_of-slot.result
-    c.in-Ok.bytes c.in-Ok.bytes (work_with c.begin.result c.args.self.now.unit) c.requires.rule
+    c.in-Ok.bytes (state_of c.begin_work.new.self) c.requires.rule c.requires.session
     (slot_is c.args.session.fetched c.slot_of-slot.result c.peer_slots.result c.args.self.now.shake.draft.peer_slots c.peer_slots.ensures c.slot_of-slot.ensures)
     (subst (λ (r : Result (List ℕ) Cause). FetchedOr r (state_of c.args.self.now) (reach_over c.args.channel.now c.args.table.now c.args.memory.now)
     c.slot_of-slot.result c.fetch_ready.new.memory) c.in-Ok.is c.fetch_ready.ensures.fetched)
-    refl (c.begin.ensures c.args.self.now.unit)
+    c.begin_work.ensures
 
 pub returns-in-Err-clause-step : goal.returns-in-Err-clause-step
 returns-in-Err-clause-step c =

@@ -7,7 +7,7 @@ returns-in-Ok-clause-step c =
     finish_step (state_of c.args.self.now) c.args.channel.now c.args.table.now c.args.memory.now c.end_slot.new.memory (ring_session c.args.session) c.slot_of-slot.result c.args.status
     (state_of c.args.self.now).work c.requires.rule
     (slot_is c.args.session.finished c.slot_of-slot.result c.peer_slots.result c.args.self.now.shake.draft.peer_slots c.peer_slots.ensures c.slot_of-slot.ensures)
-    c.requires.ends c.in-Ok.ensures.ended
+    c.requires.ends c.in-Ok.ensures.ended (state_of c.end_work.new.self) c.requires.session c.end_work.ensures
 
 pub returns-in-Err-clause-step : goal.returns-in-Err-clause-step
 returns-in-Err-clause-step c =
