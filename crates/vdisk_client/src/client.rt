@@ -66,7 +66,20 @@ impl Client {
         ensures same_ids { self.new.next_id ≡ self.old.next_id }
         ensures same_length { length memory.new ≡ length memory.old }
     {
-        self.end.step(channel, memory)
+        let mut out = ClientOut::Idle;
+        self.step_into(channel, memory, &mut out);
+        out
+    }
+
+    /// The same, whose answer is written into the caller's, so that it isn't copied from function to function.
+    pub fn step_into(&mut self, channel: &mut Channel, memory: &mut Memory, out: &mut ClientOut)
+        requires { HoldsRing self.old.slots memory.old }
+        ensures step { Steps self.old channel.old memory.old out.new self.new channel.new memory.new }
+        ensures same_slots { self.new.slots ≡ self.old.slots }
+        ensures same_ids { self.new.next_id ≡ self.old.next_id }
+        ensures same_length { length memory.new ≡ length memory.old }
+    {
+        self.end.step(channel, memory, out);
     }
 
     /// The bytes of the last completion.

@@ -30,22 +30,23 @@ impl ClientEnd {
         session: OpenSession,
         channel: &mut Channel,
         memory: &mut Memory,
-    ) -> ClientOut
+        out: &mut ClientOut,
+    )
         requires rule { rule_of self.old channel.old ≡ Completes session }
         requires counts { CountsStand (length self.old.pending) self.old.next_id session }
         requires acknowledged { session.completed < session.acked }
         requires requests { RequestsStand self.old }
         requires room { HoldsRing self.old.slots memory.old }
-        ensures step { Steps self.old channel.old memory.old result self.new channel.new memory.new }
+        ensures step { Steps self.old channel.old memory.old out.new self.new channel.new memory.new }
         ensures same_length { length memory.new ≡ length memory.old }
     {
         let slot = session.completed_slot(self.slots);
         let desc = decode(&ring_of(self.slots).look(memory, slot));
         if desc.state != VIO_DESC_DONE {
             let state = desc.state;
-            return self.fail(channel, Cause::NotDone { slot, state }, None);
+            return self.fail(channel, Cause::NotDone { slot, state }, None, out);
         }
-        self.finish(session, slot, desc.status, memory)
+        self.finish(session, slot, desc.status, memory, out);
     }
 
     /// The first pending request is done, with this status, and its slot is FREE.
@@ -55,7 +56,8 @@ impl ClientEnd {
         slot: u32,
         status: u32,
         memory: &mut Memory,
-    ) -> ClientOut
+        out: &mut ClientOut,
+    )
         requires counts { CountsStand (length self.old.pending) self.old.next_id session }
         requires acknowledged { session.completed < session.acked }
         requires requests { RequestsStand self.old }
@@ -64,7 +66,7 @@ impl ClientEnd {
         requires done { (completed_descriptor self.old session memory.old).state ≡ 4 }
         requires status { status ≡ (completed_descriptor self.old session memory.old).status }
         ensures step { (channel : ChannelView) → rule_of self.old channel ≡ Completes session
-            → Steps self.old channel memory.old result self.new channel memory.new }
+            → Steps self.old channel memory.old out.new self.new channel memory.new }
         ensures same_length { length memory.new ≡ length memory.old }
     {
         let request = match self.pending.front() {
@@ -78,12 +80,12 @@ impl ClientEnd {
         ring_of(self.slots).free(memory, slot);
         self.drop_first();
         self.session = Some(session.completed_one());
-        ClientOut::Done {
+        *out = ClientOut::Done {
             id,
             operation,
             status,
             len: len as u32,
-        }
+        };
     }
 
     /// The first bytes of a slot's buffer are those of the completion.

@@ -6,7 +6,7 @@ ghost use Rattle.ldc_queue.specs.ChannelView.{configured_channel};
 ghost use Rattle.ldc_queue.specs.declared.end.End.TheVariants.{A};
 ghost use Rattle.vdisk_msg.specs.Fills.{IsRequest};
 ghost use Rattle.vdisk_msg.specs.Requests.{AreSound, BadCount, BadRange, defect};
-ghost use Rattle.vdisk_client.specs.declared.answers.ClientOut.TheVariants as out;
+ghost use Rattle.vdisk_client.specs.declared.answers.ClientOut.TheVariants.{Reset};
 
 use crate::answers::{ClientOut, IssueFault};
 use crate::session::OpenSession;
@@ -128,13 +128,14 @@ impl ClientEnd {
         channel: &mut Channel,
         cause: Cause,
         packet: Option<[u8; 64]>,
-    ) -> ClientOut
-        ensures answer { result ≡ out.Reset cause packet }
+        out: &mut ClientOut,
+    )
+        ensures answer { out.new ≡ Reset cause packet }
         ensures state { self.new ≡ joined_client self.old }
         ensures channel { channel.new ≡ configured_channel A channel.old }
     {
         self.join(channel);
-        ClientOut::Reset { cause, packet }
+        *out = ClientOut::Reset { cause, packet };
     }
 
     /// The id of the first pending request, or of the next where none is pending.

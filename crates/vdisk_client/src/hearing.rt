@@ -24,23 +24,25 @@ impl ClientEnd {
     ghost use Rattle.vdisk_client.specs.Standing.{CountsStand, RequestsStand, Stands};
 
     /// Takes the packet that has waited longest, or resets for what is wrong with it.
-    pub(crate) fn take(&mut self, channel: &mut Channel) -> ClientOut
+    pub(crate) fn take(&mut self, channel: &mut Channel, out: &mut ClientOut)
         requires up { channel.old.wire.end_a ≡ Up }
         requires waits { 0 < length channel.old.wire.to_a }
         requires rule { rule_of self.old channel.old ≡ takes_first (sees channel.old).first (puts_first self.old) }
         requires calm { is_urgent self.old ≡ false }
         requires stands { Stands self.old }
-        ensures step { (memory : List ℕ) → Steps self.old channel.old memory result self.new channel.new memory }
+        ensures step { (memory : List ℕ) → Steps self.old channel.old memory out.new self.new channel.new memory }
     {
         match self.link.take(channel, End::A) {
             TakeOut::Took(packet) => match self.hear() {
-                Ok(()) => ClientOut::Took {
-                    packet,
-                    opens: false,
-                },
-                Err(cause) => self.fail(channel, cause, Some(packet)),
+                Ok(()) => {
+                    *out = ClientOut::Took {
+                        packet,
+                        opens: false,
+                    };
+                }
+                Err(cause) => self.fail(channel, cause, Some(packet), out),
             },
-            TakeOut::Fault { packet, cause } => self.fail(channel, cause, Some(packet)),
+            TakeOut::Fault { packet, cause } => self.fail(channel, cause, Some(packet), out),
             TakeOut::Nothing => unreachable!(),
         }
     }

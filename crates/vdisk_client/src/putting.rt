@@ -39,74 +39,84 @@ impl ClientEnd {
         owes_message: bool,
         channel: &mut Channel,
         memory: &mut Memory,
-    ) -> ClientOut
+        out: &mut ClientOut,
+    )
         requires owed { owes_message ≡ is_some self.old.shake.owed }
         requires up { channel.old.wire.end_a ≡ Up }
         requires rule { rule_of self.old channel.old ≡ puts_first self.old }
         requires stands { Stands self.old }
         requires room { HoldsRing self.old.slots memory.old }
-        ensures step { Steps self.old channel.old memory.old result self.new channel.new memory.new }
+        ensures step { Steps self.old channel.old memory.old out.new self.new channel.new memory.new }
         ensures same_length { length memory.new ≡ length memory.old }
     {
         if self.link.owes() {
-            return self.put(channel, memory);
+            return self.put(channel, memory, out);
         }
         if owes_message {
-            return self.say_owed(channel, memory);
+            return self.say_owed(channel, memory, out);
         }
-        self.go_on(channel, memory)
+        self.go_on(channel, memory, out);
     }
 
     /// Says the message that the handshake owes.
-    fn say_owed(&mut self, channel: &mut Channel, memory: &mut Memory) -> ClientOut
+    fn say_owed(&mut self, channel: &mut Channel, memory: &mut Memory, out: &mut ClientOut)
         requires up { channel.old.wire.end_a ≡ Up }
         requires rule { rule_of self.old channel.old ≡ says self.old self.old.shake.owed }
         requires owed { is_some self.old.shake.owed ≡ true }
         requires nothing { owes self.old.link ≡ false }
         requires stands { Stands self.old }
         requires room { HoldsRing self.old.slots memory.old }
-        ensures step { Steps self.old channel.old memory.old result self.new channel.new memory.new }
+        ensures step { Steps self.old channel.old memory.old out.new self.new channel.new memory.new }
         ensures same_length { length memory.new ≡ length memory.old }
     {
         match self.shake.next() {
-            Some(message) => self.say(&message, channel, memory),
+            Some(message) => self.say(&message, channel, memory, out),
             None => unreachable!(),
         }
     }
 
     /// Offers a message that the handshake owes, and puts its first packet.
-    fn say(&mut self, message: &Message, channel: &mut Channel, memory: &mut Memory) -> ClientOut
+    fn say(
+        &mut self,
+        message: &Message,
+        channel: &mut Channel,
+        memory: &mut Memory,
+        out: &mut ClientOut,
+    )
         requires up { channel.old.wire.end_a ≡ Up }
         requires rule { rule_of self.old channel.old ≡ Says message.now }
         requires owed { self.old.shake.owed ≡ Some message.now }
         requires nothing { owes self.old.link ≡ false }
         requires stands { Stands self.old }
         requires room { HoldsRing self.old.slots memory.old }
-        ensures step { Steps self.old channel.old memory.old result self.new channel.new memory.new }
+        ensures step { Steps self.old channel.old memory.old out.new self.new channel.new memory.new }
         ensures same_length { length memory.new ≡ length memory.old }
     {
         self.offer(message);
-        self.put(channel, memory)
+        self.put(channel, memory, out);
     }
 
     /// In session: what is published is announced, and then the next pending request is published.
-    fn go_on(&mut self, channel: &mut Channel, memory: &mut Memory) -> ClientOut
+    fn go_on(&mut self, channel: &mut Channel, memory: &mut Memory, out: &mut ClientOut)
         requires up { channel.old.wire.end_a ≡ Up }
         requires rule { rule_of self.old channel.old ≡ in_session self.old self.old.session }
         requires nothing { owes self.old.link ≡ false }
         requires stands { Stands self.old }
         requires room { HoldsRing self.old.slots memory.old }
-        ensures step { Steps self.old channel.old memory.old result self.new channel.new memory.new }
+        ensures step { Steps self.old channel.old memory.old out.new self.new channel.new memory.new }
         ensures same_length { length memory.new ≡ length memory.old }
     {
         let session = match self.session {
             Some(session) => session,
-            None => return ClientOut::Idle,
+            None => {
+                *out = ClientOut::Idle;
+                return;
+            }
         };
         if session.has_unannounced() {
-            return self.announce(session, channel, memory);
+            return self.announce(session, channel, memory, out);
         }
-        self.publish_next(session, memory)
+        self.publish_next(session, memory, out);
     }
 
     /// Offers the INFO that announces all that is published, and puts it.
@@ -115,7 +125,8 @@ impl ClientEnd {
         session: OpenSession,
         channel: &mut Channel,
         memory: &mut Memory,
-    ) -> ClientOut
+        out: &mut ClientOut,
+    )
         requires up { channel.old.wire.end_a ≡ Up }
         requires rule { rule_of self.old channel.old ≡ Announces session }
         requires open { self.old.session ≡ Some session }
@@ -123,13 +134,13 @@ impl ClientEnd {
         requires nothing { owes self.old.link ≡ false }
         requires stands { Stands self.old }
         requires room { HoldsRing self.old.slots memory.old }
-        ensures step { Steps self.old channel.old memory.old result self.new channel.new memory.new }
+        ensures step { Steps self.old channel.old memory.old out.new self.new channel.new memory.new }
         ensures same_length { length memory.new ≡ length memory.old }
     {
         let message = self.announcement(&session);
         self.offer(&message);
         self.session = Some(session.with_info());
-        self.put(channel, memory)
+        self.put(channel, memory, out);
     }
 
     /// The INFO of the slots from the first that isn't announced to the last that is published.
@@ -170,22 +181,22 @@ impl ClientEnd {
     }
 
     /// Puts the packet that the link owes.
-    fn put(&mut self, channel: &mut Channel, memory: &mut Memory) -> ClientOut
+    fn put(&mut self, channel: &mut Channel, memory: &mut Memory, out: &mut ClientOut)
         requires up { channel.old.wire.end_a ≡ Up }
         requires owes { owes self.old.link ≡ true }
         requires own { HoldsOwn self.old }
         requires requests { RequestsStand self.old }
         requires room { HoldsRing self.old.slots memory.old }
-        ensures put { PutsHeld self.old channel.old memory.old result self.new channel.new memory.new }
+        ensures put { PutsHeld self.old channel.old memory.old out.new self.new channel.new memory.new }
         ensures same_length { length memory.new ≡ length memory.old }
     {
         let was_up = self.link.is_up();
         match self.link.send(channel, End::A) {
             SendOut::Sent(packet) => {
                 let opens = self.note_put(was_up, memory);
-                ClientOut::Sent { packet, opens }
+                *out = ClientOut::Sent { packet, opens };
             }
-            SendOut::Blocked => ClientOut::Blocked,
+            SendOut::Blocked => *out = ClientOut::Blocked,
             SendOut::Nothing => unreachable!(),
         }
     }
@@ -276,25 +287,28 @@ impl ClientEnd {
     }
 
     /// Publishes the first pending request that isn't published in this session, if any.
-    fn publish_next(&mut self, session: OpenSession, memory: &mut Memory) -> ClientOut
+    fn publish_next(&mut self, session: OpenSession, memory: &mut Memory, out: &mut ClientOut)
         requires open { self.old.session ≡ Some session }
         requires stands { Stands self.old }
         requires room { HoldsRing self.old.slots memory.old }
         ensures step { (channel : ChannelView)
             → rule_of self.old channel
             ≡ publishes session (slice_get self.old.pending (session.published - session.completed))
-            → Steps self.old channel memory.old result self.new channel memory.new }
+            → Steps self.old channel memory.old out.new self.new channel memory.new }
         ensures same_length { length memory.new ≡ length memory.old }
     {
         let request = match self.pending.get(session.published_pending() as usize) {
             Some(request) => request,
-            None => return ClientOut::Idle,
+            None => {
+                *out = ClientOut::Idle;
+                return;
+            }
         };
         let id = session.next_id();
         let slot = session.published_slot(self.slots);
         put_request(memory, self.slots, slot, id, request);
         self.ever_published = self.ever_published.max(id + 1);
         self.session = Some(session.published_one());
-        ClientOut::Published { id }
+        *out = ClientOut::Published { id };
     }
 }

@@ -15,27 +15,26 @@ impl ClientEnd {
     ghost use Rattle.vdisk_client.specs.Standing.{Stands};
 
     /// An end that isn't up joins; an acknowledged request is completed; what is urgent is put; a packet that waits is
-    /// taken; and then the rest is put, announced and published. It stands apart: inlined into its callers, its answer would
-    /// be copied field by field through each of them.
-    #[inline(never)]
-    pub(crate) fn step(&mut self, channel: &mut Channel, memory: &mut Memory) -> ClientOut
+    /// taken; and then the rest is put, announced and published. Each rule writes its answer into the caller's, once.
+    pub(crate) fn step(&mut self, channel: &mut Channel, memory: &mut Memory, out: &mut ClientOut)
         requires stands { Stands self.old }
         requires room { HoldsRing self.old.slots memory.old }
-        ensures step { Steps self.old channel.old memory.old result self.new channel.new memory.new }
+        ensures step { Steps self.old channel.old memory.old out.new self.new channel.new memory.new }
         ensures same_length { length memory.new ≡ length memory.old }
     {
         if channel.state(End::A) != ChannelState::Up {
             self.join(channel);
-            return ClientOut::Joined;
+            *out = ClientOut::Joined;
+            return;
         }
         if let Some(session) = self.acknowledged() {
-            return self.complete(session, channel, memory);
+            return self.complete(session, channel, memory, out);
         }
         let owes_message = self.owes_message();
         if !self.is_urgent(owes_message) && channel.waiting(End::A) > 0 {
-            return self.take(channel);
+            return self.take(channel, out);
         }
-        self.put_first(owes_message, channel, memory)
+        self.put_first(owes_message, channel, memory, out);
     }
 
     /// The session, where an acknowledged request isn't done.

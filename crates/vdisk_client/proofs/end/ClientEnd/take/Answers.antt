@@ -14,8 +14,8 @@ hear-requires-clause-begun c =
 pub returns-in-Err : goal.returns-in-Err
 returns-in-Err c = record {
   step = λ memory.
-      subst (λ (s : ClientState). Steps s c.args.channel.now memory c.fail.result c.fail.new.self c.fail.new.channel memory) c.self.view_is
-      (hear_fails (the_view c.self.inside) c.fail.new.self c.hear.new.self c.take.new.self c.args.channel.now c.take.new.channel c.fail.new.channel memory c.in-Took.packet c.in-Err.cause c.fail.result
+      subst (λ (s : ClientState). Steps s c.args.channel.now memory c.fail.new.out c.fail.new.self c.fail.new.channel memory) c.self.view_is
+      (hear_fails (the_view c.self.inside) c.fail.new.self c.hear.new.self c.take.new.self c.args.channel.now c.take.new.channel c.fail.new.channel memory c.in-Took.packet c.in-Err.cause c.fail.new.out
       (subst TalkStands (sym c.self.view_is) c.requires.stands.talk)
       (subst (λ (s : ClientState). rule_of s c.args.channel.now ≡ takes_first (sees c.args.channel.now).first (puts_first s)) (sym c.self.view_is) c.requires.rule)
       c.requires.up c.in-Took.ensures.0 c.in-Took.ensures.1 c.in-Err.ensures.hears c.in-Err.ensures.refused c.fail.ensures.answer c.fail.ensures.state c.fail.ensures.channel);
