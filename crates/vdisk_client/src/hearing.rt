@@ -59,9 +59,9 @@ impl ClientEnd {
             None => return Ok(()),
         };
         self.link.clear_message();
-        match decoded {
-            Ok(message) => self.hear_message(&message),
-            Err(fault) => Err(Cause::Tag(fault)),
+        match &decoded {
+            Ok(message) => self.hear_message(message),
+            Err(fault) => Err(Cause::Tag(*fault)),
         }
     }
 
@@ -96,7 +96,7 @@ impl ClientEnd {
                 found: message.sid,
             });
         }
-        match (message.subtype, message.body) {
+        match (message.subtype, &message.body) {
             (
                 Subtype::Ack,
                 MsgBody::DringData {
@@ -105,7 +105,7 @@ impl ClientEnd {
                     end,
                     ..
                 },
-            ) => self.hear_ack(session, agreed.ident_own, ident, start, end),
+            ) => self.hear_ack(session, agreed.ident_own, *ident, *start, *end),
             (Subtype::Nack, MsgBody::DringData { .. }) => Err(Cause::Refused),
             _ => self.hear_handshake(message),
         }
