@@ -1,3 +1,6 @@
+// A client against the packets of a server that are written out here. What the two ends of a lane say to each other
+// byte for byte, from the link's handshake on, is tested where both stand.
+
 ghost use Rattle.std.specs.Prelude.{◌≡◌, IfOk, length};
 ghost use Rattle.disk_requests.specs.Room.{HoldsRing};
 
@@ -9,10 +12,56 @@ use std::alloc::Global;
 use std::test::Fail;
 use vdisk_msg::{Fill, Request};
 use vio_tag::{Cause, TagFault};
-use vio_vectors::{DISK_DESCRIPTORS, MESSAGES, PACKETS};
 
 /// The pages of a ring of 8 slots and of its buffers.
 const PAGES: u32 = 33;
+
+/// What a server says until the session is open, for a disk of 64 blocks and a ring of 8 slots.
+const SERVER: [&'static str; 7] = [
+    // the link's version, and RTR
+    "01020100000000000001000000000000\
+     00000000000000000000000000000000\
+     00000000000000000000000000000000\
+     00000000000000000000000000000000",
+    "01010301000000000000000000000000\
+     00000000000000000000000000000000\
+     00000000000000000000000000000000\
+     00000000000000000000000000000000",
+    // the answers to the version, the attributes, the ring and RDX
+    "020100f8000000010102000100000001\
+     00010001040000000000000000000000\
+     00000000000000000000000000000000\
+     00000000000000000000000000000000",
+    "020100f8000000020102000200000001\
+     0302010000000200000000000000000e\
+     00000000000000400000000000000040\
+     00000000000000000000000000000000",
+    "020100f0000000030102000300000001\
+     00000000000000010000000800000080\
+     00010000000000010000000000000000\
+     00000000000004000000000000000000",
+    "020100f8000000040102000500000001\
+     00000000000000000000000000000000\
+     00000000000000000000000000000000\
+     00000000000000000000000000000000",
+    // its own RDX
+    "020100f8000000050101000500000001\
+     00000000000000000000000000000000\
+     00000000000000000000000000000000\
+     00000000000000000000000000000000",
+];
+
+/// The server is done with the first slot.
+const FIRST_DONE: &'static str = "020100f8000000060202004200000001\
+     00000000000000010000000000000001\
+     00000000000000000100000000000000\
+     00000000000000000000000000000000";
+
+/// It is done with the first two.
+const BOTH_DONE: &'static str = "020100f8000000060202004200000001\
+     00000000000000010000000000000001\
+     00000000000000010100000000000000\
+     00000000000000000000000000000000";
 
 /// A client of a disk of 64 blocks with a ring of 8 slots, over a channel whose other end is the test's.
 #[derive(Drop)]
@@ -41,29 +90,17 @@ fn asked(alloc: Global) -> Result<Client, Fail>
     Ok(client)
 }
 
-/// A memory whose first buffer holds sevens.
-fn sevens(alloc: Global) -> Result<Memory, Fail>
+fn zeros(alloc: Global) -> Result<Memory, Fail>
     ensures { IfOk result (λ memory. length memory ≡ 270336) }
 {
-    let mut memory = Memory::new(alloc, PAGES)?;
-    memory.write(8192, &[7; 1025]);
-    Ok(memory)
+    Ok(Memory::new(alloc, PAGES)?)
 }
 
-/// The same, whose second buffer holds nines.
-fn sevens_and_nines(alloc: Global) -> Result<Memory, Fail>
-    ensures { IfOk result (λ memory. length memory ≡ 270336) }
-{
-    let mut memory = sevens(alloc)?;
-    memory.write(40960, &[9; 512]);
-    Ok(memory)
-}
-
-fn writing(alloc: Global) -> Result<Side, Fail> {
+fn asking(alloc: Global) -> Result<Side, Fail> {
     let mut channel = Channel::new(alloc, 16)?;
     channel.configure(End::B);
     let client = asked(alloc)?;
-    let memory = sevens_and_nines(alloc)?;
+    let memory = zeros(alloc)?;
     Ok(Side {
         channel,
         client,
@@ -75,36 +112,31 @@ fn packet(text: &str) -> Result<[u8; 64], Fail> {
     Ok(<[u8; 64] as FromHex>::from_hex(text)?)
 }
 
-/// A packet with this header, which carries this message.
-fn part(alloc: Global, header: &str, message: &str) -> Result<[u8; 64], Fail> {
-    let text = format!(in alloc; "{header}{message}")?;
-    packet(text.as_str())
-}
-
-/// The same of a registration, which is shorter.
-fn registration(alloc: Global, header: &str, message: &str) -> Result<[u8; 64], Fail> {
-    let text = format!(in alloc; "{header}{message}0000000000000000")?;
-    packet(text.as_str())
-}
-
-/// An answer to the client's INFO: the subtype, sid, ident, start and end are these.
-fn answer(alloc: Global, fields: &str) -> Result<[u8; 64], Fail> {
-    let text = format!(in alloc; "020100f80000000602{fields}0100000000000000{ZEROS}")?;
-    packet(text.as_str())
-}
-
-/// The INFO of the second slot.
-const SECOND: &'static str = "020100f800000008\
-     02010042000000010000000000000002\
-     00000000000000010000000100000001\
-     01000000000000000000000000000000\
-     0000000000000000";
-
-const ZEROS: &'static str = "00000000000000000000000000000000";
-
 impl Side {
     fn step(&mut self) -> ClientOut {
         self.client.step(&mut self.channel, &mut self.memory)
+    }
+
+    /// Goes on until nothing is left to do but to wait.
+    fn rests(&mut self) {
+        for _ in 0..8 {
+            let _out = self.step();
+        }
+    }
+
+    /// The step that takes this packet.
+    fn hears(&mut self, packet: &[u8; 64]) -> ClientOut {
+        let _put = self.channel.put(End::B, packet);
+        self.step()
+    }
+
+    /// The server leaves nines in the second buffer, and both slots DONE.
+    fn serves(&mut self) {
+        if self.memory.pages() == PAGES {
+            self.memory.write(40960, &[9; 512]);
+            self.memory.write(0, &[4]);
+            self.memory.write(128, &[4]);
+        }
     }
 
     fn ticks(&mut self) -> bool {
@@ -114,151 +146,51 @@ impl Side {
     fn resets(&mut self) {
         self.client.reset(&mut self.channel);
     }
-
-    fn sends(&mut self, packet: [u8; 64]) -> bool {
-        self.step()
-            == ClientOut::Sent {
-                packet,
-                opens: false,
-            }
-    }
-
-    fn takes(&mut self, packet: [u8; 64]) -> bool {
-        self.channel.put(End::B, &packet).is_ok()
-            && self.step()
-                == ClientOut::Took {
-                    packet,
-                    opens: false,
-                }
-    }
-
-    fn fails(&mut self, packet: [u8; 64], cause: Cause) -> bool {
-        self.channel.put(End::B, &packet).is_ok()
-            && self.step()
-                == ClientOut::Reset {
-                    cause,
-                    packet: Some(packet),
-                }
-    }
-
-    /// The link's handshake.
-    fn comes_up(&mut self) -> Result<bool, Fail> {
-        let packets = &PACKETS.inputs;
-        Ok(
-            self.step() == ClientOut::Joined
-                && self.sends(packet(packets[0])?)
-                && self.takes(packet(packets[1])?)
-                && self.sends(packet(packets[2])?)
-                && self.takes(packet(packets[3])?)
-                && self.sends(packet(packets[4])?),
-        )
-    }
-
-    /// Versions and attributes.
-    fn agrees(&mut self, alloc: Global) -> Result<bool, Fail> {
-        let messages = &MESSAGES.inputs;
-        Ok(
-            self.sends(part(alloc, "020100f800000002", messages[0])?)
-                && self.takes(part(alloc, "020100f800000001", messages[1])?)
-                && self.sends(part(alloc, "020100f800000003", messages[2])?)
-                && self.takes(part(alloc, "020100f800000002", messages[3])?),
-        )
-    }
-
-    /// The ring is registered, and both ends are ready.
-    fn opens(&mut self, alloc: Global) -> Result<bool, Fail> {
-        let messages = &MESSAGES.inputs;
-        Ok(
-            self.sends(registration(alloc, "020100f000000004", messages[4])?)
-                && self.takes(registration(alloc, "020100f000000003", messages[5])?)
-                && self.sends(part(alloc, "020100f800000005", messages[6])?)
-                && self.takes(part(alloc, "020100f800000004", messages[7])?)
-                && self.takes(part(alloc, "020100f800000005", messages[6])?)
-                && self.step()
-                    == ClientOut::Sent {
-                        packet: part(alloc, "020100f800000006", messages[7])?,
-                        opens: true,
-                    },
-        )
-    }
-
-    /// Each request stands in its slot and is announced.
-    fn announces(&mut self) -> Result<bool, Fail> {
-        Ok(
-            self.step() == ClientOut::Published { id: 0 }
-                && self.sends(packet(PACKETS.inputs[5])?)
-                && self.step() == ClientOut::Published { id: 1 }
-                && self.sends(packet(SECOND)?)
-                && self.step() == ClientOut::Idle,
-        )
-    }
-
-    /// What stands in the first slot, and behind the sevens.
-    fn holds_write(&self) -> Result<bool, Fail> {
-        let mut slot = [0; 128];
-        let mut data = [1; 1025];
-        if self.memory.pages() == PAGES {
-            self.memory.read(0, &mut slot);
-            self.memory.read(8192, &mut data);
-        }
-        let wanted = <[u8; 128] as FromHex>::from_hex(DISK_DESCRIPTORS.inputs[0])?;
-        Ok(slot == wanted && data[0] == 0 && data[1023] == 0 && data[1024] == 7)
-    }
-
-    fn marks_done(&mut self) {
-        if self.memory.pages() == PAGES {
-            self.memory.write(0, &[4]);
-            self.memory.write(128, &[4]);
-        }
-    }
 }
 
-/// A client whose write is announced.
+/// A client whose requests are announced.
 fn announced(alloc: Global) -> Result<Side, Fail> {
-    let mut side = writing(alloc)?;
-    let up = side.comes_up()?;
-    let agreed = side.agrees(alloc)?;
-    let open = side.opens(alloc)?;
-    let published = side.announces()?;
-    if up && agreed && open && published {
-        Ok(side)
-    } else {
-        Err(Fail::new("the session isn't open"))
+    let mut side = asking(alloc)?;
+    for text in SERVER {
+        side.rests();
+        let _took = side.hears(&packet(text)?);
     }
+    side.rests();
+    Ok(side)
 }
 
 #[test]
-fn a_session_opens_and_both_requests_are_done(rt: HostRuntime) -> Result<(), Fail> {
+fn both_requests_are_done(rt: HostRuntime) -> Result<(), Fail> {
     let mut side = announced(rt.alloc())?;
-    assert!(rt; side.holds_write()?);
-    side.marks_done();
-    let done = answer(
-        rt.alloc(),
-        "02004200000001000000000000000100000000000000010000000000000001",
-    )?;
-    assert!(rt; side.takes(done));
-    let step = side.step();
-    assert_eq!(rt;
-        step,
-        ClientOut::Done {
-            id: 0,
-            operation: 2,
-            status: 0,
-            len: 0
-        }
-    );
+    assert_eq!(rt; (side.client.pending(), side.client.mark()), (2, 2));
+    side.serves();
+    let _took = side.hears(&packet(BOTH_DONE)?);
+    let write = ClientOut::Done {
+        id: 0,
+        operation: 2,
+        status: 0,
+        len: 0,
+    };
+    assert_eq!(rt; side.step(), write);
     assert_eq!(rt; (side.client.pending(), side.client.front_len()), (1, 512));
-    let step = side.step();
-    assert_eq!(rt;
-        step,
-        ClientOut::Done {
-            id: 1,
-            operation: 1,
-            status: 0,
-            len: 512
-        }
-    );
+    let read = ClientOut::Done {
+        id: 1,
+        operation: 1,
+        status: 0,
+        len: 512,
+    };
+    assert_eq!(rt; side.step(), read);
     assert_eq!(rt; side.client.bytes(), [9; 512].as_slice());
+    Ok(())
+}
+
+#[test]
+fn a_finished_client_is_not_reset_by_a_tick(rt: HostRuntime) -> Result<(), Fail> {
+    let mut side = announced(rt.alloc())?;
+    assert!(rt; !side.client.finished());
+    side.serves();
+    let _took = side.hears(&packet(BOTH_DONE)?);
+    side.rests();
     assert!(rt; side.client.finished());
     assert!(rt; !side.ticks());
     side.resets();
@@ -266,58 +198,91 @@ fn a_session_opens_and_both_requests_are_done(rt: HostRuntime) -> Result<(), Fai
     Ok(())
 }
 
-/// Answers in session that aren't taken, by their fields behind the type, and the cause of each.
-const WRONG: [(&'static str, Cause); 8] = [
-    (
-        "02004200000002000000000000000100000000000000010000000000000000",
-        Cause::Sid {
+/// An answer that is the first slot's but for one byte, and why it isn't taken.
+#[derive(Clone, Copy)]
+struct Wrong {
+    place: usize,
+    byte: u8,
+    cause: Cause,
+}
+
+const WRONG: [Wrong; 8] = [
+    Wrong {
+        place: 15,
+        byte: 2,
+        cause: Cause::Sid {
             expected: 1,
             found: 2,
         },
-    ),
-    (
-        "01004200000001000000000000000100000000000000010000000000000000",
-        Cause::Order,
-    ),
-    (
-        "04004200000001000000000000000100000000000000010000000000000000",
-        Cause::Refused,
-    ),
-    (
-        "02004200000001000000000000000100000000000000030000000000000000",
-        Cause::Ident {
+    },
+    Wrong {
+        place: 9,
+        byte: 1,
+        cause: Cause::Order,
+    },
+    Wrong {
+        place: 9,
+        byte: 4,
+        cause: Cause::Refused,
+    },
+    Wrong {
+        place: 9,
+        byte: 3,
+        cause: Cause::Tag(TagFault::Subtype),
+    },
+    Wrong {
+        place: 31,
+        byte: 3,
+        cause: Cause::Ident {
             expected: 1,
             found: 3,
         },
-    ),
-    (
-        "02004200000001000000000000000100000000000000010000000100000001",
-        Cause::Slot {
+    },
+    Wrong {
+        place: 35,
+        byte: 1,
+        cause: Cause::Slot {
             expected: 0,
             found: 1,
         },
-    ),
-    (
-        "02004200000001000000000000000100000000000000010000000000000002",
-        Cause::RangeEnd { found: 2 },
-    ),
-    (
-        "02004200000001000000000000000100000000000000010000000000000008",
-        Cause::RangeEnd { found: 8 },
-    ),
-    (
-        "03004200000001000000000000000100000000000000010000000000000000",
-        Cause::Tag(TagFault::Subtype),
-    ),
+    },
+    Wrong {
+        place: 39,
+        byte: 2,
+        cause: Cause::RangeEnd { found: 2 },
+    },
+    Wrong {
+        place: 39,
+        byte: 8,
+        cause: Cause::RangeEnd { found: 8 },
+    },
 ];
+
+impl Wrong {
+    fn packet(&self) -> Result<[u8; 64], Fail> {
+        let mut packet = packet(FIRST_DONE)?;
+        if let Some(byte) = packet.get_mut(self.place) {
+            *byte = self.byte;
+        }
+        Ok(packet)
+    }
+}
+
+/// Whether the client resets for the cause where it takes the packet, and keeps its requests.
+fn refuses(alloc: Global, wrong: &Wrong) -> Result<bool, Fail> {
+    let mut side = announced(alloc)?;
+    let packet = wrong.packet()?;
+    let reset = ClientOut::Reset {
+        cause: wrong.cause,
+        packet: Some(packet),
+    };
+    Ok(side.hears(&packet) == reset && (side.client.pending(), side.client.mark()) == (2, 2))
+}
 
 #[test]
 fn each_wrong_answer_has_its_cause(rt: HostRuntime) -> Result<(), Fail> {
-    for (fields, cause) in WRONG {
-        let mut side = announced(rt.alloc())?;
-        let packet = answer(rt.alloc(), fields)?;
-        assert!(rt; side.fails(packet, cause), "{fields}");
-        assert_eq!(rt; (side.client.pending(), side.client.mark()), (2, 2));
+    for wrong in WRONG {
+        assert!(rt; refuses(rt.alloc(), &wrong)?);
     }
     Ok(())
 }
@@ -325,18 +290,16 @@ fn each_wrong_answer_has_its_cause(rt: HostRuntime) -> Result<(), Fail> {
 #[test]
 fn an_acknowledged_slot_that_is_not_done_resets(rt: HostRuntime) -> Result<(), Fail> {
     let mut side = announced(rt.alloc())?;
-    let done = answer(
-        rt.alloc(),
-        "02004200000001000000000000000100000000000000010000000000000000",
-    )?;
-    assert!(rt; side.takes(done));
-    let step = side.step();
-    assert_eq!(rt;
-        step,
-        ClientOut::Reset {
-            cause: Cause::NotDone { slot: 0, state: 2 },
-            packet: None
-        }
-    );
+    let packet = packet(FIRST_DONE)?;
+    let took = ClientOut::Took {
+        packet,
+        opens: false,
+    };
+    assert_eq!(rt; side.hears(&packet), took);
+    let reset = ClientOut::Reset {
+        cause: Cause::NotDone { slot: 0, state: 2 },
+        packet: None,
+    };
+    assert_eq!(rt; side.step(), reset);
     Ok(())
 }
