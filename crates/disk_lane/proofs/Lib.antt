@@ -1,3 +1,4 @@
 pub mod Granted
+pub mod EndsUp
 pub mod NotedSteps
 pub mod Reaching

@@ -1,8 +1,11 @@
 -- What a lane notes beside a step of an end makes of it the lane's step.
-use Rattle.std.proofs.Common.{◌≡◌, ◌||◌, ℕ, Bool, true, false, List, Option, refl, sym, ap, ◌∙◌, subst}
+use Rattle.std.proofs.Common.{◌≡◌, ◌≢◌, ◌||◌, ℕ, Bool, true, false, List, Option, refl, sym, ap, ◌∙◌, subst}
 use Rattle.ldc_queue.specs.ChannelView.{ChannelView}
+use Rattle.ldc_queue.specs.declared.end.ChannelState.TheVariants.{Up}
 use Rattle.ldc_queue.specs.declared.end.End.TheVariants.{A, B}
 use Rattle.ldc_queue.specs.Wire.{Wire, state_of}
+use Rattle.vio_tag.specs.declared.cause.Cause.{Cause}
+use Rattle.lane_law.specs.WireLog.{lossy_behind}
 use Rattle.disk_lane.specs.Events.{ResetsOwn}
 use Rattle.disk_steps.proofs.OwnSteps.{client_resets_own}
 use Rattle.disk_steps.specs.ClientRule.{client_rule}
@@ -19,10 +22,12 @@ use Rattle.vdisk_client.specs.OnLane.{client_moved}
 use Rattle.vdisk_client.specs.declared.answers.ClientOut.{ClientOut}
 use Rattle.vdisk_client.specs.declared.answers.ClientOut.TheVariants as client_out
 use Rattle.vdisk_server.proofs.LaneSteps.{served}
-use Rattle.vdisk_server.specs.Answering.{Serves, channel_after as server_channel_after, server_event}
+use Rattle.vdisk_server.specs.Answering.{Serves, channel_after as server_channel_after, reach_over, server_event}
+use Rattle.vdisk_server.specs.Answering.{sees as server_sees}
 use Rattle.vdisk_server.specs.InLane.{lane_after}
 use Rattle.vdisk_server.specs.declared.answers.ServerOut.{ServerOut}
 use Rattle.vdisk_server.specs.declared.answers.ServerOut.TheVariants as server_out
+use Rattle.disk_lane.proofs.EndsUp.{behind_down, behind_up, client_joins, client_resets, server_joins, server_resets}
 use Rattle.disk_lane.specs.Noted.{noted}
 
 or_false : (b : Bool) → (b || false) ≡ b
@@ -36,25 +41,40 @@ channel_of c s = record c { wire = s.wire.wire; entries = s.shape.entries }
 same_channel : (s : LaneState) (c : ChannelView) → IsChannelOf c s → c ≡ channel_of c s
 same_channel s c is = ap (λ (w : Wire). record c { wire = w }) is.wire ∙ ap (λ (n : ℕ). record c { wire = s.wire.wire; entries = n }) is.entries
 
+-- the lane where this is known of what was lost
+abbrev knowing : Bool → LaneState → LaneState
+knowing lossy s = record s { wire = record s.wire { lossy = lossy } }
+
 -- THE CLIENT. The lane as its step left it, before anything was noted
 abbrev pub client_left : LaneState → ChannelView → ClientState → List ℕ → LaneState
 client_left s d t new = record s { shape = record s.shape { entries = d.entries }; wire = record s.wire { wire = d.wire }; client = t; memory = new }
 
 abbrev ClientNotes : LaneState → ChannelView → ClientOut → ClientState → List ℕ → Type 0
 ClientNotes s c answer t new =
-    noted (state_of A c.wire) (client_event answer t.last) (client_left s (channel_after answer c) t new) ≡ client_moved s (client_event answer t.last) t new
+    noted (client_event answer t.last) (client_left s (channel_after answer c) t new)
+    ≡ client_moved s (client_event answer t.last) t new
 
 module _ (s : LaneState) (c d : ChannelView) (t : ClientState) (new : List ℕ) where
-  client_notes : (answer : ClientOut) → Steps s.client c s.memory answer t d new → ClientNotes s (channel_of c s) answer t new
-  client_notes client_out.Idle steps = refl
-  client_notes client_out.Blocked steps = refl
-  client_notes client_out.Joined steps = refl
-  client_notes (client_out.Took packet opens) steps = refl
-  client_notes (client_out.Sent packet opens) steps = refl
-  client_notes (client_out.Published id) steps = refl
-  client_notes (client_out.Done id operation status len) steps = refl
-  client_notes (client_out.Reset cause packet) steps =
-      ap (λ (x : ClientState). record (client_moved s (client_event (client_out.Reset cause packet) t.last) t new) { near = near_disturbed x }) steps.step.2
+  client_notes : (answer : ClientOut) → IsChannelOf c s → Steps s.client c s.memory answer t d new
+      → ClientNotes s (channel_of c s) answer t new
+  client_notes client_out.Idle is steps = refl
+  client_notes client_out.Blocked is steps = refl
+  client_notes client_out.Joined is steps =
+      let down : state_of A s.wire.wire ≢ Up =
+      subst (λ (w : Wire). state_of A w ≢ Up) is.wire (client_joins s.client (sees c) steps.step.0) in
+      ap (λ (lossy : Bool). knowing lossy (client_moved s (client_event client_out.Joined t.last) t new))
+      (sym (behind_down (state_of A s.wire.wire) s.wire.lossy down))
+  client_notes (client_out.Took packet opens) is steps = refl
+  client_notes (client_out.Sent packet opens) is steps = refl
+  client_notes (client_out.Published id) is steps = refl
+  client_notes (client_out.Done id operation status len) is steps = refl
+  client_notes (client_out.Reset cause packet) is steps =
+      let up : state_of A s.wire.wire ≡ Up =
+      subst (λ (w : Wire). state_of A w ≡ Up) is.wire
+      (client_resets s.client (sees c) s.memory cause packet steps.step.0) in
+      let moved : LaneState = client_moved s (client_event (client_out.Reset cause packet) t.last) t new in
+      ap (λ (x : ClientState). record (knowing false moved) { near = near_disturbed x }) steps.step.2
+      ∙ ap (λ (lossy : Bool). knowing lossy moved) (sym (behind_up (state_of A s.wire.wire) s.wire.lossy up))
 
   pub client_own : (answer : ClientOut) → Steps s.client c s.memory answer t d new → ResetsOwn answer
   client_own client_out.Idle steps = tt
@@ -67,11 +87,15 @@ module _ (s : LaneState) (c d : ChannelView) (t : ClientState) (new : List ℕ) 
   client_own (client_out.Reset cause packet) steps = client_resets_own (client_rule s.client (sees c)) s.client s.memory cause packet steps.step.0
 
   pub client_lane : (answer : ClientOut) (next : LaneState) → IsChannelOf c s → Steps s.client c s.memory answer t d new
-      → next ≡ noted (state_of A c.wire) (client_event answer t.last) (client_left s d t new) → LaneStep s (client_event answer next.client.last) next
+      → next ≡ noted (client_event answer t.last) (client_left s d t new)
+      → LaneStep s (client_event answer next.client.last) next
   client_lane answer next is steps as_noted =
       let event : DiskEvent = client_event answer t.last in
-      let over : ClientNotes s c answer t new = subst (λ (x : ChannelView). ClientNotes s x answer t new) (sym (same_channel s c is)) (client_notes answer steps) in
-      let moved : next ≡ client_moved s event t new = as_noted ∙ ap (λ (x : ChannelView). noted (state_of A c.wire) event (client_left s x t new)) steps.channel ∙ over in
+      let over : ClientNotes s c answer t new =
+      subst (λ (x : ChannelView). ClientNotes s x answer t new) (sym (same_channel s c is))
+      (client_notes answer is steps) in
+      let moved : next ≡ client_moved s event t new =
+      as_noted ∙ ap (λ (x : ChannelView). noted event (client_left s x t new)) steps.channel ∙ over in
       let last : next.client.last ≡ t.last = ap (λ (x : LaneState). x.client.last) as_noted in
       let step : LaneStep s event next = subst (λ (x : LaneState). LaneStep s event x) (sym moved) (lane_steps s c d t new is answer steps) in
       subst (λ (bytes : List ℕ). LaneStep s (client_event answer bytes) next) (sym last) step
@@ -82,30 +106,46 @@ server_left s d t new = record s { shape = record s.shape { entries = d.entries 
 
 abbrev ServerNotes : LaneState → ChannelView → ServerOut → ServerState → List ℕ → Type 0
 ServerNotes s c answer t new =
-    noted (state_of B c.wire) (server_event answer) (server_left s (server_channel_after answer c) t new) ≡ lane_after s (server_event answer) t new
+    noted (server_event answer) (server_left s (server_channel_after answer c) t new)
+    ≡ lane_after s (server_event answer) t new
 
 module _ (s : LaneState) (c : ChannelView) (t : ServerState) (new : List ℕ) where
   -- an event that isn't a call of the store leaves whether one failed
   still : (near : NearCounts) → record s { server = t; memory = new; near = near } ≡ record s { server = t; memory = new; failed = s.failed || false; near = near }
   still near = ap (λ (b : Bool). record s { server = t; memory = new; failed = b; near = near }) (sym (or_false s.failed))
 
-  server_notes : (answer : ServerOut) → ServerNotes s (channel_of c s) answer t new
-  server_notes server_out.Idle = refl
-  server_notes server_out.Blocked = refl
-  server_notes server_out.Joined = refl
-  server_notes (server_out.Took packet opens) = refl
-  server_notes (server_out.Sent packet opens) = refl
-  server_notes (server_out.Desc slot bytes) = still s.near
-  server_notes (server_out.Moved unit fault) = still s.near
-  server_notes (server_out.Stored operation block count failed) = refl
-  server_notes (server_out.Finished slot status) = still (near_finished s.near)
-  server_notes (server_out.Reset cause packet) = refl
+  module _ (told new_told : Option (List ℕ)) where
+    server_notes : (answer : ServerOut) → IsChannelOf c s
+        → Serves s.server c s.table s.memory told answer t new new_told → ServerNotes s (channel_of c s) answer t new
+    server_notes server_out.Idle is serves = refl
+    server_notes server_out.Blocked is serves = refl
+    server_notes server_out.Joined is serves =
+        let down : state_of B s.wire.wire ≢ Up =
+        subst (λ (w : Wire). state_of B w ≢ Up) is.wire (server_joins s.server (server_sees c) serves.step.0) in
+        ap (λ (lossy : Bool). knowing lossy (lane_after s (server_event server_out.Joined) t new))
+        (sym (behind_down (state_of B s.wire.wire) s.wire.lossy down))
+    server_notes (server_out.Took packet opens) is serves = refl
+    server_notes (server_out.Sent packet opens) is serves = refl
+    server_notes (server_out.Desc slot bytes) is serves = still s.near
+    server_notes (server_out.Moved unit fault) is serves = still s.near
+    server_notes (server_out.Stored operation block count failed) is serves = refl
+    server_notes (server_out.Finished slot status) is serves = still (near_finished s.near)
+    server_notes (server_out.Reset cause packet) is serves =
+        let up : state_of B s.wire.wire ≡ Up =
+        subst (λ (w : Wire). state_of B w ≡ Up) is.wire
+        (server_resets s.server (server_sees c) (reach_over c s.table s.memory) cause packet new serves.step.0) in
+        ap (λ (lossy : Bool). knowing lossy (lane_after s (server_event (server_out.Reset cause packet)) t new))
+        (sym (behind_up (state_of B s.wire.wire) s.wire.lossy up))
 
-  pub server_lane : (told new_told : Option (List ℕ)) (answer : ServerOut) (d : ChannelView) (next : LaneState) → s.stopped ≡ false → IsChannelOf c s
-      → Serves s.server c s.table s.memory told answer t new new_told → d ≡ server_channel_after answer c
-      → next ≡ noted (state_of B c.wire) (server_event answer) (server_left s d t new) → Served s told (server_event answer) next new_told
-  server_lane told new_told answer d next runs is serves channel as_noted =
-      let event : DiskEvent = server_event answer in
-      let over : ServerNotes s c answer t new = subst (λ (x : ChannelView). ServerNotes s x answer t new) (sym (same_channel s c is)) (server_notes answer) in
-      let moved : next ≡ lane_after s event t new = as_noted ∙ ap (λ (x : ChannelView). noted (state_of B c.wire) event (server_left s x t new)) channel ∙ over in
-      subst (λ (x : LaneState). Served s told event x new_told) (sym moved) (served s c told new_told answer t new runs is serves)
+    pub server_lane : (answer : ServerOut) (d : ChannelView) (next : LaneState) → s.stopped ≡ false → IsChannelOf c s
+        → Serves s.server c s.table s.memory told answer t new new_told → d ≡ server_channel_after answer c
+        → next ≡ noted (server_event answer) (server_left s d t new) → Served s told (server_event answer) next new_told
+    server_lane answer d next runs is serves channel as_noted =
+        let event : DiskEvent = server_event answer in
+        let over : ServerNotes s c answer t new =
+        subst (λ (x : ChannelView). ServerNotes s x answer t new) (sym (same_channel s c is))
+        (server_notes answer is serves) in
+        let moved : next ≡ lane_after s event t new =
+        as_noted ∙ ap (λ (x : ChannelView). noted event (server_left s x t new)) channel ∙ over in
+        subst (λ (x : LaneState). Served s told event x new_told) (sym moved)
+        (served s c told new_told answer t new runs is serves)

@@ -11,6 +11,11 @@ use Rattle.vdisk_client.specs.declared.answers.ClientOut.TheVariants as client_o
 use Rattle.vdisk_server.specs.Answering.{Calls, KeepsStore, server_event}
 use Rattle.vdisk_server.specs.declared.answers.ServerOut.{ServerOut}
 
+-- what a server answers that runs or not
+abbrev pub answered : Bool → ServerOut → Option ServerOut
+answered true out = Some out
+answered false out = None
+
 -- a step of the server, or that it is stopped
 abbrev pub served_event : Option ServerOut → DiskEvent
 served_event (Some answer) = server_event answer

@@ -7,7 +7,8 @@ ghost use Rattle.disk_steps.specs.LaneState.{fresh, IsShape};
 ghost use Rattle.disk_steps.specs.LaneStep.{LaneStep};
 ghost use Rattle.disk_steps.specs.Served.{Served};
 ghost use Rattle.vdisk_client.specs.Calls.{TellsLength, admitted, client_event, front_count};
-ghost use Rattle.disk_lane.specs.Events.{CallsOf, KeepsStoreOf, ResetsOwn, lost_event, reset_event, restart_event, served_event, start_event, stop_event, tick_event};
+ghost use Rattle.disk_lane.specs.Events.{CallsOf, KeepsStoreOf, ResetsOwn, answered, lost_event, reset_event};
+ghost use Rattle.disk_lane.specs.Events.{restart_event, served_event, start_event, stop_event, tick_event};
 
 use crate::lane_ends::LaneEnds;
 use flat_store::Region;
@@ -70,19 +71,30 @@ impl DiskLane {
     }
 
     /// Makes one step of the client. `bytes` shows what a completion carries.
-    #[tactic(auto, using(crate::proofs::Reaching::keeps_shape))]
     pub fn step_client(&mut self) -> ClientOut
         ensures step { LaneStep self.old (client_event result self.new.client.last) self.new }
         ensures count { TellsLength result self.new.client.last }
         ensures own { ResetsOwn result }
         ensures shape { self.new.shape ≡ self.old.shape }
     {
-        self.ends.step_client()
+        let mut out = ClientOut::Idle;
+        self.step_client_into(&mut out);
+        out
+    }
+
+    /// The same, whose answer is written into the caller's, so that it isn't copied from function to function.
+    #[tactic(auto, using(crate::proofs::Reaching::keeps_shape))]
+    pub fn step_client_into(&mut self, out: &mut ClientOut)
+        ensures step { LaneStep self.old (client_event out.new self.new.client.last) self.new }
+        ensures count { TellsLength out.new self.new.client.last }
+        ensures own { ResetsOwn out.new }
+        ensures shape { self.new.shape ≡ self.old.shape }
+    {
+        self.ends.step_client_into(out);
     }
 
     /// Makes one step of the server over its store, and answers `None` where it is stopped. A step calls the store once for a
     /// unit or a flush, and else not at all.
-    #[tactic(auto, using(crate::proofs::Reaching::served_shape))]
     pub fn step_server<D: Store>(&mut self, store: &mut D) -> Option<ServerOut>
         requires region { 512 * (self.old.shape.first + self.old.shape.blocks) ≤ D.size store.old }
         ensures step { Served self.old (D.content store.old) (served_event result) self.new (D.content store.new) }
@@ -91,11 +103,32 @@ impl DiskLane {
         ensures size { D.size store.new ≡ D.size store.old }
         ensures shape { self.new.shape ≡ self.old.shape }
     {
-        if self.ends.running() {
-            Some(self.ends.step_server(store))
+        let mut out = ServerOut::Idle;
+        if self.step_server_into(store, &mut out) {
+            Some(out)
         } else {
             None
         }
+    }
+
+    /// The same, whose answer is written into the caller's. Tells whether the server runs; of the answer of one that is
+    /// stopped nothing is said.
+    #[tactic(auto, using(crate::proofs::Reaching::served_shape))]
+    pub fn step_server_into<D: Store>(&mut self, store: &mut D, out: &mut ServerOut) -> bool
+        requires region { 512 * (self.old.shape.first + self.old.shape.blocks) ≤ D.size store.old }
+        ensures step { Served self.old (D.content store.old) (served_event (answered result out.new)) self.new
+            (D.content store.new) }
+        ensures store { KeepsStoreOf (answered result out.new) store.old store.new }
+        ensures calls { CallsOf (answered result out.new) (D.calls store.old) (D.calls store.new) (D.faults store.old)
+            (D.faults store.new) }
+        ensures size { D.size store.new ≡ D.size store.old }
+        ensures shape { self.new.shape ≡ self.old.shape }
+    {
+        let runs = self.ends.running();
+        if runs {
+            self.ends.step_server_into(store, out);
+        }
+        runs
     }
 
     /// Resets an end, which begins anew, and tells whether it did: a stopped server's end isn't reset.

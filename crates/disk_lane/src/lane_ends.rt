@@ -92,33 +92,29 @@ impl LaneEnds {
         self.client.issue(request)
     }
 
-    /// One step of the client.
-    pub fn step_client(&mut self) -> ClientOut
-        ensures step { LaneStep self.old (client_event result self.new.client.last) self.new }
-        ensures count { TellsLength result self.new.client.last }
-        ensures own { ResetsOwn result }
+    /// One step of the client, whose answer is written into the caller's.
+    pub fn step_client_into(&mut self, out: &mut ClientOut)
+        ensures step { LaneStep self.old (client_event out.new self.new.client.last) self.new }
+        ensures count { TellsLength out.new self.new.client.last }
+        ensures own { ResetsOwn out.new }
     {
-        let was = self.channel.state(End::A);
-        let out = self.client.step(&mut self.channel, &mut self.memory);
-        self.note_client(was, &out);
-        out
+        self.client
+            .step_into(&mut self.channel, &mut self.memory, out);
+        self.note_client(out);
     }
 
-    /// One step of the server, which runs.
-    pub fn step_server<D: Store>(&mut self, store: &mut D) -> ServerOut
+    /// One step of the server, which runs. Its answer is written into the caller's.
+    pub fn step_server_into<D: Store>(&mut self, store: &mut D, out: &mut ServerOut)
         requires runs { self.old.stopped ≡ false }
         requires region { 512 * (self.old.shape.first + self.old.shape.blocks) ≤ D.size store.old }
-        ensures step { Served self.old (D.content store.old) (server_event result) self.new (D.content store.new) }
-        ensures store { KeepsStore result store.old store.new }
-        ensures calls { Calls result (D.calls store.old) (D.calls store.new) (D.faults store.old) (D.faults store.new) }
+        ensures step { Served self.old (D.content store.old) (server_event out.new) self.new (D.content store.new) }
+        ensures store { KeepsStore out.new store.old store.new }
+        ensures calls { Calls out.new (D.calls store.old) (D.calls store.new) (D.faults store.old)
+            (D.faults store.new) }
         ensures size { D.size store.new ≡ D.size store.old }
     {
-        let was = self.channel.state(End::B);
-        let out = self
-            .server
-            .step(&mut self.channel, &self.table, &mut self.memory, store);
-        self.note_server(was, &out);
-        out
+        self.server.step_into(&mut self.channel, &self.table, &mut self.memory, store, out);
+        self.note_server(out);
     }
 
     /// Resets the client.
@@ -232,15 +228,6 @@ impl LaneEnds {
     ghost use Rattle.disk_steps.specs.LaneState.{near_disturbed};
     ghost use Rattle.lane_law.specs.WireLog.{lossy_behind};
 
-    // An end that was in this state was configured.
-    fn configured(&mut self, was: ChannelState)
-        ensures { self.new ≡ record self.old { wire = record self.old.wire { lossy = lossy_behind was self.old.wire.lossy } } }
-    {
-        if was == ChannelState::Up {
-            self.lossy = false;
-        }
-    }
-
     // An end that was in this state began anew.
     fn disturbed(&mut self, was: ChannelState)
         ensures { self.new ≡ record self.old {
@@ -248,29 +235,30 @@ impl LaneEnds {
           near = near_disturbed self.old.client;
         } }
     {
-        self.configured(was);
+        if was == ChannelState::Up {
+            self.lossy = false;
+        }
         self.near.disturb(self.client.mark());
     }
 
-    // Notes what the client did, whose end was in this state.
-    fn note_client(&mut self, was: ChannelState, out: &ClientOut)
-        ensures { self.new ≡ noted was (client_event out.now self.old.client.last) self.old }
+    // Notes what the client did. A step resets an end that is up, and joins one that isn't, which leaves what is known of
+    // lost packets.
+    fn note_client(&mut self, out: &ClientOut)
+        ensures { self.new ≡ noted (client_event out.now self.old.client.last) self.old }
     {
         match out {
-            ClientOut::Joined => self.configured(was),
-            ClientOut::Reset { .. } => self.disturbed(was),
+            ClientOut::Reset { .. } => self.disturbed(ChannelState::Up),
             ClientOut::Done { .. } => self.near.complete(),
             _ => {}
         }
     }
 
-    // Notes what the server did, whose end was in this state.
-    fn note_server(&mut self, was: ChannelState, out: &ServerOut)
-        ensures { self.new ≡ noted was (server_event out.now) self.old }
+    // Notes what the server did, likewise.
+    fn note_server(&mut self, out: &ServerOut)
+        ensures { self.new ≡ noted (server_event out.now) self.old }
     {
         match out {
-            ServerOut::Joined => self.configured(was),
-            ServerOut::Reset { .. } => self.disturbed(was),
+            ServerOut::Reset { .. } => self.disturbed(ChannelState::Up),
             ServerOut::Finished { .. } => self.near.finish(),
             ServerOut::Stored {
                 operation,
