@@ -1,7 +1,6 @@
 -- What a step leaves in the journal, by its answer: the entry of its event, or none in a settle where it rests.
-use Rattle.std.proofs.Common.{◌≡◌, ℕ, Bool, true, false, ◌||◌, Option, Some, None, List, [], ◌∷◌, refl, sym, ap, subst, ◌∙◌}
+use Rattle.std.proofs.Common.{◌≡◌, ℕ, Bool, true, false, ◌||◌, Some, List, [], ◌∷◌, refl, sym, ap, subst, ◌∙◌}
 use Rattle.std.specs.Prelude.{◌&&◌}
-use Rattle.disk_lane.specs.Events.{served_event}
 use Rattle.disk_steps.specs.DiskEvent.{Asks, DiskEvent, Off, OnWire, Rests, Started, Stopped, Turns, Works}
 use Rattle.lane_law.specs.WireEvent as wire
 use Rattle.lanes_settle.specs.Rounds.{is_calm}
@@ -16,6 +15,7 @@ use Rattle.settle_loop.specs.Issued.{next_behind}
 use Rattle.vdisk_client.specs.Calls.{client_event}
 use Rattle.vdisk_client.specs.declared.answers.ClientOut.{ClientOut}
 use Rattle.vdisk_client.specs.declared.answers.ClientOut.TheVariants as client_out
+use Rattle.vdisk_server.specs.Answering.{server_event}
 use Rattle.vdisk_server.specs.declared.answers.ServerOut.{ServerOut}
 use Rattle.vdisk_server.specs.declared.answers.ServerOut.TheVariants as server_out
 
@@ -77,32 +77,29 @@ client_calm (client_out.Published id) last = refl
 client_calm (client_out.Done id operation status len) last = refl
 client_calm (client_out.Reset cause packet) last = refl
 
-pub server_left_out : (answer : Option ServerOut) → left_out (served_event answer) ≡ server_rests answer
-server_left_out None = refl
-server_left_out (Some server_out.Idle) = refl
-server_left_out (Some server_out.Blocked) = refl
-server_left_out (Some server_out.Joined) = refl
-server_left_out (Some (server_out.Took packet opens)) = refl
-server_left_out (Some (server_out.Sent packet opens)) = refl
-server_left_out (Some (server_out.Desc slot bytes)) = refl
-server_left_out (Some (server_out.Moved unit fault)) = refl
-server_left_out (Some (server_out.Stored operation block count failed)) = refl
-server_left_out (Some (server_out.Finished slot status)) = refl
-server_left_out (Some (server_out.Reset cause packet)) = refl
+pub server_left_out : (answer : ServerOut) → left_out (server_event answer) ≡ server_rests answer
+server_left_out server_out.Idle = refl
+server_left_out server_out.Blocked = refl
+server_left_out server_out.Joined = refl
+server_left_out (server_out.Took packet opens) = refl
+server_left_out (server_out.Sent packet opens) = refl
+server_left_out (server_out.Desc slot bytes) = refl
+server_left_out (server_out.Moved unit fault) = refl
+server_left_out (server_out.Stored operation block count failed) = refl
+server_left_out (server_out.Finished slot status) = refl
+server_left_out (server_out.Reset cause packet) = refl
 
-pub server_calm : (answer : Option ServerOut)
-    → is_calm (served_event answer) ≡ (server_rests answer || server_blocked answer)
-server_calm None = refl
-server_calm (Some server_out.Idle) = refl
-server_calm (Some server_out.Blocked) = refl
-server_calm (Some server_out.Joined) = refl
-server_calm (Some (server_out.Took packet opens)) = refl
-server_calm (Some (server_out.Sent packet opens)) = refl
-server_calm (Some (server_out.Desc slot bytes)) = refl
-server_calm (Some (server_out.Moved unit fault)) = refl
-server_calm (Some (server_out.Stored operation block count failed)) = refl
-server_calm (Some (server_out.Finished slot status)) = refl
-server_calm (Some (server_out.Reset cause packet)) = refl
+pub server_calm : (answer : ServerOut) → is_calm (server_event answer) ≡ (server_rests answer || server_blocked answer)
+server_calm server_out.Idle = refl
+server_calm server_out.Blocked = refl
+server_calm server_out.Joined = refl
+server_calm (server_out.Took packet opens) = refl
+server_calm (server_out.Sent packet opens) = refl
+server_calm (server_out.Desc slot bytes) = refl
+server_calm (server_out.Moved unit fault) = refl
+server_calm (server_out.Stored operation block count failed) = refl
+server_calm (server_out.Finished slot status) = refl
+server_calm (server_out.Reset cause packet) = refl
 
 -- BY AN ANSWER that rests in a settle, and by any other
 second_of : (a b : Bool) → (a && b) ≡ true → b ≡ true
@@ -143,18 +140,29 @@ module _ (in_settle : Bool) (k : ℕ) (answer : ClientOut) (last : List ℕ) (s 
       leaves_entry in_settle k (client_event answer last) s t rests (client_blocked answer)
       (client_left_out answer last ∙ sym is) client_is_calm calm told calm_is put
 
-module _ (in_settle : Bool) (k : ℕ) (answer : Option ServerOut) (s t : JournalState) (rests : Bool)
+module _ (in_settle : Bool) (k : ℕ) (answer : ServerOut) (s t : JournalState) (rests : Bool)
     (is : rests ≡ server_rests answer) where
-  server_is_calm : is_calm (served_event answer) ≡ (rests || server_blocked answer)
+  server_is_calm : is_calm (server_event answer) ≡ (rests || server_blocked answer)
   server_is_calm = server_calm answer ∙ ap (λ (b : Bool). b || server_blocked answer) (sym is)
 
-  pub server_leaves_none : (in_settle && rests) ≡ true → t ≡ s → Leaves in_settle k (served_event answer) s true t
+  pub server_leaves_none : (in_settle && rests) ≡ true → t ≡ s → Leaves in_settle k (server_event answer) s true t
   server_leaves_none out same =
-      leaves_none in_settle k (served_event answer) s t rests (server_blocked answer)
+      leaves_none in_settle k (server_event answer) s t rests (server_blocked answer)
       (server_left_out answer ∙ sym is) server_is_calm out same
 
   pub server_leaves_entry : (calm : Bool) → (in_settle && rests) ≡ false → calm ≡ (rests || server_blocked answer)
-      → Records k (served_event answer) s t → Leaves in_settle k (served_event answer) s calm t
+      → Records k (server_event answer) s t → Leaves in_settle k (server_event answer) s calm t
   server_leaves_entry calm told calm_is put =
-      leaves_entry in_settle k (served_event answer) s t rests (server_blocked answer)
+      leaves_entry in_settle k (server_event answer) s t rests (server_blocked answer)
       (server_left_out answer ∙ sym is) server_is_calm calm told calm_is put
+
+-- BY A STOPPED SERVER, of which a settle leaves nothing
+pub off_leaves_none : (in_settle : Bool) (k : ℕ) (s t : JournalState) → in_settle ≡ true → t ≡ s
+    → Leaves in_settle k (Turns Off) s true t
+off_leaves_none true k s t is same = record { calm_is = refl; recorded = same }
+off_leaves_none false k s t is same = absurd (cc is)
+
+pub off_leaves_entry : (in_settle : Bool) (k : ℕ) (s t : JournalState) → in_settle ≡ false → Records k (Turns Off) s t
+    → Leaves in_settle k (Turns Off) s true t
+off_leaves_entry true k s t is put = absurd (cc is)
+off_leaves_entry false k s t is put = record { calm_is = refl; recorded = put }

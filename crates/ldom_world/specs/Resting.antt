@@ -1,5 +1,5 @@
 -- Which answers of an end's step rest, and which find no room; and which events a settle leaves out.
-use Rattle.std.specs.Prelude.{Bool, true, false, Option, Some, None}
+use Rattle.std.specs.Prelude.{Bool, true, false}
 use Rattle.disk_steps.specs.DiskEvent.{DiskEvent, Off, OnWire, Turns}
 use Rattle.lane_law.specs.WireEvent.{Idle}
 use Rattle.vdisk_client.specs.declared.answers.ClientOut.{ClientOut}
@@ -23,13 +23,12 @@ abbrev pub client_blocked : ClientOut → Bool
 client_blocked client_out.Blocked = true
 client_blocked _ = false
 
--- the server is stopped, or had nothing to do
-abbrev pub server_rests : Option ServerOut → Bool
-server_rests None = true
-server_rests (Some server_out.Idle) = true
+-- the server had nothing to do
+abbrev pub server_rests : ServerOut → Bool
+server_rests server_out.Idle = true
 server_rests _ = false
 
 -- the server found no room for its packet
-abbrev pub server_blocked : Option ServerOut → Bool
-server_blocked (Some server_out.Blocked) = true
+abbrev pub server_blocked : ServerOut → Bool
+server_blocked server_out.Blocked = true
 server_blocked _ = false

@@ -1,7 +1,8 @@
 // What an answer of a lane leaves in the journal.
 
-ghost use Rattle.std.specs.Prelude.{◌≡◌, ◌≤◌, ◌<◌, ◌||◌, [], length};
-ghost use Rattle.disk_lane.specs.Events.{served_event};
+ghost use Rattle.std.specs.Prelude.{◌≡◌, ◌≤◌, ◌<◌, ◌||◌, [], length, true};
+ghost use Rattle.disk_lane.specs.Events.{answered, served_event};
+ghost use Rattle.disk_steps.specs.DiskEvent.{Off, Turns};
 ghost use Rattle.domain_script.specs.declared.event.Lane.TheVariants.{Disk};
 ghost use Rattle.domain_script.specs.declared.event.Side.TheVariants.{Client, Server};
 ghost use Rattle.ldom_journal.specs.LaneEvents.{end_of};
@@ -9,8 +10,9 @@ ghost use Rattle.ldom_world.specs.Fitting.{HasRoomFor};
 ghost use Rattle.ldom_world.specs.OneLane.{Leaves, Records};
 ghost use Rattle.ldom_world.specs.Resting.{client_blocked, client_rests, server_blocked, server_rests};
 ghost use Rattle.vdisk_client.specs.Calls.{client_event};
+ghost use Rattle.vdisk_server.specs.Answering.{server_event};
 
-use disk_lane::{ClientOut, End, ServerOut};
+use disk_lane::{ClientOut, DiskLane, End, ServerOut};
 use domain_script::{EndName, Lane, Side};
 use ldom_journal::{Bytes, Journal};
 use std::alloc::Global;
@@ -50,30 +52,31 @@ pub fn server_of(disk: u32) -> EndName
     name_of(disk, Side::Server)
 }
 
-/// Puts what a client's step leaves in the journal, and tells whether the step was calm. In a settle a step that idles
-/// leaves nothing. `last` are the bytes of the client's last completion.
+/// Puts what the step of this lane's client leaves in the journal, and tells whether the step was calm. In a settle a
+/// step that idles leaves nothing.
 #[tactic(auto, using(crate::proofs::Leaving::client_leaves_none, crate::proofs::Leaving::client_leaves_entry))]
 pub fn leave_client(
     disk: u32,
     out: &ClientOut,
-    last: &[u8],
+    lane: &DiskLane,
     in_settle: bool,
     room: &mut Bytes,
     alloc: Global,
     journal: &mut Journal,
 ) -> bool
     requires ready { 0 < journal.old.room }
-    requires room { HasRoomFor out.now last.now room.old.room }
+    requires room { HasRoomFor out.now lane.now.client.last room.old.room }
     requires empty { room.old.items ≡ [] }
-    ensures leaves { Leaves in_settle disk (client_event out.now last.now) journal.old result journal.new }
+    ensures leaves { Leaves in_settle disk (client_event out.now lane.now.client.last) journal.old result journal.new }
     ensures empty { room.new.items ≡ [] }
 {
     let rests = client_rests(out);
     if in_settle && rests {
         return true;
     }
-    record_client(disk, out, last, room, alloc, journal);
-    rests || client_blocked(out)
+    let calm = rests || client_blocked(out);
+    record_client(disk, out, lane, room, alloc, journal);
+    calm
 }
 
 /// Whether a client had nothing to do.
@@ -90,21 +93,21 @@ fn client_blocked(out: &ClientOut) -> bool
     matches!(out, ClientOut::Blocked)
 }
 
-/// Puts the entry of a client's step last. `last` are the bytes of its last completion; those that a completion carries
-/// are put into the room that was made for them.
+/// Puts the entry of a client's step last. The bytes that a completion carries are put into the room that was made for
+/// them.
 #[tactic(auto, using(crate::proofs::Leaving::recorded))]
 fn record_client(
     disk: u32,
     out: &ClientOut,
-    last: &[u8],
+    lane: &DiskLane,
     room: &mut Bytes,
     alloc: Global,
     journal: &mut Journal,
 )
     requires ready { 0 < journal.old.room }
-    requires room { HasRoomFor out.now last.now room.old.room }
+    requires room { HasRoomFor out.now lane.now.client.last room.old.room }
     requires empty { room.old.items ≡ [] }
-    ensures records { Records disk (client_event out.now last.now) journal.old journal.new }
+    ensures records { Records disk (client_event out.now lane.now.client.last) journal.old journal.new }
     ensures empty { room.new.items ≡ [] }
 {
     let end = client_of(disk);
@@ -121,7 +124,7 @@ fn record_client(
             status,
             len: _,
         } => {
-            let bytes = filled(room, last, alloc);
+            let bytes = filled(room, lane.bytes(), alloc);
             journal.push_done(disk, *id, *operation, *status, bytes);
         }
         ClientOut::Reset { cause, packet } => journal.push_reset(end, *cause, packet, 0),
@@ -144,51 +147,73 @@ fn filled(room: &mut Bytes, bytes: &[u8], alloc: Global) -> Bytes
     all
 }
 
-/// Puts what a server's step leaves in the journal, and tells whether the step was calm. In a settle one that idles
-/// leaves nothing, nor does that of a stopped server.
-#[tactic(auto, using(crate::proofs::Leaving::server_leaves_none, crate::proofs::Leaving::server_leaves_entry))]
+/// Puts what a server's step leaves in the journal, and tells whether the step was calm. The server runs and answered
+/// this, or it is stopped. In a settle a step that idles leaves nothing, nor does that of a stopped server.
 pub fn leave_server(
     disk: u32,
-    out: &Option<ServerOut>,
+    runs: bool,
+    out: &ServerOut,
     in_settle: bool,
     journal: &mut Journal,
 ) -> bool
     requires ready { 0 < journal.old.room }
-    ensures leaves { Leaves in_settle disk (served_event out.now) journal.old result journal.new }
+    ensures leaves { Leaves in_settle disk (served_event (answered runs out.now)) journal.old result journal.new }
+{
+    if runs {
+        leave_answer(disk, out, in_settle, journal)
+    } else {
+        leave_off(disk, in_settle, journal);
+        true
+    }
+}
+
+/// Puts what the step of a stopped server leaves.
+#[tactic(auto, using(crate::proofs::Leaving::off_leaves_none, crate::proofs::Leaving::off_leaves_entry))]
+fn leave_off(disk: u32, in_settle: bool, journal: &mut Journal)
+    requires ready { 0 < journal.old.room }
+    ensures leaves { Leaves in_settle disk (Turns Off) journal.old true journal.new }
+{
+    if !in_settle {
+        journal.push_off(server_of(disk));
+    }
+}
+
+/// Puts what the answer of a server that runs leaves, and tells whether the step was calm.
+#[tactic(auto, using(crate::proofs::Leaving::server_leaves_none, crate::proofs::Leaving::server_leaves_entry))]
+fn leave_answer(disk: u32, out: &ServerOut, in_settle: bool, journal: &mut Journal) -> bool
+    requires ready { 0 < journal.old.room }
+    ensures leaves { Leaves in_settle disk (server_event out.now) journal.old result journal.new }
 {
     let rests = server_rests(out);
     if in_settle && rests {
         return true;
     }
+    let calm = rests || server_blocked(out);
     record_server(disk, out, journal);
-    rests || server_blocked(out)
+    calm
 }
 
-/// Whether a server is stopped, or had nothing to do.
-fn server_rests(out: &Option<ServerOut>) -> bool
+/// Whether a server had nothing to do.
+fn server_rests(out: &ServerOut) -> bool
     ensures { result ≡ server_rests out.now }
 {
-    matches!(out, None | Some(ServerOut::Idle))
+    matches!(out, ServerOut::Idle)
 }
 
 /// Whether a server found no room for its packet.
-fn server_blocked(out: &Option<ServerOut>) -> bool
+fn server_blocked(out: &ServerOut) -> bool
     ensures { result ≡ server_blocked out.now }
 {
-    matches!(out, Some(ServerOut::Blocked))
+    matches!(out, ServerOut::Blocked)
 }
 
-/// Puts the entry of a server's step last.
+/// Puts the entry of a server's answer last.
 #[tactic(auto, using(crate::proofs::Leaving::recorded))]
-fn record_server(disk: u32, out: &Option<ServerOut>, journal: &mut Journal)
+fn record_server(disk: u32, out: &ServerOut, journal: &mut Journal)
     requires ready { 0 < journal.old.room }
-    ensures records { Records disk (served_event out.now) journal.old journal.new }
+    ensures records { Records disk (server_event out.now) journal.old journal.new }
 {
     let end = server_of(disk);
-    let out = match out {
-        Some(out) => out,
-        None => return journal.push_off(end),
-    };
     match out {
         ServerOut::Idle => journal.push_idle(end),
         ServerOut::Blocked => journal.push_blocked(end),

@@ -16,7 +16,7 @@ ghost use Rattle.world_parts.specs.Parts.{Fits, FitsSoFar, MakesQuietStep, Makes
 
 use crate::entries::{leave_client, leave_server};
 use crate::world::World;
-use disk_lane::DiskLane;
+use disk_lane::{ClientOut, DiskLane, ServerOut};
 use domain_script::Side;
 use ldom_journal::{Bytes, Journal};
 use std::alloc::Global;
@@ -193,8 +193,9 @@ fn client_step(
     ensures empty { room.new.items ≡ [] }
 {
     make_room(room, lane.front_len() as usize, alloc)?;
-    let out = lane.step_client();
-    let calm = leave_client(disk, &out, lane.bytes(), in_settle, room, alloc, journal);
+    let mut out = ClientOut::Idle;
+    lane.step_client_into(&mut out);
+    let calm = leave_client(disk, &out, lane, in_settle, room, alloc, journal);
     Ok(calm)
 }
 
@@ -225,6 +226,7 @@ fn server_step<D: Store>(
     ensures size { D.size image.new ≡ D.size image.old }
     ensures shape { lane.new.shape ≡ lane.old.shape }
 {
-    let out = lane.step_server(image);
-    leave_server(disk, &out, in_settle, journal)
+    let mut out = ServerOut::Idle;
+    let runs = lane.step_server_into(image, &mut out);
+    leave_server(disk, runs, &out, in_settle, journal)
 }
