@@ -5,7 +5,7 @@ use Rattle.std.proofs.lemmas.List.{take-append-le, drop-append-le, length-append
 use Rattle.domain_script.specs.declared.event.Side.{Side}
 use Rattle.vdisk_msg.specs.declared.request.Request.{Request}
 use Rattle.vio_tag.specs.declared.cause.Cause.{Cause}
-use Rattle.ldom_entries.specs.Bytes.{BytesState}
+use Rattle.kept_requests.specs.Bytes.{BytesState}
 use Rattle.ldom_entries.specs.Beside.{Lists, Share, Holds, join, nothing, rest_of, share_of}
 use Rattle.ldom_entries.specs.Decoded.{AreWhole, end_at, entries_of, entry_of, share, these}
 use Rattle.ldom_entries.specs.PartsState.{PartsState, PutsParts, with_cause}

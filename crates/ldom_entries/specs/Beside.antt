@@ -2,7 +2,7 @@
 use Rattle.std.specs.Prelude.{ℕ, ◌≤◌, List, [], ◌++◌, length, take, drop}
 use Rattle.vdisk_msg.specs.declared.request.Request.{Request}
 use Rattle.vio_tag.specs.declared.cause.Cause.{Cause}
-use Rattle.ldom_entries.specs.Bytes.{BytesState}
+use Rattle.kept_requests.specs.Bytes.{BytesState}
 
 -- numbers, packets, descriptors, the bytes of reads, requests, and causes of resets
 pub record Lists : Type 0 where

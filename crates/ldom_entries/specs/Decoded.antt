@@ -9,7 +9,7 @@ use Rattle.vdisk_msg.specs.declared.request.Request.TheVariants.{Flush}
 use Rattle.vio_tag.specs.declared.cause.Cause.{Cause}
 use Rattle.vio_tag.specs.declared.cause.Cause.TheVariants.{Asked}
 use Rattle.ldom_entries.specs.Beside.{Lists, Share, Holds, nothing, rest_of, share_of}
-use Rattle.ldom_entries.specs.Bytes.{BytesState, filled}
+use Rattle.kept_requests.specs.Bytes.{BytesState, filled}
 use Rattle.ldom_entries.specs.declared.entry.Entry.{Entry}
 use Rattle.ldom_entries.specs.declared.entry.Entry.TheVariants as entry
 use Rattle.ldom_entries.specs.declared.entry.Who.{Who}

@@ -1,11 +1,7 @@
 pub mod Beside
-pub mod BlockWord
-pub mod Bytes
 pub mod Counts
 pub mod Decoded
 pub mod JournalState
-pub mod Kept
-pub mod Packed
 pub mod PartsState
 pub mod Seen
 pub mod Told

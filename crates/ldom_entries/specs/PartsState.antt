@@ -3,7 +3,7 @@ use Rattle.std.specs.Prelude.{◌≡◌, ℕ, ◌+◌, List, [], ◌∷◌, Opti
 use Rattle.vdisk_msg.specs.declared.request.Request.{Request}
 use Rattle.vio_tag.specs.declared.cause.Cause.{Cause}
 use Rattle.ldom_entries.specs.Beside.{Lists, join}
-use Rattle.ldom_entries.specs.Bytes.{BytesState}
+use Rattle.kept_requests.specs.Bytes.{BytesState}
 
 pub record PartsState : Type 0 where
   pub lists : Lists

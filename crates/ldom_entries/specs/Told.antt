@@ -1,6 +1,6 @@
 -- The entry that is read.
 use Rattle.std.specs.Prelude.{[]}
-use Rattle.ldom_entries.specs.Bytes.{filled}
+use Rattle.kept_requests.specs.Bytes.{filled}
 use Rattle.ldom_entries.specs.declared.entry.Entry.{Entry}
 use Rattle.ldom_entries.specs.declared.entry.Entry.TheVariants as entry
 use Rattle.ldom_entries.specs.declared.entry_ref.EntryRef.{EntryRef}

@@ -3,26 +3,21 @@
 #![tactic(auto)]
 
 mod beside;
-mod block_words;
-mod bytes;
 mod entries;
 mod entry;
 mod entry_ref;
 mod header;
 mod journal;
-mod kept_request;
 mod parts;
 #[cfg(test)]
 mod tests;
 
-pub use block_words::shortest_word;
-pub use bytes::Bytes;
 pub use cookie_copy::CopyFault;
 pub use domain_script::{EndName, Lane, Side};
 pub use entries::Entries;
 pub use entry::{Entry, Who, Why};
 pub use entry_ref::EntryRef;
 pub use journal::Journal;
-pub use kept_request::KeptRequest;
+pub use kept_requests::{Bytes, KeptRequest, shortest_word};
 pub use vio_bytes::NoMemory;
 pub use vio_tag::Cause;

@@ -320,19 +320,3 @@ fn room_is_made_for_many_entries(rt: HostRuntime) -> Result<(), Fail> {
     assert_eq!(rt; journal.len(), 1000);
     Ok(())
 }
-
-#[test]
-fn bytes_fill_into_their_room(rt: HostRuntime) -> Result<(), Fail> {
-    let alloc = rt.alloc();
-    let mut bytes = Bytes::with_room(alloc, 1029)?;
-    let mut all = [0xab; 1029];
-    all[500..505].copy_from_slice(b"abcde");
-    bytes.fill(&all[..512]);
-    bytes.fill(&all[512..514]);
-    bytes.fill(&all[514..]);
-    assert_eq!(rt; bytes.to_vec(alloc)?.as_slice(), all.as_slice());
-    assert_eq!(rt; bytes.len(), 1029);
-    assert!(rt; !bytes.is_empty());
-    assert!(rt; Bytes::empty(alloc).is_empty());
-    Ok(())
-}

@@ -16,7 +16,7 @@ use Rattle.domain_script.specs.ScriptEvents.{AllSpell, no_names}
 use Rattle.domain_script.specs.ScriptLines.{script_lines}
 use Rattle.domain_script.proofs.ComputedEvents.{events_spelled}
 use Rattle.infallible_io.specs.States.{InfallibleDiskState}
-use Rattle.ldom_entries.specs.BlockWord.{blocks_text, repeats, word_length}
+use Rattle.kept_requests.specs.BlockWord.{blocks_text, repeats, word_length}
 use Rattle.ldom_entries.specs.declared.entry.Entry.{Entry}
 use Rattle.ldom_journal.specs.declared.status.LimitKind.{LimitKind}
 use Rattle.ldom_journal.specs.declared.status.Status.{Status}

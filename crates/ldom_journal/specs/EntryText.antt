@@ -22,7 +22,7 @@ use Rattle.ldom_entries.specs.declared.entry.Entry.{Entry}
 use Rattle.ldom_entries.specs.declared.entry.Entry.TheVariants as entry
 use Rattle.ldom_journal.specs.declared.status.Mode.{Mode}
 use Rattle.ldom_journal.specs.declared.status.Mode.TheVariants.{Run, Trace, EndOnly}
-use Rattle.ldom_entries.specs.BlockWord.{blocks_text}
+use Rattle.kept_requests.specs.BlockWord.{blocks_text}
 pub use Rattle.ldom_entries.specs.Seen.{is_seen}
 
 -- a disk's name, nothing where there is no disk

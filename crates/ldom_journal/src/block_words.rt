@@ -1,6 +1,6 @@
 ghost use Rattle.std.specs.Prelude.{◌≡◌, ◌+◌, ◌≤◌, ◌++◌, codes, length, OnOk, OnErr};
 ghost use Rattle.hex.specs.Hex.{encode_lower};
-ghost use Rattle.ldom_entries.specs.BlockWord.{blocks_text};
+ghost use Rattle.kept_requests.specs.BlockWord.{blocks_text};
 ghost use Rattle.gathered_text.specs.Gathered.{Gathers, WroteFront};
 ghost use Rattle.vio_io.specs.Causes.{Rose};
 

@@ -112,7 +112,7 @@ fn push_head(text: &mut Text, mode: Mode, entry: &EntryRef<'_>, names: &Names)
 }
 
 /// The words of a read with status 0.
-#[tactic(auto, unfolding(ldom_entries::specs::BlockWord::blocks_text))]
+#[tactic(auto, unfolding(kept_requests::specs::BlockWord::blocks_text))]
 fn put_read<K: Sink>(text: &mut Text, entry: &EntryRef<'_>, out: &mut K) -> Result<(), Failed>
     ensures told { OnOk result (Gathers (K.written out.old) (K.written out.new) text.new (text.old ++ read_text (told entry.now))) }
     ensures front { OnErr result (WroteFront (K.written out.old) (K.written out.new) (text.old ++ read_text (told entry.now))) }

@@ -19,7 +19,7 @@ use Rattle.domain_script.specs.declared.event.Lane.TheVariants.{Disk}
 use Rattle.domain_script.specs.declared.event.Side.{Side}
 use Rattle.domain_script.specs.declared.event.Side.TheVariants.{Client, Server}
 use Rattle.lanes_settle.specs.Settle.{OfLane, SettleEntry, Settled, Unsettled}
-use Rattle.ldom_entries.specs.Bytes.{filled}
+use Rattle.kept_requests.specs.Bytes.{filled}
 use Rattle.ldom_journal.specs.DiskEvents.{said, said_of_any, whole_history}
 use Rattle.ldom_journal.specs.EntryText.{entry_lines, line_text, report_entries}
 use Rattle.ldom_journal.specs.Report.{accepted_count, done_count, reset_count}

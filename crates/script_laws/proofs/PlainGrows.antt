@@ -14,8 +14,8 @@ use Rattle.domain_script.specs.declared.event.Event.{Event}
 use Rattle.domain_script.specs.declared.event.Event.TheVariants as event
 use Rattle.domain_script.specs.declared.event.Lane.TheVariants.{Disk}
 use Rattle.lanes_settle.specs.Settle.{OfLane, SettleEntry, Settled}
-use Rattle.ldom_entries.specs.BlockWord.{blocks_text}
-use Rattle.ldom_entries.specs.Bytes.{filled}
+use Rattle.kept_requests.specs.BlockWord.{blocks_text}
+use Rattle.kept_requests.specs.Bytes.{filled}
 use Rattle.ldom_entries.specs.declared.entry.Entry.TheVariants as entry
 use Rattle.ldom_entries.specs.declared.entry.Who.TheVariants.{Lane as OfWhole}
 use Rattle.ldom_entries.specs.declared.entry.Why.TheVariants.{Count, Range}

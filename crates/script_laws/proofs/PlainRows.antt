@@ -11,7 +11,7 @@ use Rattle.domain_script.specs.declared.event.Event.TheVariants.{Disk, Issue, Se
 use Rattle.vio_bytes.specs.Place.{put_at}
 use Rattle.disk_law.specs.Requests.{written}
 use Rattle.vdisk_msg.proofs.Repeated.{length-repeated}
-use Rattle.ldom_entries.specs.BlockWord.{blocks_text}
+use Rattle.kept_requests.specs.BlockWord.{blocks_text}
 use Rattle.script_laws.specs.PlainRun.{plain_text}
 use Rattle.script_laws.specs.Quiet.{IsQuiet}
 

@@ -7,7 +7,7 @@ use Rattle.domain_script.specs.declared.event.DiskDecl.{DiskDecl}
 use Rattle.domain_script.specs.declared.event.Event.{Event}
 use Rattle.domain_script.specs.declared.event.Event.TheVariants.{Issue, Settle}
 use Rattle.disk_law.specs.Requests.{Defect, BadCount, BadRange, defect, after_request}
-use Rattle.ldom_entries.specs.BlockWord.{blocks_text}
+use Rattle.kept_requests.specs.BlockWord.{blocks_text}
 
 -- what has become of a disk between two lines
 pub record Plain : Type 0 where

@@ -1,10 +1,10 @@
 use Rattle.std.proofs.Common.{◌≡◌, ℕ, List, ◌++◌, append_assoc, ◌+◌, take, drop, get_or, codes, sym, subst, ap, ◌∙◌}
 use Rattle.hex.specs.Hex.{encode_lower}
-use Rattle.ldom_entries.specs.BlockWord.{blocks_text}
+use Rattle.kept_requests.specs.BlockWord.{blocks_text}
 use Rattle.gathered_text.specs.Gathered.{Gathers, WroteFront}
-use Rattle.ldom_entries.specs.Packed.{AreKept, unpacked}
+use Rattle.kept_requests.specs.Packed.{AreKept, unpacked}
 use Rattle.gathered_text.proofs.GatheredText.{on_err, on_ok_then, on_err_then, gathers_behind, wrote_front_behind, wrote_front_then}
-use Rattle.ldom_entries.proofs.PackedBlocks.{NextWord, next_word, next_text, no_word}
+use Rattle.kept_requests.proofs.PackedBlocks.{NextWord, next_word, next_text, no_word}
 use Rattle.ldom_journal.proofs.block_words.put_blocks.Goals as goal
 
 pub returns-in_err-put_word-clause-front : goal.returns-in_err-put_word-clause-front

@@ -1,7 +1,7 @@
 use Rattle.std.proofs.Common.{◌≡◌, ◌++◌, ℕ, List, drop}
-use Rattle.ldom_entries.specs.BlockWord.{blocks_text}
+use Rattle.kept_requests.specs.BlockWord.{blocks_text}
 use Rattle.gathered_text.specs.Gathered.{Gathers}
-use Rattle.ldom_entries.specs.Packed.{AreKept, unpacked}
+use Rattle.kept_requests.specs.Packed.{AreKept, unpacked}
 use Rattle.ldom_journal.proofs.block_words.put_blocks.Given as goal
 
 abbrev pub invariant-loop-n : goal.invariant-loop-n

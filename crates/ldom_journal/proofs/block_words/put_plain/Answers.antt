@@ -1,8 +1,8 @@
 use Rattle.std.proofs.Common.{◌∙◌, ℕ, ◌++◌, List, take, codes, sym, subst}
 use Rattle.hex.specs.Hex.{encode_lower}
-use Rattle.ldom_entries.specs.BlockWord.{word_text, blocks_text}
+use Rattle.kept_requests.specs.BlockWord.{word_text, blocks_text}
 use Rattle.gathered_text.specs.Gathered.{Gathers}
-use Rattle.ldom_entries.proofs.BlockWords.{blocks_text_more, blocks_text_end}
+use Rattle.kept_requests.proofs.BlockWords.{blocks_text_more, blocks_text_end}
 use Rattle.gathered_text.proofs.GatheredText.{on_err, gathers_behind, wrote_front_behind}
 use Rattle.ldom_journal.proofs.block_words.put_plain.Goals as goal
 

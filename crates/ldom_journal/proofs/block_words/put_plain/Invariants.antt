@@ -1,5 +1,5 @@
 use Rattle.std.proofs.Common.{◌≡◌, ◌++◌, ℕ, List, length}
-use Rattle.ldom_entries.specs.BlockWord.{blocks_text}
+use Rattle.kept_requests.specs.BlockWord.{blocks_text}
 use Rattle.gathered_text.specs.Gathered.{Gathers}
 use Rattle.ldom_journal.proofs.block_words.put_plain.Given as goal
 

@@ -1,5 +1,5 @@
 use Rattle.std.proofs.Common.{ap}
-use Rattle.ldom_entries.specs.Bytes.{BytesState}
+use Rattle.kept_requests.specs.Bytes.{BytesState}
 use Rattle.ldom_world.proofs.Declaring.{all_within}
 use Rattle.ldom_world.proofs.world.World.new.Goals as goal
 

@@ -1,0 +1,2 @@
+pub mod BlockWords
+pub mod PackedBlocks

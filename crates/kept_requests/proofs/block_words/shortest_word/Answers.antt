@@ -1,0 +1,14 @@
+use Rattle.std.proofs.Common.{refl}
+use Rattle.kept_requests.specs.BlockWord.{word_length}
+use Rattle.kept_requests.proofs.BlockWords.{found_later, repeats_whole}
+use Rattle.kept_requests.proofs.block_words.shortest_word.Goals as goal
+
+pub loop-n-init : goal.loop-n-init
+unfolding word_length
+loop-n-init c = refl
+
+pub loop-n-preserved : goal.loop-n-preserved
+loop-n-preserved c = found_later c.args.block.now c.loop-n.n-index c.is_repeated.result c.loop-n-test.true c.is_repeated.ensures c.if-is_repeated.false c.loop-n.invariant
+
+pub returns-clause-repeats : goal.returns-clause-repeats
+returns-clause-repeats c = repeats_whole c.args.block.now c.told-block

@@ -1,0 +1,4 @@
+pub mod BlockWord
+pub mod Bytes
+pub mod Kept
+pub mod Packed

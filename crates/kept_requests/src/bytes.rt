@@ -1,0 +1,219 @@
+ghost use Rattle.std.specs.Prelude.{◌≡◌, ◌↔◌, ◌+◌, ◌-◌, ◌*◌, ◌%◌, ◌<◌, ◌≤◌, [], ◌∷◌, ◌++◌, length, take, IsTrue, vec_capacity, IfOk, OnOk};
+ghost use Rattle.std.specs.List.{sum};
+ghost use Rattle.kept_requests.specs.Bytes.{filled};
+ghost use Rattle.kept_requests.specs.Packed.{AreKept, block_of, unpacked};
+
+use crate::block_words::shortest_word;
+use std::alloc::Global;
+use std::marker::Model;
+use vio_bytes::NoMemory;
+
+/// The bytes of an entry, as those that a read gave, and the room that is left for more of them. As long as they come
+/// in whole blocks of 512 bytes, a block is kept as the shortest word that it repeats.
+#[derive(Debug, Drop)]
+pub struct Bytes {
+    /// How long the word of each block is.
+    lengths: Vec<u16>,
+
+    /// The words of the blocks, one after the other, and the bytes after the blocks.
+    kept: Vec<u8>,
+
+    /// How many bytes are after the blocks.
+    plain: usize,
+    room: usize,
+}
+
+impl Model for Bytes {
+    ghost use Rattle.std.specs.Prelude.{◌≡◌, ◌+◌, ◌*◌, ◌^◌, ◌<◌, ◌≤◌, length, vec_capacity};
+    ghost use Rattle.std.specs.List.{sum};
+    ghost use Rattle.kept_requests.specs.Bytes.{BytesState};
+    ghost use Rattle.kept_requests.specs.Packed.{AreKept, unpacked};
+
+    ghost Value = { BytesState };
+
+    ghost view = { λ b. record { items = unpacked b.lengths.items b.kept.items; room = b.room } };
+
+    ghost invariant = { λ b. record {
+      kept : AreKept b.lengths.items b.kept.items;
+      plain : sum b.lengths.items + b.plain ≡ length b.kept.items;
+      small : 512 * length b.lengths.items + b.plain + b.room < 2 ^ 64;
+      room : length b.kept.items + b.room ≤ vec_capacity b.kept;
+      length_room : 512 * length b.lengths.items + b.room ≤ 512 * vec_capacity b.lengths + 511;
+    } };
+}
+
+impl Bytes {
+    /// No bytes, and no room. It takes no memory.
+    pub fn empty(alloc: Global) -> Self
+        ensures { result ≡ filled [] }
+    {
+        Bytes {
+            lengths: Vec::new(alloc),
+            kept: Vec::new(alloc),
+            plain: 0,
+            room: 0,
+        }
+    }
+
+    /// These bytes, and no room.
+    pub fn from_slice(alloc: Global, bytes: &[u8]) -> Result<Self, NoMemory>
+        ensures { IfOk result (λ b. b ≡ filled bytes.now) }
+    {
+        let mut all = Self::with_room(alloc, bytes.len())?;
+        all.fill(bytes);
+        Ok(all)
+    }
+
+    /// No bytes, and room for n of them.
+    pub fn with_room(alloc: Global, n: usize) -> Result<Self, NoMemory>
+        ensures { IfOk result (λ b. b ≡ record { items = []; room = n }) }
+    {
+        Ok(Bytes {
+            lengths: Vec::with_capacity(alloc, n / BLOCK)?,
+            kept: Vec::with_capacity(alloc, n)?,
+            plain: 0,
+            room: n,
+        })
+    }
+
+    /// Puts bytes last, into the room that is left. It takes no memory.
+    pub fn fill(&mut self, bytes: &[u8])
+        requires { length bytes.now ≤ self.old.room }
+        ensures items { self.new.items ≡ self.old.items ++ bytes.now }
+        ensures room { self.new.room + length bytes.now ≡ self.old.room }
+    {
+        let rest = keep_blocks(&mut self.lengths, &mut self.kept, self.plain, bytes);
+        match self.kept.extend_from_slice(rest) {
+            Ok(()) => {}
+            Err(_) => unreachable!(),
+        }
+        self.plain += rest.len();
+        self.room -= bytes.len();
+        give_back(&mut self.kept, self.room);
+    }
+
+    /// A copy of all the bytes.
+    pub fn to_vec(&self, alloc: Global) -> Result<Vec<u8>, NoMemory>
+        ensures { IfOk result (λ bytes. bytes.items ≡ self.now.items) }
+    {
+        let mut bytes = Vec::with_capacity(alloc, self.len())?;
+        let (lengths, mut kept) = self.words();
+        for n in lengths {
+            push_block(&mut bytes, kept, usize::from(*n))?;
+            kept = &kept[usize::from(*n)..];
+        }
+        bytes.extend_from_slice(kept)?;
+        Ok(bytes)
+    }
+
+    /// How many bytes there are.
+    pub fn len(&self) -> usize
+        ensures { result ≡ length self.now.items }
+    {
+        BLOCK * self.lengths.len() + self.plain
+    }
+
+    /// How many more bytes there is room for.
+    pub fn room(&self) -> usize
+        ensures { result ≡ self.now.room }
+    {
+        self.room
+    }
+
+    /// Whether there are no bytes.
+    pub fn is_empty(&self) -> bool
+        ensures { IsTrue result ↔ (length self.now.items ≡ 0) }
+    {
+        self.len() == 0
+    }
+
+    /// How long the words of the blocks are; and the words, with the bytes after the blocks.
+    pub fn words(&self) -> (&[u16], &[u8])
+        ensures items { unpacked result.0.now result.1.now ≡ self.now.items }
+        ensures kept { AreKept result.0.now result.1.now }
+    {
+        (self.lengths.as_slice(), self.kept.as_slice())
+    }
+}
+
+/// The bytes of a block.
+const BLOCK: usize = 512;
+
+/// Puts the block that repeats the first n of some bytes last.
+fn push_block(all: &mut Vec<u8>, bytes: &[u8], n: usize) -> Result<(), NoMemory>
+    requires some { 0 < n }
+    requires within { n ≤ length bytes.now }
+    ensures { OnOk result (all.new.items ≡ all.old.items ++ block_of n bytes.now) }
+{
+    for k in 0..BLOCK {
+        all.push(bytes[k % n])?;
+    }
+    Ok(())
+}
+
+/// Gives room back where none is wanted.
+fn give_back(kept: &mut Vec<u8>, room: usize)
+    requires { length kept.old.items + room ≤ vec_capacity kept.old }
+    ensures items { kept.new.items ≡ kept.old.items }
+    ensures room { length kept.new.items + room ≤ vec_capacity kept.new }
+{
+    if room == 0 {
+        kept.shrink_to_fit();
+    }
+}
+
+/// Keeps the blocks at the front of these bytes, unless there are bytes after the blocks that were kept before; so many
+/// are `plain`. Answers the bytes that are still to be kept.
+fn keep_blocks<'a>(
+    lengths: &mut Vec<u16>,
+    kept: &mut Vec<u8>,
+    plain: usize,
+    bytes: &'a [u8],
+) -> &'a [u8]
+    requires kept { AreKept lengths.old.items kept.old.items }
+    requires plain { sum lengths.old.items + plain ≡ length kept.old.items }
+    requires room { length kept.old.items + length bytes.now ≤ vec_capacity kept.old }
+    requires length_room { 512 * length lengths.old.items + length bytes.now ≤ 512 * vec_capacity lengths.old + 511 }
+    ensures kept { AreKept lengths.new.items kept.new.items }
+    ensures plain { sum lengths.new.items + plain ≡ length kept.new.items }
+    ensures items { unpacked lengths.new.items kept.new.items ++ result.now ≡ unpacked lengths.old.items kept.old.items ++ bytes.now }
+    ensures count { 512 * length lengths.new.items + length result.now ≡ 512 * length lengths.old.items + length bytes.now }
+    ensures long { length kept.new.items + length result.now ≤ length kept.old.items + length bytes.now }
+    ensures room { vec_capacity kept.old ≤ vec_capacity kept.new }
+    ensures length_room { vec_capacity lengths.old ≤ vec_capacity lengths.new }
+{
+    if plain > 0 {
+        return bytes;
+    }
+    let mut rest = bytes;
+    while let Some((block, behind)) = rest.split_first_chunk::<512>() {
+        keep_block(lengths, kept, block);
+        rest = behind;
+    }
+    rest
+}
+
+/// Keeps a block after the others.
+fn keep_block(lengths: &mut Vec<u16>, kept: &mut Vec<u8>, block: &[u8; 512])
+    requires kept { AreKept lengths.old.items kept.old.items }
+    requires plain { sum lengths.old.items ≡ length kept.old.items }
+    requires room { length kept.old.items + 512 ≤ vec_capacity kept.old }
+    requires length_room { length lengths.old.items < vec_capacity lengths.old }
+    ensures kept { AreKept lengths.new.items kept.new.items }
+    ensures plain { sum lengths.new.items ≡ length kept.new.items }
+    ensures items { unpacked lengths.new.items kept.new.items ≡ unpacked lengths.old.items kept.old.items ++ block.now }
+    ensures count { length lengths.new.items ≡ length lengths.old.items + 1 }
+    ensures long { length kept.new.items ≤ length kept.old.items + 512 }
+    ensures room { vec_capacity kept.old ≤ vec_capacity kept.new }
+    ensures length_room { vec_capacity lengths.old ≤ vec_capacity lengths.new }
+{
+    let n = shortest_word(block);
+    match lengths.push(n as u16) {
+        Ok(()) => {}
+        Err(_) => unreachable!(),
+    }
+    match kept.extend_from_slice(&block[..n]) {
+        Ok(()) => {}
+        Err(_) => unreachable!(),
+    }
+}

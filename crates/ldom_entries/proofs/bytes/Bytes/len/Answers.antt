@@ -1,9 +1,0 @@
-use Rattle.std.proofs.Common.{arith, length, ap}
-use Rattle.ldom_entries.specs.Bytes.{BytesState}
-use Rattle.ldom_entries.proofs.PackedBlocks.{kept_lengths}
-use Rattle.ldom_entries.proofs.bytes.Bytes.len.Goals as goal
-
-pub returns : goal.returns
-returns c =
-    let long = kept_lengths c.self.inside.lengths.items c.self.inside.kept.items c.self.invariant.kept in
-    omega (arith, long.1, c.self.invariant.plain, c.len.ensures, ap (λ (s : BytesState). length s.items) c.self.view_is)

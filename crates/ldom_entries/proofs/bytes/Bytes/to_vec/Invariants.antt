@@ -1,9 +1,0 @@
-use Rattle.std.proofs.Common.{◌≡◌, ◌++◌, drop}
-use Rattle.ldom_entries.specs.Packed.{AreKept, unpacked}
-use Rattle.ldom_entries.proofs.bytes.Bytes.to_vec.Given as goal
-
-abbrev pub invariant-loop-n : goal.invariant-loop-n
-invariant-loop-n l = record {
-  are : AreKept (drop l.n-index l.lengths) l.kept;
-  items : l.bytes.items ++ unpacked (drop l.n-index l.lengths) l.kept ≡ l.fn.self.items;
-}

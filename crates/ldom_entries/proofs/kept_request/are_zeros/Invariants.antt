@@ -1,5 +1,0 @@
-use Rattle.std.proofs.Common.{◌≡◌, ◌↔◌, true, take, replicate}
-use Rattle.ldom_entries.proofs.kept_request.are_zeros.Given as goal
-
-abbrev pub invariant-loop-byte : goal.invariant-loop-byte
-invariant-loop-byte l = (l.all ≡ true) ↔ (take l.byte-index l.bytes ≡ replicate l.byte-index 0)
