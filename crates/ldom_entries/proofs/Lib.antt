@@ -1,4 +1,4 @@
+pub mod Counting
 pub mod Decoding
-pub mod HeaderCounts
 pub mod Reading
 pub mod UnseenPassed

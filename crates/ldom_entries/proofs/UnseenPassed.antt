@@ -1,12 +1,37 @@
 -- A reading that passes over what is not seen.
-use Rattle.std.proofs.Common.{◌≡◌, true, false, List, [], ◌∷◌, ◌++◌, append_assoc, sym, ap, subst, ◌∙◌}
+use Rattle.std.proofs.Common.{◌≡◌, true, false, List, [], ◌∷◌, ◌++◌, append_assoc, refl, sym, ap, subst, ◌∙◌}
 use Rattle.std.proofs.lemmas.List.Elements.{All-append, All-cons, All-nil}
-use Rattle.ldom_entries.proofs.HeaderCounts.{seen_by_kind}
 use Rattle.ldom_entries.specs.Beside.{Lists, rest_of, share_of}
 use Rattle.ldom_entries.specs.Decoded.{entries_of, entry_of, kind_of, share}
 use Rattle.ldom_entries.specs.Seen.{BeginsSeen, PassesUnseen, is_seen}
 use Rattle.ldom_entries.specs.declared.entry.Entry.{Entry}
 use Rattle.ldom_entries.specs.declared.header.Header.{Header}
+use Rattle.ldom_entries.specs.declared.header.Header.TheVariants as header
+
+-- what stands beside a header doesn't change who sees its entry
+seen_by_kind : (h : Header) (l : Lists) → is_seen (entry_of h l) ≡ is_seen (kind_of h)
+seen_by_kind (header.Accepted a) l = refl
+seen_by_kind (header.Full a b) l = refl
+seen_by_kind (header.Refused a b c) l = refl
+seen_by_kind (header.Lost a b) l = refl
+seen_by_kind (header.Stopped a) l = refl
+seen_by_kind (header.Started a) l = refl
+seen_by_kind (header.Calm a b) l = refl
+seen_by_kind header.Settled l = refl
+seen_by_kind (header.Unsettled a b) l = refl
+seen_by_kind (header.Idle a b) l = refl
+seen_by_kind (header.Off a b) l = refl
+seen_by_kind (header.Blocked a b) l = refl
+seen_by_kind (header.Joined a b) l = refl
+seen_by_kind (header.Took a b c) l = refl
+seen_by_kind (header.Sent a b c) l = refl
+seen_by_kind (header.Published a b) l = refl
+seen_by_kind (header.Done a b c) l = refl
+seen_by_kind (header.Desc a b) l = refl
+seen_by_kind (header.Moved a b c) l = refl
+seen_by_kind (header.Stored a b c d) l = refl
+seen_by_kind (header.Finished a b) l = refl
+seen_by_kind (header.Reset a b c) l = refl
 
 abbrev IsUnseen : Entry → Type 0
 IsUnseen entry = is_seen entry ≡ false

@@ -1,10 +1,9 @@
-ghost use Rattle.std.specs.Prelude.{◌≡◌, ◌+◌, ◌<◌, ◌≤◌, [], ◌∷◌, ◌++◌, length, vec_capacity};
-ghost use Rattle.ldom_entries.specs.Counts.{accepted_count, done_count, is_accepted, is_done, is_reset, reset_count};
-ghost use Rattle.ldom_entries.specs.Decoded.{entry_of, kind_of, needs, share, these};
+ghost use Rattle.std.specs.Prelude.{◌≡◌, ◌+◌, ◌<◌, ◌≤◌, [], ◌∷◌, ◌++◌, length};
+ghost use Rattle.ldom_entries.specs.Counts.{accepted_count, done_count, reset_count};
 
 use crate::entries::{Entries, nth};
 use crate::header::{Header, disk_of, part_of};
-use crate::parts::Parts;
+use crate::kept_entries::KeptEntries;
 use crate::{Bytes, Entry, EntryRef, KeptRequest, Who, Why};
 use cookie_copy::CopyFault;
 use domain_script::EndName;
@@ -13,50 +12,36 @@ use std::marker::Model;
 use vio_bytes::NoMemory;
 use vio_tag::Cause;
 
-/// The entries of a run in the order in which they came, and the room that is left for more of them. An entry is kept
-/// as a header of eight bytes; what else it has stands in lists beside the headers, each in the order of the entries.
+/// The entries of a run in the order in which they came, and the room that is left for more of them. Those that a
+/// report counts are counted as they come.
 #[derive(Debug, Drop)]
 pub struct Journal {
-    headers: Vec<Header>,
-    parts: Parts,
-    room: usize,
+    kept: KeptEntries,
+    accepted: usize,
+    done: usize,
+    resets: usize,
 }
 
 impl Model for Journal {
-    ghost use Rattle.std.specs.Prelude.{◌+◌, ◌≤◌, length, vec_capacity};
-    ghost use Rattle.ldom_entries.specs.Decoded.{AreWhole, entries_of};
+    ghost use Rattle.std.specs.Prelude.{◌≡◌};
+    ghost use Rattle.ldom_entries.specs.Counts.{accepted_count, done_count, reset_count};
     ghost use Rattle.ldom_entries.specs.JournalState.{JournalState};
 
     ghost Value = { JournalState };
 
-    ghost view = { λ j. record { entries = entries_of j.headers.items j.parts.lists; room = j.room } };
+    ghost view = { λ j. j.kept };
 
     ghost invariant = { λ j. record {
-      whole : AreWhole j.headers.items j.parts.lists;
-      headers : length j.headers.items + j.room ≤ vec_capacity j.headers;
-      parts : j.room ≤ j.parts.ready;
+      accepted : j.accepted ≡ accepted_count j.kept.entries;
+      done : j.done ≡ done_count j.kept.entries;
+      resets : j.resets ≡ reset_count j.kept.entries;
     } };
 }
 
-/// Puts the header of an entry last, into room that was reserved.
-fn put_header(headers: &mut Vec<Header>, header: Header)
-    requires { length headers.old.items < vec_capacity headers.old }
-    ensures items { headers.new.items ≡ headers.old.items ++ header ∷ [] }
-    ensures count { length headers.new.items ≡ length headers.old.items + 1 }
-    ensures room { vec_capacity headers.old ≤ vec_capacity headers.new }
-{
-    match headers.push(header) {
-        Ok(()) => {}
-        Err(_) => unreachable!(),
-    }
-}
-
-#[tactic(auto, using(crate::proofs::Decoding::entries_more, crate::proofs::Decoding::entries_count))]
+#[tactic(auto, using(crate::proofs::Counting::counted))]
 impl Journal {
     ghost use Rattle.std.specs.Prelude.{◌↔◌, ◌^◌, max, Some, IsTrue, IfSome, IsNone, OnErr, OnOk, slice_get};
-    ghost use Rattle.ldom_entries.specs.Beside.{nothing, only_numbers, only_packets};
     ghost use Rattle.ldom_entries.specs.JournalState.{Puts};
-    ghost use Rattle.ldom_entries.specs.PartsState.{with_read};
     ghost use Rattle.ldom_entries.specs.Told.{told};
     ghost use Rattle.ldom_entries.specs.declared.entry.Entry.TheVariants as the_entry;
 
@@ -65,9 +50,10 @@ impl Journal {
         ensures { result ≡ record { entries = []; room = 0 } }
     {
         Journal {
-            headers: Vec::new(alloc),
-            parts: Parts::new(alloc),
-            room: 0,
+            kept: KeptEntries::new(alloc),
+            accepted: 0,
+            done: 0,
+            resets: 0,
         }
     }
 
@@ -78,67 +64,7 @@ impl Journal {
         ensures room { OnOk result (self.new.room ≡ max self.old.room n) }
         ensures same { OnErr result (self.new.room ≡ self.old.room) }
     {
-        if self.room < n {
-            self.headers.reserve(n)?;
-            self.parts.reserve(n)?;
-            self.room = n;
-        }
-        Ok(())
-    }
-
-    /// Puts an entry last beside which nothing stands.
-    fn push_plain(&mut self, header: Header)
-        requires room { 0 < self.old.room }
-        requires share { share header ≡ needs 0 0 }
-        ensures { Puts self.old (entry_of header nothing) self.new }
-    {
-        self.parts.put_none();
-        put_header(&mut self.headers, header);
-        self.room -= 1;
-    }
-
-    /// Puts an entry last beside which a number stands.
-    fn push_number(&mut self, header: Header, n: u64)
-        requires room { 0 < self.old.room }
-        requires share { share header ≡ needs 1 0 }
-        ensures { Puts self.old (entry_of header (only_numbers (n ∷ []))) self.new }
-    {
-        self.parts.put_number(n);
-        put_header(&mut self.headers, header);
-        self.room -= 1;
-    }
-
-    /// Puts an entry last beside which two numbers stand.
-    fn push_numbers(&mut self, header: Header, n: u64, m: u64)
-        requires room { 0 < self.old.room }
-        requires share { share header ≡ needs 2 0 }
-        ensures { Puts self.old (entry_of header (only_numbers (n ∷ m ∷ []))) self.new }
-    {
-        self.parts.put_numbers(n, m);
-        put_header(&mut self.headers, header);
-        self.room -= 1;
-    }
-
-    /// Puts an entry last beside which a packet stands.
-    fn push_packet(&mut self, header: Header, packet: &[u8; 64])
-        requires room { 0 < self.old.room }
-        requires share { share header ≡ needs 0 1 }
-        ensures { Puts self.old (entry_of header (only_packets (packet.now ∷ []))) self.new }
-    {
-        self.parts.put_packet(packet);
-        put_header(&mut self.headers, header);
-        self.room -= 1;
-    }
-
-    /// Puts an entry last beside which two numbers and bytes stand.
-    fn push_read(&mut self, header: Header, n: u64, m: u64, bytes: Bytes)
-        requires room { 0 < self.old.room }
-        requires share { share header ≡ these 2 0 0 1 0 0 }
-        ensures { Puts self.old (entry_of header (with_read n m bytes)) self.new }
-    {
-        self.parts.put_read(n, m, bytes);
-        put_header(&mut self.headers, header);
-        self.room -= 1;
+        self.kept.reserve(n)
     }
 
     /// A request that was taken up, put last. As each of the calls below, it takes no memory and wants room.
@@ -146,9 +72,9 @@ impl Journal {
         requires { 0 < self.old.room }
         ensures { Puts self.old (the_entry.Accepted disk id request) self.new }
     {
-        self.parts.put_request(id, request);
-        put_header(&mut self.headers, Header::Accepted { disk });
-        self.room -= 1;
+        let _len = self.kept.len();
+        self.kept.push_accepted(disk, id, request);
+        self.accepted += 1;
     }
 
     /// An end that has nothing to do.
@@ -156,7 +82,7 @@ impl Journal {
         requires { 0 < self.old.room }
         ensures { Puts self.old (the_entry.Idle end) self.new }
     {
-        self.push_plain(Header::Idle {
+        self.kept.push_plain(Header::Idle {
             side: end.side,
             disk: disk_of(end),
         });
@@ -167,7 +93,7 @@ impl Journal {
         requires { 0 < self.old.room }
         ensures { Puts self.old (the_entry.Off end) self.new }
     {
-        self.push_plain(Header::Off {
+        self.kept.push_plain(Header::Off {
             side: end.side,
             disk: disk_of(end),
         });
@@ -178,7 +104,7 @@ impl Journal {
         requires { 0 < self.old.room }
         ensures { Puts self.old (the_entry.Blocked end) self.new }
     {
-        self.push_plain(Header::Blocked {
+        self.kept.push_plain(Header::Blocked {
             side: end.side,
             disk: disk_of(end),
         });
@@ -193,7 +119,7 @@ impl Journal {
             side: end.side,
             disk: disk_of(end),
         };
-        self.push_number(header, u64::from(lost));
+        self.kept.push_number(header, u64::from(lost));
     }
 
     /// A packet that was lost.
@@ -205,7 +131,7 @@ impl Journal {
             side: end.side,
             disk: disk_of(end),
         };
-        self.push_packet(header, packet);
+        self.kept.push_packet(header, packet);
     }
 
     /// An end that took a packet, and its session may have opened by it.
@@ -218,7 +144,7 @@ impl Journal {
             opens,
             disk: disk_of(end),
         };
-        self.push_packet(header, packet);
+        self.kept.push_packet(header, packet);
     }
 
     /// An end that put a packet, and its session may have opened by it.
@@ -231,7 +157,7 @@ impl Journal {
             opens,
             disk: disk_of(end),
         };
-        self.push_packet(header, packet);
+        self.kept.push_packet(header, packet);
     }
 
     /// A request that the client put into its ring.
@@ -243,25 +169,17 @@ impl Journal {
             side: end.side,
             disk: disk_of(end),
         };
-        self.push_number(header, id);
+        self.kept.push_number(header, id);
     }
 
-    /// A request that was completed. Its bytes are kept where there are some, or room for some.
+    /// A request that was completed.
     pub fn push_done(&mut self, disk: u32, id: u64, operation: u8, status: u32, bytes: Bytes)
         requires { 0 < self.old.room }
         ensures { Puts self.old (the_entry.Done disk id operation status bytes) self.new }
     {
-        let read = !bytes.is_empty() || bytes.room() > 0;
-        let header = Header::Done {
-            operation,
-            read,
-            disk,
-        };
-        if read {
-            self.push_read(header, id, u64::from(status), bytes);
-        } else {
-            self.push_numbers(header, id, u64::from(status));
-        }
+        let _len = self.kept.len();
+        self.kept.push_done(disk, id, operation, status, bytes);
+        self.done += 1;
     }
 
     /// A descriptor that the server fetched.
@@ -269,13 +187,7 @@ impl Journal {
         requires { 0 < self.old.room }
         ensures { Puts self.old (the_entry.Desc end slot bytes.now) self.new }
     {
-        let header = Header::Desc {
-            side: end.side,
-            disk: disk_of(end),
-        };
-        self.parts.put_descriptor(u64::from(slot), bytes);
-        put_header(&mut self.headers, header);
-        self.room -= 1;
+        self.kept.push_desc(end, slot, bytes);
     }
 
     /// A unit that the server copied, or why it couldn't.
@@ -288,7 +200,7 @@ impl Journal {
             fault,
             disk: disk_of(end),
         };
-        self.push_number(header, u64::from(unit));
+        self.kept.push_number(header, u64::from(unit));
     }
 
     /// A call of the server's store, and whether it failed.
@@ -302,7 +214,7 @@ impl Journal {
             failed,
             disk: disk_of(end),
         };
-        self.push_numbers(header, block, count);
+        self.kept.push_numbers(header, block, count);
     }
 
     /// A descriptor that the server gave its status.
@@ -314,7 +226,8 @@ impl Journal {
             side: end.side,
             disk: disk_of(end),
         };
-        self.push_numbers(header, u64::from(slot), u64::from(status));
+        self.kept
+            .push_numbers(header, u64::from(slot), u64::from(status));
     }
 
     /// An end that was reset, maybe by a packet that it took, and so many frames were lost by that.
@@ -322,15 +235,9 @@ impl Journal {
         requires { 0 < self.old.room }
         ensures { Puts self.old (the_entry.Reset end cause packet.now lost) self.new }
     {
-        let header = Header::Reset {
-            side: end.side,
-            packet: packet.is_some(),
-            disk: disk_of(end),
-        };
-        self.parts
-            .put_cause(u64::from(lost), cause, packet.as_ref());
-        put_header(&mut self.headers, header);
-        self.room -= 1;
+        let _len = self.kept.len();
+        self.kept.push_reset(end, cause, packet, lost);
+        self.resets += 1;
     }
 
     /// As many requests are pending as the ring holds.
@@ -339,7 +246,7 @@ impl Journal {
         ensures { Puts self.old (the_entry.Full who) self.new }
     {
         let (disk, part) = part_of(who);
-        self.push_plain(Header::Full { part, disk });
+        self.kept.push_plain(Header::Full { part, disk });
     }
 
     /// A request that was refused.
@@ -348,7 +255,7 @@ impl Journal {
         ensures { Puts self.old (the_entry.Refused who why) self.new }
     {
         let (disk, part) = part_of(who);
-        self.push_plain(Header::Refused { part, why, disk });
+        self.kept.push_plain(Header::Refused { part, why, disk });
     }
 
     /// What a line asked for and changes nothing.
@@ -357,7 +264,7 @@ impl Journal {
         ensures { Puts self.old (the_entry.Calm who) self.new }
     {
         let (disk, part) = part_of(who);
-        self.push_plain(Header::Calm { part, disk });
+        self.kept.push_plain(Header::Calm { part, disk });
     }
 
     /// A settle that ended though something is left to do here.
@@ -366,7 +273,7 @@ impl Journal {
         ensures { Puts self.old (the_entry.Unsettled who) self.new }
     {
         let (disk, part) = part_of(who);
-        self.push_plain(Header::Unsettled { part, disk });
+        self.kept.push_plain(Header::Unsettled { part, disk });
     }
 
     /// Puts an entry last, into room that was reserved. It takes no memory.
@@ -380,10 +287,10 @@ impl Journal {
             Entry::Full { who } => self.push_full(who),
             Entry::Refused { who, why } => self.push_refused(who, why),
             Entry::Lost { end, packet } => self.push_lost(end, &packet),
-            Entry::Stopped { disk } => self.push_plain(Header::Stopped { disk }),
-            Entry::Started { disk } => self.push_plain(Header::Started { disk }),
+            Entry::Stopped { disk } => self.kept.push_plain(Header::Stopped { disk }),
+            Entry::Started { disk } => self.kept.push_plain(Header::Started { disk }),
             Entry::Calm { who } => self.push_calm(who),
-            Entry::Settled => self.push_plain(Header::Settled),
+            Entry::Settled => self.kept.push_plain(Header::Settled),
             Entry::Unsettled { who } => self.push_unsettled(who),
             Entry::Idle { end } => self.push_idle(end),
             Entry::Off { end } => self.push_off(end),
@@ -423,14 +330,14 @@ impl Journal {
         ensures count { result ≡ length self.now.entries }
         ensures small { length self.now.entries < 2 ^ 63 }
     {
-        self.headers.len()
+        self.kept.len()
     }
 
     /// Whether there are no entries.
     pub fn is_empty(&self) -> bool
         ensures { IsTrue result ↔ (length self.now.entries ≡ 0) }
     {
-        self.headers.is_empty()
+        self.kept.is_empty()
     }
 
     /// The k-th entry, counted from 0. None exactly where there are k or fewer. Those before it are read on the way: to
@@ -446,57 +353,27 @@ impl Journal {
     pub fn entries(&self) -> Entries<'_>
         ensures { result ≡ self.now.entries }
     {
-        Entries::new(self.headers.as_slice(), self.parts.rest())
+        self.kept.entries()
     }
 
     /// How many requests were taken up.
-    #[tactic(auto, using(crate::proofs::HeaderCounts::accepted_by_headers))]
     pub fn accepted(&self) -> usize
         ensures { result ≡ accepted_count self.now.entries }
     {
-        self.headers
-            .iter()
-            .filter(|header| is_accepted(header))
-            .count()
+        self.accepted
     }
 
     /// How many requests were completed.
-    #[tactic(auto, using(crate::proofs::HeaderCounts::done_by_headers))]
     pub fn done(&self) -> usize
         ensures { result ≡ done_count self.now.entries }
     {
-        self.headers.iter().filter(|header| is_done(header)).count()
+        self.done
     }
 
     /// How often an end was reset.
-    #[tactic(auto, using(crate::proofs::HeaderCounts::resets_by_headers))]
     pub fn resets(&self) -> usize
         ensures { result ≡ reset_count self.now.entries }
     {
-        self.headers
-            .iter()
-            .filter(|header| is_reset(header))
-            .count()
+        self.resets
     }
-}
-
-/// Whether a header's entry is a request that was taken up.
-fn is_accepted(header: &Header) -> bool
-    ensures { result ≡ is_accepted (kind_of header.now) }
-{
-    matches!(header, Header::Accepted { .. })
-}
-
-/// Whether a header's entry is a request that was completed.
-fn is_done(header: &Header) -> bool
-    ensures { result ≡ is_done (kind_of header.now) }
-{
-    matches!(header, Header::Done { .. })
-}
-
-/// Whether a header's entry is an end that was reset.
-fn is_reset(header: &Header) -> bool
-    ensures { result ≡ is_reset (kind_of header.now) }
-{
-    matches!(header, Header::Reset { .. })
 }

@@ -8,6 +8,7 @@ mod entry;
 mod entry_ref;
 mod header;
 mod journal;
+mod kept_entries;
 mod parts;
 #[cfg(test)]
 mod tests;

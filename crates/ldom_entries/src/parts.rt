@@ -1,4 +1,4 @@
-ghost use Rattle.std.specs.Prelude.{◌≡◌, ◌≤◌, ◌<◌, [], ◌∷◌, ◌++◌, length, vec_capacity, OnOk, OnErr};
+ghost use Rattle.std.specs.Prelude.{◌≡◌, ◌^◌, ◌≤◌, ◌<◌, [], ◌∷◌, OnOk, OnErr};
 
 use crate::beside::Beside;
 use crate::{Bytes, Cause, KeptRequest, NoMemory};
@@ -58,24 +58,6 @@ const PACKET: usize = 64;
 /// The bytes of a descriptor.
 const DESCRIPTOR: usize = 128;
 
-/// Room is made for so many entries at once, so that most calls of `reserve` look at a number alone.
-const AT_ONCE: usize = 64;
-
-/// For more entries at once there is no memory.
-const MOST_AT_ONCE: usize = 1 << 31;
-
-/// Puts an item last, into room that was reserved.
-fn put<T: Drop>(list: &mut Vec<T>, item: T)
-    requires { length list.old.items < vec_capacity list.old }
-    ensures items { list.new.items ≡ list.old.items ++ item ∷ [] }
-    ensures room { vec_capacity list.old ≤ vec_capacity list.new }
-{
-    match list.push(item) {
-        Ok(()) => {}
-        Err(_) => unreachable!(),
-    }
-}
-
 impl Parts {
     ghost use Rattle.std.specs.Option.{option_copied};
     ghost use Rattle.ldom_entries.specs.Beside.{nothing, only_numbers, only_packets};
@@ -96,39 +78,29 @@ impl Parts {
         }
     }
 
-    /// Makes room for what stands beside n more entries, if there isn't yet. The memory grows by doubling, so that
-    /// asking for one entry at a time costs no more than linear time. After `NoMemory` the parts are as they were.
-    pub(crate) fn reserve(&mut self, n: usize) -> Result<(), NoMemory>
-        ensures lists { self.new.lists ≡ self.old.lists }
-        ensures ready { OnOk result (n ≤ self.new.ready) }
-        ensures more { self.old.ready ≤ self.new.ready }
-        ensures same { OnErr result (self.new.ready ≡ self.old.ready) }
+    /// For how many more entries there is room.
+    pub(crate) fn ready(&self) -> usize
+        ensures { result ≡ self.now.ready }
     {
-        if self.ready < n {
-            return self.make_ready(n.max(AT_ONCE));
-        }
-        Ok(())
+        self.ready
     }
 
-    /// Makes room in each list. It stands apart so that the test before it is inlined.
-    #[cold]
-    #[inline(never)]
-    fn make_ready(&mut self, many: usize) -> Result<(), NoMemory>
-        requires { self.old.ready ≤ many }
+    /// Makes room for what stands beside n more entries. The memory grows by doubling, so that asking for one entry at
+    /// a time costs no more than linear time. After `NoMemory` the parts are as they were.
+    pub(crate) fn reserve(&mut self, n: usize) -> Result<(), NoMemory>
+        requires few { n ≤ 2 ^ 31 }
+        requires more { self.old.ready ≤ n }
         ensures lists { self.new.lists ≡ self.old.lists }
-        ensures ready { OnOk result (self.new.ready ≡ many) }
+        ensures ready { OnOk result (self.new.ready ≡ n) }
         ensures same { OnErr result (self.new.ready ≡ self.old.ready) }
     {
-        if many > MOST_AT_ONCE {
-            return Err(NoMemory);
-        }
-        self.numbers.reserve(2 * many)?;
-        self.packets.reserve(many)?;
-        self.descriptors.reserve(many)?;
-        self.reads.reserve(many)?;
-        self.requests.reserve(many)?;
-        self.causes.reserve(many)?;
-        self.ready = many;
+        self.numbers.reserve(2 * n)?;
+        self.packets.reserve(n)?;
+        self.descriptors.reserve(n)?;
+        self.reads.reserve(n)?;
+        self.requests.reserve(n)?;
+        self.causes.reserve(n)?;
+        self.ready = n;
         Ok(())
     }
 
@@ -145,7 +117,7 @@ impl Parts {
         requires { 0 < self.old.ready }
         ensures { PutsParts self.old (only_numbers (n ∷ [])) self.new }
     {
-        put(&mut self.numbers, n);
+        self.numbers.push_reserved(n);
         self.ready -= 1;
     }
 
@@ -154,8 +126,8 @@ impl Parts {
         requires { 0 < self.old.ready }
         ensures { PutsParts self.old (only_numbers (n ∷ m ∷ [])) self.new }
     {
-        put(&mut self.numbers, n);
-        put(&mut self.numbers, m);
+        self.numbers.push_reserved(n);
+        self.numbers.push_reserved(m);
         self.ready -= 1;
     }
 
@@ -173,7 +145,7 @@ impl Parts {
         requires { 0 < self.old.ready }
         ensures { PutsParts self.old (with_descriptor n descriptor.now) self.new }
     {
-        put(&mut self.numbers, n);
+        self.numbers.push_reserved(n);
         self.descriptors.push(descriptor);
         self.ready -= 1;
     }
@@ -183,9 +155,9 @@ impl Parts {
         requires { 0 < self.old.ready }
         ensures { PutsParts self.old (with_read n m bytes) self.new }
     {
-        put(&mut self.numbers, n);
-        put(&mut self.numbers, m);
-        put(&mut self.reads, bytes);
+        self.numbers.push_reserved(n);
+        self.numbers.push_reserved(m);
+        self.reads.push_reserved(bytes);
         self.ready -= 1;
     }
 
@@ -194,8 +166,8 @@ impl Parts {
         requires { 0 < self.old.ready }
         ensures { PutsParts self.old (with_request n request) self.new }
     {
-        put(&mut self.numbers, n);
-        put(&mut self.requests, request);
+        self.numbers.push_reserved(n);
+        self.requests.push_reserved(request);
         self.ready -= 1;
     }
 
@@ -204,8 +176,8 @@ impl Parts {
         requires { 0 < self.old.ready }
         ensures { PutsParts self.old (with_cause n cause (option_copied packet.entry)) self.new }
     {
-        put(&mut self.numbers, n);
-        put(&mut self.causes, cause);
+        self.numbers.push_reserved(n);
+        self.causes.push_reserved(cause);
         if let Some(packet) = packet {
             self.packets.push(packet);
         }
