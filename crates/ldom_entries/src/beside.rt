@@ -158,44 +158,46 @@ impl<'a> Beside<'a> {
         *cause
     }
 
-    /// The entry of a header, whose share is taken from the front of the lists.
-    pub(crate) fn entry(&mut self, header: Header) -> EntryRef<'a>
+    /// Reads the entry of a header, whose share is taken from the front of the lists. It is written where it lies, and
+    /// this isn't inlined: else each kind of entry would be made with the parts of all others.
+    #[inline(never)]
+    pub(crate) fn read_into(&mut self, header: Header, entry: &mut EntryRef<'a>)
         requires { Holds (share header) self.old }
-        ensures told { told result ≡ entry_of header (share_of (share header) self.old) }
+        ensures told { told entry.new ≡ entry_of header (share_of (share header) self.old) }
         ensures rest { self.new ≡ rest_of (share header) self.old }
     {
         match header {
-            Header::Accepted { disk } => self.accepted(disk),
-            Header::Full { part, disk } => full(part, disk),
-            Header::Refused { part, why, disk } => refused(part, why, disk),
-            Header::Lost { side, disk } => self.lost(side, disk),
-            Header::Stopped { disk } => EntryRef::Stopped { disk },
-            Header::Started { disk } => EntryRef::Started { disk },
-            Header::Calm { part, disk } => calm(part, disk),
-            Header::Settled => EntryRef::Settled,
-            Header::Unsettled { part, disk } => unsettled(part, disk),
-            Header::Idle { side, disk } => idle(side, disk),
-            Header::Off { side, disk } => off(side, disk),
-            Header::Blocked { side, disk } => blocked(side, disk),
-            Header::Joined { side, disk } => self.joined(side, disk),
-            Header::Took { side, opens, disk } => self.took(side, opens, disk),
-            Header::Sent { side, opens, disk } => self.sent(side, opens, disk),
-            Header::Published { side, disk } => self.published(side, disk),
+            Header::Accepted { disk } => *entry = self.accepted(disk),
+            Header::Full { part, disk } => *entry = full(part, disk),
+            Header::Refused { part, why, disk } => *entry = refused(part, why, disk),
+            Header::Lost { side, disk } => *entry = self.lost(side, disk),
+            Header::Stopped { disk } => *entry = EntryRef::Stopped { disk },
+            Header::Started { disk } => *entry = EntryRef::Started { disk },
+            Header::Calm { part, disk } => *entry = calm(part, disk),
+            Header::Settled => *entry = EntryRef::Settled,
+            Header::Unsettled { part, disk } => *entry = unsettled(part, disk),
+            Header::Idle { side, disk } => *entry = idle(side, disk),
+            Header::Off { side, disk } => *entry = off(side, disk),
+            Header::Blocked { side, disk } => *entry = blocked(side, disk),
+            Header::Joined { side, disk } => *entry = self.joined(side, disk),
+            Header::Took { side, opens, disk } => *entry = self.took(side, opens, disk),
+            Header::Sent { side, opens, disk } => *entry = self.sent(side, opens, disk),
+            Header::Published { side, disk } => *entry = self.published(side, disk),
             Header::Done {
                 operation,
                 read,
                 disk,
-            } => self.done(operation, read, disk),
-            Header::Desc { side, disk } => self.desc(side, disk),
-            Header::Moved { side, fault, disk } => self.moved(side, fault, disk),
+            } => *entry = self.done(operation, read, disk),
+            Header::Desc { side, disk } => *entry = self.desc(side, disk),
+            Header::Moved { side, fault, disk } => *entry = self.moved(side, fault, disk),
             Header::Stored {
                 side,
                 operation,
                 failed,
                 disk,
-            } => self.stored(side, operation, failed, disk),
-            Header::Finished { side, disk } => self.finished(side, disk),
-            Header::Reset { side, packet, disk } => self.reset(side, packet, disk),
+            } => *entry = self.stored(side, operation, failed, disk),
+            Header::Finished { side, disk } => *entry = self.finished(side, disk),
+            Header::Reset { side, packet, disk } => *entry = self.reset(side, packet, disk),
         }
     }
 

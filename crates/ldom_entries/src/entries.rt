@@ -48,7 +48,8 @@ impl<'a> Entries<'a> {
     {
         match self.headers {
             [header, rest @ ..] => {
-                let entry = self.beside.entry(*header);
+                let mut entry = EntryRef::Settled;
+                self.beside.read_into(*header, &mut entry);
                 self.headers = rest;
                 Some(entry)
             }
