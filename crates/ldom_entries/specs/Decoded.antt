@@ -17,16 +17,16 @@ use Rattle.ldom_entries.specs.declared.entry.Who.TheVariants.{Lane as OfLane, En
 use Rattle.ldom_entries.specs.declared.header.Header.{Header}
 use Rattle.ldom_entries.specs.declared.header.Header.TheVariants as header
 use Rattle.ldom_entries.specs.declared.header.Part.{Part}
-use Rattle.ldom_entries.specs.declared.header.Part.TheVariants.{Whole, Guest, Service}
+use Rattle.ldom_entries.specs.declared.header.Part.TheVariants as the_part
 
 -- an end of the disk with this number; and its lane as a whole, or one of its ends
 abbrev pub end_at : ℕ → Side → EndName
 end_at disk side = record { lane = Disk disk; side = side }
 
 abbrev pub who_at : ℕ → Part → Who
-who_at disk Whole = OfLane (Disk disk)
-who_at disk Guest = OfEnd (end_at disk Client)
-who_at disk Service = OfEnd (end_at disk Server)
+who_at disk the_part.Whole = OfLane (Disk disk)
+who_at disk the_part.Client = OfEnd (end_at disk Client)
+who_at disk the_part.Server = OfEnd (end_at disk Server)
 
 -- the first number beside an entry, and the second; its packet; its descriptor; its request; its cause
 abbrev pub first_number : Lists → ℕ

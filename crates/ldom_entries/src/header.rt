@@ -10,8 +10,8 @@ use domain_script::{EndName, Lane, Side};
 #[derive(Clone, Copy, Debug, PartialEq, Eq)]
 pub enum Part {
     Whole,
-    Guest,
-    Service,
+    Client,
+    Server,
 }
 
 /// The kind of an entry, its disk and its flags, in eight bytes: the disk stands last, so that no gap is before it.
@@ -173,13 +173,13 @@ pub fn part_of(who: Who) -> (u32, Part)
                 lane: Lane::Disk(disk),
                 side: Side::Client,
             },
-        ) => (disk, Part::Guest),
+        ) => (disk, Part::Client),
         Who::End(
             EndName {
                 lane: Lane::Disk(disk),
                 side: Side::Server,
             },
-        ) => (disk, Part::Service),
+        ) => (disk, Part::Server),
     }
 }
 
@@ -199,7 +199,7 @@ pub fn who_at(disk: u32, part: Part) -> Who
 {
     match part {
         Part::Whole => Who::Lane(Lane::Disk(disk)),
-        Part::Guest => Who::End(end_at(disk, Side::Client)),
-        Part::Service => Who::End(end_at(disk, Side::Server)),
+        Part::Client => Who::End(end_at(disk, Side::Client)),
+        Part::Server => Who::End(end_at(disk, Side::Server)),
     }
 }

@@ -1,4 +1,4 @@
-ghost use Rattle.std.specs.Prelude.{◌≡◌, ◌+◌, ◌<◌, ◌≤◌, [], ◌∷◌, ◌++◌, length};
+ghost use Rattle.std.specs.Prelude.{◌≡◌, ◌+◌, ◌<◌, ◌≤◌, [], ◌∷◌, ◌++◌, length, true};
 ghost use Rattle.ldom_entries.specs.Counts.{accepted_count, done_count, reset_count};
 
 use crate::entries::{Entries, nth};
@@ -42,6 +42,7 @@ impl Model for Journal {
 impl Journal {
     ghost use Rattle.std.specs.Prelude.{◌↔◌, ◌^◌, max, Some, IsTrue, IfSome, IsNone, OnErr, OnOk, slice_get};
     ghost use Rattle.ldom_entries.specs.JournalState.{Puts};
+    ghost use Rattle.ldom_entries.specs.OfEnd.{is_of_end};
     ghost use Rattle.ldom_entries.specs.Told.{told};
     ghost use Rattle.ldom_entries.specs.declared.entry.Entry.TheVariants as the_entry;
 
@@ -286,19 +287,11 @@ impl Journal {
             Entry::Accepted { disk, id, request } => self.push_accepted(disk, id, request),
             Entry::Full { who } => self.push_full(who),
             Entry::Refused { who, why } => self.push_refused(who, why),
-            Entry::Lost { end, packet } => self.push_lost(end, &packet),
             Entry::Stopped { disk } => self.kept.push_plain(Header::Stopped { disk }),
             Entry::Started { disk } => self.kept.push_plain(Header::Started { disk }),
             Entry::Calm { who } => self.push_calm(who),
             Entry::Settled => self.kept.push_plain(Header::Settled),
             Entry::Unsettled { who } => self.push_unsettled(who),
-            Entry::Idle { end } => self.push_idle(end),
-            Entry::Off { end } => self.push_off(end),
-            Entry::Blocked { end } => self.push_blocked(end),
-            Entry::Joined { end, lost } => self.push_joined(end, lost),
-            Entry::Took { end, packet, opens } => self.push_took(end, &packet, opens),
-            Entry::Sent { end, packet, opens } => self.push_sent(end, &packet, opens),
-            Entry::Published { end, id } => self.push_published(end, id),
             Entry::Done {
                 disk,
                 id,
@@ -306,6 +299,25 @@ impl Journal {
                 status,
                 bytes,
             } => self.push_done(disk, id, operation, status, bytes),
+            of_end => self.push_of_end(of_end),
+        }
+    }
+
+    /// Puts an entry about an end last.
+    fn push_of_end(&mut self, entry: Entry)
+        requires room { 0 < self.old.room }
+        requires end { is_of_end entry ≡ true }
+        ensures { Puts self.old entry self.new }
+    {
+        match entry {
+            Entry::Lost { end, packet } => self.push_lost(end, &packet),
+            Entry::Idle { end } => self.push_idle(end),
+            Entry::Off { end } => self.push_off(end),
+            Entry::Blocked { end } => self.push_blocked(end),
+            Entry::Joined { end, lost } => self.push_joined(end, lost),
+            Entry::Took { end, packet, opens } => self.push_took(end, &packet, opens),
+            Entry::Sent { end, packet, opens } => self.push_sent(end, &packet, opens),
+            Entry::Published { end, id } => self.push_published(end, id),
             Entry::Desc { end, slot, bytes } => self.push_desc(end, slot, &bytes),
             Entry::Moved { end, unit, fault } => self.push_moved(end, unit, fault),
             Entry::Stored {
@@ -322,6 +334,7 @@ impl Journal {
                 packet,
                 lost,
             } => self.push_reset(end, cause, &packet, lost),
+            _ => unreachable!(),
         }
     }
 

@@ -18,6 +18,7 @@ pub use domain_script::{EndName, Lane, Side};
 pub use entries::Entries;
 pub use entry::{Entry, Who, Why};
 pub use entry_ref::EntryRef;
+pub use header::end_at;
 pub use journal::Journal;
 pub use kept_requests::{Bytes, KeptRequest, shortest_word};
 pub use vio_bytes::NoMemory;
