@@ -183,7 +183,7 @@ impl Link {
         }
     }
 
-    /// The same, where the packet is written over the caller's, which stays if none waits.
+    /// The same, where the packet is written over the caller's. If none waits, nothing is said of that.
     pub fn take_into(&mut self, channel: &mut Channel, end: End, packet: &mut [u8; 64]) -> Taking
         requires up { state_of end channel.old.wire ≡ Up }
         requires nothing_owed { owes_control self.old ≡ false }

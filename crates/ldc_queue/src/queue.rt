@@ -125,7 +125,8 @@ impl Queue {
         }
     }
 
-    /// The same, where the packet is written over the caller's, which stays if none waits. It tells whether one did.
+    /// The same, where the packet is written over the caller's. Tells whether one waited; if none did, nothing is said of
+    /// that.
     pub(crate) fn pop_into(&mut self, packet: &mut [u8; 64]) -> bool
         ensures first { taken_out result packet.new ≡ slice_get self.old.packets 0 }
         ensures rest { self.new ≡ record {
