@@ -1,1 +1,2 @@
 pub mod GatheredText
+mod LowerDigits

@@ -2,7 +2,10 @@
 //! called once for many of them. Reports and dumps are written through it.
 #![tactic(auto)]
 
+mod digits;
+mod short_text;
 mod text;
 
+pub use short_text::{SHORT_ROOM, ShortText};
 pub use text::{TEXT_ROOM, Text};
 pub use vio_io::{Failed, Sink};

@@ -4,6 +4,8 @@ ghost use Rattle.hex.specs.Hex.{encode_lower};
 ghost use Rattle.vio_io.specs.Causes.{Rose};
 ghost use Rattle.gathered_text.specs.Gathered.{Gathers, WroteFront};
 
+use crate::digits::write_hex;
+use crate::short_text::{SHORT_ROOM, ShortText};
 use itoa::Buffer;
 use std::fmt;
 use std::marker::Model;
@@ -52,14 +54,28 @@ impl Text {
         self.len = end;
     }
 
+    /// Gathers a short text, for which there has to be room for sixteen bytes, whatever its length.
+    pub fn push_short(&mut self, short: &ShortText)
+        requires { length self.old + SHORT_ROOM ≤ TEXT_ROOM }
+        ensures text { self.new ≡ self.old ++ short.now }
+        ensures len { length self.new ≤ length self.old + SHORT_ROOM }
+    {
+        self.buffer[self.len..self.len + SHORT_ROOM].copy_from_slice(short.padded());
+        self.len += short.len();
+    }
+
     /// Gathers a number in decimal digits.
+    #[tactic(auto, using(std::proofs::lemmas::Fmt::decimal_digit))]
     pub fn push_number(&mut self, n: u64)
         requires { length self.old + 20 ≤ TEXT_ROOM }
         ensures text { self.new ≡ self.old ++ decimal n }
         ensures len { length self.new ≤ length self.old + 20 }
     {
-        let mut digits = Buffer::new();
-        self.push(digits.format(n).as_bytes());
+        if n < 10 {
+            self.push(&[b'0' + n as u8]);
+        } else {
+            self.push(Buffer::new().format(n).as_bytes());
+        }
     }
 
     /// Gathers bytes as lower-case hexadecimal digits.
@@ -69,10 +85,7 @@ impl Text {
         ensures len { length self.new ≡ length self.old + 2 * length bytes.now }
     {
         let end = self.len + 2 * bytes.len();
-        match hex::encode_to_slice(bytes, &mut self.buffer[self.len..end]) {
-            Ok(()) => {}
-            Err(_) => unreachable!(),
-        }
+        write_hex(bytes, &mut self.buffer[self.len..end]);
         self.len = end;
     }
 
