@@ -1,3 +1,3 @@
+mod LaneNames
 pub mod ReportLines
 pub mod StopLemmas
-pub mod ZeroDigits

@@ -1,16 +1,16 @@
 -- The lines of a report, one after another.
-use Rattle.std.proofs.Common.{◌≡◌, refl, ℕ, ◌+◌, ◌≤◌, Bool, false, List, [], ◌∷◌, ◌++◌, length, append_assoc, append-nil, sym, ap, subst, ◌∙◌, arith}
+use Rattle.std.proofs.Common.{◌≡◌, refl, ℕ, ◌+◌, ◌≤◌, Bool, true, false, List, [], ◌∷◌, ◌++◌, length, append_assoc, append-nil, sym, ap, subst, ◌∙◌, arith}
 use Rattle.std.specs.Prelude.{All, if◌then◌else◌}
 use Rattle.std.proofs.lemmas.List.{length-append}
-use Rattle.std.proofs.lemmas.List.Elements.{All-head, All-nil, All-tail}
+use Rattle.std.proofs.lemmas.List.Elements.{All-cons, All-head, All-nil, All-tail}
 use Rattle.domain_script.specs.declared.event.DiskDecl.{DiskDecl}
 use Rattle.ldom_entries.specs.Seen.{PassesUnseen}
 use Rattle.ldom_entries.specs.declared.entry.Entry.{Entry}
 use Rattle.ldom_journal.specs.declared.status.Mode.{Mode}
-use Rattle.ldom_journal.specs.declared.status.Mode.TheVariants.{Run}
+use Rattle.ldom_journal.specs.declared.status.Mode.TheVariants.{EndOnly, Run, Trace}
 use Rattle.ldom_journal.specs.declared.status.Status.{Status}
 use Rattle.ldom_journal.specs.declared.status.Status.TheVariants.{Done, Usage, Script, SourceFault, SinkFault, HostFault, StoreFault, ImageSize, Limit, NoMemory}
-use Rattle.ldom_journal.specs.EntryText.{entry_lines, line_text, report_entries, shows}
+use Rattle.ldom_journal.specs.EntryText.{is_seen, line_text, report_entries, shows}
 use Rattle.ldom_journal.specs.LeftOut.{LeavesOut}
 use Rattle.ldom_journal.specs.Report.{last_line, usage_line, report}
 
@@ -58,16 +58,38 @@ leaves_unseen mode old middle new run passes same = record {
       subst (λ (m : Mode). All (λ (e : Entry). shows m e ≡ false) passes.passed) (sym run) passes.unseen;
 }
 
-pub ruleset leaving_out = (leaves_none, leaves_unseen)
+-- all is left out, where the mode shows none
+none_shown : (entries : List Entry) → All (λ entry. shows EndOnly entry ≡ false) entries
+none_shown [] = All-nil (λ (e : Entry). shows EndOnly e ≡ false)
+none_shown (entry ∷ entries) = All-cons (λ (e : Entry). shows EndOnly e ≡ false) entry entries refl (none_shown entries)
 
--- THE LINES OF ONE ENTRY MORE: of `entries`, the lines so far are written, and `entry` is the first of those that are
--- left and shown
+pub leaves_all : (mode : Mode) (old : List Entry) → mode ≡ EndOnly → LeavesOut mode old []
+leaves_all mode old end_only = record {
+  left_out = old;
+  are = sym (append-nil old);
+  unshown = subst (λ (m : Mode). All (λ (e : Entry). shows m e ≡ false) old) (sym end_only) (none_shown old);
+}
+
+-- what is seen is shown in a run, and everything in a trace
+pub shown_seen : (mode : Mode) (entry : Entry) → mode ≡ Run → is_seen entry ≡ true → shows mode entry ≡ true
+shown_seen mode entry run seen = ap (λ (m : Mode). shows m entry) run ∙ seen
+
+pub shown_traced : (mode : Mode) (entry : Entry) → mode ≡ Trace → shows mode entry ≡ true
+shown_traced mode entry trace = ap (λ (m : Mode). shows m entry) trace
+
+pub ruleset leaving_out = (leaves_none, leaves_unseen, leaves_all, shown_seen, shown_traced)
+
+-- THE LINES OF ONE ENTRY MORE: the lines so far are written, and of the entries that are left `entry` is the first that
+-- the mode shows
 pub next_lines : (mode : Mode) (disks : List DiskDecl) (whole so_far : List ℕ) (rest left : List Entry) (entry : Entry)
-    → whole ≡ so_far ++ report_entries mode disks rest → LeavesOut mode rest (entry ∷ left) → whole ≡ so_far ++ entry_lines mode disks entry ++ report_entries mode disks left
-next_lines mode disks whole so_far rest left entry is leaves =
+    → whole ≡ so_far ++ report_entries mode disks rest → LeavesOut mode rest (entry ∷ left) → shows mode entry ≡ true
+    → whole ≡ so_far ++ line_text mode disks entry ++ report_entries mode disks left
+next_lines mode disks whole so_far rest left entry is leaves shown =
+    let behind : List ℕ = report_entries mode disks left in
     is
     ∙ ap (λ (l : List ℕ). so_far ++ l) (lines_left mode disks rest (entry ∷ left) leaves)
-    ∙ sym (append_assoc so_far (entry_lines mode disks entry) (report_entries mode disks left))
+    ∙ ap (λ (b : Bool). so_far ++ ((if b then line_text mode disks entry else []) ++ behind)) shown
+    ∙ sym (append_assoc so_far (line_text mode disks entry) behind)
 
 -- and where none is left
 pub no_lines : (mode : Mode) (disks : List DiskDecl) (whole so_far : List ℕ) (rest : List Entry)

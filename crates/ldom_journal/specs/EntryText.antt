@@ -3,27 +3,23 @@ use Rattle.std.specs.Prelude.{ℕ, Bool, true, false, ◌==◌, ◌&&◌, if◌t
 use Rattle.std.specs.List.{flat_map}
 use Rattle.hex.specs.Hex.{encode_lower}
 use Rattle.cookie_copy.specs.declared.fault.CopyFault.{CopyFault}
-use Rattle.disk_steps.specs.ServerWork.{copy_number}
-use Rattle.vio_tag.specs.CauseText.{cause_text, copy_word}
+use Rattle.vio_tag.specs.CauseText.{cause_text}
 use Rattle.vio_tag.specs.declared.cause.Cause.{Cause}
 use Rattle.domain_script.specs.declared.event.DiskDecl.{DiskDecl}
 use Rattle.domain_script.specs.declared.event.EndName.{EndName}
 use Rattle.domain_script.specs.declared.event.Lane.{Lane}
 use Rattle.domain_script.specs.declared.event.Lane.TheVariants.{Disk}
-use Rattle.domain_script.specs.declared.event.Side.{Side}
-use Rattle.domain_script.specs.declared.event.Side.TheVariants.{Client, Server}
 use Rattle.vdisk_msg.specs.declared.request.Request.{Request}
 use Rattle.vdisk_msg.specs.declared.request.Request.TheVariants.{Read, Write, Flush}
 use Rattle.ldom_entries.specs.declared.entry.Who.{Who}
 use Rattle.ldom_entries.specs.declared.entry.Who.TheVariants.{Lane as OfLane, End as OfEnd}
-use Rattle.ldom_entries.specs.declared.entry.Why.{Why}
-use Rattle.ldom_entries.specs.declared.entry.Why.TheVariants.{Count, Range}
 use Rattle.ldom_entries.specs.declared.entry.Entry.{Entry}
 use Rattle.ldom_entries.specs.declared.entry.Entry.TheVariants as entry
 use Rattle.ldom_journal.specs.declared.status.Mode.{Mode}
 use Rattle.ldom_journal.specs.declared.status.Mode.TheVariants.{Run, Trace, EndOnly}
 use Rattle.kept_requests.specs.BlockWord.{blocks_text}
 pub use Rattle.ldom_entries.specs.Seen.{is_seen}
+pub use Rattle.line_words.specs.LineWords.{failed_word, fault_word, opens_text, operation_word, side_text, why_word}
 
 -- a disk's name, nothing where there is no disk
 abbrev pub declared_name : Option DiskDecl → List ℕ
@@ -34,13 +30,9 @@ declared_name None = []
 abbrev pub disk_name : List DiskDecl → ℕ → List ℕ
 disk_name disks k = declared_name (slice_get disks k)
 
--- the name of a lane, and that of an end: `.c` is the client's, `.s` the server's
+-- the name of a lane, and that of an end
 abbrev pub lane_name : List DiskDecl → Lane → List ℕ
 lane_name disks (Disk k) = disk_name disks k
-
-abbrev pub side_text : Side → List ℕ
-side_text Client = codes ".c"
-side_text Server = codes ".s"
 
 abbrev pub end_name : List DiskDecl → EndName → List ℕ
 end_name disks e = lane_name disks e.lane ++ side_text e.side
@@ -60,25 +52,6 @@ request_text (Read block count) = codes " read " ++ range_text block count
 request_text (Write block count fill) = codes " write " ++ range_text block count ++ codes " " ++ encode_lower (take fill.len fill.bytes)
 request_text Flush = codes " flush"
 
--- why a request was refused
-abbrev pub why_word : Why → List ℕ
-why_word Count = codes "count"
-why_word Range = codes "range"
-
--- 1 reads, 2 writes, 3 flushes
-abbrev pub operation_word : ℕ → List ℕ
-operation_word operation = if operation == 1 then codes "read" else if operation == 2 then codes "write" else codes "flush"
-
--- how a copy ended: the word of its fault, where it has one
-abbrev pub fault_word : Option CopyFault → List ℕ
-fault_word None = codes "ok"
-fault_word (Some fault) = copy_word (copy_number fault)
-
--- how a call of the store ended
-abbrev pub failed_word : Bool → List ℕ
-failed_word true = codes "failed"
-failed_word false = codes "ok"
-
 -- the kind of a request's entry, its disk and its id
 abbrev pub id_text : List ℕ → List DiskDecl → ℕ → ℕ → List ℕ
 id_text kind disks disk id = kind ++ disk_name disks disk ++ codes " " ++ decimal id
@@ -92,11 +65,6 @@ number_text kind disks e n = end_text kind disks e ++ codes " " ++ decimal n
 
 abbrev pub bytes_text : List ℕ → List DiskDecl → EndName → List ℕ → List ℕ
 bytes_text kind disks e bytes = end_text kind disks e ++ codes " " ++ encode_lower bytes
-
--- behind a packet by which the session opened
-abbrev pub opens_text : Bool → List ℕ
-opens_text true = codes " opens"
-opens_text false = []
 
 -- a unit that was copied
 abbrev pub moved_text : List DiskDecl → EndName → ℕ → Option CopyFault → List ℕ

@@ -4,12 +4,11 @@ use Rattle.domain_script.specs.declared.event.DiskDecl.{DiskDecl}
 use Rattle.domain_script.specs.declared.event.EndName.{EndName}
 use Rattle.domain_script.specs.declared.event.Lane.{Lane}
 use Rattle.domain_script.specs.declared.event.Lane.TheVariants.{Disk}
-use Rattle.vio_tag.specs.declared.cause.Cause.{Cause}
-use Rattle.vio_tag.specs.declared.cause.Cause.TheVariants as the_cause
 use Rattle.ldom_entries.specs.declared.entry.Who.{Who}
 use Rattle.ldom_entries.specs.declared.entry.Who.TheVariants.{Lane as OfLane, End as OfEnd}
 use Rattle.ldom_entries.specs.declared.entry.Entry.{Entry}
 use Rattle.ldom_entries.specs.declared.entry.Entry.TheVariants as entry
+pub use Rattle.line_words.specs.HasFault.{HasFault}
 
 -- what is named is declared: a disk, a lane, an end
 abbrev pub IsLane : List DiskDecl → Lane → Type 0
@@ -33,11 +32,6 @@ pub record IsCompletion (operation status : ℕ) (bytes : List ℕ) : Type 0 whe
   pub most : operation ≤ 3
   pub some : operation ≡ 1 → status ≡ 0 → 0 < length bytes
   pub blocks : operation ≡ 1 → status ≡ 0 → length bytes % 512 ≡ 0
-
--- the number of a copy's fault is that of one of the six
-abbrev pub HasFault : Cause → Type 0
-HasFault (the_cause.Copy n) = (1 ≤ n) × (n ≤ 6)
-HasFault other = ⊤
 
 -- WHAT THE ENTRY NAMES IS DECLARED, and its values have their words
 abbrev pub HasWords : List DiskDecl → Entry → Type 0

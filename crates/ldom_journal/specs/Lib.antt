@@ -3,6 +3,7 @@ pub mod EntryText
 pub mod Failing
 pub mod HasWords
 pub mod LaneEvents
+pub mod LaneNames
 pub mod LeftOut
 pub mod LinesEnd
 pub mod Report

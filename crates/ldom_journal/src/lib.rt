@@ -3,14 +3,11 @@
 //! reads it. The text that is written is exactly the report of the entries.
 #![tactic(auto)]
 
-mod array_text;
-mod block_words;
-mod cause_text;
 mod end_line;
 mod line_names;
-mod line_words;
 mod lines;
 mod request_lines;
+mod short_names;
 mod status;
 mod step_lines;
 mod stop;

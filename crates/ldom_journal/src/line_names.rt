@@ -1,72 +1,62 @@
 // The names in an entry's line.
-ghost use Rattle.std.specs.Prelude.{◌≡◌, ◌+◌, ◌≤◌, ◌<◌, ◌++◌, length, take};
+ghost use Rattle.std.specs.Prelude.{◌≡◌, ◌+◌, ◌≤◌, ◌<◌, ◌++◌, length};
 ghost use Rattle.ldom_journal.specs.EntryText.{disk_name, end_name, end_text, id_text, lane_name, number_text, who_name};
 ghost use Rattle.ldom_journal.specs.HasWords.{IsDeclared, IsEnd, IsLane};
 
 use crate::Who;
-use crate::line_words::side_word;
-use domain_script::{EndName, Lane, Name, Names};
+use crate::short_names::LineNames;
+use domain_script::{EndName, Lane};
 use gathered_text::{TEXT_ROOM, Text};
 
-fn name_bytes(name: &Name) -> &[u8]
-    ensures bytes { result.now ≡ take name.now.len name.now.bytes }
-    ensures short { length result.now ≤ 8 }
-{
-    &name.bytes[..usize::from(name.len).min(8)]
-}
-
 /// The name of a disk.
-pub fn push_disk(text: &mut Text, disk: u32, names: &Names)
+pub fn push_disk(text: &mut Text, disk: u32, names: &LineNames<'_>)
     requires declared { disk < length names.now.disks }
-    requires room { length text.old + 8 ≤ TEXT_ROOM }
+    requires room { length text.old + 16 ≤ TEXT_ROOM }
     ensures text { text.new ≡ text.old ++ disk_name names.now.disks disk }
-    ensures len { length text.new ≤ length text.old + 8 }
+    ensures len { length text.new ≤ length text.old + 16 }
 {
-    match names.disk(disk) {
-        Some(disk) => text.push(name_bytes(&disk.name)),
-        None => unreachable!(),
-    }
+    text.push_short(names.of_disk(disk).lane());
 }
 
-fn push_lane(text: &mut Text, lane: Lane, names: &Names)
+fn push_lane(text: &mut Text, lane: Lane, names: &LineNames<'_>)
     requires declared { IsLane names.now.disks lane }
-    requires room { length text.old + 8 ≤ TEXT_ROOM }
+    requires room { length text.old + 16 ≤ TEXT_ROOM }
     ensures text { text.new ≡ text.old ++ lane_name names.now.disks lane }
-    ensures len { length text.new ≤ length text.old + 8 }
+    ensures len { length text.new ≤ length text.old + 16 }
 {
     let Lane::Disk(disk) = lane;
     push_disk(text, disk, names);
 }
 
-fn push_end_name(text: &mut Text, end: EndName, names: &Names)
+fn push_end_name(text: &mut Text, end: EndName, names: &LineNames<'_>)
     requires declared { IsEnd names.now.disks end }
-    requires room { length text.old + 10 ≤ TEXT_ROOM }
+    requires room { length text.old + 16 ≤ TEXT_ROOM }
     ensures text { text.new ≡ text.old ++ end_name names.now.disks end }
-    ensures len { length text.new ≤ length text.old + 10 }
+    ensures len { length text.new ≤ length text.old + 16 }
 {
-    push_lane(text, end.lane, names);
-    text.push(side_word(end.side));
+    let Lane::Disk(disk) = end.lane;
+    text.push_short(names.of_disk(disk).end(end.side));
 }
 
 /// The name of whom an entry is about.
-pub fn push_who(text: &mut Text, who: Who, names: &Names)
-    requires declared { IsDeclared names.now.disks who }
-    requires room { length text.old + 10 ≤ TEXT_ROOM }
-    ensures text { text.new ≡ text.old ++ who_name names.now.disks who }
-    ensures len { length text.new ≤ length text.old + 10 }
+pub fn push_who(text: &mut Text, who: &Who, names: &LineNames<'_>)
+    requires declared { IsDeclared names.now.disks who.now }
+    requires room { length text.old + 16 ≤ TEXT_ROOM }
+    ensures text { text.new ≡ text.old ++ who_name names.now.disks who.now }
+    ensures len { length text.new ≤ length text.old + 16 }
 {
     match who {
-        Who::Lane(lane) => push_lane(text, lane, names),
-        Who::End(end) => push_end_name(text, end, names),
+        Who::Lane(lane) => push_lane(text, *lane, names),
+        Who::End(end) => push_end_name(text, *end, names),
     }
 }
 
 /// The disk and the id of a request, after the kind of its entry.
-pub fn push_id(text: &mut Text, kind: &[u8], disk: u32, id: u64, names: &Names)
+pub fn push_id(text: &mut Text, kind: &[u8], disk: u32, id: u64, names: &LineNames<'_>)
     requires declared { disk < length names.now.disks }
-    requires room { length text.old + length kind.now + 29 ≤ TEXT_ROOM }
+    requires room { length text.old + length kind.now + 37 ≤ TEXT_ROOM }
     ensures text { text.new ≡ text.old ++ id_text kind.now names.now.disks disk id }
-    ensures len { length text.new ≤ length text.old + length kind.now + 29 }
+    ensures len { length text.new ≤ length text.old + length kind.now + 37 }
 {
     text.push(kind);
     push_disk(text, disk, names);
@@ -75,22 +65,28 @@ pub fn push_id(text: &mut Text, kind: &[u8], disk: u32, id: u64, names: &Names)
 }
 
 /// An end, after the kind of its entry.
-pub fn push_end(text: &mut Text, kind: &[u8], end: EndName, names: &Names)
+pub fn push_end(text: &mut Text, kind: &[u8], end: EndName, names: &LineNames<'_>)
     requires declared { IsEnd names.now.disks end }
-    requires room { length text.old + length kind.now + 10 ≤ TEXT_ROOM }
+    requires room { length text.old + length kind.now + 16 ≤ TEXT_ROOM }
     ensures text { text.new ≡ text.old ++ end_text kind.now names.now.disks end }
-    ensures len { length text.new ≤ length text.old + length kind.now + 10 }
+    ensures len { length text.new ≤ length text.old + length kind.now + 16 }
 {
     text.push(kind);
     push_end_name(text, end, names);
 }
 
 /// An end and a number, after the kind of their entry.
-pub fn push_end_number(text: &mut Text, kind: &[u8], end: EndName, number: u64, names: &Names)
+pub fn push_end_number(
+    text: &mut Text,
+    kind: &[u8],
+    end: EndName,
+    number: u64,
+    names: &LineNames<'_>,
+)
     requires declared { IsEnd names.now.disks end }
-    requires room { length text.old + length kind.now + 31 ≤ TEXT_ROOM }
+    requires room { length text.old + length kind.now + 37 ≤ TEXT_ROOM }
     ensures text { text.new ≡ text.old ++ number_text kind.now names.now.disks end number }
-    ensures len { length text.new ≤ length text.old + length kind.now + 31 }
+    ensures len { length text.new ≤ length text.old + length kind.now + 37 }
 {
     push_end(text, kind, end, names);
     text.push(b" ");

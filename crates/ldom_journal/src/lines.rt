@@ -1,16 +1,17 @@
 // The lines of a report.
-ghost use Rattle.std.specs.Prelude.{◌≡◌, ◌+◌, ◌≤◌, [], ◌∷◌, ◌++◌, length, take, All, IfSome, IsNone, OnOk, OnErr};
+ghost use Rattle.std.specs.Prelude.{◌≡◌, ◌+◌, ◌≤◌, ◌<◌, true, [], ◌∷◌, ◌++◌, length, All, IfSome, IsNone, OnOk, OnErr};
 ghost use Rattle.std.specs.Io.KnownBytes.{Appends};
-ghost use Rattle.ldom_journal.specs.EntryText.{entry_lines, head_text, is_seen, line_text, read_text, report_entries, shows};
+ghost use Rattle.ldom_journal.specs.EntryText.{head_text, is_seen, line_text, read_text, report_entries, shows};
 ghost use Rattle.gathered_text.specs.Gathered.{Gathers, WroteFront};
 ghost use Rattle.ldom_journal.specs.HasWords.{HasWords};
 ghost use Rattle.ldom_journal.specs.LeftOut.{LeavesOut};
+ghost use Rattle.ldom_entries.specs.Seen.{PassesUnseen};
 ghost use Rattle.ldom_entries.specs.Told.{told};
 ghost use Rattle.vio_io.specs.Causes.{Rose};
 
-use crate::block_words::put_blocks;
 use crate::line_names::{push_end, push_end_number};
 use crate::request_lines::{push_about, push_accepted, push_done, push_of_disk, push_refused};
+use crate::short_names::{LineNames, names_of_lanes};
 use crate::step_lines::{
     push_carried, push_descriptor, push_finished, push_joined, push_moved, push_packet, push_reset,
     push_stored,
@@ -18,54 +19,29 @@ use crate::step_lines::{
 use crate::{Entries, EntryRef, Journal, Mode, VD_OP_BREAD};
 use domain_script::Names;
 use gathered_text::{TEXT_ROOM, Text};
+use line_words::put_blocks;
 use vio_io::{Failed, Sink};
 
-/// More bytes than a line has before the words of a read.
+/// More bytes than a line has, but for the words of a read.
 const LINE_ROOM: usize = 4096;
 
-/// Whether a user of the disks sees an entry.
-fn is_seen(entry: &EntryRef<'_>) -> bool
-    ensures { result ≡ is_seen (told entry.now) }
-{
-    matches!(
-        entry,
-        EntryRef::Full { .. }
-            | EntryRef::Refused { .. }
-            | EntryRef::Settled
-            | EntryRef::Unsettled { .. }
-            | EntryRef::Done { .. }
-            | EntryRef::Read { .. }
-            | EntryRef::Reset { .. }
-    )
-}
-
-/// Whether a mode shows an entry.
-fn is_shown(mode: Mode, entry: &EntryRef<'_>) -> bool
-    ensures { result ≡ shows mode (told entry.now) }
-{
-    match mode {
-        Mode::Run => is_seen(entry),
-        Mode::Trace => true,
-        Mode::EndOnly => false,
-    }
-}
-
 /// An entry's line before the words of a read and the line feed.
-fn push_head(text: &mut Text, mode: Mode, entry: &EntryRef<'_>, names: &Names)
+fn push_head(text: &mut Text, mode: Mode, entry: &EntryRef<'_>, names: &LineNames<'_>)
     requires words { HasWords names.now.disks (told entry.now) }
     requires room { length text.old + LINE_ROOM ≤ TEXT_ROOM }
-    ensures { text.new ≡ text.old ++ head_text mode names.now.disks (told entry.now) }
+    ensures room { length text.new < TEXT_ROOM }
+    ensures text { text.new ≡ text.old ++ head_text mode names.now.disks (told entry.now) }
 {
     match entry {
         EntryRef::Accepted { disk, id, request } => push_accepted(text, *disk, *id, request, names),
-        EntryRef::Full { who } => push_about(text, b"full ", *who, names),
-        EntryRef::Refused { who, why } => push_refused(text, *who, *why, names),
+        EntryRef::Full { who } => push_about(text, b"full ", who, names),
+        EntryRef::Refused { who, why } => push_refused(text, who, *why, names),
         EntryRef::Lost { end, packet } => push_packet(text, b"lost ", *end, packet, names),
         EntryRef::Stopped { disk } => push_of_disk(text, b"stopped ", *disk, names),
         EntryRef::Started { disk } => push_of_disk(text, b"started ", *disk, names),
-        EntryRef::Calm { who } => push_about(text, b"calm ", *who, names),
+        EntryRef::Calm { who } => push_about(text, b"calm ", who, names),
         EntryRef::Settled => text.push(b"settled"),
-        EntryRef::Unsettled { who } => push_about(text, b"unsettled ", *who, names),
+        EntryRef::Unsettled { who } => push_about(text, b"unsettled ", who, names),
         EntryRef::Idle { end } => push_end(text, b"idle ", *end, names),
         EntryRef::Off { end } => push_end(text, b"off ", *end, names),
         EntryRef::Blocked { end } => push_end(text, b"blocked ", *end, names),
@@ -107,13 +83,15 @@ fn push_head(text: &mut Text, mode: Mode, entry: &EntryRef<'_>, names: &Names)
             cause,
             packet,
             lost,
-        } => push_reset(text, mode, *end, *cause, packet, *lost, names),
+        } => push_reset(text, mode, *end, cause, packet, *lost, names),
     }
 }
 
 /// The words of a read with status 0.
 #[tactic(auto, unfolding(kept_requests::specs::BlockWord::blocks_text))]
 fn put_read<K: Sink>(text: &mut Text, entry: &EntryRef<'_>, out: &mut K) -> Result<(), Failed>
+    requires { length text.old < TEXT_ROOM }
+    ensures room { OnOk result (length text.new < TEXT_ROOM) }
     ensures told { OnOk result (Gathers (K.written out.old) (K.written out.new) text.new (text.old ++ read_text (told entry.now))) }
     ensures front { OnErr result (WroteFront (K.written out.old) (K.written out.new) (text.old ++ read_text (told entry.now))) }
     ensures ok { OnOk result (K.faults out.new ≡ K.faults out.old) }
@@ -136,7 +114,7 @@ fn put_line<K: Sink>(
     text: &mut Text,
     mode: Mode,
     entry: &EntryRef<'_>,
-    names: &Names,
+    names: &LineNames<'_>,
     out: &mut K,
 ) -> Result<(), Failed>
     requires words { HasWords names.now.disks (told entry.now) }
@@ -149,44 +127,56 @@ fn put_line<K: Sink>(
     text.make_room(LINE_ROOM, out)?;
     push_head(text, mode, entry, names);
     put_read(text, entry, out)?;
-    text.make_room(1, out)?;
     text.push(b"\n");
     Ok(())
 }
 
-/// The line of an entry, where the mode shows it.
-fn put_entry<K: Sink>(
-    text: &mut Text,
+/// The next entry that a user of the disks sees. None where no further one is left.
+fn next_seen<'a>(entries: &mut Entries<'a>) -> Option<EntryRef<'a>>
+    ensures some { IfSome result (λ entry. PassesUnseen entries.old (told entry ∷ entries.new)) }
+    ensures seen { IfSome result (λ entry. is_seen (told entry) ≡ true) }
+    ensures none { IsNone result → PassesUnseen entries.old [] }
+{
+    entries.pass_unseen();
+    entries.next_entry()
+}
+
+/// The next entry that the mode shows. None where it shows no further one.
+#[tactic(auto, using(crate::proofs::ReportLines::leaving_out))]
+fn next_to_show<'a>(entries: &mut Entries<'a>, mode: Mode) -> Option<EntryRef<'a>>
+    ensures some { IfSome result (λ entry. LeavesOut mode entries.old (told entry ∷ entries.new)) }
+    ensures shown { IfSome result (λ entry. shows mode (told entry) ≡ true) }
+    ensures none { IsNone result → LeavesOut mode entries.old [] }
+{
+    match mode {
+        Mode::Run => next_seen(entries),
+        Mode::Trace => entries.next_entry(),
+        Mode::EndOnly => None,
+    }
+}
+
+/// Writes the lines of the entries that the mode shows.
+fn write_lines<K: Sink>(
+    journal: &Journal,
     mode: Mode,
-    entry: &EntryRef<'_>,
-    names: &Names,
+    names: &LineNames<'_>,
     out: &mut K,
 ) -> Result<(), Failed>
-    requires words { HasWords names.now.disks (told entry.now) }
-    ensures told { OnOk result (Gathers (K.written out.old) (K.written out.new) text.new (text.old ++ entry_lines mode names.now.disks (told entry.now))) }
-    ensures front { OnErr result (WroteFront (K.written out.old) (K.written out.new) (text.old ++ entry_lines mode names.now.disks (told entry.now))) }
+    requires words { All (HasWords names.now.disks) journal.now.entries }
+    ensures told { OnOk result (Appends (K.written out.old) (K.written out.new)
+        (report_entries mode names.now.disks journal.now.entries)) }
+    ensures front { OnErr result (WroteFront (K.written out.old) (K.written out.new)
+        (report_entries mode names.now.disks journal.now.entries)) }
     ensures ok { OnOk result (K.faults out.new ≡ K.faults out.old) }
     ensures count { K.faults out.old ≤ K.faults out.new }
     ensures cause { OnErr result (Rose (K.faults out.old) (K.faults out.new)) }
 {
-    if is_shown(mode, entry) {
-        put_line(text, mode, entry, names, out)
-    } else {
-        Ok(())
+    let mut text = Text::new();
+    let mut rest = journal.entries();
+    while let Some(entry) = next_to_show(&mut rest, mode) {
+        put_line(&mut text, mode, &entry, names, out)?;
     }
-}
-
-/// The next entry that is to be looked at: in a run, the next that a user of the disks sees. None where the mode shows
-/// no further one.
-#[tactic(auto, using(crate::proofs::ReportLines::leaving_out))]
-fn next_to_show<'a>(entries: &mut Entries<'a>, mode: Mode) -> Option<EntryRef<'a>>
-    ensures some { IfSome result (λ entry. LeavesOut mode entries.old (told entry ∷ entries.new)) }
-    ensures none { IsNone result → LeavesOut mode entries.old [] }
-{
-    if let Mode::Run = mode {
-        entries.pass_unseen();
-    }
-    entries.next_entry()
+    text.flush(out)
 }
 
 /// Writes the lines of the entries that the mode shows. After `Failed` a front of their text was written.
@@ -197,16 +187,14 @@ pub fn write_text<K: Sink>(
     out: &mut K,
 ) -> Result<(), Failed>
     requires words { All (HasWords names.now.disks) journal.now.entries }
-    ensures told { OnOk result (Appends (K.written out.old) (K.written out.new) (report_entries mode names.now.disks journal.now.entries)) }
-    ensures front { OnErr result (WroteFront (K.written out.old) (K.written out.new) (report_entries mode names.now.disks journal.now.entries)) }
+    ensures told { OnOk result (Appends (K.written out.old) (K.written out.new)
+        (report_entries mode names.now.disks journal.now.entries)) }
+    ensures front { OnErr result (WroteFront (K.written out.old) (K.written out.new)
+        (report_entries mode names.now.disks journal.now.entries)) }
     ensures ok { OnOk result (K.faults out.new ≡ K.faults out.old) }
     ensures count { K.faults out.old ≤ K.faults out.new }
     ensures cause { OnErr result (Rose (K.faults out.old) (K.faults out.new)) }
 {
-    let mut text = Text::new();
-    let mut rest = journal.entries();
-    while let Some(entry) = next_to_show(&mut rest, mode) {
-        put_entry(&mut text, mode, &entry, names, out)?;
-    }
-    text.flush(out)
+    let lanes = names_of_lanes(names);
+    write_lines(journal, mode, &LineNames::new(names, &lanes), out)
 }

@@ -4,10 +4,10 @@ ghost use Rattle.ldom_journal.specs.EntryText.{disk_name, done_text, id_text, ra
 ghost use Rattle.ldom_journal.specs.HasWords.{IsDeclared};
 
 use crate::line_names::{push_disk, push_id, push_who};
-use crate::line_words::{operation_word, why_word};
+use crate::short_names::LineNames;
 use crate::{KeptRequest, Who, Why};
-use domain_script::Names;
 use gathered_text::{TEXT_ROOM, Text};
+use line_words::{operation_word, why_word};
 use vdisk_msg::{Fill, Request};
 
 fn fill_bytes(fill: &Fill) -> &[u8]
@@ -30,7 +30,8 @@ pub fn push_range(text: &mut Text, block: u64, count: u64)
 
 fn push_request(text: &mut Text, request: &Request)
     requires { length text.old + 2100 ≤ TEXT_ROOM }
-    ensures { text.new ≡ text.old ++ request_text request.now }
+    ensures text { text.new ≡ text.old ++ request_text request.now }
+    ensures len { length text.new ≤ length text.old + 2100 }
 {
     match request {
         Request::Read { block, count } => {
@@ -50,58 +51,78 @@ fn push_request(text: &mut Text, request: &Request)
 /// As `push_request`. The request is taken out here, so that the lines of other entries make no room for it.
 fn push_kept(text: &mut Text, kept: &KeptRequest)
     requires { length text.old + 2100 ≤ TEXT_ROOM }
-    ensures { text.new ≡ text.old ++ request_text kept.now }
+    ensures text { text.new ≡ text.old ++ request_text kept.now }
+    ensures len { length text.new ≤ length text.old + 2100 }
 {
     push_request(text, &kept.get());
 }
 
 /// A request that was taken up.
-pub fn push_accepted(text: &mut Text, disk: u32, id: u64, request: &KeptRequest, names: &Names)
+pub fn push_accepted(
+    text: &mut Text,
+    disk: u32,
+    id: u64,
+    request: &KeptRequest,
+    names: &LineNames<'_>,
+)
     requires declared { disk < length names.now.disks }
     requires room { length text.old + 2200 ≤ TEXT_ROOM }
-    ensures { text.new ≡ text.old ++ id_text (codes "accepted ") names.now.disks disk id ++ request_text request.now }
+    ensures text { text.new ≡ text.old ++ id_text (codes "accepted ") names.now.disks disk id
+        ++ request_text request.now }
+    ensures len { length text.new ≤ length text.old + 2200 }
 {
     push_id(text, b"accepted ", disk, id, names);
     push_kept(text, request);
 }
 
 /// A disk, after the kind of its entry.
-pub fn push_of_disk(text: &mut Text, kind: &[u8], disk: u32, names: &Names)
+pub fn push_of_disk(text: &mut Text, kind: &[u8], disk: u32, names: &LineNames<'_>)
     requires declared { disk < length names.now.disks }
-    requires room { length text.old + length kind.now + 8 ≤ TEXT_ROOM }
-    ensures { text.new ≡ text.old ++ kind.now ++ disk_name names.now.disks disk }
+    requires room { length text.old + length kind.now + 16 ≤ TEXT_ROOM }
+    ensures text { text.new ≡ text.old ++ kind.now ++ disk_name names.now.disks disk }
+    ensures len { length text.new ≤ length text.old + length kind.now + 16 }
 {
     text.push(kind);
     push_disk(text, disk, names);
 }
 
 /// Whom an entry is about, after its kind.
-pub fn push_about(text: &mut Text, kind: &[u8], who: Who, names: &Names)
-    requires declared { IsDeclared names.now.disks who }
-    requires room { length text.old + length kind.now + 10 ≤ TEXT_ROOM }
-    ensures text { text.new ≡ text.old ++ kind.now ++ who_name names.now.disks who }
-    ensures len { length text.new ≤ length text.old + length kind.now + 10 }
+pub fn push_about(text: &mut Text, kind: &[u8], who: &Who, names: &LineNames<'_>)
+    requires declared { IsDeclared names.now.disks who.now }
+    requires room { length text.old + length kind.now + 16 ≤ TEXT_ROOM }
+    ensures text { text.new ≡ text.old ++ kind.now ++ who_name names.now.disks who.now }
+    ensures len { length text.new ≤ length text.old + length kind.now + 16 }
 {
     text.push(kind);
     push_who(text, who, names);
 }
 
-pub fn push_refused(text: &mut Text, who: Who, why: Why, names: &Names)
-    requires declared { IsDeclared names.now.disks who }
+pub fn push_refused(text: &mut Text, who: &Who, why: Why, names: &LineNames<'_>)
+    requires declared { IsDeclared names.now.disks who.now }
     requires room { length text.old + 100 ≤ TEXT_ROOM }
-    ensures { text.new ≡ text.old ++ codes "refused " ++ who_name names.now.disks who ++ codes " " ++ why_word why }
+    ensures text { text.new ≡ text.old ++ codes "refused " ++ who_name names.now.disks who.now ++ codes " "
+        ++ why_word why }
+    ensures len { length text.new ≤ length text.old + 100 }
 {
     push_about(text, b"refused ", who, names);
     text.push(b" ");
     text.push(why_word(why));
 }
 
-pub fn push_done(text: &mut Text, disk: u32, id: u64, operation: u8, status: u64, names: &Names)
+pub fn push_done(
+    text: &mut Text,
+    disk: u32,
+    id: u64,
+    operation: u8,
+    status: u64,
+    names: &LineNames<'_>,
+)
     requires declared { disk < length names.now.disks }
     requires least { 1 ≤ operation }
     requires most { operation ≤ 3 }
     requires room { length text.old + 100 ≤ TEXT_ROOM }
-    ensures { text.new ≡ text.old ++ done_text names.now.disks disk id operation status }
+    ensures text { text.new ≡ text.old ++ done_text names.now.disks disk id operation status }
+    ensures len { length text.new ≤ length text.old + 100 }
 {
     push_id(text, b"done ", disk, id, names);
     text.push(b" ");

@@ -6,14 +6,15 @@ ghost use Rattle.ldom_journal.specs.EntryText.{bytes_text, call_text, end_text, 
 ghost use Rattle.ldom_journal.specs.HasWords.{HasFault, IsEnd};
 
 use crate::Mode;
-use crate::array_text::push_array;
-use crate::cause_text::push_reset_cause;
 use crate::line_names::{push_end, push_end_number};
-use crate::line_words::{failed_word, fault_word, opens_word, operation_word};
 use crate::request_lines::push_range;
+use crate::short_names::LineNames;
 use cookie_copy::CopyFault;
-use domain_script::{EndName, Names};
+use domain_script::EndName;
 use gathered_text::{TEXT_ROOM, Text};
+use line_words::{
+    failed_word, fault_word, opens_word, operation_word, push_array, push_reset_cause,
+};
 use trimmed_arrays::TrimmedArray;
 use vio_tag::Cause;
 
@@ -23,12 +24,12 @@ pub fn push_packet(
     kind: &[u8],
     end: EndName,
     packet: &TrimmedArray<'_>,
-    names: &Names,
+    names: &LineNames<'_>,
 )
     requires declared { IsEnd names.now.disks end }
-    requires room { length text.old + length kind.now + 521 ≤ TEXT_ROOM }
+    requires room { length text.old + length kind.now + 527 ≤ TEXT_ROOM }
     ensures text { text.new ≡ text.old ++ bytes_text kind.now names.now.disks end packet.now }
-    ensures len { length text.new ≤ length text.old + length kind.now + 521 }
+    ensures len { length text.new ≤ length text.old + length kind.now + 527 }
 {
     push_end(text, kind, end, names);
     text.push(b" ");
@@ -42,20 +43,23 @@ pub fn push_carried(
     end: EndName,
     packet: &TrimmedArray<'_>,
     opens: bool,
-    names: &Names,
+    names: &LineNames<'_>,
 )
     requires declared { IsEnd names.now.disks end }
     requires room { length text.old + length kind.now + 600 ≤ TEXT_ROOM }
-    ensures { text.new ≡ text.old ++ bytes_text kind.now names.now.disks end packet.now ++ opens_text opens }
+    ensures text { text.new ≡ text.old ++ bytes_text kind.now names.now.disks end packet.now ++ opens_text opens }
+    ensures len { length text.new ≤ length text.old + length kind.now + 600 }
 {
     push_packet(text, kind, end, packet, names);
     text.push(opens_word(opens));
 }
 
-pub fn push_joined(text: &mut Text, end: EndName, lost: u64, names: &Names)
+pub fn push_joined(text: &mut Text, end: EndName, lost: u64, names: &LineNames<'_>)
     requires declared { IsEnd names.now.disks end }
     requires room { length text.old + 100 ≤ TEXT_ROOM }
-    ensures { text.new ≡ text.old ++ end_text (codes "joined ") names.now.disks end ++ codes " lost=" ++ decimal lost }
+    ensures text { text.new ≡ text.old ++ end_text (codes "joined ") names.now.disks end ++ codes " lost="
+        ++ decimal lost }
+    ensures len { length text.new ≤ length text.old + 100 }
 {
     push_end(text, b"joined ", end, names);
     text.push(b" lost=");
@@ -67,21 +71,30 @@ pub fn push_descriptor(
     end: EndName,
     slot: u64,
     bytes: &TrimmedArray<'_>,
-    names: &Names,
+    names: &LineNames<'_>,
 )
     requires declared { IsEnd names.now.disks end }
     requires room { length text.old + 600 ≤ TEXT_ROOM }
-    ensures { text.new ≡ text.old ++ number_text (codes "desc ") names.now.disks end slot ++ codes " " ++ encode_lower bytes.now }
+    ensures text { text.new ≡ text.old ++ number_text (codes "desc ") names.now.disks end slot ++ codes " "
+        ++ encode_lower bytes.now }
+    ensures len { length text.new ≤ length text.old + 600 }
 {
     push_end_number(text, b"desc ", end, slot, names);
     text.push(b" ");
     push_array(text, bytes);
 }
 
-pub fn push_moved(text: &mut Text, end: EndName, unit: u64, fault: Option<CopyFault>, names: &Names)
+pub fn push_moved(
+    text: &mut Text,
+    end: EndName,
+    unit: u64,
+    fault: Option<CopyFault>,
+    names: &LineNames<'_>,
+)
     requires declared { IsEnd names.now.disks end }
     requires room { length text.old + 100 ≤ TEXT_ROOM }
-    ensures { text.new ≡ text.old ++ moved_text names.now.disks end unit fault }
+    ensures text { text.new ≡ text.old ++ moved_text names.now.disks end unit fault }
+    ensures len { length text.new ≤ length text.old + 100 }
 {
     push_end_number(text, b"moved ", end, unit, names);
     text.push(b" ");
@@ -95,7 +108,7 @@ fn push_store_call(
     operation: u8,
     block: u64,
     count: u64,
-    names: &Names,
+    names: &LineNames<'_>,
 )
     requires declared { IsEnd names.now.disks end }
     requires least { 1 ≤ operation }
@@ -118,23 +131,26 @@ pub fn push_stored(
     block: u64,
     count: u64,
     failed: bool,
-    names: &Names,
+    names: &LineNames<'_>,
 )
     requires declared { IsEnd names.now.disks end }
     requires least { 1 ≤ operation }
     requires most { operation ≤ 3 }
     requires room { length text.old + 100 ≤ TEXT_ROOM }
-    ensures { text.new ≡ text.old ++ stored_text names.now.disks end operation block count failed }
+    ensures text { text.new ≡ text.old ++ stored_text names.now.disks end operation block count failed }
+    ensures len { length text.new ≤ length text.old + 100 }
 {
     push_store_call(text, end, operation, block, count, names);
     text.push(b" ");
     text.push(failed_word(failed));
 }
 
-pub fn push_finished(text: &mut Text, end: EndName, slot: u64, status: u64, names: &Names)
+pub fn push_finished(text: &mut Text, end: EndName, slot: u64, status: u64, names: &LineNames<'_>)
     requires declared { IsEnd names.now.disks end }
     requires room { length text.old + 100 ≤ TEXT_ROOM }
-    ensures { text.new ≡ text.old ++ number_text (codes "finished ") names.now.disks end slot ++ codes " " ++ decimal status }
+    ensures text { text.new ≡ text.old ++ number_text (codes "finished ") names.now.disks end slot ++ codes " "
+        ++ decimal status }
+    ensures len { length text.new ≤ length text.old + 100 }
 {
     push_end_number(text, b"finished ", end, slot, names);
     text.push(b" ");
@@ -155,7 +171,8 @@ fn push_lost(text: &mut Text, lost: u64)
 
 fn push_took_packet(text: &mut Text, packet: &TrimmedArray<'_>)
     requires { length text.old + 516 ≤ TEXT_ROOM }
-    ensures { text.new ≡ text.old ++ codes " took=" ++ encode_lower packet.now }
+    ensures text { text.new ≡ text.old ++ codes " took=" ++ encode_lower packet.now }
+    ensures len { length text.new ≤ length text.old + 516 }
 {
     text.push(b" took=");
     push_array(text, packet);
@@ -164,7 +181,8 @@ fn push_took_packet(text: &mut Text, packet: &TrimmedArray<'_>)
 /// The packet that a reset took, which a trace shows.
 fn push_took(text: &mut Text, mode: Mode, packet: &Option<TrimmedArray<'_>>)
     requires { length text.old + 516 ≤ TEXT_ROOM }
-    ensures { text.new ≡ text.old ++ took_text mode packet.now }
+    ensures text { text.new ≡ text.old ++ took_text mode packet.now }
+    ensures len { length text.new ≤ length text.old + 516 }
 {
     match (mode, packet) {
         (Mode::Trace, Some(packet)) => push_took_packet(text, packet),
@@ -173,34 +191,36 @@ fn push_took(text: &mut Text, mode: Mode, packet: &Option<TrimmedArray<'_>>)
 }
 
 /// An end and the cause for which it was reset.
-fn push_reset_head(text: &mut Text, end: EndName, cause: Cause, names: &Names)
+fn push_reset_head(text: &mut Text, end: EndName, cause: Cause, names: &LineNames<'_>)
     requires declared { IsEnd names.now.disks end }
     requires fault { HasFault cause }
     requires room { length text.old + 200 ≤ TEXT_ROOM }
     ensures text { text.new ≡ text.old ++ end_text (codes "reset ") names.now.disks end ++ codes " " ++ cause_text cause }
-    ensures len { length text.new ≤ length text.old + 120 }
+    ensures len { length text.new ≤ length text.old + 130 }
 {
     push_end(text, b"reset ", end, names);
     text.push(b" ");
     push_reset_cause(text, cause);
 }
 
-/// An end that was reset.
+/// An end that was reset. It stands apart, so that the lines of other entries make no room for a cause.
+#[inline(never)]
 pub fn push_reset(
     text: &mut Text,
     mode: Mode,
     end: EndName,
-    cause: Cause,
+    cause: &Cause,
     packet: &Option<TrimmedArray<'_>>,
     lost: u64,
-    names: &Names,
+    names: &LineNames<'_>,
 )
     requires declared { IsEnd names.now.disks end }
-    requires fault { HasFault cause }
+    requires fault { HasFault cause.now }
     requires room { length text.old + 700 ≤ TEXT_ROOM }
-    ensures { text.new ≡ text.old ++ reset_text mode names.now.disks end cause packet.now lost }
+    ensures text { text.new ≡ text.old ++ reset_text mode names.now.disks end cause.now packet.now lost }
+    ensures len { length text.new ≤ length text.old + 700 }
 {
-    push_reset_head(text, end, cause, names);
+    push_reset_head(text, end, *cause, names);
     push_lost(text, lost);
     push_took(text, mode, packet);
 }

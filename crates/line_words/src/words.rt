@@ -2,11 +2,12 @@
 ghost use Rattle.std.specs.Prelude.{◌≡◌, ◌≤◌, length};
 ghost use Rattle.disk_steps.specs.ServerWork.{copy_number};
 ghost use Rattle.vio_tag.specs.CauseText.{copy_word};
-ghost use Rattle.ldom_journal.specs.EntryText.{failed_word, fault_word, operation_word, opens_text, side_text, why_word};
+ghost use Rattle.line_words.specs.LineWords.{failed_word, fault_word, operation_word, opens_text, side_text, why_word};
 
-use crate::{VD_OP_BREAD, VD_OP_BWRITE, VD_OP_FLUSH, Why};
 use cookie_copy::CopyFault;
 use domain_script::Side;
+use ldom_entries::Why;
+use vdisk_msg::{VD_OP_BREAD, VD_OP_BWRITE, VD_OP_FLUSH};
 
 /// What stands behind a lane's name for an end.
 pub fn side_word(side: Side) -> &'static [u8]

@@ -3,7 +3,7 @@ use Rattle.std.specs.Prelude.{All}
 use Rattle.ldom_journal.specs.EntryText.{report_entries}
 use Rattle.ldom_journal.specs.HasWords.{HasWords}
 use Rattle.gathered_text.specs.Gathered.{Gathers}
-use Rattle.ldom_journal.proofs.lines.write_text.Given as goal
+use Rattle.ldom_journal.proofs.lines.write_lines.Given as goal
 
 abbrev pub invariant-loop-entry : goal.invariant-loop-entry
 invariant-loop-entry g l = record {

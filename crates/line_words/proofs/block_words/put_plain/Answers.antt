@@ -4,7 +4,7 @@ use Rattle.kept_requests.specs.BlockWord.{word_text, blocks_text}
 use Rattle.gathered_text.specs.Gathered.{Gathers}
 use Rattle.kept_requests.proofs.BlockWords.{blocks_text_more, blocks_text_end}
 use Rattle.gathered_text.proofs.GatheredText.{on_err, gathers_behind, wrote_front_behind}
-use Rattle.ldom_journal.proofs.block_words.put_plain.Goals as goal
+use Rattle.line_words.proofs.block_words.put_plain.Goals as goal
 
 pub returns-in_err-put_word-clause-front : goal.returns-in_err-put_word-clause-front
 returns-in_err-put_word-clause-front g c =
@@ -23,6 +23,7 @@ loop-block-preserved g c =
       so_far = i.so_far ++ word;
       whole = blocks_text_more i.so_far (blocks_text c.args.bytes.now) c.loop-block.rest.now c.in-Some.block.now c.in-Some.behind.now i.whole cut.0 cut.1 cut.2;
       gathers = gathers_behind _ _ _ c.loop-block.text c.put_word.new.text c.args.text.now i.so_far word i.gathers told;
+      room = c.in_ok-put_word.ensures.room;
       unfailed = c.in_ok-put_word.ensures.ok ∙ i.unfailed;
     }
 

@@ -5,7 +5,7 @@ use Rattle.gathered_text.specs.Gathered.{Gathers, WroteFront}
 use Rattle.kept_requests.specs.Packed.{AreKept, unpacked}
 use Rattle.gathered_text.proofs.GatheredText.{on_err, on_ok_then, on_err_then, gathers_behind, wrote_front_behind, wrote_front_then}
 use Rattle.kept_requests.proofs.PackedBlocks.{NextWord, next_word, next_text, no_word}
-use Rattle.ldom_journal.proofs.block_words.put_blocks.Goals as goal
+use Rattle.line_words.proofs.block_words.put_blocks.Goals as goal
 
 pub returns-in_err-put_word-clause-front : goal.returns-in_err-put_word-clause-front
 returns-in_err-put_word-clause-front g c =
@@ -33,6 +33,7 @@ loop-n-preserved g c =
           ∙ ap (λ (l : List ℕ). i.so_far ++ word ++ blocks_text (unpacked (drop (at + 1) lengths) l)) (sym back);
       gathers = gathers_behind _ _ _ c.loop-n.text c.put_word.new.text c.args.text.now i.so_far word i.gathers
           (subst (λ (l : List ℕ). Gathers (g.K.Sink.written c.loop-n.out) (g.K.Sink.written c.put_word.new.out) c.put_word.new.text (c.loop-n.text ++ (codes " *" ++ encode_lower l))) front c.in_ok-put_word.ensures.told);
+      room = c.in_ok-put_word.ensures.room;
       unfailed = c.in_ok-put_word.ensures.ok ∙ i.unfailed;
     }
 

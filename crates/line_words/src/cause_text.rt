@@ -1,9 +1,9 @@
 // The text of a reset's cause.
 ghost use Rattle.std.specs.Prelude.{◌≡◌, ◌+◌, ◌≤◌, ◌++◌, length, codes, decimal};
 ghost use Rattle.vio_tag.specs.CauseText.{cause_text, numbers};
-ghost use Rattle.ldom_journal.specs.HasWords.{HasFault};
+ghost use Rattle.line_words.specs.HasFault.{HasFault};
 
-use crate::line_words::copy_word;
+use crate::words::copy_word;
 use gathered_text::{TEXT_ROOM, Text};
 use vio_tag::{Cause, packet_word, tag_word};
 

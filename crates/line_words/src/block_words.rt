@@ -1,19 +1,20 @@
-ghost use Rattle.std.specs.Prelude.{◌≡◌, ◌+◌, ◌≤◌, ◌++◌, codes, length, OnOk, OnErr};
+ghost use Rattle.std.specs.Prelude.{◌≡◌, ◌+◌, ◌<◌, ◌≤◌, ◌++◌, codes, length, OnOk, OnErr};
 ghost use Rattle.hex.specs.Hex.{encode_lower};
 ghost use Rattle.kept_requests.specs.BlockWord.{blocks_text};
 ghost use Rattle.gathered_text.specs.Gathered.{Gathers, WroteFront};
 ghost use Rattle.vio_io.specs.Causes.{Rose};
 
-use gathered_text::Text;
+use gathered_text::{TEXT_ROOM, Text};
 use ldom_entries::{Bytes, shortest_word};
 use vio_io::{Failed, Sink};
 
-/// The most bytes of a word's text: a space, `*` and two digits for each byte of a block.
-const WORD_ROOM: usize = 1026;
+/// The most bytes of a word's text, a space, `*` and two digits for each byte of a block, and one for what comes behind.
+const WORD_ROOM: usize = 1027;
 
 /// Puts the text of a word.
 fn put_word<K: Sink>(text: &mut Text, word: &[u8], out: &mut K) -> Result<(), Failed>
     requires { length word.now ≤ 512 }
+    ensures room { OnOk result (length text.new < TEXT_ROOM) }
     ensures told { OnOk result (Gathers (K.written out.old) (K.written out.new) text.new (text.old ++ (codes " *" ++ encode_lower word.now))) }
     ensures front { OnErr result (WroteFront (K.written out.old) (K.written out.new) text.old) }
     ensures ok { OnOk result (K.faults out.new ≡ K.faults out.old) }
@@ -26,8 +27,10 @@ fn put_word<K: Sink>(text: &mut Text, word: &[u8], out: &mut K) -> Result<(), Fa
     Ok(())
 }
 
-/// Puts the text of each block.
+/// Puts the text of each block. Room is left for one byte more.
 pub fn put_blocks<K: Sink>(text: &mut Text, bytes: &Bytes, out: &mut K) -> Result<(), Failed>
+    requires { length text.old < TEXT_ROOM }
+    ensures room { OnOk result (length text.new < TEXT_ROOM) }
     ensures told { OnOk result (Gathers (K.written out.old) (K.written out.new) text.new (text.old ++ blocks_text bytes.now.items)) }
     ensures front { OnErr result (WroteFront (K.written out.old) (K.written out.new) (text.old ++ blocks_text bytes.now.items)) }
     ensures ok { OnOk result (K.faults out.new ≡ K.faults out.old) }
@@ -45,6 +48,8 @@ pub fn put_blocks<K: Sink>(text: &mut Text, bytes: &Bytes, out: &mut K) -> Resul
 
 /// Puts the text of each block of bytes that are kept as they are.
 fn put_plain<K: Sink>(text: &mut Text, bytes: &[u8], out: &mut K) -> Result<(), Failed>
+    requires { length text.old < TEXT_ROOM }
+    ensures room { OnOk result (length text.new < TEXT_ROOM) }
     ensures told { OnOk result (Gathers (K.written out.old) (K.written out.new) text.new (text.old ++ blocks_text bytes.now)) }
     ensures front { OnErr result (WroteFront (K.written out.old) (K.written out.new) (text.old ++ blocks_text bytes.now)) }
     ensures ok { OnOk result (K.faults out.new ≡ K.faults out.old) }

@@ -1,7 +1,7 @@
 use Rattle.std.proofs.Common.{ℕ, List, ◌++◌, append_assoc, codes, decimal, sym, ap, ◌∙◌}
 use Rattle.vio_tag.specs.declared.cause.Cause.{Cause}
 use Rattle.vio_tag.specs.CauseText.{cause_text, numbers}
-use Rattle.ldom_journal.proofs.cause_text.push_reset_cause.Goals as goal
+use Rattle.line_words.proofs.cause_text.push_reset_cause.Goals as goal
 
 pub returns-in-Mode-clause-text : goal.returns-in-Mode-clause-text
 returns-in-Mode-clause-text c =

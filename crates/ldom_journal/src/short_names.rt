@@ -1,0 +1,145 @@
+// The names of lanes and ends as lines put them.
+ghost use Rattle.std.specs.Prelude.{◌≡◌, ◌+◌, ◌<◌, ◌≤◌, ◌++◌, length, take};
+ghost use Rattle.ldom_journal.specs.EntryText.{disk_name, side_text};
+ghost use Rattle.ldom_journal.specs.LaneNames.{lane_names};
+
+use domain_script::{Name, Names, Side};
+use gathered_text::{SHORT_ROOM, ShortText};
+use line_words::side_word;
+use std::marker::Model;
+
+/// The name of a lane and those of its ends. A clause sees the lane's.
+#[derive(Drop)]
+pub struct LaneNames {
+    lane: ShortText,
+    client: ShortText,
+    server: ShortText,
+}
+
+impl Model for LaneNames {
+    ghost use Rattle.std.specs.Prelude.{◌≡◌, ℕ, List, ◌++◌};
+    ghost use Rattle.domain_script.specs.declared.event.Side.TheVariants.{Client, Server};
+    ghost use Rattle.ldom_journal.specs.EntryText.{side_text};
+
+    ghost Value = { List ℕ };
+
+    ghost view = { λ n. n.lane };
+
+    ghost invariant = { λ n. (n.client ≡ n.lane ++ side_text Client) × (n.server ≡ n.lane ++ side_text Server) };
+}
+
+impl LaneNames {
+    fn new(name: &[u8]) -> Self
+        requires { length name.now ≤ 8 }
+        ensures { result ≡ name.now }
+    {
+        LaneNames {
+            lane: joined(name, b""),
+            client: joined(name, side_word(Side::Client)),
+            server: joined(name, side_word(Side::Server)),
+        }
+    }
+
+    /// The lane's.
+    pub fn lane(&self) -> &ShortText
+        ensures { result.now ≡ self.now }
+    {
+        &self.lane
+    }
+
+    /// That of an end.
+    pub fn end(&self, side: Side) -> &ShortText
+        ensures { result.now ≡ self.now ++ side_text side }
+    {
+        match side {
+            Side::Client => &self.client,
+            Side::Server => &self.server,
+        }
+    }
+}
+
+/// Bytes, and others behind them.
+fn joined(front: &[u8], behind: &[u8]) -> ShortText
+    requires { length front.now + length behind.now ≤ SHORT_ROOM }
+    ensures { result ≡ front.now ++ behind.now }
+{
+    let mut text = ShortText::new();
+    text.push(front);
+    text.push(behind);
+    text
+}
+
+fn name_bytes(name: &Name) -> &[u8]
+    ensures bytes { result.now ≡ take name.now.len name.now.bytes }
+    ensures short { length result.now ≤ 8 }
+{
+    &name.bytes[..usize::from(name.len).min(8)]
+}
+
+/// The names of a disk's lane; no bytes for that of a disk which isn't declared.
+fn lane_names(names: &Names, disk: u32) -> LaneNames
+    ensures names { result ≡ disk_name names.now.disks disk }
+    ensures few { length names.now.disks ≤ 8 }
+{
+    match names.disk(disk) {
+        Some(disk) => LaneNames::new(name_bytes(&disk.name)),
+        None => LaneNames::new(b""),
+    }
+}
+
+/// The names of the lanes of a script's disks.
+pub fn names_of_lanes(names: &Names) -> [LaneNames; 8]
+    ensures lanes { result ≡ lane_names names.now.disks }
+    ensures few { length names.now.disks ≤ 8 }
+{
+    [
+        lane_names(names, 0),
+        lane_names(names, 1),
+        lane_names(names, 2),
+        lane_names(names, 3),
+        lane_names(names, 4),
+        lane_names(names, 5),
+        lane_names(names, 6),
+        lane_names(names, 7),
+    ]
+}
+
+/// The names that a script declares, and beside them those of its lanes and ends as lines put them: they are made once
+/// for many lines. A clause sees what is declared.
+#[derive(Drop)]
+pub struct LineNames<'a> {
+    names: &'a Names,
+    lanes: &'a [LaneNames],
+}
+
+impl<'a> Model for LineNames<'a> {
+    ghost use Rattle.std.specs.Prelude.{◌≡◌, ◌≤◌, length};
+    ghost use Rattle.domain_script.specs.NamesState.{NamesState};
+    ghost use Rattle.ldom_journal.specs.LaneNames.{lane_names};
+
+    ghost Value = { NamesState };
+
+    ghost view = { λ n. n.names.now };
+
+    ghost invariant = { λ n. (length n.names.now.disks ≤ 8) × (n.lanes.now ≡ lane_names n.names.now.disks) };
+}
+
+impl<'a> LineNames<'a> {
+    /// The names of a script, and those of its lanes.
+    pub fn new(names: &'a Names, lanes: &'a [LaneNames]) -> Self
+        requires few { length names.now.disks ≤ 8 }
+        requires lanes { lanes.now ≡ lane_names names.now.disks }
+        ensures { result ≡ names.now }
+    {
+        LineNames { names, lanes }
+    }
+
+    /// The names of a disk's lane.
+    #[tactic(auto, using(crate::proofs::LaneNames::name_at))]
+    pub fn of_disk(&self, disk: u32) -> &'a LaneNames
+        requires { disk < length self.now.disks }
+        ensures { result.now ≡ disk_name self.now.disks disk }
+    {
+        &self.lanes[disk as usize]
+    }
+}

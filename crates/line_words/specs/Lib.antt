@@ -1,0 +1,2 @@
+pub mod HasFault
+pub mod LineWords
