@@ -114,33 +114,37 @@ impl Lane {
         let _id = self.client.issue(request);
     }
 
-    /// One step of the client.
-    fn step_client(&mut self) -> ClientOut
+    /// One step of the client, whose answer is written into the caller's.
+    fn step_client_into(&mut self, out: &mut ClientOut)
         ensures { self.new ≡ self.old }
     {
-        self.client.step(&mut self.channel, &mut self.memory)
+        self.client
+            .step_into(&mut self.channel, &mut self.memory, out);
     }
 
-    /// One step of the server.
-    fn step_server(&mut self) -> ServerOut
+    /// One step of the server, likewise.
+    fn step_server_into(&mut self, out: &mut ServerOut)
         ensures { self.new ≡ self.old }
     {
-        self.server.step(
+        self.server.step_into(
             &mut self.channel,
             &self.table,
             &mut self.memory,
             &mut self.store,
-        )
+            out,
+        );
     }
 
     /// One step of each end.
     pub fn round(&mut self) -> Round
         ensures { self.new ≡ self.old }
     {
-        let client = self.step_client();
-        let server = self.step_server();
+        let mut client = ClientOut::Idle;
+        let mut server = ServerOut::Idle;
+        self.step_client_into(&mut client);
+        self.step_server_into(&mut server);
         Round {
-            quiet: client == ClientOut::Idle && server == ServerOut::Idle,
+            quiet: matches!(client, ClientOut::Idle) && matches!(server, ServerOut::Idle),
             done: succeeded(&client),
         }
     }
