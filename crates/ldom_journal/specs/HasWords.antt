@@ -8,6 +8,7 @@ use Rattle.ldom_entries.specs.declared.entry.Who.{Who}
 use Rattle.ldom_entries.specs.declared.entry.Who.TheVariants.{Lane as OfLane, End as OfEnd}
 use Rattle.ldom_entries.specs.declared.entry.Entry.{Entry}
 use Rattle.ldom_entries.specs.declared.entry.Entry.TheVariants as entry
+use Rattle.ldom_journal.specs.LaneEvents.{Meaning, AtWire, AtClient, AtServer, AtLane, NoRoomFor, Refuses, ChangesNothing, LeavesOver, LeavesNothing, meaning}
 pub use Rattle.line_words.specs.HasFault.{HasFault}
 
 -- what is named is declared: a disk, a lane, an end
@@ -33,27 +34,25 @@ pub record IsCompletion (operation status : ℕ) (bytes : List ℕ) : Type 0 whe
   pub some : operation ≡ 1 → status ≡ 0 → 0 < length bytes
   pub blocks : operation ≡ 1 → status ≡ 0 → length bytes % 512 ≡ 0
 
+-- whom an entry is about is declared, by what it means
+abbrev pub IsNamed : List DiskDecl → Meaning → Type 0
+IsNamed disks (AtWire e event) = IsEnd disks e
+IsNamed disks (AtClient e event) = IsEnd disks e
+IsNamed disks (AtServer e event) = IsEnd disks e
+IsNamed disks (AtLane k event) = k < length disks
+IsNamed disks (NoRoomFor who) = IsDeclared disks who
+IsNamed disks (Refuses who why) = IsDeclared disks who
+IsNamed disks (ChangesNothing who) = IsDeclared disks who
+IsNamed disks (LeavesOver who) = IsDeclared disks who
+IsNamed disks LeavesNothing = ⊤
+
+-- the values of an entry have their words: all have but these
+abbrev pub HasValues : Entry → Type 0
+HasValues (entry.Done disk id operation status bytes) = IsCompletion operation status bytes.items
+HasValues (entry.Stored e operation block count failed) = IsOperation operation
+HasValues (entry.Reset e cause packet lost) = HasFault cause
+HasValues other = ⊤
+
 -- WHAT THE ENTRY NAMES IS DECLARED, and its values have their words
 abbrev pub HasWords : List DiskDecl → Entry → Type 0
-HasWords disks (entry.Accepted disk id request) = disk < length disks
-HasWords disks (entry.Full who) = IsDeclared disks who
-HasWords disks (entry.Refused who why) = IsDeclared disks who
-HasWords disks (entry.Lost e packet) = IsEnd disks e
-HasWords disks (entry.Stopped disk) = disk < length disks
-HasWords disks (entry.Started disk) = disk < length disks
-HasWords disks (entry.Calm who) = IsDeclared disks who
-HasWords disks entry.Settled = ⊤
-HasWords disks (entry.Unsettled who) = IsDeclared disks who
-HasWords disks (entry.Idle e) = IsEnd disks e
-HasWords disks (entry.Off e) = IsEnd disks e
-HasWords disks (entry.Blocked e) = IsEnd disks e
-HasWords disks (entry.Joined e lost) = IsEnd disks e
-HasWords disks (entry.Took e packet opens) = IsEnd disks e
-HasWords disks (entry.Sent e packet opens) = IsEnd disks e
-HasWords disks (entry.Published e id) = IsEnd disks e
-HasWords disks (entry.Done disk id operation status bytes) = (disk < length disks) × IsCompletion operation status bytes.items
-HasWords disks (entry.Desc e slot bytes) = IsEnd disks e
-HasWords disks (entry.Moved e unit fault) = IsEnd disks e
-HasWords disks (entry.Stored e operation block count failed) = IsEnd disks e × IsOperation operation
-HasWords disks (entry.Finished e slot status) = IsEnd disks e
-HasWords disks (entry.Reset e cause packet lost) = IsEnd disks e × HasFault cause
+HasWords disks entry = IsNamed disks (meaning entry) × HasValues entry

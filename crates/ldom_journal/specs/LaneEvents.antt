@@ -1,4 +1,5 @@
--- What the entries of a journal say of the lanes of disks. `world_event` alone lists the kinds of entry: laws of lanes read it.
+-- What the entries of a journal say of the lanes of disks. `meaning` alone lists the kinds of entry: laws of lanes go by
+-- what an entry means.
 use Rattle.std.specs.Prelude.{ℕ, Bool, true, false, ◌==◌, ◌&&◌, Option, Some, None}
 use Rattle.ldc_queue.specs.declared.end.End.{End}
 use Rattle.ldc_queue.specs.declared.end.End.TheVariants.{A, B}
@@ -87,27 +88,57 @@ abbrev pub unsettled_event : Who → Option SettleEntry
 unsettled_event (OfWhole (Disk k)) = Some (settle.Unsettled k)
 unsettled_event (OfEnd e) = None
 
--- WHAT AN ENTRY IS FOR THE LANES, where it came in the part of this line; none where it doesn't belong to it, or to its end
+-- WHAT AN ENTRY MEANS, whatever line it came in: an event on the channel of an end, or of the work of a client or of a
+-- server; an event of a lane; a request that found no room, or was refused; what changes nothing; what a settle leaves
+-- over, and that it leaves nothing
+pub data Meaning : Type 0 where
+  AtWire : (e : EndName) (event : WireEvent) → Meaning
+  AtClient : (e : EndName) (event : DiskEvent) → Meaning
+  AtServer : (e : EndName) (event : DiskEvent) → Meaning
+  AtLane : (k : ℕ) (event : DiskEvent) → Meaning
+  NoRoomFor : (who : Who) → Meaning
+  Refuses : (who : Who) (why : Why) → Meaning
+  ChangesNothing : (who : Who) → Meaning
+  LeavesOver : (who : Who) → Meaning
+  LeavesNothing : Meaning
+
+-- laws of lanes go by what an entry means: this alone lists the kinds of entry for them
+abbrev pub meaning : Entry → Meaning
+meaning (entry.Accepted k id request) = AtLane k (Asks (disk.Accepted id request))
+meaning (entry.Full who) = NoRoomFor who
+meaning (entry.Refused who why) = Refuses who why
+meaning (entry.Lost e packet) = AtWire e (wire.Lost (end_of e.side) packet)
+meaning (entry.Stopped k) = AtLane k (Turns disk.Stopped)
+meaning (entry.Started k) = AtLane k (Turns disk.Started)
+meaning (entry.Calm who) = ChangesNothing who
+meaning entry.Settled = LeavesNothing
+meaning (entry.Unsettled who) = LeavesOver who
+meaning (entry.Idle e) = AtWire e (wire.Idle (end_of e.side))
+meaning (entry.Off e) = AtServer e (Turns disk.Off)
+meaning (entry.Blocked e) = AtWire e (wire.Blocked (end_of e.side))
+meaning (entry.Joined e lost) = AtWire e (wire.Joined (end_of e.side) lost)
+meaning (entry.Took e packet opens) = AtWire e (wire.Took (end_of e.side) packet opens)
+meaning (entry.Sent e packet opens) = AtWire e (wire.Sent (end_of e.side) packet opens)
+meaning (entry.Published e id) = AtClient e (Works (disk.Published id))
+meaning (entry.Done k id operation status bytes) = AtLane k (Works (disk.Done id operation status bytes.items))
+meaning (entry.Desc e slot bytes) = AtServer e (Works (disk.Desc slot bytes))
+meaning (entry.Moved e unit fault) = AtServer e (Works (disk.Moved unit fault))
+meaning (entry.Stored e operation block count failed) = AtServer e (Works (disk.Stored operation block count failed))
+meaning (entry.Finished e slot status) = AtServer e (Works (disk.Finished slot status))
+meaning (entry.Reset e cause packet lost) = AtWire e (wire.Reset (end_of e.side) cause packet lost)
+
+-- what is meant for the lanes, where it came in the part of this line; none where it doesn't belong to it, or to its end
+abbrev pub meant : Line → Meaning → Option SettleEntry
+meant asked (AtWire e event) = on_wire e event
+meant asked (AtClient e event) = of_client e.side e event
+meant asked (AtServer e event) = of_server e.side e event
+meant asked (AtLane k event) = Some (OfLane k event)
+meant asked (NoRoomFor who) = full_event asked who
+meant asked (Refuses who why) = refused_event asked who why
+meant asked (ChangesNothing who) = calm_event asked who
+meant asked (LeavesOver who) = unsettled_event who
+meant asked LeavesNothing = Some settle.Settled
+
+-- WHAT AN ENTRY IS FOR THE LANES, where it came in the part of this line
 abbrev pub world_event : Line → Entry → Option SettleEntry
-world_event asked (entry.Accepted k id request) = Some (OfLane k (Asks (disk.Accepted id request)))
-world_event asked (entry.Full who) = full_event asked who
-world_event asked (entry.Refused who why) = refused_event asked who why
-world_event asked (entry.Lost e packet) = on_wire e (wire.Lost (end_of e.side) packet)
-world_event asked (entry.Stopped k) = Some (OfLane k (Turns disk.Stopped))
-world_event asked (entry.Started k) = Some (OfLane k (Turns disk.Started))
-world_event asked (entry.Calm who) = calm_event asked who
-world_event asked entry.Settled = Some settle.Settled
-world_event asked (entry.Unsettled who) = unsettled_event who
-world_event asked (entry.Idle e) = on_wire e (wire.Idle (end_of e.side))
-world_event asked (entry.Off e) = of_server e.side e (Turns disk.Off)
-world_event asked (entry.Blocked e) = on_wire e (wire.Blocked (end_of e.side))
-world_event asked (entry.Joined e lost) = on_wire e (wire.Joined (end_of e.side) lost)
-world_event asked (entry.Took e packet opens) = on_wire e (wire.Took (end_of e.side) packet opens)
-world_event asked (entry.Sent e packet opens) = on_wire e (wire.Sent (end_of e.side) packet opens)
-world_event asked (entry.Published e id) = of_client e.side e (Works (disk.Published id))
-world_event asked (entry.Done k id operation status bytes) = Some (OfLane k (Works (disk.Done id operation status bytes.items)))
-world_event asked (entry.Desc e slot bytes) = of_server e.side e (Works (disk.Desc slot bytes))
-world_event asked (entry.Moved e unit fault) = of_server e.side e (Works (disk.Moved unit fault))
-world_event asked (entry.Stored e operation block count failed) = of_server e.side e (Works (disk.Stored operation block count failed))
-world_event asked (entry.Finished e slot status) = of_server e.side e (Works (disk.Finished slot status))
-world_event asked (entry.Reset e cause packet lost) = on_wire e (wire.Reset (end_of e.side) cause packet lost)
+world_event asked entry = meant asked (meaning entry)
