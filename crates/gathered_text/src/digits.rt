@@ -1,7 +1,7 @@
 ghost use Rattle.std.specs.Prelude.{◌≡◌, ◌*◌, ◌<◌, length, slice_index};
 ghost use Rattle.hex.specs.Hex.{encode_lower, lower_digits};
 
-/// Writes bytes as lower-case hexadecimal digits. No branch and no table's entry depends on a byte, so that many are
+/// Writes bytes as lower-case hexadecimal digits. A digit is a sum and isn't read from a table, so that many can be
 /// written at once.
 pub fn write_hex(bytes: &[u8], out: &mut [u8])
     requires { length out.old ≡ 2 * length bytes.now }

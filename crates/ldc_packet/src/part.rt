@@ -12,7 +12,7 @@ use crate::layout::{
 use vio_bytes::{get_field, get_u8, get_u32, put_field, put_u8, put_u32};
 
 /// What a data packet says of the part that it carries: its number, whether a message begins and ends with it, and
-/// its length, 1 to 56.
+/// its length, at most 56 bytes. A packet that is read has one of 1 or more.
 #[derive(Clone, Copy, Debug, PartialEq, Eq)]
 pub struct PartHead {
     pub seqid: u32,

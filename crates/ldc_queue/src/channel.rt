@@ -137,8 +137,8 @@ impl Channel {
         Ok(self.lose(end))
     }
 
-    /// The same, where the packet is written over the caller's. Tells whether one waited; if none did, nothing is said of
-    /// that.
+    /// The same, where the packet is written over the caller's. Tells whether one waited; if none did, or after `NotUp`,
+    /// nothing is said of the caller's.
     pub fn take_into(&mut self, end: End, packet: &mut [u8; 64]) -> Result<bool, NotUp>
         ensures not_up { IsErr result ↔ (state_of end self.old.wire ≢ Up) }
         ensures up { OnOk result (state_of end self.old.wire ≡ Up) }
