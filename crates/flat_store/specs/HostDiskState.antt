@@ -17,6 +17,11 @@ abbrev pub calls_of : HostDisk → ℕ
 calls_of (Memory store) = store.plan.calls
 calls_of (File store) = store.calls
 
+-- how often it was asked to flush
+abbrev pub flushes_of : HostDisk → ℕ
+flushes_of (Memory store) = store.flushes
+flushes_of (File store) = store.flushes
+
 -- how often it failed
 abbrev pub faults_of : HostDisk → ℕ
 faults_of (Memory store) = store.plan.faults

@@ -6,3 +6,5 @@ pub record MemStoreState : Type 0 where
   pub bytes : List ℕ
   -- reads, writes and flushes are counted together
   pub plan : Plan
+  -- how many of them were flushes
+  pub flushes : ℕ

@@ -15,6 +15,7 @@ const MOST_TRIES: u32 = 10_000;
 pub struct FileStore<F: ImageFile> {
     file: F,
     calls: u64,
+    flushes: u64,
     faults: u64,
 }
 
@@ -23,11 +24,13 @@ impl<F: ImageFile> FileStore<F> {
     pub fn new(file: F) -> Self
         ensures file { result.file ≡ file }
         ensures calls { result.calls ≡ 0 }
+        ensures flushes { result.flushes ≡ 0 }
         ensures faults { result.faults ≡ 0 }
     {
         FileStore {
             file,
             calls: 0,
+            flushes: 0,
             faults: 0,
         }
     }
@@ -39,6 +42,8 @@ impl<F: ImageFile> Store for FileStore<F> {
     ghost size = { λ s. F.size s.file };
 
     ghost calls = { λ s. s.calls };
+
+    ghost flushes = { λ s. s.flushes };
 
     ghost faults = { λ s. s.faults };
 
@@ -54,6 +59,7 @@ impl<F: ImageFile> Store for FileStore<F> {
         ensures content { F.content self.new.file ≡ F.content self.old.file }
         ensures size { F.size self.new.file ≡ F.size self.old.file }
         ensures calls { self.new.calls ≡ next_count self.old.calls }
+        ensures flushes { self.new.flushes ≡ self.old.flushes }
         ensures ok { OnOk result (self.new.faults ≡ self.old.faults) }
         ensures count { self.old.faults ≤ self.new.faults }
         ensures cause { OnErr result (Rose self.old.faults self.new.faults) }
@@ -72,6 +78,7 @@ impl<F: ImageFile> Store for FileStore<F> {
         ensures outside { KeepsOutside (F.content self.old.file) (F.content self.new.file) at (length bytes.now) }
         ensures size { F.size self.new.file ≡ F.size self.old.file }
         ensures calls { self.new.calls ≡ next_count self.old.calls }
+        ensures flushes { self.new.flushes ≡ self.old.flushes }
         ensures ok { OnOk result (self.new.faults ≡ self.old.faults) }
         ensures count { self.old.faults ≤ self.new.faults }
         ensures cause { OnErr result (Rose self.old.faults self.new.faults) }
@@ -88,6 +95,7 @@ impl<F: ImageFile> Store for FileStore<F> {
         ensures content { F.content self.new.file ≡ F.content self.old.file }
         ensures size { F.size self.new.file ≡ F.size self.old.file }
         ensures calls { self.new.calls ≡ next_count self.old.calls }
+        ensures flushes { self.new.flushes ≡ next_count self.old.flushes }
         ensures ok { OnOk result (self.new.faults ≡ self.old.faults) }
         ensures count { self.old.faults ≤ self.new.faults }
         ensures cause { OnErr result (Rose self.old.faults self.new.faults) }
@@ -97,6 +105,7 @@ impl<F: ImageFile> Store for FileStore<F> {
         ensures lacked { OnErr result (Lacked (F.calls self.old.file) (F.calls self.new.file)) }
     {
         self.calls = self.calls.saturating_add(1);
+        self.flushes = self.flushes.saturating_add(1);
         count_fault(sync(&mut self.file), &mut self.faults)
     }
 

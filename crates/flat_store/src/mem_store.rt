@@ -15,34 +15,37 @@ use vio_io::{Failed, FaultPlan, NoMemory, Store};
 pub struct MemStore {
     bytes: Vec<u8>,
     plan: FaultPlan,
+    flushes: u64,
 }
 
 impl Model for MemStore {
     ghost Value = { MemStoreState };
 
-    ghost view = { λ s. record { bytes = s.bytes.items; plan = s.plan } };
+    ghost view = { λ s. record { bytes = s.bytes.items; plan = s.plan; flushes = s.flushes } };
 }
 
 impl MemStore {
     /// A store of these bytes.
     pub fn new(alloc: Global, bytes: &[u8], failing: &[u64]) -> Result<Self, NoMemory>
-        ensures { IfOk result (λ s. s ≡ record { bytes = bytes.now; plan = unused failing.now }) }
+        ensures { IfOk result (λ s. s ≡ record { bytes = bytes.now; plan = unused failing.now; flushes = 0 }) }
     {
         Ok(MemStore {
             bytes: Vec::from_slice(alloc, bytes)?,
             plan: FaultPlan::new(alloc, failing)?,
+            flushes: 0,
         })
     }
 
     /// A store of zeros that never fails.
     pub fn zeros(alloc: Global, length: usize) -> Result<Self, NoMemory>
-        ensures { IfOk result (λ s. s ≡ record { bytes = replicate length 0; plan = unused [] }) }
+        ensures { IfOk result (λ s. s ≡ record { bytes = replicate length 0; plan = unused []; flushes = 0 }) }
     {
         let mut bytes = Vec::with_capacity(alloc, length)?;
         bytes.resize(length, 0)?;
         Ok(MemStore {
             bytes,
             plan: FaultPlan::new(alloc, &[])?,
+            flushes: 0,
         })
     }
 
@@ -62,6 +65,8 @@ impl Store for MemStore {
 
     ghost calls = { λ s. s.plan.calls };
 
+    ghost flushes = { λ s. s.flushes };
+
     ghost faults = { λ s. s.plan.faults };
 
     ghost told_size = { λ s. refl };
@@ -76,6 +81,7 @@ impl Store for MemStore {
         ensures content { Some self.new.bytes ≡ Some self.old.bytes }
         ensures size { length self.new.bytes ≡ length self.old.bytes }
         ensures calls { self.new.plan.calls ≡ next_count self.old.plan.calls }
+        ensures flushes { self.new.flushes ≡ self.old.flushes }
         ensures ok { OnOk result (self.new.plan.faults ≡ self.old.plan.faults) }
         ensures count { self.old.plan.faults ≤ self.new.plan.faults }
         ensures cause { OnErr result (Rose self.old.plan.faults self.new.plan.faults) }
@@ -96,6 +102,7 @@ impl Store for MemStore {
         ensures outside { KeepsOutside (Some self.old.bytes) (Some self.new.bytes) at (length bytes.now) }
         ensures size { length self.new.bytes ≡ length self.old.bytes }
         ensures calls { self.new.plan.calls ≡ next_count self.old.plan.calls }
+        ensures flushes { self.new.flushes ≡ self.old.flushes }
         ensures ok { OnOk result (self.new.plan.faults ≡ self.old.plan.faults) }
         ensures count { self.old.plan.faults ≤ self.new.plan.faults }
         ensures cause { OnErr result (Rose self.old.plan.faults self.new.plan.faults) }
@@ -114,6 +121,7 @@ impl Store for MemStore {
         ensures content { Some self.new.bytes ≡ Some self.old.bytes }
         ensures size { length self.new.bytes ≡ length self.old.bytes }
         ensures calls { self.new.plan.calls ≡ next_count self.old.plan.calls }
+        ensures flushes { self.new.flushes ≡ next_count self.old.flushes }
         ensures ok { OnOk result (self.new.plan.faults ≡ self.old.plan.faults) }
         ensures count { self.old.plan.faults ≤ self.new.plan.faults }
         ensures cause { OnErr result (Rose self.old.plan.faults self.new.plan.faults) }
@@ -122,6 +130,7 @@ impl Store for MemStore {
         ensures fails { IsErr result ↔ IsTrue (fails_next self.old.plan) }
         ensures plan { self.new.plan ≡ after_call self.old.plan }
     {
+        self.flushes = self.flushes.saturating_add(1);
         self.plan.call()
     }
 

@@ -4,7 +4,7 @@ ghost use Rattle.vio_io.specs.Causes.{Rose, next_count};
 ghost use Rattle.vio_io.specs.Given.{next_given};
 ghost use Rattle.vio_io.specs.FaultPlan.{after_call, fails_next, unused};
 ghost use Rattle.vio_io.specs.Stores.{IsUnitRange, KeepsOutside, ReadsRange, WritesRange};
-ghost use Rattle.flat_store.specs.HostDiskState.{calls_of, content_of, faults_of, plan_of, size_of};
+ghost use Rattle.flat_store.specs.HostDiskState.{calls_of, content_of, faults_of, flushes_of, plan_of, size_of};
 ghost use Rattle.flat_store.specs.Hosts.{zeros_alone};
 
 use crate::{FileStore, StdFile, ZeroStore};
@@ -21,13 +21,15 @@ pub enum HostDisk {
 }
 
 impl Store for HostDisk {
-    ghost use Rattle.flat_store.specs.HostDiskState.{calls_of, content_of, faults_of, size_of, told_length};
+    ghost use Rattle.flat_store.specs.HostDiskState.{calls_of, content_of, faults_of, flushes_of, size_of, told_length};
 
     ghost content = { content_of };
 
     ghost size = { size_of };
 
     ghost calls = { calls_of };
+
+    ghost flushes = { flushes_of };
 
     ghost faults = { faults_of };
 
@@ -46,6 +48,7 @@ impl Store for HostDisk {
         ensures content { content_of self.new ≡ content_of self.old }
         ensures size { size_of self.new ≡ size_of self.old }
         ensures calls { calls_of self.new ≡ next_count (calls_of self.old) }
+        ensures flushes { flushes_of self.new ≡ flushes_of self.old }
         ensures ok { OnOk result (faults_of self.new ≡ faults_of self.old) }
         ensures count { faults_of self.old ≤ faults_of self.new }
         ensures cause { OnErr result (Rose (faults_of self.old) (faults_of self.new)) }
@@ -66,6 +69,7 @@ impl Store for HostDisk {
         ensures outside { KeepsOutside (content_of self.old) (content_of self.new) at (length bytes.now) }
         ensures size { size_of self.new ≡ size_of self.old }
         ensures calls { calls_of self.new ≡ next_count (calls_of self.old) }
+        ensures flushes { flushes_of self.new ≡ flushes_of self.old }
         ensures ok { OnOk result (faults_of self.new ≡ faults_of self.old) }
         ensures count { faults_of self.old ≤ faults_of self.new }
         ensures cause { OnErr result (Rose (faults_of self.old) (faults_of self.new)) }
@@ -85,6 +89,7 @@ impl Store for HostDisk {
         ensures content { content_of self.new ≡ content_of self.old }
         ensures size { size_of self.new ≡ size_of self.old }
         ensures calls { calls_of self.new ≡ next_count (calls_of self.old) }
+        ensures flushes { flushes_of self.new ≡ next_count (flushes_of self.old) }
         ensures ok { OnOk result (faults_of self.new ≡ faults_of self.old) }
         ensures count { faults_of self.old ≤ faults_of self.new }
         ensures cause { OnErr result (Rose (faults_of self.old) (faults_of self.new)) }
@@ -156,6 +161,7 @@ impl<R: Files<File = File> + Drop> Host for StdHost<R> {
         ensures files { result ≡ Err AttachFault.Memory → IsTrue (bytes_eq name.now (codes "-")) }
         ensures plan { IfOk result (λ disk. plan_of disk ≡ (if bytes_eq name.now (codes "-") then Some (unused []) else None)) }
         ensures calls { IfOk result (λ disk. calls_of disk ≡ 0) }
+        ensures flushes { IfOk result (λ disk. flushes_of disk ≡ 0) }
     {
         if name == "-" {
             let zeros = ZeroStore::new(alloc, least as usize)?;

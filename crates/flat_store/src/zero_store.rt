@@ -16,6 +16,7 @@ pub struct ZeroStore {
     pages: ZeroPages,
     size: usize,
     plan: FaultPlan,
+    flushes: u64,
 }
 
 impl Model for ZeroStore {
@@ -24,7 +25,7 @@ impl Model for ZeroStore {
 
     ghost Value = { MemStoreState };
 
-    ghost view = { λ s. record { bytes = take s.size s.pages; plan = s.plan } };
+    ghost view = { λ s. record { bytes = take s.size s.pages; plan = s.plan; flushes = s.flushes } };
 
     ghost invariant = { λ s. s.size ≤ length s.pages };
 }
@@ -33,12 +34,13 @@ impl ZeroStore {
     /// A store of so many zeros.
     #[tactic(auto, using(crate::proofs::ZeroSizes::size_zeros))]
     pub fn new(alloc: Global, size: usize) -> Result<Self, NoMemory>
-        ensures { IfOk result (λ s. s ≡ record { bytes = replicate size 0; plan = unused [] }) }
+        ensures { IfOk result (λ s. s ≡ record { bytes = replicate size 0; plan = unused []; flushes = 0 }) }
     {
         Ok(ZeroStore {
             pages: ZeroPages::new(alloc, size.div_ceil(PAGE))?,
             size,
             plan: FaultPlan::new(alloc, &[])?,
+            flushes: 0,
         })
     }
 }
@@ -50,6 +52,8 @@ impl Store for ZeroStore {
     ghost size = { λ s. length s.bytes };
 
     ghost calls = { λ s. s.plan.calls };
+
+    ghost flushes = { λ s. s.flushes };
 
     ghost faults = { λ s. s.plan.faults };
 
@@ -65,6 +69,7 @@ impl Store for ZeroStore {
         ensures content { Some self.new.bytes ≡ Some self.old.bytes }
         ensures size { length self.new.bytes ≡ length self.old.bytes }
         ensures calls { self.new.plan.calls ≡ next_count self.old.plan.calls }
+        ensures flushes { self.new.flushes ≡ self.old.flushes }
         ensures ok { OnOk result (self.new.plan.faults ≡ self.old.plan.faults) }
         ensures count { self.old.plan.faults ≤ self.new.plan.faults }
         ensures cause { OnErr result (Rose self.old.plan.faults self.new.plan.faults) }
@@ -84,6 +89,7 @@ impl Store for ZeroStore {
         ensures outside { KeepsOutside (Some self.old.bytes) (Some self.new.bytes) at (length bytes.now) }
         ensures size { length self.new.bytes ≡ length self.old.bytes }
         ensures calls { self.new.plan.calls ≡ next_count self.old.plan.calls }
+        ensures flushes { self.new.flushes ≡ self.old.flushes }
         ensures ok { OnOk result (self.new.plan.faults ≡ self.old.plan.faults) }
         ensures count { self.old.plan.faults ≤ self.new.plan.faults }
         ensures cause { OnErr result (Rose self.old.plan.faults self.new.plan.faults) }
@@ -102,6 +108,7 @@ impl Store for ZeroStore {
         ensures content { Some self.new.bytes ≡ Some self.old.bytes }
         ensures size { length self.new.bytes ≡ length self.old.bytes }
         ensures calls { self.new.plan.calls ≡ next_count self.old.plan.calls }
+        ensures flushes { self.new.flushes ≡ next_count self.old.flushes }
         ensures ok { OnOk result (self.new.plan.faults ≡ self.old.plan.faults) }
         ensures count { self.old.plan.faults ≤ self.new.plan.faults }
         ensures cause { OnErr result (Rose self.old.plan.faults self.new.plan.faults) }
@@ -110,6 +117,7 @@ impl Store for ZeroStore {
         ensures fails { IsErr result ↔ IsTrue (fails_next self.old.plan) }
         ensures plan { self.new.plan ≡ after_call self.old.plan }
     {
+        self.flushes = self.flushes.saturating_add(1);
         self.plan.call()
     }
 

@@ -5,6 +5,8 @@ pub record InfallibleDiskState : Type 0 where
   pub bytes : List ℕ
   -- reads, writes and flushes are counted together
   pub calls : ℕ
+  -- how many of them were flushes
+  pub flushes : ℕ
 
 pub record GrowingSinkState : Type 0 where
   pub written : List ℕ

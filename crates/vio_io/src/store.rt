@@ -15,6 +15,9 @@ pub trait Store: Drop {
     /// How often it was asked to read, to write or to flush.
     ghost calls: { Self → ℕ };
 
+    /// How often it was asked to flush, which `calls` counts too.
+    ghost flushes: { Self → ℕ };
+
     /// How often it failed: each call that fails counts one fault.
     ghost faults: { Self → ℕ };
 
@@ -29,6 +32,7 @@ pub trait Store: Drop {
         ensures content { content self.new ≡ content self.old }
         ensures size { size self.new ≡ size self.old }
         ensures calls { calls self.new ≡ next_count (calls self.old) }
+        ensures flushes { flushes self.new ≡ flushes self.old }
         ensures ok { OnOk result (faults self.new ≡ faults self.old) }
         ensures count { faults self.old ≤ faults self.new }
         ensures cause { OnErr result (Rose (faults self.old) (faults self.new)) }
@@ -41,6 +45,7 @@ pub trait Store: Drop {
         ensures outside { KeepsOutside (content self.old) (content self.new) at (length bytes.now) }
         ensures size { size self.new ≡ size self.old }
         ensures calls { calls self.new ≡ next_count (calls self.old) }
+        ensures flushes { flushes self.new ≡ flushes self.old }
         ensures ok { OnOk result (faults self.new ≡ faults self.old) }
         ensures count { faults self.old ≤ faults self.new }
         ensures cause { OnErr result (Rose (faults self.old) (faults self.new)) }
@@ -51,6 +56,7 @@ pub trait Store: Drop {
         ensures content { content self.new ≡ content self.old }
         ensures size { size self.new ≡ size self.old }
         ensures calls { calls self.new ≡ next_count (calls self.old) }
+        ensures flushes { flushes self.new ≡ next_count (flushes self.old) }
         ensures ok { OnOk result (faults self.new ≡ faults self.old) }
         ensures count { faults self.old ≤ faults self.new }
         ensures cause { OnErr result (Rose (faults self.old) (faults self.new)) }
