@@ -13,14 +13,19 @@ ReadsFront content at n buf = ReadsRange content at (take n buf)
 abbrev pub WritesFront : Option (List ℕ) → Option (List ℕ) → ℕ → ℕ → List ℕ → Type 0
 WritesFront old new at n bytes = WritesRange old new at (take n bytes)
 
--- how many calls did all that was asked, how many moved less or failed, and how many were interrupted
+-- how many calls moved all that was asked, how many made what was written last, how many moved less or failed, and how
+-- many were interrupted
 pub record FileCalls : Type 0 where
-  pub done : ℕ
+  pub moved : ℕ
+  pub synced : ℕ
   pub failed : ℕ
   pub interrupted : ℕ
 
-abbrev pub one_done : FileCalls → FileCalls
-one_done c = record c { done = next_count c.done }
+abbrev pub one_moved : FileCalls → FileCalls
+one_moved c = record c { moved = next_count c.moved }
+
+abbrev pub one_synced : FileCalls → FileCalls
+one_synced c = record c { synced = next_count c.synced }
 
 abbrev pub one_failed : FileCalls → FileCalls
 one_failed c = record c { failed = next_count c.failed }
@@ -34,20 +39,28 @@ after_fault Other c = one_failed c
 
 -- behind a call that was asked to move so many bytes, by its answer
 abbrev pub after_move : ℕ → Result ℕ FileFault → FileCalls → FileCalls
-after_move wanted (Ok moved) c = if moved == wanted then one_done c else one_failed c
+after_move wanted (Ok moved) c = if moved == wanted then one_moved c else one_failed c
 after_move wanted (Err fault) c = after_fault fault c
 
 -- behind a call that was asked to make last what was written
 abbrev pub after_sync : {A : Type 0} → Result A FileFault → FileCalls → FileCalls
-after_sync (Ok done) c = one_done c
+after_sync (Ok done) c = one_synced c
 after_sync (Err fault) c = after_fault fault c
 
--- one call did all that was asked, and none moved less or failed
-pub record Succeeded (old new : FileCalls) : Type 0 where
-  pub done : new.done ≡ next_count old.done
+-- one call moved all that was asked, and no other did anything
+pub record MovedOnce (old new : FileCalls) : Type 0 where
+  pub moved : new.moved ≡ next_count old.moved
+  pub synced : new.synced ≡ old.synced
+  pub failed : new.failed ≡ old.failed
+
+-- one call made what was written last, and no other did anything
+pub record SyncedOnce (old new : FileCalls) : Type 0 where
+  pub moved : new.moved ≡ old.moved
+  pub synced : new.synced ≡ next_count old.synced
   pub failed : new.failed ≡ old.failed
 
 -- no call did what was asked: one moved less or failed, or 10,000 were interrupted
 pub record Lacked (old new : FileCalls) : Type 0 where
-  pub done : new.done ≡ old.done
+  pub moved : new.moved ≡ old.moved
+  pub synced : new.synced ≡ old.synced
   pub why : (new.failed ≡ next_count old.failed) ⊎ ((new.failed ≡ old.failed) × (min (old.interrupted + 10000) last_count ≤ new.interrupted))

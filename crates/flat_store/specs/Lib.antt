@@ -3,4 +3,3 @@ pub mod HostDiskState
 pub mod Hosts
 pub mod ListHostState
 pub mod MemStoreState
-pub mod StdFileState

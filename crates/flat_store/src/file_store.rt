@@ -1,7 +1,7 @@
 ghost use Rattle.std.specs.Prelude.{◌≡◌, ◌≢◌, ◌≤◌, length, OnErr, OnOk};
 ghost use Rattle.vio_io.specs.Causes.{Rose, next_count};
 ghost use Rattle.vio_io.specs.Stores.{IsUnitRange, KeepsOutside, ReadsRange, WritesRange};
-ghost use Rattle.flat_store.specs.Files.{Lacked, Succeeded};
+ghost use Rattle.flat_store.specs.Files.{Lacked, MovedOnce, SyncedOnce};
 
 use crate::{FileFault, ImageFile};
 use vio_io::{Failed, Store};
@@ -65,7 +65,7 @@ impl<F: ImageFile> Store for FileStore<F> {
         ensures cause { OnErr result (Rose self.old.faults self.new.faults) }
         ensures once { OnErr result (self.new.faults ≡ next_count self.old.faults) }
 
-        ensures succeeded { OnOk result (Succeeded (F.calls self.old.file) (F.calls self.new.file)) }
+        ensures succeeded { OnOk result (MovedOnce (F.calls self.old.file) (F.calls self.new.file)) }
         ensures lacked { OnErr result (Lacked (F.calls self.old.file) (F.calls self.new.file)) }
     {
         self.calls = self.calls.saturating_add(1);
@@ -84,7 +84,7 @@ impl<F: ImageFile> Store for FileStore<F> {
         ensures cause { OnErr result (Rose self.old.faults self.new.faults) }
         ensures once { OnErr result (self.new.faults ≡ next_count self.old.faults) }
 
-        ensures succeeded { OnOk result (Succeeded (F.calls self.old.file) (F.calls self.new.file)) }
+        ensures succeeded { OnOk result (MovedOnce (F.calls self.old.file) (F.calls self.new.file)) }
         ensures lacked { OnErr result (Lacked (F.calls self.old.file) (F.calls self.new.file)) }
     {
         self.calls = self.calls.saturating_add(1);
@@ -101,7 +101,7 @@ impl<F: ImageFile> Store for FileStore<F> {
         ensures cause { OnErr result (Rose self.old.faults self.new.faults) }
         ensures once { OnErr result (self.new.faults ≡ next_count self.old.faults) }
 
-        ensures succeeded { OnOk result (Succeeded (F.calls self.old.file) (F.calls self.new.file)) }
+        ensures succeeded { OnOk result (SyncedOnce (F.calls self.old.file) (F.calls self.new.file)) }
         ensures lacked { OnErr result (Lacked (F.calls self.old.file) (F.calls self.new.file)) }
     {
         self.calls = self.calls.saturating_add(1);
@@ -141,7 +141,7 @@ fn read_whole<F: ImageFile>(file: &mut F, at: u64, buf: &mut [u8]) -> Result<(),
     ensures told { OnOk result (ReadsRange (F.content file.old) at buf.new) }
     ensures content { F.content file.new ≡ F.content file.old }
     ensures size { F.size file.new ≡ F.size file.old }
-    ensures succeeded { OnOk result (Succeeded (F.calls file.old) (F.calls file.new)) }
+    ensures succeeded { OnOk result (MovedOnce (F.calls file.old) (F.calls file.new)) }
     ensures lacked { OnErr result (Lacked (F.calls file.old) (F.calls file.new)) }
 {
     for tried in 0..MOST_TRIES {
@@ -159,7 +159,7 @@ fn write_whole<F: ImageFile>(file: &mut F, at: u64, bytes: &[u8]) -> Result<(), 
     ensures told { OnOk result (WritesRange (F.content file.old) (F.content file.new) at bytes.now) }
     ensures outside { KeepsOutside (F.content file.old) (F.content file.new) at (length bytes.now) }
     ensures size { F.size file.new ≡ F.size file.old }
-    ensures succeeded { OnOk result (Succeeded (F.calls file.old) (F.calls file.new)) }
+    ensures succeeded { OnOk result (MovedOnce (F.calls file.old) (F.calls file.new)) }
     ensures lacked { OnErr result (Lacked (F.calls file.old) (F.calls file.new)) }
 {
     for tried in 0..MOST_TRIES {
@@ -175,7 +175,7 @@ fn write_whole<F: ImageFile>(file: &mut F, at: u64, bytes: &[u8]) -> Result<(), 
 fn sync<F: ImageFile>(file: &mut F) -> Result<(), Failed>
     ensures content { F.content file.new ≡ F.content file.old }
     ensures size { F.size file.new ≡ F.size file.old }
-    ensures succeeded { OnOk result (Succeeded (F.calls file.old) (F.calls file.new)) }
+    ensures succeeded { OnOk result (SyncedOnce (F.calls file.old) (F.calls file.new)) }
     ensures lacked { OnErr result (Lacked (F.calls file.old) (F.calls file.new)) }
 {
     for tried in 0..MOST_TRIES {

@@ -3,6 +3,7 @@
 //! its count.
 #![tactic(auto)]
 
+mod call_counts;
 mod file_store;
 mod image_file;
 mod list_host;

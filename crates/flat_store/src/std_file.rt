@@ -1,7 +1,7 @@
-ghost use Rattle.std.specs.Prelude.{◌≡◌, None, if◌then◌else◌};
-ghost use Rattle.flat_store.specs.Files.{after_fault, after_move, after_sync, one_done, one_failed};
-ghost use Rattle.flat_store.specs.StdFileState.{file_calls};
+ghost use Rattle.std.specs.Prelude.{None};
+ghost use Rattle.flat_store.specs.Files.{after_move, after_sync};
 
+use crate::call_counts::CallCounts;
 use crate::{FileFault, ImageFile};
 use std::fs::{File, OpenOptions};
 use std::io;
@@ -14,9 +14,7 @@ use std::rt::Files;
 pub struct StdFile {
     file: File,
     len: u64,
-    done: u64,
-    failed: u64,
-    interrupted: u64,
+    calls: CallCounts,
 }
 
 impl StdFile {
@@ -30,33 +28,8 @@ impl StdFile {
         Ok(StdFile {
             file,
             len,
-            done: 0,
-            failed: 0,
-            interrupted: 0,
+            calls: CallCounts::new(),
         })
-    }
-
-    // Counts a call that moved all, or less.
-    fn note_move(&mut self, whole: bool)
-        ensures calls { file_calls self.new ≡ (if whole then one_done (file_calls self.old) else one_failed (file_calls self.old)) }
-        ensures len { self.new.len ≡ self.old.len }
-    {
-        if whole {
-            self.done = self.done.saturating_add(1);
-        } else {
-            self.failed = self.failed.saturating_add(1);
-        }
-    }
-
-    // Counts a call that failed.
-    fn note_fault(&mut self, fault: FileFault)
-        ensures calls { file_calls self.new ≡ after_fault fault (file_calls self.old) }
-        ensures len { self.new.len ≡ self.old.len }
-    {
-        match fault {
-            FileFault::Interrupted => self.interrupted = self.interrupted.saturating_add(1),
-            FileFault::Other => self.failed = self.failed.saturating_add(1),
-        }
     }
 }
 
@@ -65,7 +38,7 @@ impl ImageFile for StdFile {
 
     ghost size = { λ f. f.len };
 
-    ghost calls = { file_calls };
+    ghost calls = { λ f. f.calls };
 
     ghost told_size = { λ _. tt };
 
@@ -76,12 +49,12 @@ impl ImageFile for StdFile {
     fn read_some(&mut self, at: u64, buf: &mut [u8]) -> Result<usize, FileFault> {
         match self.file.read_at(buf, at) {
             Ok(moved) => {
-                self.note_move(moved == buf.len());
+                self.calls.note_move(moved == buf.len());
                 Ok(moved)
             }
             Err(error) => {
                 let fault = fault_of(&error);
-                self.note_fault(fault);
+                self.calls.note_fault(fault);
                 Err(fault)
             }
         }
@@ -90,12 +63,12 @@ impl ImageFile for StdFile {
     fn write_some(&mut self, at: u64, bytes: &[u8]) -> Result<usize, FileFault> {
         match self.file.write_at(bytes, at) {
             Ok(moved) => {
-                self.note_move(moved == bytes.len());
+                self.calls.note_move(moved == bytes.len());
                 Ok(moved)
             }
             Err(error) => {
                 let fault = fault_of(&error);
-                self.note_fault(fault);
+                self.calls.note_fault(fault);
                 Err(fault)
             }
         }
@@ -104,12 +77,12 @@ impl ImageFile for StdFile {
     fn sync(&mut self) -> Result<(), FileFault> {
         match self.file.sync_data() {
             Ok(()) => {
-                self.note_move(true);
+                self.calls.note_sync();
                 Ok(())
             }
             Err(error) => {
                 let fault = fault_of(&error);
-                self.note_fault(fault);
+                self.calls.note_fault(fault);
                 Err(fault)
             }
         }

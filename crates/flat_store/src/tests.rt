@@ -1,6 +1,8 @@
-ghost use Rattle.std.specs.Prelude.{◌≡◌, ◌≤◌, IfOk};
-ghost use Rattle.flat_store.specs.Files.{after_move};
+ghost use Rattle.std.specs.Prelude.{◌≡◌, ◌≤◌, if◌then◌else◌, IfOk};
+ghost use Rattle.flat_store.specs.Files.{after_fault, after_move};
+ghost use Rattle.flat_store.specs.declared.image_file.FileFault.TheVariants.{Interrupted};
 
+use crate::call_counts::CallCounts;
 use crate::*;
 use std::fs;
 use std::test::Fail;
@@ -11,9 +13,7 @@ use vio_io::{AttachFault, Failed, Host, Store};
 struct AnsweringFile {
     interruptions: u32,
     answer: Result<usize, FileFault>,
-    done: u64,
-    failed: u64,
-    interrupted: u64,
+    calls: CallCounts,
 }
 
 impl AnsweringFile {
@@ -21,34 +21,40 @@ impl AnsweringFile {
         AnsweringFile {
             interruptions,
             answer,
-            done: 0,
-            failed: 0,
-            interrupted: 0,
+            calls: CallCounts::new(),
         }
     }
 
-    // Answers a call that is asked to move so many bytes, and counts it.
-    fn call(&mut self, wanted: usize) -> Result<usize, FileFault>
-        ensures within { IfOk result (λ n. n ≤ wanted) }
-        ensures calls { record { done = self.new.done; failed = self.new.failed; interrupted = self.new.interrupted } ≡ after_move wanted result (record { done = self.old.done; failed = self.old.failed; interrupted = self.old.interrupted }) }
+    // Whether the next call is interrupted.
+    fn interrupts(&mut self) -> bool
+        ensures calls { self.new.calls ≡ (if result then after_fault Interrupted self.old.calls else self.old.calls) }
+        ensures answer { self.new.answer ≡ self.old.answer }
     {
-        if self.interruptions > 0 {
-            self.interruptions -= 1;
-            self.interrupted = self.interrupted.saturating_add(1);
+        if self.interruptions == 0 {
+            return false;
+        }
+        self.interruptions -= 1;
+        self.calls.note_fault(FileFault::Interrupted);
+        true
+    }
+
+    // Answers a call that is asked to move so many bytes, and counts it.
+    fn moves(&mut self, wanted: usize) -> Result<usize, FileFault>
+        ensures within { IfOk result (λ n. n ≤ wanted) }
+        ensures calls { self.new.calls ≡ after_move wanted result self.old.calls }
+    {
+        if self.interrupts() {
             return Err(FileFault::Interrupted);
         }
         match self.answer {
-            Ok(moved) if moved >= wanted => {
-                self.done = self.done.saturating_add(1);
-                Ok(wanted)
+            Ok(most) => {
+                let moved = most.min(wanted);
+                self.calls.note_move(moved == wanted);
+                Ok(moved)
             }
-            Err(FileFault::Interrupted) => {
-                self.interrupted = self.interrupted.saturating_add(1);
-                Err(FileFault::Interrupted)
-            }
-            answer => {
-                self.failed = self.failed.saturating_add(1);
-                answer
+            Err(fault) => {
+                self.calls.note_fault(fault);
+                Err(fault)
             }
         }
     }
@@ -61,7 +67,7 @@ impl ImageFile for AnsweringFile {
 
     ghost size = { λ _. 8192 };
 
-    ghost calls = { λ f. record { done = f.done; failed = f.failed; interrupted = f.interrupted } };
+    ghost calls = { λ f. f.calls };
 
     ghost told_size = { λ _. tt };
 
@@ -70,17 +76,26 @@ impl ImageFile for AnsweringFile {
     }
 
     fn read_some(&mut self, _: u64, buf: &mut [u8]) -> Result<usize, FileFault> {
-        self.call(buf.len())
+        self.moves(buf.len())
     }
 
     fn write_some(&mut self, _: u64, bytes: &[u8]) -> Result<usize, FileFault> {
-        self.call(bytes.len())
+        self.moves(bytes.len())
     }
 
     fn sync(&mut self) -> Result<(), FileFault> {
-        match self.call(0) {
-            Ok(_) => Ok(()),
-            Err(fault) => Err(fault),
+        if self.interrupts() {
+            return Err(FileFault::Interrupted);
+        }
+        match self.answer {
+            Ok(_) => {
+                self.calls.note_sync();
+                Ok(())
+            }
+            Err(fault) => {
+                self.calls.note_fault(fault);
+                Err(fault)
+            }
         }
     }
 }

@@ -1,0 +1,69 @@
+ghost use Rattle.std.specs.Prelude.{◌≡◌, if◌then◌else◌};
+ghost use Rattle.flat_store.specs.Files.{after_fault, one_failed, one_moved, one_synced};
+
+use crate::FileFault;
+use std::marker::Model;
+
+/// What the calls of a file came to, counted by kind. A count stands still at its type's end.
+#[derive(Debug, Drop)]
+pub(crate) struct CallCounts {
+    moved: u64,
+    synced: u64,
+    failed: u64,
+    interrupted: u64,
+}
+
+impl Model for CallCounts {
+    ghost use Rattle.flat_store.specs.Files.{FileCalls};
+
+    ghost Value = { FileCalls };
+
+    ghost view = { λ c. record {
+      moved = c.moved;
+      synced = c.synced;
+      failed = c.failed;
+      interrupted = c.interrupted;
+    } };
+}
+
+impl CallCounts {
+    /// No call yet.
+    pub(crate) fn new() -> Self
+        ensures { result ≡ record { moved = 0; synced = 0; failed = 0; interrupted = 0 } }
+    {
+        CallCounts {
+            moved: 0,
+            synced: 0,
+            failed: 0,
+            interrupted: 0,
+        }
+    }
+
+    /// A call that moved all that was asked, or less.
+    pub(crate) fn note_move(&mut self, whole: bool)
+        ensures { self.new ≡ (if whole then one_moved self.old else one_failed self.old) }
+    {
+        if whole {
+            self.moved = self.moved.saturating_add(1);
+        } else {
+            self.failed = self.failed.saturating_add(1);
+        }
+    }
+
+    /// A call that made what was written last.
+    pub(crate) fn note_sync(&mut self)
+        ensures { self.new ≡ one_synced self.old }
+    {
+        self.synced = self.synced.saturating_add(1);
+    }
+
+    /// A call that failed.
+    pub(crate) fn note_fault(&mut self, fault: FileFault)
+        ensures { self.new ≡ after_fault fault self.old }
+    {
+        match fault {
+            FileFault::Interrupted => self.interrupted = self.interrupted.saturating_add(1),
+            FileFault::Other => self.failed = self.failed.saturating_add(1),
+        }
+    }
+}
