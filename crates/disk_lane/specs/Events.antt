@@ -8,7 +8,7 @@ use Rattle.lane_law.specs.WireEvent.{ByStep, giver}
 use Rattle.disk_steps.specs.DiskEvent.{CalmReset, CalmRestart, CalmStart, CalmStop, CalmTick, DiskEvent, Off, OnWire, Rests, Started, Stopped, Turns}
 use Rattle.vdisk_client.specs.declared.answers.ClientOut.{ClientOut}
 use Rattle.vdisk_client.specs.declared.answers.ClientOut.TheVariants as client_out
-use Rattle.vdisk_server.specs.Answering.{Calls, KeepsStore, server_event}
+use Rattle.vdisk_server.specs.Answering.{Calls, Flushes, KeepsStore, server_event}
 use Rattle.vdisk_server.specs.declared.answers.ServerOut.{ServerOut}
 
 -- what a server answers that runs or not
@@ -55,6 +55,10 @@ KeepsStoreOf None old new = new ≡ old
 abbrev pub CallsOf : Option ServerOut → ℕ → ℕ → ℕ → ℕ → Type 0
 CallsOf (Some answer) calls new_calls faults new_faults = Calls answer calls new_calls faults new_faults
 CallsOf None calls new_calls faults new_faults = (new_calls ≡ calls) × (new_faults ≡ faults)
+
+abbrev pub FlushesOf : Option ServerOut → ℕ → ℕ → Type 0
+FlushesOf (Some answer) flushes new_flushes = Flushes answer flushes new_flushes
+FlushesOf None flushes new_flushes = new_flushes ≡ flushes
 
 -- a client's step resets its end for a cause of its own, none that a script, a restart or a tick gives
 abbrev pub ResetsOwn : ClientOut → Type 0

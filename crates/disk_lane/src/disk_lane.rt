@@ -7,7 +7,7 @@ ghost use Rattle.disk_steps.specs.LaneState.{fresh, IsShape};
 ghost use Rattle.disk_steps.specs.LaneStep.{LaneStep};
 ghost use Rattle.disk_steps.specs.Served.{Served};
 ghost use Rattle.vdisk_client.specs.Calls.{TellsLength, admitted, client_event, front_count};
-ghost use Rattle.disk_lane.specs.Events.{CallsOf, KeepsStoreOf, ResetsOwn, answered, lost_event, reset_event};
+ghost use Rattle.disk_lane.specs.Events.{CallsOf, FlushesOf, KeepsStoreOf, ResetsOwn, answered, lost_event, reset_event};
 ghost use Rattle.disk_lane.specs.Events.{restart_event, served_event, start_event, stop_event, tick_event};
 
 use crate::lane_ends::LaneEnds;
@@ -94,12 +94,13 @@ impl DiskLane {
     }
 
     /// Makes one step of the server over its store, and answers `None` where it is stopped. A step calls the store once for a
-    /// unit or a flush, and else not at all.
+    /// unit or a flush, and else not at all. A flush flushes it, and no other step does.
     pub fn step_server<D: Store>(&mut self, store: &mut D) -> Option<ServerOut>
         requires region { 512 * (self.old.shape.first + self.old.shape.blocks) ≤ D.size store.old }
         ensures step { Served self.old (D.content store.old) (served_event result) self.new (D.content store.new) }
         ensures store { KeepsStoreOf result store.old store.new }
         ensures calls { CallsOf result (D.calls store.old) (D.calls store.new) (D.faults store.old) (D.faults store.new) }
+        ensures flushes { FlushesOf result (D.flushes store.old) (D.flushes store.new) }
         ensures size { D.size store.new ≡ D.size store.old }
         ensures shape { self.new.shape ≡ self.old.shape }
     {
@@ -121,6 +122,7 @@ impl DiskLane {
         ensures store { KeepsStoreOf (answered result out.new) store.old store.new }
         ensures calls { CallsOf (answered result out.new) (D.calls store.old) (D.calls store.new) (D.faults store.old)
             (D.faults store.new) }
+        ensures flushes { FlushesOf (answered result out.new) (D.flushes store.old) (D.flushes store.new) }
         ensures size { D.size store.new ≡ D.size store.old }
         ensures shape { self.new.shape ≡ self.old.shape }
     {

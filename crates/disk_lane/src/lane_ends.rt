@@ -9,7 +9,7 @@ ghost use Rattle.disk_steps.specs.LaneState.{fresh, IsShape};
 ghost use Rattle.disk_steps.specs.LaneStep.{LaneStep, stored_blocks};
 ghost use Rattle.disk_steps.specs.Served.{Served};
 ghost use Rattle.vdisk_client.specs.Calls.{TellsLength, admitted, client_event, front_count};
-ghost use Rattle.vdisk_server.specs.Answering.{Calls, KeepsStore, server_event};
+ghost use Rattle.vdisk_server.specs.Answering.{Calls, Flushes, KeepsStore, server_event};
 ghost use Rattle.disk_lane.specs.Events.{ResetsOwn, lost_event, reset_event, restart_event, start_event, stop_event, tick_event};
 ghost use Rattle.disk_lane.specs.Noted.{noted};
 
@@ -111,6 +111,7 @@ impl LaneEnds {
         ensures store { KeepsStore out.new store.old store.new }
         ensures calls { Calls out.new (D.calls store.old) (D.calls store.new) (D.faults store.old)
             (D.faults store.new) }
+        ensures flushes { Flushes out.new (D.flushes store.old) (D.flushes store.new) }
         ensures size { D.size store.new ≡ D.size store.old }
     {
         self.server.step_into(&mut self.channel, &self.table, &mut self.memory, store, out);

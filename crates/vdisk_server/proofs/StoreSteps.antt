@@ -9,6 +9,7 @@ use Rattle.disk_steps.specs.ServerStep.{ServerStep, with_progress}
 use Rattle.disk_steps.specs.ServerWork.{Reach}
 use Rattle.vdisk_server.specs.declared.answers.ServerOut.{ServerOut}
 use Rattle.vdisk_server.specs.declared.answers.ServerOut.TheVariants as out
+use Rattle.vdisk_server.specs.Answering as answering
 use Rattle.vdisk_server.specs.Answering.{Calls, KeepsStore, LeavesStore, Serves, StepsAlone, StepsIn, ToldAfter, WithinDisk, channel_after, reach_over, sees, server_event}
 use Rattle.vdisk_server.specs.Pieces.{MovedFor, PieceIn, PieceOn, StoredFor, disk_at}
 
@@ -48,6 +49,10 @@ leaves_calls (out.Desc slot bytes) calls faults leaves = (refl, refl)
 leaves_calls (out.Moved unit fault) calls faults leaves = (refl, refl)
 leaves_calls (out.Finished slot status) calls faults leaves = (refl, refl)
 leaves_calls (out.Reset cause packet) calls faults leaves = (refl, refl)
+
+pub leaves_flushes : (answer : ServerOut) (flushes : ℕ) → LeavesStore answer → answering.Flushes answer flushes flushes
+leaves_flushes (out.Stored operation block count failed) flushes leaves = absurd leaves
+leaves_flushes other flushes leaves = refl
 
 pub leaves_within : (answer : ServerOut) (blocks : ℕ) → LeavesStore answer → WithinDisk blocks answer
 leaves_within (out.Stored operation block count failed) blocks leaves = absurd leaves

@@ -1,5 +1,5 @@
 -- The answer of a step as an event of the disk's lane, and what the step does to the channel and to the store.
-use Rattle.std.specs.Prelude.{◌≡◌, ℕ, ◌+◌, ◌≤◌, Bool, true, false, List, [], Option, ⊤}
+use Rattle.std.specs.Prelude.{◌≡◌, ℕ, ◌+◌, ◌≤◌, ◌==◌, Bool, true, false, if◌then◌else◌, List, [], Option, ⊤}
 use Rattle.cookie_copy.specs.Faults.{both_up}
 use Rattle.ldc_queue.specs.ChannelView.{ChannelView, channel_with, channel_without_first, configured_channel}
 use Rattle.ldc_queue.specs.declared.end.End.TheVariants.{A, B}
@@ -71,6 +71,11 @@ pub record CalledOnce (failed : Bool) (calls new_calls faults new_faults : ℕ) 
 abbrev pub Calls : ServerOut → ℕ → ℕ → ℕ → ℕ → Type 0
 Calls (out.Stored operation block count failed) calls new_calls faults new_faults = CalledOnce failed calls new_calls faults new_faults
 Calls _ calls new_calls faults new_faults = (new_calls ≡ calls) × (new_faults ≡ faults)
+
+-- a flush, the operation 3, is one flush of the store, whether it failed or not; no other step flushes it
+abbrev pub Flushes : ServerOut → ℕ → ℕ → Type 0
+Flushes (out.Stored operation block count failed) flushes new_flushes = new_flushes ≡ (if operation == 3 then next_count flushes else flushes)
+Flushes _ flushes new_flushes = new_flushes ≡ flushes
 
 -- what is read or written lies in a disk of so many blocks
 abbrev pub WithinDisk : ℕ → ServerOut → Type 0

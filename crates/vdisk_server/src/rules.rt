@@ -11,7 +11,7 @@ ghost use Rattle.vio_tag.specs.Form.{IsWellFormed};
 ghost use Rattle.vio_tag.specs.Spelling.{canonical};
 ghost use Rattle.disk_steps.specs.ServerPutting.{answered};
 ghost use Rattle.disk_steps.specs.ServerRule.{Joins, server_rule, serves, takes_first};
-ghost use Rattle.vdisk_server.specs.Answering.{Calls, KeepsStore, SameDisk, Serves, StepsAlone, WithinDisk, channel_after, sees};
+ghost use Rattle.vdisk_server.specs.Answering.{Calls, Flushes, KeepsStore, SameDisk, Serves, StepsAlone, WithinDisk, channel_after, sees};
 ghost use Rattle.vdisk_server.specs.Fields.{ring_session, state_of};
 ghost use Rattle.vdisk_server.specs.Putting.{PutsNext, PutsRightly, noted};
 ghost use Rattle.vdisk_server.specs.Rules.{owed_message};
@@ -48,6 +48,7 @@ impl ServerEnd {
         ensures store { KeepsStore out.new store.old store.new }
         ensures calls { Calls out.new (D.calls store.old) (D.calls store.new) (D.faults store.old)
             (D.faults store.new) }
+        ensures flushes { Flushes out.new (D.flushes store.old) (D.flushes store.new) }
         ensures size { D.size store.new ≡ D.size store.old }
         ensures within { WithinDisk self.old.region.blocks out.new }
         ensures disk { SameDisk (state_of self.old) (state_of self.new) }
@@ -194,6 +195,7 @@ impl ServerEnd {
         ensures store { KeepsStore out.new store.old store.new }
         ensures calls { Calls out.new (D.calls store.old) (D.calls store.new) (D.faults store.old)
             (D.faults store.new) }
+        ensures flushes { Flushes out.new (D.flushes store.old) (D.flushes store.new) }
         ensures size { D.size store.new ≡ D.size store.old }
         ensures within { WithinDisk self.old.region.blocks out.new }
         ensures disk { SameDisk (state_of self.old) (state_of self.new) }

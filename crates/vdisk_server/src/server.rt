@@ -3,7 +3,7 @@ ghost use Rattle.cookie_copy.specs.Faults.{PagesWithin};
 ghost use Rattle.ldc_queue.specs.ChannelView.{closed_channel, configured_channel};
 ghost use Rattle.ldc_queue.specs.declared.end.End.TheVariants.{B};
 ghost use Rattle.disk_steps.specs.ServerState.{fresh_server, joined_server, restarted_server};
-ghost use Rattle.vdisk_server.specs.Answering.{Calls, KeepsStore, SameDisk, Serves, WithinDisk, channel_after};
+ghost use Rattle.vdisk_server.specs.Answering.{Calls, Flushes, KeepsStore, SameDisk, Serves, WithinDisk, channel_after};
 
 use crate::answers::ServerOut;
 use crate::end::ServerEnd;
@@ -68,9 +68,11 @@ impl Server {
         ensures channel { channel.new ≡ channel_after result channel.old }
         ensures same_length { length memory.new ≡ length memory.old }
 
-        // The store is called once for a unit or a flush, and not at all in any other step.
+        // The store is called once for a unit or a flush, and not at all in any other step. A flush flushes it, and no other
+        // step does.
         ensures store { KeepsStore result store.old store.new }
         ensures calls { Calls result (D.calls store.old) (D.calls store.new) (D.faults store.old) (D.faults store.new) }
+        ensures flushes { Flushes result (D.flushes store.old) (D.flushes store.new) }
         ensures size { D.size store.new ≡ D.size store.old }
         ensures within { WithinDisk self.old.blocks result }
         ensures disk { SameDisk self.old self.new }
@@ -95,9 +97,13 @@ impl Server {
             memory.new (D.content store.new) }
         ensures channel { channel.new ≡ channel_after out.new channel.old }
         ensures same_length { length memory.new ≡ length memory.old }
+
+        // The store is called once for a unit or a flush, and not at all in any other step. A flush flushes it, and no other
+        // step does.
         ensures store { KeepsStore out.new store.old store.new }
         ensures calls { Calls out.new (D.calls store.old) (D.calls store.new) (D.faults store.old)
             (D.faults store.new) }
+        ensures flushes { Flushes out.new (D.flushes store.old) (D.flushes store.new) }
         ensures size { D.size store.new ≡ D.size store.old }
         ensures within { WithinDisk self.old.blocks out.new }
         ensures disk { SameDisk self.old self.new }

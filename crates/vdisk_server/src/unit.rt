@@ -59,6 +59,7 @@ impl UnitBuffer {
         ensures content { D.content store.new ≡ D.content store.old }
         ensures size { D.size store.new ≡ D.size store.old }
         ensures calls { D.calls store.new ≡ next_count (D.calls store.old) }
+        ensures flushes { D.flushes store.new ≡ D.flushes store.old }
         ensures ok { OnOk result (D.faults store.new ≡ D.faults store.old) }
         ensures cause { OnErr result (Rose (D.faults store.old) (D.faults store.new)) }
         ensures once { OnErr result (D.faults store.new ≡ next_count (D.faults store.old)) }
@@ -99,6 +100,7 @@ fn read_front<D: Store>(store: &mut D, at: u64, bytes: &mut [u8], size: usize) -
     ensures content { D.content store.new ≡ D.content store.old }
     ensures size { D.size store.new ≡ D.size store.old }
     ensures calls { D.calls store.new ≡ next_count (D.calls store.old) }
+    ensures flushes { D.flushes store.new ≡ D.flushes store.old }
     ensures ok { OnOk result (D.faults store.new ≡ D.faults store.old) }
     ensures cause { OnErr result (Rose (D.faults store.old) (D.faults store.new)) }
     ensures once { OnErr result (D.faults store.new ≡ next_count (D.faults store.old)) }

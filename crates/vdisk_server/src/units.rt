@@ -7,7 +7,7 @@ ghost use Rattle.vdisk_msg.specs.Descriptor.{disk_desc_of};
 ghost use Rattle.vdisk_msg.specs.Pieces.{refusal_status, unit_count};
 ghost use Rattle.disk_steps.specs.ServerState.{Ends};
 ghost use Rattle.disk_steps.specs.ServerWork.{data_cookies, desc_of, first_progress, first_progress_of, gathers_next, length_of, reads_next, unit_block, unit_length};
-ghost use Rattle.vdisk_server.specs.Answering.{Calls, KeepsStore, WithinDisk, reach_over};
+ghost use Rattle.vdisk_server.specs.Answering.{Calls, Flushes, KeepsStore, WithinDisk, reach_over};
 ghost use Rattle.vdisk_server.specs.Fields.{progress_of, work_with};
 ghost use Rattle.vdisk_server.specs.Pieces.{PieceIn, PieceOn};
 ghost use Rattle.vdisk_server.specs.Standing.{IsUnit};
@@ -149,6 +149,7 @@ impl Work {
             (work_with self.new buffer.new) (D.content store.new) }
         ensures calls { Calls out.new (D.calls store.old) (D.calls store.new) (D.faults store.old)
             (D.faults store.new) }
+        ensures flushes { Flushes out.new (D.flushes store.old) (D.flushes store.new) }
         ensures size { D.size store.new ≡ D.size store.old }
         ensures within { WithinDisk region.blocks out.new }
     {
@@ -194,6 +195,7 @@ impl Work {
             (work_with self.new buffer.now) (D.content store.new) }
         ensures calls { Calls out.new (D.calls store.old) (D.calls store.new) (D.faults store.old)
             (D.faults store.new) }
+        ensures flushes { Flushes out.new (D.flushes store.old) (D.flushes store.new) }
         ensures size { D.size store.new ≡ D.size store.old }
         ensures within { WithinDisk region.blocks out.new }
     {
@@ -229,6 +231,7 @@ impl Work {
             out.new (work_with self.new bytes) (D.content store.new) }
         ensures calls { Calls out.new (D.calls store.old) (D.calls store.new) (D.faults store.old)
             (D.faults store.new) }
+        ensures flushes { Flushes out.new (D.flushes store.old) (D.flushes store.new) }
         ensures size { D.size store.new ≡ D.size store.old }
         ensures within { (blocks : ℕ) → WithinDisk blocks out.new }
     {

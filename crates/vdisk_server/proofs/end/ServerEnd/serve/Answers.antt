@@ -4,7 +4,7 @@ use Rattle.disk_steps.specs.ServerState.{Work}
 use Rattle.vdisk_server.specs.declared.work.Work.{Work as KeptWork}
 use Rattle.vdisk_server.specs.Answering.{reach_over}
 use Rattle.vdisk_server.specs.Fields.{ring_session, state_of, work_of, work_with}
-use Rattle.vdisk_server.proofs.StoreSteps.{in_channel, in_leaves, in_serves, leaves_calls, leaves_store, leaves_within, on_channel, on_serves, on_store, piece_steps}
+use Rattle.vdisk_server.proofs.StoreSteps.{in_channel, in_leaves, in_serves, leaves_calls, leaves_flushes, leaves_store, leaves_within, on_channel, on_serves, on_store, piece_steps}
 use Rattle.vdisk_server.proofs.end.ServerEnd.serve.Goals as goal
 
 pub returns-in-Flushes-clause-step : goal.returns-in-Flushes-clause-step
@@ -61,6 +61,12 @@ returns-in-Gathers-clause-store g c =
 pub returns-in-Gathers-clause-calls : goal.returns-in-Gathers-clause-calls
 returns-in-Gathers-clause-calls g c =
     leaves_calls c.gather_unit.new.out (g.D.Store.calls c.args.store.now) (g.D.Store.faults c.args.store.now)
+    (in_leaves (work_with c.in-Some.work c.args.self.now.unit) (reach_over c.args.channel.now c.args.table.now c.args.memory.now) c.gather_unit.new.out
+    (work_with c.gather_unit.new.self c.gather_unit.new.buffer) c.args.memory.now c.gather_unit.ensures.piece)
+
+pub returns-in-Gathers-clause-flushes : goal.returns-in-Gathers-clause-flushes
+returns-in-Gathers-clause-flushes g c =
+    leaves_flushes c.gather_unit.new.out (g.D.Store.flushes c.args.store.now)
     (in_leaves (work_with c.in-Some.work c.args.self.now.unit) (reach_over c.args.channel.now c.args.table.now c.args.memory.now) c.gather_unit.new.out
     (work_with c.gather_unit.new.self c.gather_unit.new.buffer) c.args.memory.now c.gather_unit.ensures.piece)
 
