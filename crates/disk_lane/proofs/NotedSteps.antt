@@ -4,8 +4,6 @@ use Rattle.ldc_queue.specs.ChannelView.{ChannelView}
 use Rattle.ldc_queue.specs.declared.end.ChannelState.TheVariants.{Up}
 use Rattle.ldc_queue.specs.declared.end.End.TheVariants.{A, B}
 use Rattle.ldc_queue.specs.Wire.{Wire, state_of}
-use Rattle.vio_tag.specs.declared.cause.Cause.{Cause}
-use Rattle.lane_law.specs.WireLog.{lossy_behind}
 use Rattle.disk_lane.specs.Events.{ResetsOwn}
 use Rattle.disk_steps.proofs.OwnSteps.{client_resets_own}
 use Rattle.disk_steps.specs.ClientRule.{client_rule}
@@ -22,11 +20,12 @@ use Rattle.vdisk_client.specs.OnLane.{client_moved}
 use Rattle.vdisk_client.specs.declared.answers.ClientOut.{ClientOut}
 use Rattle.vdisk_client.specs.declared.answers.ClientOut.TheVariants as client_out
 use Rattle.vdisk_server.proofs.LaneSteps.{served}
-use Rattle.vdisk_server.specs.Answering.{Serves, channel_after as server_channel_after, reach_over, server_event}
+use Rattle.descriptor_work.specs.Calling.{reach_over}
+use Rattle.vdisk_server.specs.Answering.{Serves, channel_after as server_channel_after, server_event}
 use Rattle.vdisk_server.specs.Answering.{sees as server_sees}
 use Rattle.vdisk_server.specs.InLane.{lane_after}
-use Rattle.vdisk_server.specs.declared.answers.ServerOut.{ServerOut}
-use Rattle.vdisk_server.specs.declared.answers.ServerOut.TheVariants as server_out
+use Rattle.descriptor_work.specs.declared.answers.ServerOut.{ServerOut}
+use Rattle.descriptor_work.specs.declared.answers.ServerOut.TheVariants as server_out
 use Rattle.disk_lane.proofs.EndsUp.{behind_down, behind_up, client_joins, client_resets, server_joins, server_resets}
 use Rattle.disk_lane.specs.Noted.{noted}
 

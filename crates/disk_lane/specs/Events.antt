@@ -8,8 +8,9 @@ use Rattle.lane_law.specs.WireEvent.{ByStep, giver}
 use Rattle.disk_steps.specs.DiskEvent.{CalmReset, CalmRestart, CalmStart, CalmStop, CalmTick, DiskEvent, Off, OnWire, Rests, Started, Stopped, Turns}
 use Rattle.vdisk_client.specs.declared.answers.ClientOut.{ClientOut}
 use Rattle.vdisk_client.specs.declared.answers.ClientOut.TheVariants as client_out
-use Rattle.vdisk_server.specs.Answering.{Calls, Flushes, KeepsStore, server_event}
-use Rattle.vdisk_server.specs.declared.answers.ServerOut.{ServerOut}
+use Rattle.descriptor_work.specs.Calling.{Calls, Flushes}
+use Rattle.vdisk_server.specs.Answering.{KeepsStore, server_event}
+use Rattle.descriptor_work.specs.declared.answers.ServerOut.{ServerOut}
 
 -- what a server answers that runs or not
 abbrev pub answered : Bool → ServerOut → Option ServerOut

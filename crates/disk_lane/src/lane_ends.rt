@@ -9,7 +9,8 @@ ghost use Rattle.disk_steps.specs.LaneState.{fresh, IsShape};
 ghost use Rattle.disk_steps.specs.LaneStep.{LaneStep, stored_blocks};
 ghost use Rattle.disk_steps.specs.Served.{Served};
 ghost use Rattle.vdisk_client.specs.Calls.{TellsLength, admitted, client_event, front_count};
-ghost use Rattle.vdisk_server.specs.Answering.{Calls, Flushes, KeepsStore, server_event};
+ghost use Rattle.descriptor_work.specs.Calling.{Calls, Flushes};
+ghost use Rattle.vdisk_server.specs.Answering.{KeepsStore, server_event};
 ghost use Rattle.disk_lane.specs.Events.{ResetsOwn, lost_event, reset_event, restart_event, start_event, stop_event, tick_event};
 ghost use Rattle.disk_lane.specs.Noted.{noted};
 

@@ -4,8 +4,8 @@ use Rattle.disk_steps.specs.DiskEvent.{DiskEvent, Off, OnWire, Turns}
 use Rattle.lane_law.specs.WireEvent.{Idle}
 use Rattle.vdisk_client.specs.declared.answers.ClientOut.{ClientOut}
 use Rattle.vdisk_client.specs.declared.answers.ClientOut.TheVariants as client_out
-use Rattle.vdisk_server.specs.declared.answers.ServerOut.{ServerOut}
-use Rattle.vdisk_server.specs.declared.answers.ServerOut.TheVariants as server_out
+use Rattle.descriptor_work.specs.declared.answers.ServerOut.{ServerOut}
+use Rattle.descriptor_work.specs.declared.answers.ServerOut.TheVariants as server_out
 
 -- an end idled, or its server is stopped: a settle leaves it out
 abbrev pub left_out : DiskEvent → Bool

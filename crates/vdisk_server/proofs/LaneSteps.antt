@@ -14,9 +14,10 @@ use Rattle.disk_steps.specs.Served.{Served, ServedStep, StoreDid}
 use Rattle.disk_steps.specs.ServerState.{ServerState}
 use Rattle.disk_steps.specs.ServerStep.{ServerStep}
 use Rattle.disk_steps.specs.ServerWork.{Reach}
-use Rattle.vdisk_server.specs.declared.answers.ServerOut.{ServerOut}
-use Rattle.vdisk_server.specs.declared.answers.ServerOut.TheVariants as out
-use Rattle.vdisk_server.specs.Answering.{Serves, ToldAfter, channel_after, reach_over, sees, server_event}
+use Rattle.descriptor_work.specs.declared.answers.ServerOut.{ServerOut}
+use Rattle.descriptor_work.specs.declared.answers.ServerOut.TheVariants as out
+use Rattle.descriptor_work.specs.Calling.{reach_over}
+use Rattle.vdisk_server.specs.Answering.{Serves, ToldAfter, channel_after, sees, server_event}
 use Rattle.vdisk_server.specs.InLane.{lane_after}
 
 -- as the lane sees the channel

@@ -1,7 +1,6 @@
 pub mod HearSteps
 pub mod LaneSteps
 pub mod LinkSteps
-pub mod PieceSteps
 pub mod PutSteps
 pub mod RuleFacts
 pub mod RuleOrder

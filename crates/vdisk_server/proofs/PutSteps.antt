@@ -20,8 +20,8 @@ use Rattle.disk_steps.specs.EndPuts.{ComesUp, EndsOwn, EndsShake, Goes, PutKind,
 use Rattle.disk_steps.specs.ServerPutting.{server_holds, server_kind, server_opens, server_put, session_behind}
 use Rattle.disk_steps.specs.ServerRule.{server_rule}
 use Rattle.disk_steps.specs.ServerState.{ServerState}
-use Rattle.vdisk_server.specs.declared.answers.ServerOut.{ServerOut}
-use Rattle.vdisk_server.specs.declared.answers.ServerOut.TheVariants as out
+use Rattle.descriptor_work.specs.declared.answers.ServerOut.{ServerOut}
+use Rattle.descriptor_work.specs.declared.answers.ServerOut.TheVariants as out
 use Rattle.vdisk_server.specs.Answering.{StepsAlone, sees}
 use Rattle.vdisk_server.specs.Putting.{PutsNext, PutsRightly, message_put, noted}
 use Rattle.vdisk_server.specs.Standing.{Answers}

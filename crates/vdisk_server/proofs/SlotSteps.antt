@@ -16,9 +16,10 @@ use Rattle.disk_steps.specs.ServerRule.{Fetches, ServerRule, server_rule, serves
 use Rattle.disk_steps.specs.ServerState.{Progress, ServerSession, ServerState, Work, joined_server, peer_ring}
 use Rattle.disk_steps.specs.ServerStep.{ServerFails, WorkFails}
 use Rattle.disk_steps.specs.ServerWork.{CanFetch, EndFails, FetchFails, Reach, copy_number, header_of, slot_at, slot_fetched, with_word, word_fault}
-use Rattle.vdisk_server.specs.declared.answers.ServerOut.{ServerOut}
-use Rattle.vdisk_server.specs.declared.answers.ServerOut.TheVariants as out
-use Rattle.vdisk_server.specs.Answering.{StepsIn, reach_over, sees}
+use Rattle.descriptor_work.specs.declared.answers.ServerOut.{ServerOut}
+use Rattle.descriptor_work.specs.declared.answers.ServerOut.TheVariants as out
+use Rattle.descriptor_work.specs.Calling.{reach_over}
+use Rattle.vdisk_server.specs.Answering.{StepsIn, sees}
 use Rattle.vdisk_server.specs.Pieces.{EndedFor, Fetched, IsEnding}
 use Rattle.vdisk_server.specs.Rules.{begun_work, one_fetched, one_finished, work_begun, work_ended}
 

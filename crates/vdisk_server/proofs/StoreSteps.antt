@@ -7,11 +7,12 @@ use Rattle.disk_steps.specs.ServerRule.{Serves as ServesWork, answer, server_rul
 use Rattle.disk_steps.specs.ServerState.{Ends, Flushes, Gathers, Gives, Progress, Reads, ServerSession, ServerState, Work, Writes}
 use Rattle.disk_steps.specs.ServerStep.{ServerStep, with_progress}
 use Rattle.disk_steps.specs.ServerWork.{Reach}
-use Rattle.vdisk_server.specs.declared.answers.ServerOut.{ServerOut}
-use Rattle.vdisk_server.specs.declared.answers.ServerOut.TheVariants as out
-use Rattle.vdisk_server.specs.Answering as answering
-use Rattle.vdisk_server.specs.Answering.{Calls, KeepsStore, LeavesStore, Serves, StepsAlone, StepsIn, ToldAfter, WithinDisk, channel_after, reach_over, sees, server_event}
-use Rattle.vdisk_server.specs.Pieces.{MovedFor, PieceIn, PieceOn, StoredFor, disk_at}
+use Rattle.descriptor_work.specs.declared.answers.ServerOut.{ServerOut}
+use Rattle.descriptor_work.specs.declared.answers.ServerOut.TheVariants as out
+use Rattle.descriptor_work.specs.Calling as calling
+use Rattle.descriptor_work.specs.Calling.{Calls, WithinDisk, reach_over}
+use Rattle.vdisk_server.specs.Answering.{KeepsStore, LeavesStore, Serves, StepsAlone, StepsIn, ToldAfter, channel_after, sees, server_event}
+use Rattle.descriptor_work.specs.Pieces.{MovedFor, PieceIn, PieceOn, StoredFor, disk_at}
 
 -- STEPS that leave the store
 told_stays : (s : ServerState) (answer : ServerOut) (told : Option (List ℕ)) → LeavesStore answer → ToldAfter s answer [] told told
@@ -50,7 +51,7 @@ leaves_calls (out.Moved unit fault) calls faults leaves = (refl, refl)
 leaves_calls (out.Finished slot status) calls faults leaves = (refl, refl)
 leaves_calls (out.Reset cause packet) calls faults leaves = (refl, refl)
 
-pub leaves_flushes : (answer : ServerOut) (flushes : ℕ) → LeavesStore answer → answering.Flushes answer flushes flushes
+pub leaves_flushes : (answer : ServerOut) (flushes : ℕ) → LeavesStore answer → calling.Flushes answer flushes flushes
 leaves_flushes (out.Stored operation block count failed) flushes leaves = absurd leaves
 leaves_flushes other flushes leaves = refl
 

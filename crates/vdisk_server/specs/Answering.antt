@@ -1,10 +1,8 @@
 -- The answer of a step as an event of the disk's lane, and what the step does to the channel and to the store.
-use Rattle.std.specs.Prelude.{◌≡◌, ℕ, ◌+◌, ◌≤◌, ◌==◌, Bool, true, false, if◌then◌else◌, List, [], Option, ⊤}
-use Rattle.cookie_copy.specs.Faults.{both_up}
+use Rattle.std.specs.Prelude.{◌≡◌, ℕ, List, [], Option, ⊤}
 use Rattle.ldc_queue.specs.ChannelView.{ChannelView, channel_with, channel_without_first, configured_channel}
 use Rattle.ldc_queue.specs.declared.end.End.TheVariants.{A, B}
 use Rattle.map_table.specs.declared.table.Entry.{Entry}
-use Rattle.vio_io.specs.Causes.{Rose, next_count}
 use Rattle.lane_law.specs.WireEvent as wire
 use Rattle.disk_steps.specs.DiskEvent.{Desc, DiskEvent, Finished, Moved, OnWire, Stored, Works}
 use Rattle.disk_steps.specs.Seeing.{Seen, seen}
@@ -12,8 +10,9 @@ use Rattle.disk_steps.specs.Served.{StoreDoes}
 use Rattle.disk_steps.specs.ServerState.{ServerState}
 use Rattle.disk_steps.specs.ServerStep.{ServerStep}
 use Rattle.disk_steps.specs.ServerWork.{Reach}
-use Rattle.vdisk_server.specs.declared.answers.ServerOut.{ServerOut}
-use Rattle.vdisk_server.specs.declared.answers.ServerOut.TheVariants as out
+use Rattle.descriptor_work.specs.Calling.{reach_over}
+use Rattle.descriptor_work.specs.declared.answers.ServerOut.{ServerOut}
+use Rattle.descriptor_work.specs.declared.answers.ServerOut.TheVariants as out
 
 -- a server loses nothing but its own work, which its client asks for again
 abbrev pub server_event : ServerOut → DiskEvent
@@ -36,12 +35,9 @@ channel_after (out.Took packet opens) c = channel_without_first B c
 channel_after (out.Sent packet opens) c = channel_with A packet c
 channel_after _ c = c
 
--- what the server sees of the channel, and what it reaches by it
+-- what the server sees of the channel
 abbrev pub sees : ChannelView → Seen
 sees c = seen B c.entries c.wire
-
-abbrev pub reach_over : ChannelView → List (Option Entry) → List ℕ → Reach
-reach_over c table memory = record { both = both_up c.wire; table = table; memory = memory }
 
 -- what became of the bytes that the store tells, where it gave these
 abbrev pub ToldAfter : ServerState → ServerOut → List ℕ → Option (List ℕ) → Option (List ℕ) → Type 0
@@ -58,29 +54,6 @@ pub record Serves (s : ServerState) (c : ChannelView) (table : List (Option Entr
 abbrev pub KeepsStore : {D : Type 0} → ServerOut → D → D → Type 0
 KeepsStore (out.Stored operation block count failed) old new = ⊤
 KeepsStore _ old new = new ≡ old
-
--- one call was made, and it failed exactly where this says so
-abbrev pub FaultsAfter : Bool → ℕ → ℕ → Type 0
-FaultsAfter true old new = Rose old new × (new ≡ next_count old)
-FaultsAfter false old new = new ≡ old
-
-pub record CalledOnce (failed : Bool) (calls new_calls faults new_faults : ℕ) : Type 0 where
-  pub calls_are : new_calls ≡ next_count calls
-  pub faults_are : FaultsAfter failed faults new_faults
-
-abbrev pub Calls : ServerOut → ℕ → ℕ → ℕ → ℕ → Type 0
-Calls (out.Stored operation block count failed) calls new_calls faults new_faults = CalledOnce failed calls new_calls faults new_faults
-Calls _ calls new_calls faults new_faults = (new_calls ≡ calls) × (new_faults ≡ faults)
-
--- a flush, the operation 3, is one flush of the store, whether it failed or not; no other step flushes it
-abbrev pub Flushes : ServerOut → ℕ → ℕ → Type 0
-Flushes (out.Stored operation block count failed) flushes new_flushes = new_flushes ≡ (if operation == 3 then next_count flushes else flushes)
-Flushes _ flushes new_flushes = new_flushes ≡ flushes
-
--- what is read or written lies in a disk of so many blocks
-abbrev pub WithinDisk : ℕ → ServerOut → Type 0
-WithinDisk blocks (out.Stored operation block count failed) = block + count ≤ blocks
-WithinDisk blocks _ = ⊤
 
 -- the store isn't called
 abbrev pub LeavesStore : ServerOut → Type 0

@@ -3,10 +3,9 @@ use Rattle.std.specs.Prelude.{ℕ, List, Option, Some, None}
 use Rattle.vdisk_server.specs.declared.end.ServerEnd.{ServerEnd}
 use Rattle.vdisk_server.specs.declared.session.RingSession.{RingSession}
 use Rattle.vdisk_server.specs.declared.session.SlotRange.{SlotRange as KeptRange}
-use Rattle.vdisk_server.specs.declared.work.Progress.{Progress as KeptProgress}
-use Rattle.vdisk_server.specs.declared.work.Progress.TheVariants as kept
-use Rattle.vdisk_server.specs.declared.work.Work.{Work as KeptWork}
-use Rattle.disk_steps.specs.ServerState.{Ends, Flushes, Gathers, Gives, Progress, Reads, ServerSession, ServerState, SlotRange, Work, Writes}
+use Rattle.descriptor_work.specs.declared.work.Work.{Work as KeptWork}
+use Rattle.descriptor_work.specs.Fields.{work_with}
+use Rattle.disk_steps.specs.ServerState.{ServerSession, ServerState, SlotRange, Work}
 
 abbrev pub slot_range : KeptRange → SlotRange
 slot_range range = record { seq = range.seq; start = range.start; end = range.end; state = range.state }
@@ -28,18 +27,6 @@ ring_session session = record {
 abbrev pub session_of : Option RingSession → Option ServerSession
 session_of None = None
 session_of (Some session) = Some (ring_session session)
-
--- the progress of a descriptor, where these bytes are those of the unit in between
-abbrev pub progress_of : KeptProgress → List ℕ → Progress
-progress_of (kept.Reads unit) bytes = Reads unit
-progress_of (kept.Gives unit) bytes = Gives unit bytes
-progress_of (kept.Gathers unit) bytes = Gathers unit
-progress_of (kept.Writes unit) bytes = Writes unit bytes
-progress_of kept.Flushes bytes = Flushes
-progress_of (kept.Ends status) bytes = Ends status
-
-abbrev pub work_with : KeptWork → List ℕ → Work
-work_with work bytes = record { bytes = work.descriptor; progress = progress_of work.progress bytes }
 
 abbrev pub work_of : Option KeptWork → List ℕ → Option Work
 work_of None bytes = None

@@ -8,8 +8,8 @@ use Rattle.ldc_link.specs.Putting.{owes}
 use Rattle.vio_handshake.specs.Rules.{shake_sent}
 use Rattle.disk_steps.specs.ServerPutting.{answered, server_opens, server_put}
 use Rattle.disk_steps.specs.ServerState.{ServerState}
-use Rattle.vdisk_server.specs.declared.answers.ServerOut.{ServerOut}
-use Rattle.vdisk_server.specs.declared.answers.ServerOut.TheVariants as out
+use Rattle.descriptor_work.specs.declared.answers.ServerOut.{ServerOut}
+use Rattle.descriptor_work.specs.declared.answers.ServerOut.TheVariants as out
 use Rattle.vdisk_server.specs.Standing.{Answers}
 
 -- by a server whose link holds the message, where there is room

@@ -1,10 +1,9 @@
 -- What always holds of a server by itself.
-use Rattle.std.specs.Prelude.{◌≡◌, ◌≢◌, ℕ, ◌+◌, ◌*◌, ◌%◌, ◌<◌, ◌≤◌, true, false, [], length, Option, Some, None, ⊤}
+use Rattle.std.specs.Prelude.{◌≡◌, ◌≢◌, ℕ, ◌≤◌, true, false, [], length, Option, Some, None, ⊤}
 use Rattle.ldc_link.specs.declared.phase.LinkPhase.{LinkPhase}
 use Rattle.ldc_link.specs.declared.phase.LinkPhase.TheVariants as link
 use Rattle.ldc_link.specs.declared.phase.Role.TheVariants.{Responder}
 use Rattle.ldc_link.specs.LinkState.{LinkState, is_up}
-use Rattle.vdisk_msg.specs.declared.desc.DiskDesc.{DiskDesc}
 use Rattle.vio_handshake.specs.declared.handshake.Handshake.{Handshake}
 use Rattle.vio_handshake.specs.declared.handshake.Phase.{Phase}
 use Rattle.vio_handshake.specs.declared.handshake.Phase.TheVariants as shake
@@ -13,6 +12,7 @@ use Rattle.vio_handshake.specs.State.{OwesWell}
 use Rattle.disk_steps.specs.Offering.{server_offer}
 use Rattle.disk_steps.specs.ServerState.{Ends, Flushes, Gathers, Gives, Progress, Reads, ServerSession, ServerState, SlotRange, Work, Writes}
 use Rattle.disk_steps.specs.ServerWork.{desc_of, length_of}
+use Rattle.descriptor_work.specs.Units.{IsUnit}
 
 -- it is the responder of its link and of its handshake
 abbrev pub Answers : LinkPhase → Type 0
@@ -67,14 +67,6 @@ pub record Began (s : ServerState) : Type 0 where
 abbrev pub IsOpen : Option ServerSession → Phase → Type 0
 IsOpen None phase = ⊤
 IsOpen (Some session) phase = phase ≡ shake.Open
-
--- a unit of a descriptor that was found sound: whole blocks, within the disk, in at most five cookies
-pub record IsUnit (blocks unit : ℕ) (desc : DiskDesc) : Type 0 where
-  pub whole : desc.size % 512 ≡ 0
-  pub most : desc.size ≤ 32768
-  pub unit_in : 8192 * unit < desc.size
-  pub within : 512 * desc.offset + desc.size ≤ 512 * blocks
-  pub cookies : desc.count ≤ 5
 
 -- a unit in work is one of its descriptor, and the bytes between its two pieces are as many as it has
 abbrev pub WorksRightly : ℕ → Progress → Work → Type 0

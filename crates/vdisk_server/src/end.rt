@@ -13,11 +13,9 @@ ghost use Rattle.vdisk_server.specs.Fields.{ring_session, state_of};
 ghost use Rattle.vdisk_server.specs.Rules.{in_hand, owed_message, session_owes};
 ghost use Rattle.vdisk_server.specs.Standing.{IsOpen};
 
-use crate::answers::ServerOut;
 use crate::fetching::SLOT;
 use crate::session::RingSession;
-use crate::unit::UnitBuffer;
-use crate::work::Work;
+use descriptor_work::{ServerOut, UnitBuffer, Work};
 use disk_requests::disk_bytes;
 use dring::PeerRing;
 use flat_store::Region;

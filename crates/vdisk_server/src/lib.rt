@@ -6,8 +6,6 @@
 //! but `new` takes memory.
 #![tactic(auto)]
 
-mod answers;
-mod descriptor;
 mod end;
 mod fetching;
 mod finishing;
@@ -16,10 +14,7 @@ mod laws;
 mod rules;
 mod server;
 mod session;
-mod unit;
-mod units;
-mod work;
 
-pub use answers::ServerOut;
+pub use descriptor_work::ServerOut;
 pub use laws::steps_are_the_lanes;
 pub use server::Server;

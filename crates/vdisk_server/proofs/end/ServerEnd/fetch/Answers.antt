@@ -1,6 +1,6 @@
 use Rattle.std.proofs.Common.{ℕ, List, Result, subst}
 use Rattle.vio_tag.specs.declared.cause.Cause.{Cause}
-use Rattle.vdisk_server.specs.Answering.{reach_over}
+use Rattle.descriptor_work.specs.Calling.{reach_over}
 use Rattle.vdisk_server.specs.Fields.{ring_session, state_of}
 use Rattle.vdisk_server.specs.Pieces.{FetchedOr}
 use Rattle.vdisk_server.proofs.SlotSteps.{fetch_resets, fetch_step, slot_is}

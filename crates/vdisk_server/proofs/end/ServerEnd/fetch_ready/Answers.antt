@@ -1,5 +1,5 @@
 use Rattle.std.proofs.Common.{refl}
-use Rattle.vdisk_server.specs.Answering.{reach_over}
+use Rattle.descriptor_work.specs.Calling.{reach_over}
 use Rattle.vdisk_server.specs.Fields.{state_of}
 use Rattle.vdisk_server.proofs.SlotSteps.{fetch_marked, fetch_not_marked}
 use Rattle.vdisk_server.proofs.end.ServerEnd.fetch_ready.Goals as goal

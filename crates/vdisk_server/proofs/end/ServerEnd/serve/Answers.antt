@@ -1,9 +1,10 @@
 use Rattle.std.proofs.Common.{◌≡◌, [], Option, Some, ap, ◌∙◌}
 use Rattle.disk_steps.specs.ServerRule.{serves}
 use Rattle.disk_steps.specs.ServerState.{Work}
-use Rattle.vdisk_server.specs.declared.work.Work.{Work as KeptWork}
-use Rattle.vdisk_server.specs.Answering.{reach_over}
-use Rattle.vdisk_server.specs.Fields.{ring_session, state_of, work_of, work_with}
+use Rattle.descriptor_work.specs.declared.work.Work.{Work as KeptWork}
+use Rattle.descriptor_work.specs.Calling.{reach_over}
+use Rattle.descriptor_work.specs.Fields.{work_with}
+use Rattle.vdisk_server.specs.Fields.{ring_session, state_of, work_of}
 use Rattle.vdisk_server.proofs.StoreSteps.{in_channel, in_leaves, in_serves, leaves_calls, leaves_flushes, leaves_store, leaves_within, on_channel, on_serves, on_store, piece_steps}
 use Rattle.vdisk_server.proofs.end.ServerEnd.serve.Goals as goal
 

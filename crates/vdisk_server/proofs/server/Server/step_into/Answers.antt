@@ -1,4 +1,5 @@
-use Rattle.vdisk_server.specs.Answering.{reach_over, sees, server_event}
+use Rattle.descriptor_work.specs.Calling.{reach_over}
+use Rattle.vdisk_server.specs.Answering.{sees, server_event}
 use Rattle.vdisk_server.specs.Fields.{state_of}
 use Rattle.vdisk_server.proofs.StandStep.{stands_step}
 use Rattle.vdisk_server.proofs.server.Server.step_into.Goals as goal

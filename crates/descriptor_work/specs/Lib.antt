@@ -1,0 +1,4 @@
+pub mod Calling
+pub mod Fields
+pub mod Pieces
+pub mod Units
