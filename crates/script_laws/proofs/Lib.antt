@@ -1,3 +1,4 @@
+pub mod Meanings
 pub mod EntryKinds
 pub mod Tellings
 pub mod DiskShapes
