@@ -7,7 +7,7 @@ use Rattle.std.proofs.lemmas.Option.{slice_get_within}
 use Rattle.runs.specs.Run.{Run}
 use Rattle.vdisk_msg.specs.declared.request.Request.{Request}
 use Rattle.disk_law.specs.ListStep.{Carries}
-use Rattle.disk_steps.specs.DiskEvent.{Asks, Desc, DiskEvent, Done, Finished, Misplaced, Moved, OnWire, Published, Rests, Stored, Turns, Works}
+use Rattle.disk_steps.specs.DiskEvent.{DiskEvent, Done, Works}
 use Rattle.disk_steps.specs.LaneState.{LaneState}
 use Rattle.disk_steps.specs.LaneStep.{LaneStep}
 use Rattle.disk_steps.specs.Reached.{IsReached}
@@ -78,16 +78,7 @@ event_well : (s : LaneState) (event : DiskEvent) (t : LaneState) → IsReached s
 event_well s (Works (Done id operation status bytes)) t at clean step =
     let as_asked = done_tells at.shape at.events s id operation status bytes t at.sound at.run clean step in
     carries_status as_asked.request status bytes as_asked.carries
-event_well s (OnWire event) t at clean step = tt
-event_well s (Asks event) t at clean step = tt
-event_well s (Works (Published id)) t at clean step = tt
-event_well s (Works (Desc slot bytes)) t at clean step = tt
-event_well s (Works (Moved unit fault)) t at clean step = tt
-event_well s (Works (Stored operation block count failed)) t at clean step = tt
-event_well s (Works (Finished slot status)) t at clean step = tt
-event_well s (Works Misplaced) t at clean step = tt
-event_well s (Turns event) t at clean step = tt
-event_well s (Rests event) t at clean step = tt
+event_well s event t at clean step = tt
 
 lane_told : (many : ℕ) (w : WorldState) (k : ℕ) (event : DiskEvent) (v : WorldState) → length w.lanes ≡ many
     → Each IsReached w.lanes
