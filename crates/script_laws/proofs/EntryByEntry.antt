@@ -18,7 +18,7 @@ use Rattle.ldom_entries.specs.declared.entry.Who.TheVariants.{Lane as OfWhole, E
 use Rattle.ldom_entries.specs.declared.entry.Why.TheVariants.{Count, Range}
 use Rattle.script_laws.proofs.LaneReport.{SaysSame, says_append}
 use Rattle.world_parts.specs.Parts.{Says}
-use Rattle.script_laws.proofs.Meanings.{Holds, entry_has, number_of}
+use Rattle.world_parts.proofs.Meanings.{Holds, entry_has, number_of}
 
 -- an entry says the same as this one of a lane
 abbrev SameAs : DiskDecl → Entry → SettleEntry → Type 0

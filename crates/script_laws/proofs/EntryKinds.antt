@@ -22,7 +22,7 @@ use Rattle.world_faults.specs.Statuses.{TellsStore}
 use Rattle.world_parts.specs.Lines.{line_of}
 use Rattle.world_requests.specs.Requests.{request_event}
 use Rattle.script_laws.specs.Failures.{SucceedsOrFails, has_failed}
-use Rattle.script_laws.proofs.Meanings.{Holds, entry_has}
+use Rattle.world_parts.proofs.Meanings.{Holds, entry_has}
 
 -- what a journal tells of a disk whatever its lines asked: which requests were accepted and completed
 abbrev pub kept : plain.DiskEvent → Option plain.DiskEvent

@@ -1,4 +1,3 @@
-pub mod Meanings
 pub mod EntryKinds
 pub mod Tellings
 pub mod DiskShapes

@@ -19,7 +19,7 @@ use Rattle.world_parts.specs.Lines.{line_of}
 use Rattle.world_words.specs.Words.{IsOperation, NamesFault, ReadsBlocks}
 use Rattle.script_laws.proofs.Tellings.{Telling, entries_told, means_of}
 use Rattle.script_laws.proofs.ToldEntries.{AreTold, IsTold}
-use Rattle.script_laws.proofs.Meanings.{Holds, entry_has, number_of}
+use Rattle.world_parts.proofs.Meanings.{Holds, entry_has, number_of}
 
 -- WHAT IS NAMED is declared
 lane_is : (disks : List DiskDecl) (lane : Lane) → lane_number lane < length disks → IsLane disks lane
