@@ -1,9 +1,11 @@
 -- A reading that passes over what is not seen.
-use Rattle.std.proofs.Common.{◌≡◌, true, false, List, [], ◌∷◌, ◌++◌, append_assoc, refl, sym, ap, subst, ◌∙◌}
+use Rattle.std.proofs.Common.{◌≡◌, Bool, true, false, List, [], ◌∷◌, ◌++◌, append_assoc, refl, sym, ap, subst, ◌∙◌}
 use Rattle.std.proofs.lemmas.List.Elements.{All-append, All-cons, All-nil}
 use Rattle.ldom_entries.specs.Beside.{Lists, rest_of, share_of}
 use Rattle.ldom_entries.specs.Decoded.{entries_of, entry_of, kind_of, share}
 use Rattle.ldom_entries.specs.Seen.{BeginsSeen, PassesUnseen, is_seen}
+use Rattle.std.specs.Prelude.{◌||◌}
+use Rattle.ldom_entries.specs.Whole.{is_whole}
 use Rattle.ldom_entries.specs.declared.entry.Entry.{Entry}
 use Rattle.ldom_entries.specs.declared.header.Header.{Header}
 use Rattle.ldom_entries.specs.declared.header.Header.TheVariants as header
@@ -67,6 +69,8 @@ passes_more old middle new before behind = record {
 -- the entry of the first header is seen
 pub begins_seen : (headers behind : List Header) (h : Header) (l : Lists) → headers ≡ h ∷ behind → is_seen (kind_of h) ≡ true → BeginsSeen (entries_of headers l)
 begins_seen headers behind h l first seen =
-    subst (λ (hs : List Header). BeginsSeen (entries_of hs l)) (sym first) (seen_by_kind h (share_of (share h) l) ∙ seen)
+    let own : Entry = entry_of h (share_of (share h) l) in
+    subst (λ (hs : List Header). BeginsSeen (entries_of hs l)) (sym first)
+    (ap (λ (b : Bool). b || is_whole own) (seen_by_kind h (share_of (share h) l) ∙ seen))
 
 pub ruleset passing = (passes_none, passes_one, passes_more, begins_seen)

@@ -6,3 +6,4 @@ pub mod OfEnd
 pub mod PartsState
 pub mod Seen
 pub mod Told
+pub mod Whole

@@ -1,5 +1,6 @@
 -- The entries that a user of the disks sees, and a reading that passes over the others.
-use Rattle.std.specs.Prelude.{◌≡◌, Bool, true, false, List, [], ◌∷◌, ◌++◌, All, ⊤}
+use Rattle.std.specs.Prelude.{◌≡◌, Bool, true, false, List, [], ◌∷◌, ◌++◌, ◌||◌, All, ⊤}
+use Rattle.ldom_entries.specs.Whole.{is_whole}
 use Rattle.ldom_entries.specs.declared.entry.Entry.{Entry}
 use Rattle.ldom_entries.specs.declared.entry.Entry.TheVariants as entry
 
@@ -19,7 +20,11 @@ pub record PassesUnseen (old new : List Entry) : Type 0 where
   pub are : old ≡ passed ++ new
   pub unseen : All (λ entry. is_seen entry ≡ false) passed
 
--- the first of the entries is seen, where there is one
+-- an entry that may be seen: one that is kept whole isn't looked into
+abbrev pub may_be_seen : Entry → Bool
+may_be_seen entry = is_seen entry || is_whole entry
+
+-- the first of the entries may be seen, where there is one
 abbrev pub BeginsSeen : List Entry → Type 0
 BeginsSeen [] = ⊤
-BeginsSeen (first ∷ others) = is_seen first ≡ true
+BeginsSeen (first ∷ others) = may_be_seen first ≡ true

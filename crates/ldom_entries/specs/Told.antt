@@ -31,3 +31,4 @@ told (shown.Moved e unit fault) = entry.Moved e unit fault
 told (shown.Stored e operation block count failed) = entry.Stored e operation block count failed
 told (shown.Finished e slot status) = entry.Finished e slot status
 told (shown.Reset e cause packet lost) = entry.Reset e cause packet lost
+told (shown.Whole e) = e.now

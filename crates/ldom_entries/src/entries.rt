@@ -57,7 +57,8 @@ impl<'a> Entries<'a> {
         }
     }
 
-    /// Passes over the entries up to the next one that a user of the disks sees, and makes nothing of them.
+    /// Passes over the entries up to the next one that a user of the disks sees or that is kept whole, and makes nothing
+    /// of them.
     pub fn pass_unseen(&mut self)
         ensures passed { PassesUnseen self.old self.new }
         ensures stops { BeginsSeen self.new }

@@ -1,4 +1,4 @@
-use crate::{Bytes, KeptRequest, Who, Why};
+use crate::{Bytes, KeptRequest, WholeEntry, Who, Why};
 use cookie_copy::CopyFault;
 use domain_script::EndName;
 use trimmed_arrays::TrimmedArray;
@@ -107,4 +107,7 @@ pub enum EntryRef<'a> {
         packet: Option<TrimmedArray<'a>>,
         lost: u64,
     },
+
+    /// One that is kept whole.
+    Whole(&'a WholeEntry),
 }

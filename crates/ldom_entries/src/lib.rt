@@ -12,6 +12,7 @@ mod kept_entries;
 mod parts;
 #[cfg(test)]
 mod tests;
+mod whole_entry;
 
 pub use cookie_copy::CopyFault;
 pub use domain_script::{EndName, Lane, Side};
@@ -23,3 +24,4 @@ pub use journal::Journal;
 pub use kept_requests::{Bytes, KeptRequest, shortest_word};
 pub use vio_bytes::NoMemory;
 pub use vio_tag::Cause;
+pub use whole_entry::WholeEntry;

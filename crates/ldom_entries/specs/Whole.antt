@@ -1,0 +1,24 @@
+-- How the journal keeps an entry.
+use Rattle.std.specs.Prelude.{Bool, true, false}
+use Rattle.ldom_entries.specs.declared.entry.Entry.{Entry}
+use Rattle.ldom_entries.specs.declared.entry.Entry.TheVariants as entry
+
+-- Whether an entry is kept whole. What comes with a step of an end, or for each disk of a settle, may come millions of
+-- times and is kept in a few bytes; so is what carries a request. Any other comes at most once for a line of a script.
+abbrev pub is_whole : Entry → Bool
+is_whole (entry.Accepted disk id request) = false
+is_whole (entry.Unsettled who) = false
+is_whole (entry.Idle e) = false
+is_whole (entry.Off e) = false
+is_whole (entry.Blocked e) = false
+is_whole (entry.Joined e lost) = false
+is_whole (entry.Took e packet opens) = false
+is_whole (entry.Sent e packet opens) = false
+is_whole (entry.Published e id) = false
+is_whole (entry.Done disk id operation status bytes) = false
+is_whole (entry.Desc e slot bytes) = false
+is_whole (entry.Moved e unit fault) = false
+is_whole (entry.Stored e operation block count failed) = false
+is_whole (entry.Finished e slot status) = false
+is_whole (entry.Reset e cause packet lost) = false
+is_whole other = true
