@@ -1,3 +1,5 @@
 mod LaneNames
+mod LineParts
 pub mod ReportLines
 pub mod StopLemmas
+mod WholeLines

@@ -10,7 +10,7 @@ use Rattle.ldom_journal.specs.declared.status.Mode.{Mode}
 use Rattle.ldom_journal.specs.declared.status.Mode.TheVariants.{EndOnly, Run, Trace}
 use Rattle.ldom_journal.specs.declared.status.Status.{Status}
 use Rattle.ldom_journal.specs.declared.status.Status.TheVariants.{Done, Usage, Script, SourceFault, SinkFault, HostFault, StoreFault, ImageSize, Limit, NoMemory}
-use Rattle.ldom_journal.specs.EntryText.{is_seen, line_text, report_entries, shows}
+use Rattle.ldom_journal.specs.EntryText.{entry_lines, line_text, may_be_seen, may_show, report_entries, shows}
 use Rattle.ldom_journal.specs.LeftOut.{LeavesOut}
 use Rattle.ldom_journal.specs.Report.{last_line, usage_line, report}
 
@@ -70,26 +70,24 @@ leaves_all mode old end_only = record {
   unshown = subst (λ (m : Mode). All (λ (e : Entry). shows m e ≡ false) old) (sym end_only) (none_shown old);
 }
 
--- what is seen is shown in a run, and everything in a trace
-pub shown_seen : (mode : Mode) (entry : Entry) → mode ≡ Run → is_seen entry ≡ true → shows mode entry ≡ true
-shown_seen mode entry run seen = ap (λ (m : Mode). shows m entry) run ∙ seen
+-- what may be seen may be shown in a run, and everything in a trace
+pub may_seen : (mode : Mode) (entry : Entry) → mode ≡ Run → may_be_seen entry ≡ true → may_show mode entry ≡ true
+may_seen mode entry run seen = ap (λ (m : Mode). may_show m entry) run ∙ seen
 
-pub shown_traced : (mode : Mode) (entry : Entry) → mode ≡ Trace → shows mode entry ≡ true
-shown_traced mode entry trace = ap (λ (m : Mode). shows m entry) trace
+pub may_traced : (mode : Mode) (entry : Entry) → mode ≡ Trace → may_show mode entry ≡ true
+may_traced mode entry trace = ap (λ (m : Mode). may_show m entry) trace
 
-pub ruleset leaving_out = (leaves_none, leaves_unseen, leaves_all, shown_seen, shown_traced)
+pub ruleset leaving_out = (leaves_none, leaves_unseen, leaves_all, may_seen, may_traced)
 
 -- THE LINES OF ONE ENTRY MORE: the lines so far are written, and of the entries that are left `entry` is the first that
--- the mode shows
+-- the mode may show
 pub next_lines : (mode : Mode) (disks : List DiskDecl) (whole so_far : List ℕ) (rest left : List Entry) (entry : Entry)
-    → whole ≡ so_far ++ report_entries mode disks rest → LeavesOut mode rest (entry ∷ left) → shows mode entry ≡ true
-    → whole ≡ so_far ++ line_text mode disks entry ++ report_entries mode disks left
-next_lines mode disks whole so_far rest left entry is leaves shown =
-    let behind : List ℕ = report_entries mode disks left in
+    → whole ≡ so_far ++ report_entries mode disks rest → LeavesOut mode rest (entry ∷ left)
+    → whole ≡ so_far ++ entry_lines mode disks entry ++ report_entries mode disks left
+next_lines mode disks whole so_far rest left entry is leaves =
     is
     ∙ ap (λ (l : List ℕ). so_far ++ l) (lines_left mode disks rest (entry ∷ left) leaves)
-    ∙ ap (λ (b : Bool). so_far ++ ((if b then line_text mode disks entry else []) ++ behind)) shown
-    ∙ sym (append_assoc so_far (line_text mode disks entry) behind)
+    ∙ sym (append_assoc so_far (entry_lines mode disks entry) (report_entries mode disks left))
 
 -- and where none is left
 pub no_lines : (mode : Mode) (disks : List DiskDecl) (whole so_far : List ℕ) (rest : List Entry)

@@ -18,7 +18,7 @@ use Rattle.ldom_entries.specs.declared.entry.Entry.TheVariants as entry
 use Rattle.ldom_journal.specs.declared.status.Mode.{Mode}
 use Rattle.ldom_journal.specs.declared.status.Mode.TheVariants.{Run, Trace, EndOnly}
 use Rattle.kept_requests.specs.BlockWord.{blocks_text}
-pub use Rattle.ldom_entries.specs.Seen.{is_seen}
+pub use Rattle.ldom_entries.specs.Seen.{is_seen, may_be_seen}
 pub use Rattle.line_words.specs.LineWords.{failed_word, fault_word, opens_text, operation_word, side_text, why_word}
 
 -- a disk's name, nothing where there is no disk
@@ -97,7 +97,8 @@ abbrev pub read_text : Entry → List ℕ
 read_text (entry.Done disk id operation status bytes) = if (operation == 1) && (status == 0) then blocks_text bytes.items else []
 read_text other = []
 
--- AN ENTRY'S LINE before the words of a read and the line feed
+-- AN ENTRY'S LINE before the words of a read and the line feed. What lists the kinds of entry: this and `meaning`, and in
+-- the code `push_whole_head` those that are kept whole, and `push_front` the others.
 abbrev pub head_text : Mode → List DiskDecl → Entry → List ℕ
 head_text mode disks (entry.Accepted disk id request) = id_text (codes "accepted ") disks disk id ++ request_text request
 head_text mode disks (entry.Full who) = codes "full " ++ who_name disks who
@@ -131,6 +132,12 @@ abbrev pub shows : Mode → Entry → Bool
 shows Run entry = is_seen entry
 shows Trace entry = true
 shows EndOnly entry = false
+
+-- Whether an entry is looked into for a mode: what is kept whole may turn out not to be shown.
+abbrev pub may_show : Mode → Entry → Bool
+may_show Run entry = may_be_seen entry
+may_show Trace entry = true
+may_show EndOnly entry = false
 
 -- an entry's line where the mode shows it
 abbrev pub entry_lines : Mode → List DiskDecl → Entry → List ℕ

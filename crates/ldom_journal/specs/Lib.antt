@@ -5,6 +5,7 @@ pub mod HasWords
 pub mod LaneEvents
 pub mod LaneNames
 pub mod LeftOut
+pub mod LineParts
 pub mod LinesEnd
 pub mod Report
 pub mod Status

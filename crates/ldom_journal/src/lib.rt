@@ -13,6 +13,7 @@ mod step_lines;
 mod stop;
 #[cfg(test)]
 mod tests;
+mod whole_lines;
 
 pub use cookie_copy::CopyFault;
 pub use domain_script::{EndName, Lane, LineFault, Names, Request, Side};

@@ -4,7 +4,7 @@ use Rattle.std.specs.Io.KnownBytes.{Appends}
 use Rattle.std.proofs.lemmas.List.Elements.{All-head, All-tail}
 use Rattle.ldom_entries.specs.declared.entry.Entry.{Entry}
 use Rattle.ldom_entries.specs.Told.{told}
-use Rattle.ldom_journal.specs.EntryText.{line_text, report_entries}
+use Rattle.ldom_journal.specs.EntryText.{entry_lines, report_entries}
 use Rattle.ldom_journal.specs.HasWords.{HasWords}
 use Rattle.gathered_text.specs.Gathered.{Gathers, WroteFront}
 use Rattle.gathered_text.proofs.GatheredText.{on_err, on_ok_then, on_err_then, gathers_all, gathers_then, wrote_front_then, wrote_front_of_more, wrote_front_last, appends_last}
@@ -23,7 +23,7 @@ loop-entry-init g c = record {
 pub put_line-requires : goal.put_line-requires
 put_line-requires g c =
     let P : Entry → Type 0 = HasWords c.args.names.now.disks in
-    record { words = All-head P (told c.in-Some.entry) c.next_to_show.new.entries (all_left P c.args.mode c.loop-entry.rest (told c.in-Some.entry ∷ c.next_to_show.new.entries) c.in-Some.ensures.some c.loop-entry.invariant.words) }
+    record { may = c.in-Some.ensures.may; words = All-head P (told c.in-Some.entry) c.next_to_show.new.entries (all_left P c.args.mode c.loop-entry.rest (told c.in-Some.entry ∷ c.next_to_show.new.entries) c.in-Some.ensures.some c.loop-entry.invariant.words) }
 
 pub returns-in_err-put_line-clause-front : goal.returns-in_err-put_line-clause-front
 returns-in_err-put_line-clause-front g c =
@@ -31,11 +31,11 @@ returns-in_err-put_line-clause-front g c =
     let disks = c.args.names.now.disks in
     let i = c.loop-entry.invariant in
     let whole : List ℕ = report_entries mode disks c.args.journal.now.entries in
-    let line : List ℕ = line_text mode disks (told c.in-Some.entry) in
+    let line : List ℕ = entry_lines mode disks (told c.in-Some.entry) in
     let rest : List ℕ = report_entries mode disks c.next_to_show.new.entries in
     on_err c.from_residual.result _
     (wrote_front_of_more _ _ (i.so_far ++ line) rest whole
-    (next_lines mode disks whole i.so_far c.loop-entry.rest c.next_to_show.new.entries (told c.in-Some.entry) i.whole c.in-Some.ensures.some c.in-Some.ensures.shown)
+    (next_lines mode disks whole i.so_far c.loop-entry.rest c.next_to_show.new.entries (told c.in-Some.entry) i.whole c.in-Some.ensures.some)
     (wrote_front_then _ _ _ c.loop-entry.text i.so_far line i.gathers c.in_err-put_line.ensures.front))
 
 pub loop-entry-preserved : goal.loop-entry-preserved
@@ -45,10 +45,10 @@ loop-entry-preserved g c =
     let P : Entry → Type 0 = HasWords disks in
     let i = c.loop-entry.invariant in
     let whole : List ℕ = report_entries mode disks c.args.journal.now.entries in
-    let line : List ℕ = line_text mode disks (told c.in-Some.entry) in
+    let line : List ℕ = entry_lines mode disks (told c.in-Some.entry) in
     record {
       so_far = i.so_far ++ line;
-      whole = next_lines mode disks whole i.so_far c.loop-entry.rest c.next_to_show.new.entries (told c.in-Some.entry) i.whole c.in-Some.ensures.some c.in-Some.ensures.shown;
+      whole = next_lines mode disks whole i.so_far c.loop-entry.rest c.next_to_show.new.entries (told c.in-Some.entry) i.whole c.in-Some.ensures.some;
       words = All-tail P (told c.in-Some.entry) c.next_to_show.new.entries (all_left P mode c.loop-entry.rest (told c.in-Some.entry ∷ c.next_to_show.new.entries) c.in-Some.ensures.some i.words);
       gathers = gathers_then _ _ _ c.loop-entry.text c.put_line.new.text i.so_far line i.gathers c.in_ok-put_line.ensures.told;
       unfailed = c.in_ok-put_line.ensures.ok ∙ i.unfailed;
