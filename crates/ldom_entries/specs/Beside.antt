@@ -3,8 +3,10 @@ use Rattle.std.specs.Prelude.{ℕ, ◌≤◌, List, [], ◌++◌, length, take, 
 use Rattle.vdisk_msg.specs.declared.request.Request.{Request}
 use Rattle.vio_tag.specs.declared.cause.Cause.{Cause}
 use Rattle.kept_requests.specs.Bytes.{BytesState}
+use Rattle.ldom_entries.specs.Whole.{AreKeptWhole}
+use Rattle.ldom_entries.specs.declared.entry.Entry.{Entry}
 
--- numbers, packets, descriptors, the bytes of reads, requests, and causes of resets
+-- numbers, packets, descriptors, the bytes of reads, requests, causes of resets, and entries that are kept whole
 pub record Lists : Type 0 where
   pub numbers : List ℕ
   pub packets : List (List ℕ)
@@ -12,6 +14,7 @@ pub record Lists : Type 0 where
   pub reads : List BytesState
   pub requests : List Request
   pub causes : List Cause
+  pub wholes : List Entry
 
 -- how many of each list an entry has
 pub record Share : Type 0 where
@@ -21,18 +24,19 @@ pub record Share : Type 0 where
   pub reads : ℕ
   pub requests : ℕ
   pub causes : ℕ
+  pub wholes : ℕ
 
 abbrev pub nothing : Lists
-nothing = record { numbers = []; packets = []; descriptors = []; reads = []; requests = []; causes = [] }
+nothing = record { numbers = []; packets = []; descriptors = []; reads = []; requests = []; causes = []; wholes = [] }
 
 -- one list alone
 abbrev pub only_numbers : List ℕ → Lists
-only_numbers numbers = record { numbers = numbers; packets = []; descriptors = []; reads = []; requests = []; causes = [] }
+only_numbers numbers = record nothing { numbers = numbers }
 
 abbrev pub only_packets : List (List ℕ) → Lists
-only_packets packets = record { numbers = []; packets = packets; descriptors = []; reads = []; requests = []; causes = [] }
+only_packets packets = record nothing { packets = packets }
 
--- the lists of some entries, and behind them those of further ones
+-- the lists of some entries, and then those of further ones
 abbrev pub join : Lists → Lists → Lists
 join l m = record {
   numbers = l.numbers ++ m.numbers;
@@ -41,6 +45,7 @@ join l m = record {
   reads = l.reads ++ m.reads;
   requests = l.requests ++ m.requests;
   causes = l.causes ++ m.causes;
+  wholes = l.wholes ++ m.wholes;
 }
 
 -- what an entry has, and what is left for those behind it
@@ -52,6 +57,7 @@ share_of s l = record {
   reads = take s.reads l.reads;
   requests = take s.requests l.requests;
   causes = take s.causes l.causes;
+  wholes = take s.wholes l.wholes;
 }
 
 abbrev pub rest_of : Share → Lists → Lists
@@ -62,9 +68,10 @@ rest_of s l = record {
   reads = drop s.reads l.reads;
   requests = drop s.requests l.requests;
   causes = drop s.causes l.causes;
+  wholes = drop s.wholes l.wholes;
 }
 
--- the lists are long enough for an entry
+-- the lists are long enough for an entry, and what it takes of the entries that are kept whole is of such a kind
 pub record Holds (s : Share) (l : Lists) : Type 0 where
   pub has_numbers : s.numbers ≤ length l.numbers
   pub has_packets : s.packets ≤ length l.packets
@@ -72,3 +79,5 @@ pub record Holds (s : Share) (l : Lists) : Type 0 where
   pub has_reads : s.reads ≤ length l.reads
   pub has_requests : s.requests ≤ length l.requests
   pub has_causes : s.causes ≤ length l.causes
+  pub has_wholes : s.wholes ≤ length l.wholes
+  pub are_whole : AreKeptWhole (take s.wholes l.wholes)

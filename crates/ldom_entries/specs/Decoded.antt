@@ -28,7 +28,7 @@ who_at disk the_part.Whole = OfLane (Disk disk)
 who_at disk the_part.Client = OfEnd (end_at disk Client)
 who_at disk the_part.Server = OfEnd (end_at disk Server)
 
--- the first number beside an entry, and the second; its packet; its descriptor; its request; its cause
+-- the first number beside an entry, and the second; its packet; its descriptor; its request; its cause; itself
 abbrev pub first_number : Lists → ℕ
 first_number l = slice_index_or l.numbers 0 0
 
@@ -47,6 +47,9 @@ request_in l = slice_index_or l.requests 0 Flush
 abbrev pub cause_in : Lists → Cause
 cause_in l = slice_index_or l.causes 0 Asked
 
+abbrev pub whole_in : Lists → Entry
+whole_in l = slice_index_or l.wholes 0 entry.Settled
+
 -- what only some have
 abbrev pub read_in : Bool → Lists → BytesState
 read_in true l = slice_index_or l.reads 0 (filled [])
@@ -60,7 +63,7 @@ abbrev pub one_where : Bool → ℕ
 one_where true = 1
 one_where false = 0
 
--- so many of each list; so many numbers and packets, and nothing else
+-- so many of each list, and nothing whole; so many numbers and packets, and nothing else; one that is kept whole
 abbrev pub these : ℕ → ℕ → ℕ → ℕ → ℕ → ℕ → Share
 these numbers packets descriptors reads requests causes = record {
   numbers = numbers;
@@ -69,21 +72,18 @@ these numbers packets descriptors reads requests causes = record {
   reads = reads;
   requests = requests;
   causes = causes;
+  wholes = 0;
 }
 
 abbrev pub needs : ℕ → ℕ → Share
 needs numbers packets = these numbers packets 0 0 0 0
 
+abbrev pub a_whole : Share
+a_whole = record (needs 0 0) { wholes = 1 }
+
 -- HOW MUCH STANDS BESIDE A HEADER
 abbrev pub share : Header → Share
 share (header.Accepted disk) = these 1 0 0 0 1 0
-share (header.Full part disk) = needs 0 0
-share (header.Refused part why disk) = needs 0 0
-share (header.Lost side disk) = needs 0 1
-share (header.Stopped disk) = needs 0 0
-share (header.Started disk) = needs 0 0
-share (header.Calm part disk) = needs 0 0
-share header.Settled = needs 0 0
 share (header.Unsettled part disk) = needs 0 0
 share (header.Idle side disk) = needs 0 0
 share (header.Off side disk) = needs 0 0
@@ -98,17 +98,11 @@ share (header.Moved side fault disk) = needs 1 0
 share (header.Stored side operation failed disk) = needs 2 0
 share (header.Finished side disk) = needs 2 0
 share (header.Reset side packet disk) = these 1 (one_where packet) 0 0 0 1
+share header.Whole = a_whole
 
 -- THE ENTRY of a header and what stands beside it
 abbrev pub entry_of : Header → Lists → Entry
 entry_of (header.Accepted disk) l = entry.Accepted disk (first_number l) (request_in l)
-entry_of (header.Full part disk) l = entry.Full (who_at disk part)
-entry_of (header.Refused part why disk) l = entry.Refused (who_at disk part) why
-entry_of (header.Lost side disk) l = entry.Lost (end_at disk side) (packet_in l)
-entry_of (header.Stopped disk) l = entry.Stopped disk
-entry_of (header.Started disk) l = entry.Started disk
-entry_of (header.Calm part disk) l = entry.Calm (who_at disk part)
-entry_of header.Settled l = entry.Settled
 entry_of (header.Unsettled part disk) l = entry.Unsettled (who_at disk part)
 entry_of (header.Idle side disk) l = entry.Idle (end_at disk side)
 entry_of (header.Off side disk) l = entry.Off (end_at disk side)
@@ -123,16 +117,21 @@ entry_of (header.Moved side fault disk) l = entry.Moved (end_at disk side) (firs
 entry_of (header.Stored side operation failed disk) l = entry.Stored (end_at disk side) operation (first_number l) (second_number l) failed
 entry_of (header.Finished side disk) l = entry.Finished (end_at disk side) (first_number l) (second_number l)
 entry_of (header.Reset side packet disk) l = entry.Reset (end_at disk side) (cause_in l) (packet_where packet l) (first_number l)
+entry_of header.Whole l = whole_in l
+
+-- the same, which takes its share from the front of the lists
+abbrev pub first_entry : Header → Lists → Entry
+first_entry h l = entry_of h (share_of (share h) l)
 
 -- THE ENTRIES, in order: each takes its share from the front of the lists
 abbrev pub entries_of : List Header → Lists → List Entry
 entries_of [] l = []
-entries_of (h ∷ headers) l = entry_of h (share_of (share h) l) ∷ entries_of headers (rest_of (share h) l)
+entries_of (h ∷ headers) l = first_entry h l ∷ entries_of headers (rest_of (share h) l)
 
--- each finds its share, and nothing is left behind the last
-abbrev pub AreWhole : List Header → Lists → Type 0
-AreWhole [] l = l ≡ nothing
-AreWhole (h ∷ headers) l = Holds (share h) l × AreWhole headers (rest_of (share h) l)
+-- each finds its share, and nothing is left after the last
+abbrev pub AreComplete : List Header → Lists → Type 0
+AreComplete [] l = l ≡ nothing
+AreComplete (h ∷ headers) l = Holds (share h) l × AreComplete headers (rest_of (share h) l)
 
 -- the kind of a header's entry, which doesn't ask what stands beside it
 abbrev pub kind_of : Header → Entry

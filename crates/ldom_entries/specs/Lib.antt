@@ -2,7 +2,6 @@ pub mod Beside
 pub mod Counts
 pub mod Decoded
 pub mod JournalState
-pub mod OfEnd
 pub mod PartsState
 pub mod Seen
 pub mod Told

@@ -1,5 +1,5 @@
 -- How the journal keeps an entry.
-use Rattle.std.specs.Prelude.{Bool, true, false}
+use Rattle.std.specs.Prelude.{◌≡◌, Bool, true, false, List, [], ◌∷◌, ⊤}
 use Rattle.ldom_entries.specs.declared.entry.Entry.{Entry}
 use Rattle.ldom_entries.specs.declared.entry.Entry.TheVariants as entry
 
@@ -22,3 +22,8 @@ is_whole (entry.Stored e operation block count failed) = false
 is_whole (entry.Finished e slot status) = false
 is_whole (entry.Reset e cause packet lost) = false
 is_whole other = true
+
+-- each of these entries is kept whole
+abbrev pub AreKeptWhole : List Entry → Type 0
+AreKeptWhole [] = ⊤
+AreKeptWhole (first ∷ others) = (is_whole first ≡ true) × AreKeptWhole others

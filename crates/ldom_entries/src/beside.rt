@@ -1,12 +1,14 @@
 ghost use Rattle.std.specs.Prelude.{◌≡◌, ◌<◌, ◌≤◌, true, ◌∷◌, length};
 ghost use Rattle.ldom_entries.specs.Beside.{Holds, rest_of, share_of};
-ghost use Rattle.ldom_entries.specs.Decoded.{cause_in, descriptor_in, end_at, entry_of, first_number, needs, one_where, packet_in, packet_where, read_in, request_in, second_number, share, these, who_at};
+ghost use Rattle.ldom_entries.specs.Decoded.{a_whole, cause_in, descriptor_in, first_entry, first_number, kind_of};
+ghost use Rattle.ldom_entries.specs.Decoded.{needs, one_where, packet_in, packet_where, read_in, request_in};
+ghost use Rattle.ldom_entries.specs.Decoded.{second_number, share, these, whole_in};
 ghost use Rattle.ldom_entries.specs.Told.{told};
-ghost use Rattle.ldom_entries.specs.declared.entry.Entry.TheVariants as the_entry;
+ghost use Rattle.ldom_entries.specs.declared.header.Header.TheVariants as the_header;
 
 use crate::entry_ref::EntryRef;
 use crate::header::{Header, Part, end_at, who_at};
-use crate::{Bytes, KeptRequest, Why};
+use crate::{Bytes, KeptRequest, WholeEntry};
 use cookie_copy::CopyFault;
 use domain_script::Side;
 use std::marker::Model;
@@ -22,6 +24,7 @@ pub(crate) struct Beside<'a> {
     reads: &'a [Bytes],
     requests: &'a [KeptRequest],
     causes: &'a [Cause],
+    wholes: &'a [WholeEntry],
 }
 
 impl<'a> Model for Beside<'a> {
@@ -36,6 +39,7 @@ impl<'a> Model for Beside<'a> {
       reads = b.reads.now;
       requests = b.requests.now;
       causes = b.causes.now;
+      wholes = b.wholes.now;
     } };
 }
 
@@ -48,6 +52,7 @@ impl<'a> Beside<'a> {
         reads: &'a [Bytes],
         requests: &'a [KeptRequest],
         causes: &'a [Cause],
+        wholes: &'a [WholeEntry],
     ) -> Self
         ensures { result ≡ record {
           numbers = numbers.now;
@@ -56,6 +61,7 @@ impl<'a> Beside<'a> {
           reads = reads.now;
           requests = requests.now;
           causes = causes.now;
+          wholes = wholes.now;
         } }
     {
         Beside {
@@ -65,6 +71,7 @@ impl<'a> Beside<'a> {
             reads,
             requests,
             causes,
+            wholes,
         }
     }
 
@@ -86,8 +93,8 @@ impl<'a> Beside<'a> {
         ensures second { result.1 ≡ second_number (share_of (needs 2 0) self.old) }
         ensures rest { self.new ≡ rest_of (needs 2 0) self.old }
     {
-        let (first, behind) = first_of(self.numbers);
-        let (second, rest) = first_of(behind);
+        let (first, others) = first_of(self.numbers);
+        let (second, rest) = first_of(others);
         self.numbers = rest;
         (*first, *second)
     }
@@ -158,23 +165,27 @@ impl<'a> Beside<'a> {
         *cause
     }
 
+    /// Takes the next entry that is kept whole.
+    fn whole(&mut self) -> &'a WholeEntry
+        requires { 0 < length self.old.wholes }
+        ensures whole { result.now ≡ whole_in (share_of a_whole self.old) }
+        ensures rest { self.new ≡ rest_of a_whole self.old }
+    {
+        let (whole, rest) = first_of(self.wholes);
+        self.wholes = rest;
+        whole
+    }
+
     /// Reads the entry of a header, whose share is taken from the front of the lists. It is written where it lies, and
     /// this isn't inlined: else each kind of entry would be made with the parts of all others.
     #[inline(never)]
     pub(crate) fn read_into(&mut self, header: Header, entry: &mut EntryRef<'a>)
         requires { Holds (share header) self.old }
-        ensures told { told entry.new ≡ entry_of header (share_of (share header) self.old) }
+        ensures told { told entry.new ≡ first_entry header self.old }
         ensures rest { self.new ≡ rest_of (share header) self.old }
     {
         match header {
             Header::Accepted { disk } => *entry = self.accepted(disk),
-            Header::Full { part, disk } => *entry = full(part, disk),
-            Header::Refused { part, why, disk } => *entry = refused(part, why, disk),
-            Header::Lost { side, disk } => *entry = self.lost(side, disk),
-            Header::Stopped { disk } => *entry = EntryRef::Stopped { disk },
-            Header::Started { disk } => *entry = EntryRef::Started { disk },
-            Header::Calm { part, disk } => *entry = calm(part, disk),
-            Header::Settled => *entry = EntryRef::Settled,
             Header::Unsettled { part, disk } => *entry = unsettled(part, disk),
             Header::Idle { side, disk } => *entry = idle(side, disk),
             Header::Off { side, disk } => *entry = off(side, disk),
@@ -198,26 +209,21 @@ impl<'a> Beside<'a> {
             } => *entry = self.stored(side, operation, failed, disk),
             Header::Finished { side, disk } => *entry = self.finished(side, disk),
             Header::Reset { side, packet, disk } => *entry = self.reset(side, packet, disk),
+            Header::Whole => *entry = EntryRef::Whole(self.whole()),
         }
     }
 
-    /// Passes over the share of a header, as `entry` takes it, and makes nothing of it.
+    /// Takes the share of a header from the front of the lists, as `read_into` does, and makes no entry of it.
     pub(crate) fn pass(&mut self, header: Header)
         requires { Holds (share header) self.old }
         ensures { self.new ≡ rest_of (share header) self.old }
     {
         match header {
-            Header::Full { .. }
-            | Header::Refused { .. }
-            | Header::Stopped { .. }
-            | Header::Started { .. }
-            | Header::Calm { .. }
-            | Header::Settled
-            | Header::Unsettled { .. }
+            Header::Unsettled { .. }
             | Header::Idle { .. }
             | Header::Off { .. }
             | Header::Blocked { .. } => {}
-            Header::Lost { .. } | Header::Took { .. } | Header::Sent { .. } => {
+            Header::Took { .. } | Header::Sent { .. } => {
                 self.packet();
             }
             Header::Joined { .. } | Header::Published { .. } | Header::Moved { .. } => {
@@ -230,6 +236,9 @@ impl<'a> Beside<'a> {
             Header::Desc { .. } => self.pass_descriptor(),
             Header::Done { read, .. } => self.pass_done(read),
             Header::Reset { packet, .. } => self.pass_reset(packet),
+            Header::Whole => {
+                self.whole();
+            }
         }
     }
 
@@ -275,8 +284,7 @@ impl<'a> Beside<'a> {
     /// A guest's request was taken up. Beside it: its id, and the request.
     fn accepted(&mut self, disk: u32) -> EntryRef<'a>
         requires { Holds (these 1 0 0 0 1 0) self.old }
-        ensures told { let own = share_of (these 1 0 0 0 1 0) self.old in
-            told result ≡ the_entry.Accepted disk (first_number own) (request_in own) }
+        ensures told { told result ≡ first_entry (the_header.Accepted disk) self.old }
         ensures rest { self.new ≡ rest_of (these 1 0 0 0 1 0) self.old }
     {
         EntryRef::Accepted {
@@ -286,24 +294,10 @@ impl<'a> Beside<'a> {
         }
     }
 
-    /// The packet that had waited longest for an end was lost. Beside it: the packet.
-    fn lost(&mut self, side: Side, disk: u32) -> EntryRef<'a>
-        requires { Holds (needs 0 1) self.old }
-        ensures told { let own = share_of (needs 0 1) self.old in
-            told result ≡ the_entry.Lost (end_at disk side) (packet_in own) }
-        ensures rest { self.new ≡ rest_of (needs 0 1) self.old }
-    {
-        EntryRef::Lost {
-            end: end_at(disk, side),
-            packet: self.packet(),
-        }
-    }
-
     /// An end was configured. Beside it: how many frames were lost by that.
     fn joined(&mut self, side: Side, disk: u32) -> EntryRef<'a>
         requires { Holds (needs 1 0) self.old }
-        ensures told { let own = share_of (needs 1 0) self.old in
-            told result ≡ the_entry.Joined (end_at disk side) (first_number own) }
+        ensures told { told result ≡ first_entry (the_header.Joined side disk) self.old }
         ensures rest { self.new ≡ rest_of (needs 1 0) self.old }
     {
         EntryRef::Joined {
@@ -315,8 +309,7 @@ impl<'a> Beside<'a> {
     /// An end took a packet. Beside it: the packet.
     fn took(&mut self, side: Side, opens: bool, disk: u32) -> EntryRef<'a>
         requires { Holds (needs 0 1) self.old }
-        ensures told { let own = share_of (needs 0 1) self.old in
-            told result ≡ the_entry.Took (end_at disk side) (packet_in own) opens }
+        ensures told { told result ≡ first_entry (the_header.Took side opens disk) self.old }
         ensures rest { self.new ≡ rest_of (needs 0 1) self.old }
     {
         EntryRef::Took {
@@ -329,8 +322,7 @@ impl<'a> Beside<'a> {
     /// An end put a packet. Beside it: the packet.
     fn sent(&mut self, side: Side, opens: bool, disk: u32) -> EntryRef<'a>
         requires { Holds (needs 0 1) self.old }
-        ensures told { let own = share_of (needs 0 1) self.old in
-            told result ≡ the_entry.Sent (end_at disk side) (packet_in own) opens }
+        ensures told { told result ≡ first_entry (the_header.Sent side opens disk) self.old }
         ensures rest { self.new ≡ rest_of (needs 0 1) self.old }
     {
         EntryRef::Sent {
@@ -343,8 +335,7 @@ impl<'a> Beside<'a> {
     /// The client put a request into its ring. Beside it: its id.
     fn published(&mut self, side: Side, disk: u32) -> EntryRef<'a>
         requires { Holds (needs 1 0) self.old }
-        ensures told { let own = share_of (needs 1 0) self.old in
-            told result ≡ the_entry.Published (end_at disk side) (first_number own) }
+        ensures told { told result ≡ first_entry (the_header.Published side disk) self.old }
         ensures rest { self.new ≡ rest_of (needs 1 0) self.old }
     {
         EntryRef::Published {
@@ -356,8 +347,7 @@ impl<'a> Beside<'a> {
     /// A request was completed. Beside it: its id, its status and, where it is a `read`, the bytes.
     fn done(&mut self, operation: u8, read: bool, disk: u32) -> EntryRef<'a>
         requires { Holds (these 2 0 0 (one_where read) 0 0) self.old }
-        ensures told { let own = share_of (these 2 0 0 (one_where read) 0 0) self.old in
-            told result ≡ the_entry.Done disk (first_number own) operation (second_number own) (read_in read own) }
+        ensures told { told result ≡ first_entry (the_header.Done operation read disk) self.old }
         ensures rest { self.new ≡ rest_of (these 2 0 0 (one_where read) 0 0) self.old }
     {
         let (id, status) = self.two_numbers();
@@ -382,8 +372,7 @@ impl<'a> Beside<'a> {
     /// The server fetched the descriptor of a slot. Beside it: the slot, and the descriptor.
     fn desc(&mut self, side: Side, disk: u32) -> EntryRef<'a>
         requires { Holds (these 1 0 1 0 0 0) self.old }
-        ensures told { let own = share_of (these 1 0 1 0 0 0) self.old in
-            told result ≡ the_entry.Desc (end_at disk side) (first_number own) (descriptor_in own) }
+        ensures told { told result ≡ first_entry (the_header.Desc side disk) self.old }
         ensures rest { self.new ≡ rest_of (these 1 0 1 0 0 0) self.old }
     {
         EntryRef::Desc {
@@ -396,8 +385,7 @@ impl<'a> Beside<'a> {
     /// The server copied a unit, or why it couldn't. Beside it: the unit.
     fn moved(&mut self, side: Side, fault: Option<CopyFault>, disk: u32) -> EntryRef<'a>
         requires { Holds (needs 1 0) self.old }
-        ensures told { let own = share_of (needs 1 0) self.old in
-            told result ≡ the_entry.Moved (end_at disk side) (first_number own) fault }
+        ensures told { told result ≡ first_entry (the_header.Moved side fault disk) self.old }
         ensures rest { self.new ≡ rest_of (needs 1 0) self.old }
     {
         EntryRef::Moved {
@@ -410,9 +398,7 @@ impl<'a> Beside<'a> {
     /// The server called its store. Beside it: the first block, and how many.
     fn stored(&mut self, side: Side, operation: u8, failed: bool, disk: u32) -> EntryRef<'a>
         requires { Holds (needs 2 0) self.old }
-        ensures told { let own = share_of (needs 2 0) self.old in
-            told result ≡ the_entry.Stored (end_at disk side) operation (first_number own) (second_number own)
-            failed }
+        ensures told { told result ≡ first_entry (the_header.Stored side operation failed disk) self.old }
         ensures rest { self.new ≡ rest_of (needs 2 0) self.old }
     {
         let (block, count) = self.two_numbers();
@@ -428,8 +414,7 @@ impl<'a> Beside<'a> {
     /// The server gave the descriptor of a slot its status. Beside it: the slot, and the status.
     fn finished(&mut self, side: Side, disk: u32) -> EntryRef<'a>
         requires { Holds (needs 2 0) self.old }
-        ensures told { let own = share_of (needs 2 0) self.old in
-            told result ≡ the_entry.Finished (end_at disk side) (first_number own) (second_number own) }
+        ensures told { told result ≡ first_entry (the_header.Finished side disk) self.old }
         ensures rest { self.new ≡ rest_of (needs 2 0) self.old }
     {
         let (slot, status) = self.two_numbers();
@@ -443,9 +428,7 @@ impl<'a> Beside<'a> {
     /// An end was reset. Beside it: the cause, the packet where it has one, and how many frames were lost by that.
     fn reset(&mut self, side: Side, packet: bool, disk: u32) -> EntryRef<'a>
         requires { Holds (these 1 (one_where packet) 0 0 0 1) self.old }
-        ensures told { let own = share_of (these 1 (one_where packet) 0 0 0 1) self.old in
-            told result ≡
-            the_entry.Reset (end_at disk side) (cause_in own) (packet_where packet own) (first_number own) }
+        ensures told { told result ≡ first_entry (the_header.Reset side packet disk) self.old }
         ensures rest { self.new ≡ rest_of (these 1 (one_where packet) 0 0 0 1) self.old }
     {
         EntryRef::Reset {
@@ -457,37 +440,9 @@ impl<'a> Beside<'a> {
     }
 }
 
-/// As many requests are pending as the ring holds.
-fn full<'a>(part: Part, disk: u32) -> EntryRef<'a>
-    ensures { told result ≡ the_entry.Full (who_at disk part) }
-{
-    EntryRef::Full {
-        who: who_at(disk, part),
-    }
-}
-
-/// A request was refused.
-fn refused<'a>(part: Part, why: Why, disk: u32) -> EntryRef<'a>
-    ensures { told result ≡ the_entry.Refused (who_at disk part) why }
-{
-    EntryRef::Refused {
-        who: who_at(disk, part),
-        why,
-    }
-}
-
-/// What the line asked for changes nothing.
-fn calm<'a>(part: Part, disk: u32) -> EntryRef<'a>
-    ensures { told result ≡ the_entry.Calm (who_at disk part) }
-{
-    EntryRef::Calm {
-        who: who_at(disk, part),
-    }
-}
-
 /// A settle ended though something is left to do here.
 fn unsettled<'a>(part: Part, disk: u32) -> EntryRef<'a>
-    ensures { told result ≡ the_entry.Unsettled (who_at disk part) }
+    ensures { told result ≡ kind_of (the_header.Unsettled part disk) }
 {
     EntryRef::Unsettled {
         who: who_at(disk, part),
@@ -496,7 +451,7 @@ fn unsettled<'a>(part: Part, disk: u32) -> EntryRef<'a>
 
 /// An end has nothing to do.
 fn idle<'a>(side: Side, disk: u32) -> EntryRef<'a>
-    ensures { told result ≡ the_entry.Idle (end_at disk side) }
+    ensures { told result ≡ kind_of (the_header.Idle side disk) }
 {
     EntryRef::Idle {
         end: end_at(disk, side),
@@ -505,7 +460,7 @@ fn idle<'a>(side: Side, disk: u32) -> EntryRef<'a>
 
 /// The end of a stopped server was to make a step.
 fn off<'a>(side: Side, disk: u32) -> EntryRef<'a>
-    ensures { told result ≡ the_entry.Off (end_at disk side) }
+    ensures { told result ≡ kind_of (the_header.Off side disk) }
 {
     EntryRef::Off {
         end: end_at(disk, side),
@@ -514,14 +469,14 @@ fn off<'a>(side: Side, disk: u32) -> EntryRef<'a>
 
 /// An end has no room for its next packet.
 fn blocked<'a>(side: Side, disk: u32) -> EntryRef<'a>
-    ensures { told result ≡ the_entry.Blocked (end_at disk side) }
+    ensures { told result ≡ kind_of (the_header.Blocked side disk) }
 {
     EntryRef::Blocked {
         end: end_at(disk, side),
     }
 }
 
-/// The first of a list, and those behind it.
+/// The first of a list, and those after it.
 fn first_of<T>(list: &[T]) -> (&T, &[T])
     requires { 0 < length list.now }
     ensures { list.now ≡ result.0.now ∷ result.1.now }

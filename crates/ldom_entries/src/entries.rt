@@ -3,7 +3,8 @@ ghost use Rattle.ldom_entries.specs.Told.{told};
 
 use crate::beside::Beside;
 use crate::entry_ref::EntryRef;
-use crate::header::Header;
+use crate::header::{Header, end_at};
+use domain_script::Side;
 use std::marker::Model;
 
 /// The entries of a journal that are still to be read, in order. A clause sees the list of them.
@@ -19,22 +20,22 @@ impl<'a> Model for Entries<'a> {
 
     ghost Value = { List Entry };
 
-    ghost use Rattle.ldom_entries.specs.Decoded.{AreWhole, entries_of};
+    ghost use Rattle.ldom_entries.specs.Decoded.{AreComplete, entries_of};
 
     ghost view = { λ e. entries_of e.headers.now e.beside };
 
-    ghost invariant = { λ e. AreWhole e.headers.now e.beside };
+    ghost invariant = { λ e. AreComplete e.headers.now e.beside };
 }
 
 #[tactic(auto, using(crate::proofs::UnseenPassed::passing, crate::proofs::Decoding::entries_count))]
 impl<'a> Entries<'a> {
     ghost use Rattle.std.specs.Prelude.{◌<◌, IsFalse, IsTrue};
-    ghost use Rattle.ldom_entries.specs.Decoded.{AreWhole, entries_of};
+    ghost use Rattle.ldom_entries.specs.Decoded.{AreComplete, entries_of};
     ghost use Rattle.ldom_entries.specs.Seen.{BeginsSeen, PassesUnseen};
 
     /// The entries of these headers and of what stands beside them.
     pub(crate) fn new(headers: &'a [Header], beside: Beside<'a>) -> Self
-        requires { AreWhole headers.now beside }
+        requires { AreComplete headers.now beside }
         ensures { result ≡ entries_of headers.now beside.entry }
     {
         Entries { headers, beside }
@@ -48,7 +49,9 @@ impl<'a> Entries<'a> {
     {
         match self.headers {
             [header, rest @ ..] => {
-                let mut entry = EntryRef::Settled;
+                let mut entry = EntryRef::Idle {
+                    end: end_at(0, Side::Client),
+                };
                 self.beside.read_into(*header, &mut entry);
                 self.headers = rest;
                 Some(entry)
@@ -66,7 +69,7 @@ impl<'a> Entries<'a> {
         while self.pass_one() {}
     }
 
-    /// Passes over the next entry, where no user of the disks sees it. Answers whether there was such a one.
+    /// Passes over the next entry, where no user of the disks may see it. Answers whether there was such a one.
     fn pass_one(&mut self) -> bool
         ensures passed { PassesUnseen self.old self.new }
         ensures shorter { IsTrue result → length self.new < length self.old }
@@ -75,7 +78,7 @@ impl<'a> Entries<'a> {
         let Some((header, behind)) = self.headers.split_first() else {
             return false;
         };
-        if header.is_seen() {
+        if header.may_be_seen() {
             return false;
         }
         self.beside.pass(*header);

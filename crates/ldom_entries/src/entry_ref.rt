@@ -1,11 +1,11 @@
-use crate::{Bytes, KeptRequest, WholeEntry, Who, Why};
+use crate::{Bytes, KeptRequest, Who, WholeEntry};
 use cookie_copy::CopyFault;
 use domain_script::EndName;
 use trimmed_arrays::TrimmedArray;
 use vio_tag::Cause;
 
-/// An entry that is read from the journal: an `Entry` whose larger parts stand in the journal's lists. `told` says
-/// which.
+/// An entry that is read from the journal: an `Entry` whose larger parts stand in the journal's lists, or that stands
+/// there as a whole. `told` says which.
 #[derive(Drop)]
 pub enum EntryRef<'a> {
     Accepted {
@@ -13,27 +13,6 @@ pub enum EntryRef<'a> {
         id: u64,
         request: &'a KeptRequest,
     },
-    Full {
-        who: Who,
-    },
-    Refused {
-        who: Who,
-        why: Why,
-    },
-    Lost {
-        end: EndName,
-        packet: TrimmedArray<'a>,
-    },
-    Stopped {
-        disk: u32,
-    },
-    Started {
-        disk: u32,
-    },
-    Calm {
-        who: Who,
-    },
-    Settled,
     Unsettled {
         who: Who,
     },
@@ -64,14 +43,16 @@ pub enum EntryRef<'a> {
         end: EndName,
         id: u64,
     },
-    /// A completion without bytes, and without room for some.
+
+    /// A completion without bytes.
     Done {
         disk: u32,
         id: u64,
         operation: u8,
         status: u64,
     },
-    /// A completion with bytes, or with room for some, as that of a read with status 0.
+
+    /// A completion, with its bytes.
     Read {
         disk: u32,
         id: u64,

@@ -1,8 +1,8 @@
 ghost use Rattle.std.specs.Prelude.{◌≡◌};
 ghost use Rattle.ldom_entries.specs.Decoded.{end_at, kind_of, who_at};
-ghost use Rattle.ldom_entries.specs.Seen.{is_seen};
+ghost use Rattle.ldom_entries.specs.Seen.{may_be_seen};
 
-use crate::{Who, Why};
+use crate::Who;
 use cookie_copy::CopyFault;
 use domain_script::{EndName, Lane, Side};
 
@@ -22,32 +22,6 @@ pub enum Header {
     Accepted {
         disk: u32,
     },
-    Full {
-        part: Part,
-        disk: u32,
-    },
-    Refused {
-        part: Part,
-        why: Why,
-        disk: u32,
-    },
-
-    /// Beside it: the packet.
-    Lost {
-        side: Side,
-        disk: u32,
-    },
-    Stopped {
-        disk: u32,
-    },
-    Started {
-        disk: u32,
-    },
-    Calm {
-        part: Part,
-        disk: u32,
-    },
-    Settled,
     Unsettled {
         part: Part,
         disk: u32,
@@ -91,8 +65,7 @@ pub enum Header {
         disk: u32,
     },
 
-    /// Beside it: the id, the status and, where it is a `read`, the bytes. A completion is none where it has neither
-    /// bytes nor room for some.
+    /// Beside it: the id, the status and, where it is a `read`, the bytes.
     Done {
         operation: u8,
         read: bool,
@@ -132,21 +105,19 @@ pub enum Header {
         packet: bool,
         disk: u32,
     },
+
+    /// Beside it: the entry, of any other kind.
+    Whole,
 }
 
 impl Header {
-    /// Whether a user of the disks sees its entry.
-    pub fn is_seen(&self) -> bool
-        ensures { result ≡ is_seen (kind_of self.now) }
+    /// Whether a user of the disks may see its entry.
+    pub fn may_be_seen(&self) -> bool
+        ensures { result ≡ may_be_seen (kind_of self.now) }
     {
         matches!(
             self,
-            Header::Full { .. }
-                | Header::Refused { .. }
-                | Header::Settled
-                | Header::Unsettled { .. }
-                | Header::Done { .. }
-                | Header::Reset { .. }
+            Header::Unsettled { .. } | Header::Done { .. } | Header::Reset { .. } | Header::Whole
         )
     }
 }

@@ -1,10 +1,10 @@
-ghost use Rattle.std.specs.Prelude.{◌≡◌, ◌+◌, ◌<◌, ◌≤◌, [], ◌∷◌, ◌++◌, length, true};
-ghost use Rattle.ldom_entries.specs.Counts.{accepted_count, done_count, reset_count};
+ghost use Rattle.std.specs.Prelude.{◌≡◌, ◌+◌, ◌<◌, ◌≤◌, [], ◌∷◌, ◌++◌, length, false};
+ghost use Rattle.ldom_entries.specs.Counts.{accepted_count, done_count, is_accepted, is_done, reset_count};
 
 use crate::entries::{Entries, nth};
 use crate::header::{Header, disk_of, part_of};
 use crate::kept_entries::KeptEntries;
-use crate::{Bytes, Entry, EntryRef, KeptRequest, Who, Why};
+use crate::{Bytes, Entry, EntryRef, KeptRequest, Who};
 use cookie_copy::CopyFault;
 use domain_script::EndName;
 use std::alloc::Global;
@@ -42,7 +42,6 @@ impl Model for Journal {
 impl Journal {
     ghost use Rattle.std.specs.Prelude.{◌↔◌, ◌^◌, max, Some, IsTrue, IfSome, IsNone, OnErr, OnOk, slice_get};
     ghost use Rattle.ldom_entries.specs.JournalState.{Puts};
-    ghost use Rattle.ldom_entries.specs.OfEnd.{is_of_end};
     ghost use Rattle.ldom_entries.specs.Told.{told};
     ghost use Rattle.ldom_entries.specs.declared.entry.Entry.TheVariants as the_entry;
 
@@ -121,18 +120,6 @@ impl Journal {
             disk: disk_of(end),
         };
         self.kept.push_number(header, u64::from(lost));
-    }
-
-    /// A packet that was lost.
-    fn push_lost(&mut self, end: EndName, packet: &[u8; 64])
-        requires { 0 < self.old.room }
-        ensures { Puts self.old (the_entry.Lost end packet.now) self.new }
-    {
-        let header = Header::Lost {
-            side: end.side,
-            disk: disk_of(end),
-        };
-        self.kept.push_packet(header, packet);
     }
 
     /// An end that took a packet, and its session may have opened by it.
@@ -241,33 +228,6 @@ impl Journal {
         self.resets += 1;
     }
 
-    /// As many requests are pending as the ring holds.
-    fn push_full(&mut self, who: Who)
-        requires { 0 < self.old.room }
-        ensures { Puts self.old (the_entry.Full who) self.new }
-    {
-        let (disk, part) = part_of(who);
-        self.kept.push_plain(Header::Full { part, disk });
-    }
-
-    /// A request that was refused.
-    fn push_refused(&mut self, who: Who, why: Why)
-        requires { 0 < self.old.room }
-        ensures { Puts self.old (the_entry.Refused who why) self.new }
-    {
-        let (disk, part) = part_of(who);
-        self.kept.push_plain(Header::Refused { part, why, disk });
-    }
-
-    /// What a line asked for and changes nothing.
-    fn push_calm(&mut self, who: Who)
-        requires { 0 < self.old.room }
-        ensures { Puts self.old (the_entry.Calm who) self.new }
-    {
-        let (disk, part) = part_of(who);
-        self.kept.push_plain(Header::Calm { part, disk });
-    }
-
     /// A settle that ended though something is left to do here.
     fn push_unsettled(&mut self, who: Who)
         requires { 0 < self.old.room }
@@ -285,13 +245,6 @@ impl Journal {
     {
         match entry {
             Entry::Accepted { disk, id, request } => self.push_accepted(disk, id, request),
-            Entry::Full { who } => self.push_full(who),
-            Entry::Refused { who, why } => self.push_refused(who, why),
-            Entry::Stopped { disk } => self.kept.push_plain(Header::Stopped { disk }),
-            Entry::Started { disk } => self.kept.push_plain(Header::Started { disk }),
-            Entry::Calm { who } => self.push_calm(who),
-            Entry::Settled => self.kept.push_plain(Header::Settled),
-            Entry::Unsettled { who } => self.push_unsettled(who),
             Entry::Done {
                 disk,
                 id,
@@ -299,18 +252,19 @@ impl Journal {
                 status,
                 bytes,
             } => self.push_done(disk, id, operation, status, bytes),
-            of_end => self.push_of_end(of_end),
+            other => self.push_other(other),
         }
     }
 
-    /// Puts an entry about an end last.
-    fn push_of_end(&mut self, entry: Entry)
+    /// Puts an entry last that neither takes up a request nor completes one.
+    fn push_other(&mut self, entry: Entry)
         requires room { 0 < self.old.room }
-        requires end { is_of_end entry ≡ true }
+        requires accepted { is_accepted entry ≡ false }
+        requires done { is_done entry ≡ false }
         ensures { Puts self.old entry self.new }
     {
         match entry {
-            Entry::Lost { end, packet } => self.push_lost(end, &packet),
+            Entry::Unsettled { who } => self.push_unsettled(who),
             Entry::Idle { end } => self.push_idle(end),
             Entry::Off { end } => self.push_off(end),
             Entry::Blocked { end } => self.push_blocked(end),
@@ -334,7 +288,7 @@ impl Journal {
                 packet,
                 lost,
             } => self.push_reset(end, cause, &packet, lost),
-            _ => unreachable!(),
+            whole => self.kept.push_whole(whole),
         }
     }
 

@@ -1,10 +1,10 @@
-ghost use Rattle.std.specs.Prelude.{◌≡◌, ◌+◌, ◌<◌, ◌≤◌, [], ◌∷◌, length, vec_capacity, OnErr, OnOk};
+ghost use Rattle.std.specs.Prelude.{◌≡◌, ◌+◌, ◌<◌, ◌≤◌, [], ◌∷◌, length, true, vec_capacity, OnErr, OnOk};
 ghost use Rattle.ldom_entries.specs.Decoded.{entry_of, needs, share, these};
 
 use crate::entries::Entries;
 use crate::header::{Header, disk_of};
 use crate::parts::Parts;
-use crate::{Bytes, KeptRequest};
+use crate::{Bytes, Entry, KeptRequest};
 use domain_script::EndName;
 use std::alloc::Global;
 use std::marker::Model;
@@ -22,7 +22,7 @@ pub(crate) struct KeptEntries {
 
 impl Model for KeptEntries {
     ghost use Rattle.std.specs.Prelude.{◌+◌, ◌≤◌, length, vec_capacity};
-    ghost use Rattle.ldom_entries.specs.Decoded.{AreWhole, entries_of};
+    ghost use Rattle.ldom_entries.specs.Decoded.{AreComplete, entries_of};
     ghost use Rattle.ldom_entries.specs.JournalState.{JournalState};
 
     ghost Value = { JournalState };
@@ -30,7 +30,7 @@ impl Model for KeptEntries {
     ghost view = { λ j. record { entries = entries_of j.headers.items j.parts.lists; room = j.room } };
 
     ghost invariant = { λ j. record {
-      whole : AreWhole j.headers.items j.parts.lists;
+      complete : AreComplete j.headers.items j.parts.lists;
       headers : length j.headers.items + j.parts.ready ≤ vec_capacity j.headers;
       parts : j.room ≤ j.parts.ready;
     } };
@@ -48,6 +48,7 @@ impl KeptEntries {
     ghost use Rattle.ldom_entries.specs.Beside.{nothing, only_numbers, only_packets};
     ghost use Rattle.ldom_entries.specs.JournalState.{Puts};
     ghost use Rattle.ldom_entries.specs.PartsState.{with_read};
+    ghost use Rattle.ldom_entries.specs.Whole.{is_whole};
     ghost use Rattle.ldom_entries.specs.declared.entry.Entry.TheVariants as the_entry;
 
     /// No entries, and no room. It takes no memory.
@@ -193,6 +194,17 @@ impl KeptEntries {
         self.parts
             .put_cause(u64::from(lost), cause, packet.as_ref());
         self.headers.push_reserved(header);
+        self.room -= 1;
+    }
+
+    /// An entry of a kind that is kept whole.
+    pub(crate) fn push_whole(&mut self, entry: Entry)
+        requires room { 0 < self.old.room }
+        requires whole { is_whole entry ≡ true }
+        ensures { Puts self.old entry self.new }
+    {
+        self.parts.put_whole(entry);
+        self.headers.push_reserved(Header::Whole);
         self.room -= 1;
     }
 

@@ -1,12 +1,12 @@
-ghost use Rattle.std.specs.Prelude.{◌≡◌, ◌^◌, ◌≤◌, ◌<◌, [], ◌∷◌, OnOk, OnErr};
+ghost use Rattle.std.specs.Prelude.{◌≡◌, ◌^◌, ◌≤◌, ◌<◌, [], ◌∷◌, true, OnOk, OnErr};
 
 use crate::beside::Beside;
-use crate::{Bytes, Cause, KeptRequest, NoMemory};
+use crate::{Bytes, Cause, Entry, KeptRequest, NoMemory, WholeEntry};
 use std::alloc::Global;
 use std::marker::Model;
 use trimmed_arrays::TrimmedArrays;
 
-/// What stands beside the headers of a journal: six lists, each in the order of the entries, and the room that is left
+/// What stands beside the headers of a journal: seven lists, each in the order of the entries, and the room that is left
 /// for more of them.
 #[derive(Debug, Drop)]
 pub(crate) struct Parts {
@@ -16,6 +16,7 @@ pub(crate) struct Parts {
     reads: Vec<Bytes>,
     requests: Vec<KeptRequest>,
     causes: Vec<Cause>,
+    wholes: Vec<WholeEntry>,
 
     /// For how many more entries there is room, whatever their kinds. An entry has two numbers at most, and one of
     /// anything else.
@@ -36,6 +37,7 @@ impl Model for Parts {
         reads = p.reads.items;
         requests = p.requests.items;
         causes = p.causes.items;
+        wholes = p.wholes.items;
       };
       ready = p.ready;
     } };
@@ -49,6 +51,7 @@ impl Model for Parts {
       reads : length p.reads.items + p.ready ≤ vec_capacity p.reads;
       requests : length p.requests.items + p.ready ≤ vec_capacity p.requests;
       causes : length p.causes.items + p.ready ≤ vec_capacity p.causes;
+      wholes : length p.wholes.items + p.ready ≤ vec_capacity p.wholes;
     } };
 }
 
@@ -61,7 +64,8 @@ const DESCRIPTOR: usize = 128;
 impl Parts {
     ghost use Rattle.std.specs.Option.{option_copied};
     ghost use Rattle.ldom_entries.specs.Beside.{nothing, only_numbers, only_packets};
-    ghost use Rattle.ldom_entries.specs.PartsState.{PutsParts, with_cause, with_descriptor, with_read, with_request};
+    ghost use Rattle.ldom_entries.specs.PartsState.{PutsParts, only_whole, with_cause, with_descriptor, with_read, with_request};
+    ghost use Rattle.ldom_entries.specs.Whole.{is_whole};
 
     /// Nothing, and no room. It takes no memory.
     pub(crate) fn new(alloc: Global) -> Self
@@ -74,6 +78,7 @@ impl Parts {
             reads: Vec::new(alloc),
             requests: Vec::new(alloc),
             causes: Vec::new(alloc),
+            wholes: Vec::new(alloc),
             ready: 0,
         }
     }
@@ -100,6 +105,7 @@ impl Parts {
         self.reads.reserve(n)?;
         self.requests.reserve(n)?;
         self.causes.reserve(n)?;
+        self.wholes.reserve(n)?;
         self.ready = n;
         Ok(())
     }
@@ -184,6 +190,16 @@ impl Parts {
         self.ready -= 1;
     }
 
+    /// An entry that is kept whole.
+    pub(crate) fn put_whole(&mut self, entry: Entry)
+        requires room { 0 < self.old.ready }
+        requires whole { is_whole entry ≡ true }
+        ensures { PutsParts self.old (only_whole entry) self.new }
+    {
+        self.wholes.push_reserved(WholeEntry::new(entry));
+        self.ready -= 1;
+    }
+
     /// All of it, to be read from its front.
     pub(crate) fn rest(&self) -> Beside<'_>
         ensures { result ≡ self.now.lists }
@@ -195,6 +211,7 @@ impl Parts {
             self.reads.as_slice(),
             self.requests.as_slice(),
             self.causes.as_slice(),
+            self.wholes.as_slice(),
         )
     }
 }

@@ -36,15 +36,19 @@ const ROWS: [Row; 25] = [
     ("finished", 31, 5),
 ];
 
-/// Those of them that a user of the disks sees.
-const SEEN: [Row; 9] = [
+/// Those of them that a user of the disks may see.
+const MAY_BE_SEEN: [Row; 13] = [
     ("full", 13, 0),
     ("refused", 13, 0),
     ("refused", 13, 1),
+    ("stopped", 3, 0),
+    ("started", 3, 0),
+    ("calm", 31, 0),
     ("settled", 0, 0),
     ("unsettled", 30, 0),
     ("done", 3, 5),
     ("read", 3, 512),
+    ("lost", 31, 64),
     ("reset", 31, 0),
     ("reset", 30, 3),
 ];
@@ -245,13 +249,6 @@ fn row(entry: Option<EntryRef<'_>>) -> Row {
     };
     match entry {
         EntryRef::Accepted { disk, request, .. } => ("accepted", disk.into(), block(request)),
-        EntryRef::Full { who } => ("full", whom(who), 0),
-        EntryRef::Refused { who, why } => ("refused", whom(who), (why == Why::Range).into()),
-        EntryRef::Lost { end, packet } => ("lost", at(end), front(Some(packet))),
-        EntryRef::Stopped { disk } => ("stopped", disk.into(), 0),
-        EntryRef::Started { disk } => ("started", disk.into(), 0),
-        EntryRef::Calm { who } => ("calm", whom(who), 0),
-        EntryRef::Settled => ("settled", 0, 0),
         EntryRef::Unsettled { who } => ("unsettled", whom(who), 0),
         EntryRef::Idle { end } => ("idle", at(end), 0),
         EntryRef::Off { end } => ("off", at(end), 0),
@@ -267,6 +264,21 @@ fn row(entry: Option<EntryRef<'_>>) -> Row {
         EntryRef::Stored { end, count, .. } => ("stored", at(end), count),
         EntryRef::Finished { end, status, .. } => ("finished", at(end), status),
         EntryRef::Reset { end, packet, .. } => ("reset", at(end), front(packet)),
+        EntryRef::Whole(whole) => whole_row(whole.entry()),
+    }
+}
+
+/// The row of an entry that is kept whole.
+fn whole_row(entry: &Entry) -> Row {
+    match entry {
+        Entry::Full { who } => ("full", whom(*who), 0),
+        Entry::Refused { who, why } => ("refused", whom(*who), (*why == Why::Range).into()),
+        Entry::Lost { end, packet } => ("lost", at(*end), packet.len() as u64),
+        Entry::Stopped { disk } => ("stopped", (*disk).into(), 0),
+        Entry::Started { disk } => ("started", (*disk).into(), 0),
+        Entry::Calm { who } => ("calm", whom(*who), 0),
+        Entry::Settled => ("settled", 0, 0),
+        _ => ("other", 0, 0),
     }
 }
 
@@ -284,10 +296,10 @@ fn each_kind_is_read_as_it_was_put(rt: HostRuntime) -> Result<(), Fail> {
 }
 
 #[test]
-fn unseen_entries_are_passed_over(rt: HostRuntime) -> Result<(), Fail> {
+fn entries_that_nobody_sees_are_passed_over(rt: HostRuntime) -> Result<(), Fail> {
     let journal = journal_of_all(rt.alloc())?;
     let mut rest = journal.entries();
-    for expected in SEEN.iter() {
+    for expected in MAY_BE_SEEN.iter() {
         rest.pass_unseen();
         assert_eq!(rt; row(rest.next_entry()), *expected);
     }

@@ -1,13 +1,13 @@
 use Rattle.std.proofs.Common.{refl, arith}
-use Rattle.ldom_entries.proofs.Decoding.{entries_more, whole_more}
+use Rattle.ldom_entries.proofs.Decoding.{entries_more, complete_more}
 use Rattle.ldom_entries.proofs.kept_entries.KeptEntries.push_accepted.Goals as goal
 
 pub invariant_of-self : goal.invariant_of-self
 invariant_of-self c = record {
-  whole = whole_more _ _ _ _ _ _ c.self.invariant.whole c.push_reserved.ensures.items c.put_request.ensures refl;
+  complete = complete_more _ _ _ _ _ _ c.self.invariant.complete c.push_reserved.ensures.items c.put_request.ensures refl;
   headers = omega arith;
   parts = omega arith;
 }
 
 pub returns : goal.returns
-returns c = grind (arith, entries_more _ _ _ _ _ _ c.self.invariant.whole c.push_reserved.ensures.items c.put_request.ensures refl)
+returns c = grind (arith, entries_more _ _ _ _ _ _ c.self.invariant.complete c.push_reserved.ensures.items c.put_request.ensures refl)

@@ -1,10 +1,10 @@
 use Rattle.std.proofs.Common.{arith}
-use Rattle.ldom_entries.proofs.Decoding.{whole_more}
+use Rattle.ldom_entries.proofs.Decoding.{complete_more}
 use Rattle.ldom_entries.proofs.kept_entries.KeptEntries.push_plain.Goals as goal
 
 pub invariant_of-self : goal.invariant_of-self
 invariant_of-self c = record {
-  whole = whole_more _ _ _ _ _ _ c.self.invariant.whole c.push_reserved.ensures.items c.put_none.ensures c.requires.share;
+  complete = complete_more _ _ _ _ _ _ c.self.invariant.complete c.push_reserved.ensures.items c.put_none.ensures c.requires.share;
   headers = omega arith;
   parts = omega arith;
 }
