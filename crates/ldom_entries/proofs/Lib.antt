@@ -1,4 +1,2 @@
-pub mod Counting
-pub mod Decoding
-pub mod Reading
+pub mod EntryCount
 pub mod UnseenPassed

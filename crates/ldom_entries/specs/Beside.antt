@@ -48,7 +48,7 @@ join l m = record {
   wholes = l.wholes ++ m.wholes;
 }
 
--- what an entry has, and what is left for those behind it
+-- what an entry has, and what is left for those after it
 abbrev pub share_of : Share → Lists → Lists
 share_of s l = record {
   numbers = take s.numbers l.numbers;

@@ -17,7 +17,7 @@ use vio_tag::Cause;
 
 /// What stands beside the headers that are still to be read, in their order.
 #[derive(Drop)]
-pub(crate) struct Beside<'a> {
+pub struct Beside<'a> {
     numbers: &'a [u64],
     packets: TrimmedRest<'a>,
     descriptors: TrimmedRest<'a>,
@@ -45,7 +45,7 @@ impl<'a> Model for Beside<'a> {
 
 impl<'a> Beside<'a> {
     /// These lists.
-    pub(crate) fn new(
+    pub fn new(
         numbers: &'a [u64],
         packets: TrimmedRest<'a>,
         descriptors: TrimmedRest<'a>,
@@ -213,16 +213,14 @@ impl<'a> Beside<'a> {
         }
     }
 
-    /// Takes the share of a header from the front of the lists, as `read_into` does, and makes no entry of it.
+    /// Takes the share of a header from the front of the lists, as `read_into` does, and hands on no entry. Of the
+    /// kinds that most steps give none is made.
     pub(crate) fn pass(&mut self, header: Header)
         requires { Holds (share header) self.old }
         ensures { self.new ≡ rest_of (share header) self.old }
     {
         match header {
-            Header::Unsettled { .. }
-            | Header::Idle { .. }
-            | Header::Off { .. }
-            | Header::Blocked { .. } => {}
+            Header::Idle { .. } | Header::Off { .. } | Header::Blocked { .. } => {}
             Header::Took { .. } | Header::Sent { .. } => {
                 self.packet();
             }
@@ -232,53 +230,8 @@ impl<'a> Beside<'a> {
             Header::Stored { .. } | Header::Finished { .. } => {
                 self.two_numbers();
             }
-            Header::Accepted { .. } => self.pass_request(),
-            Header::Desc { .. } => self.pass_descriptor(),
-            Header::Done { read, .. } => self.pass_done(read),
-            Header::Reset { packet, .. } => self.pass_reset(packet),
-            Header::Whole => {
-                self.whole();
-            }
+            other => self.read_into(other, &mut idle(Side::Client, 0)),
         }
-    }
-
-    /// Passes over an id and a request.
-    fn pass_request(&mut self)
-        requires { Holds (these 1 0 0 0 1 0) self.old }
-        ensures { self.new ≡ rest_of (these 1 0 0 0 1 0) self.old }
-    {
-        self.number();
-        self.request();
-    }
-
-    /// Passes over a slot and a descriptor.
-    fn pass_descriptor(&mut self)
-        requires { Holds (these 1 0 1 0 0 0) self.old }
-        ensures { self.new ≡ rest_of (these 1 0 1 0 0 0) self.old }
-    {
-        self.number();
-        self.descriptor();
-    }
-
-    /// Passes over an id, a status and, where it is a `read`, the bytes.
-    fn pass_done(&mut self, read: bool)
-        requires { Holds (these 2 0 0 (one_where read) 0 0) self.old }
-        ensures { self.new ≡ rest_of (these 2 0 0 (one_where read) 0 0) self.old }
-    {
-        self.two_numbers();
-        if read {
-            self.read();
-        }
-    }
-
-    /// Passes over a cause, how many frames were lost, and the packet where there is one.
-    fn pass_reset(&mut self, packet: bool)
-        requires { Holds (these 1 (one_where packet) 0 0 0 1) self.old }
-        ensures { self.new ≡ rest_of (these 1 (one_where packet) 0 0 0 1) self.old }
-    {
-        self.number();
-        self.packet_where(packet);
-        self.cause();
     }
 
     /// A guest's request was taken up. Beside it: its id, and the request.
@@ -450,7 +403,7 @@ fn unsettled<'a>(part: Part, disk: u32) -> EntryRef<'a>
 }
 
 /// An end has nothing to do.
-fn idle<'a>(side: Side, disk: u32) -> EntryRef<'a>
+pub(crate) fn idle<'a>(side: Side, disk: u32) -> EntryRef<'a>
     ensures { told result ≡ kind_of (the_header.Idle side disk) }
 {
     EntryRef::Idle {

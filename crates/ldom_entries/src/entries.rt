@@ -1,9 +1,9 @@
-ghost use Rattle.std.specs.Prelude.{◌≡◌, ◌≤◌, ◌↔◌, [], ◌∷◌, length, Some, IfSome, IsNone, slice_get};
+ghost use Rattle.std.specs.Prelude.{◌≡◌, [], ◌∷◌, length, IfSome, IsNone};
 ghost use Rattle.ldom_entries.specs.Told.{told};
 
-use crate::beside::Beside;
+use crate::beside::{Beside, idle};
 use crate::entry_ref::EntryRef;
-use crate::header::{Header, end_at};
+use crate::header::Header;
 use domain_script::Side;
 use std::marker::Model;
 
@@ -27,14 +27,14 @@ impl<'a> Model for Entries<'a> {
     ghost invariant = { λ e. AreComplete e.headers.now e.beside };
 }
 
-#[tactic(auto, using(crate::proofs::UnseenPassed::passing, crate::proofs::Decoding::entries_count))]
+#[tactic(auto, using(crate::proofs::UnseenPassed::passing, crate::proofs::EntryCount::entries_count))]
 impl<'a> Entries<'a> {
     ghost use Rattle.std.specs.Prelude.{◌<◌, IsFalse, IsTrue};
     ghost use Rattle.ldom_entries.specs.Decoded.{AreComplete, entries_of};
     ghost use Rattle.ldom_entries.specs.Seen.{BeginsSeen, PassesUnseen};
 
     /// The entries of these headers and of what stands beside them.
-    pub(crate) fn new(headers: &'a [Header], beside: Beside<'a>) -> Self
+    pub fn new(headers: &'a [Header], beside: Beside<'a>) -> Self
         requires { AreComplete headers.now beside }
         ensures { result ≡ entries_of headers.now beside.entry }
     {
@@ -49,9 +49,7 @@ impl<'a> Entries<'a> {
     {
         match self.headers {
             [header, rest @ ..] => {
-                let mut entry = EntryRef::Idle {
-                    end: end_at(0, Side::Client),
-                };
+                let mut entry = idle(Side::Client, 0);
                 self.beside.read_into(*header, &mut entry);
                 self.headers = rest;
                 Some(entry)
@@ -60,8 +58,8 @@ impl<'a> Entries<'a> {
         }
     }
 
-    /// Passes over the entries up to the next one that a user of the disks sees or that is kept whole, and makes nothing
-    /// of them.
+    /// Passes over the entries up to the next one that a user of the disks sees or that is kept whole, and makes
+    /// nothing of them.
     pub fn pass_unseen(&mut self)
         ensures passed { PassesUnseen self.old self.new }
         ensures stops { BeginsSeen self.new }
@@ -75,27 +73,14 @@ impl<'a> Entries<'a> {
         ensures shorter { IsTrue result → length self.new < length self.old }
         ensures stops { IsFalse result → BeginsSeen self.new }
     {
-        let Some((header, behind)) = self.headers.split_first() else {
+        let Some((header, others)) = self.headers.split_first() else {
             return false;
         };
         if header.may_be_seen() {
             return false;
         }
         self.beside.pass(*header);
-        self.headers = behind;
+        self.headers = others;
         true
     }
-}
-
-/// The k-th entry, counted from 0. None exactly where there are k or fewer.
-#[tactic(auto, using(crate::proofs::Reading::front_read))]
-pub(crate) fn nth(entries: Entries<'_>, k: usize) -> Option<EntryRef<'_>>
-    ensures some { IfSome result (λ entry. slice_get entries.entry k ≡ Some (told entry)) }
-    ensures none { IsNone result ↔ length entries.entry ≤ k }
-{
-    let mut rest = entries;
-    for _ in 0..k {
-        rest.next_entry()?;
-    }
-    rest.next_entry()
 }

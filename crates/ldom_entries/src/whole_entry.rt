@@ -24,7 +24,7 @@ impl Model for WholeEntry {
 
 impl WholeEntry {
     /// This entry.
-    pub(crate) fn new(entry: Entry) -> Self
+    pub fn new(entry: Entry) -> Self
         requires { is_whole entry ≡ true }
         ensures { result ≡ entry }
     {

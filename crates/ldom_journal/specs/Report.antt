@@ -4,7 +4,7 @@ use Rattle.domain_script.specs.declared.event.DiskDecl.{DiskDecl}
 use Rattle.domain_script.specs.declared.event.LineFault.{LineFault}
 use Rattle.domain_script.specs.declared.event.LineFault.TheVariants.{Word, Hex}
 use Rattle.ldom_entries.specs.declared.entry.Entry.{Entry}
-pub use Rattle.ldom_entries.specs.Counts.{is_accepted, is_done, is_reset, accepted_count, done_count, reset_count}
+pub use Rattle.kept_journal.specs.Counts.{is_accepted, is_done, is_reset, accepted_count, done_count, reset_count}
 use Rattle.ldom_journal.specs.declared.status.Mode.{Mode}
 use Rattle.ldom_journal.specs.declared.status.LimitKind.{LimitKind}
 use Rattle.ldom_journal.specs.declared.status.LimitKind.TheVariants.{Lines, Bytes, Entries}

@@ -1,0 +1,3 @@
+pub mod Counts
+pub mod KeptState
+pub mod PartsState
