@@ -1,7 +1,8 @@
-//! The work on a descriptor: what the server of a disk makes of the 128 bytes of a slot, unit by unit, and what it answers.
+//! The work on a descriptor: what a disk's server makes of the 128 bytes of a slot, by pieces, and what it answers.
 //!
-//! The server stands on it. A unit is one call of the store, and one copy by the descriptor's cookies; a flush is one call of the
-//! store. Each piece is exactly the step that the crate of steps says it is. No call but `UnitBuffer::new` takes memory.
+//! The server stands on it. A unit is one call of the store and one copy by the descriptor's cookies; a flush is one
+//! flush of the store. Each piece is exactly what the crate of steps says of it. No call but `UnitBuffer::new` takes
+//! memory.
 #![tactic(auto)]
 
 mod answers;

@@ -7,8 +7,8 @@ ghost use Rattle.disk_steps.specs.LaneState.{fresh, IsShape};
 ghost use Rattle.disk_steps.specs.LaneStep.{LaneStep};
 ghost use Rattle.disk_steps.specs.Served.{Served};
 ghost use Rattle.vdisk_client.specs.Calls.{TellsLength, admitted, client_event, front_count};
-ghost use Rattle.disk_lane.specs.Events.{CallsOf, FlushesOf, KeepsStoreOf, ResetsOwn, answered, lost_event, reset_event};
-ghost use Rattle.disk_lane.specs.Events.{restart_event, served_event, start_event, stop_event, tick_event};
+ghost use Rattle.disk_lane.specs.Events.{CallsOf, FlushesOf, KeepsStoreOf, ResetsOwn, answered, lost_event};
+ghost use Rattle.disk_lane.specs.Events.{reset_event, restart_event, served_event, start_event, stop_event, tick_event};
 
 use crate::lane_ends::LaneEnds;
 use flat_store::Region;

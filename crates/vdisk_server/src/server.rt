@@ -69,8 +69,8 @@ impl Server {
         ensures channel { channel.new ≡ channel_after result channel.old }
         ensures same_length { length memory.new ≡ length memory.old }
 
-        // The store is called once for a unit or a flush, and not at all in any other step. A flush flushes it, and no other
-        // step does.
+        // The store is called once for a unit or a flush, and not at all in any other step. A flush flushes it, and no
+        // other step does.
         ensures store { KeepsStore result store.old store.new }
         ensures calls { Calls result (D.calls store.old) (D.calls store.new) (D.faults store.old) (D.faults store.new) }
         ensures flushes { Flushes result (D.flushes store.old) (D.flushes store.new) }
@@ -99,8 +99,8 @@ impl Server {
         ensures channel { channel.new ≡ channel_after out.new channel.old }
         ensures same_length { length memory.new ≡ length memory.old }
 
-        // The store is called once for a unit or a flush, and not at all in any other step. A flush flushes it, and no other
-        // step does.
+        // The store is called once for a unit or a flush, and not at all in any other step. A flush flushes it, and no
+        // other step does.
         ensures store { KeepsStore out.new store.old store.new }
         ensures calls { Calls out.new (D.calls store.old) (D.calls store.new) (D.faults store.old)
             (D.faults store.new) }
