@@ -10,7 +10,7 @@ use Rattle.disk_steps.specs.LaneState.{LaneState}
 use Rattle.ldc_queue.specs.declared.end.End.{End}
 use Rattle.lanes_settle.specs.Settle.{OfLane, SettleEntry, Settled, Unsettled}
 use Rattle.lanes_world.proofs.Along.{lane_step}
-use Rattle.lanes_world.specs.Lines.{AnswersCall, AnswersRequest, Asked, Call, Calls, Line, Nothing}
+use Rattle.lanes_world.specs.Lines.{Line, Nothing}
 use Rattle.lanes_world.specs.World.{LaneMoves, OneMoves, WorldState, WorldStep}
 use Rattle.ldom_entries.specs.JournalState.{JournalState}
 use Rattle.ldom_journal.specs.LaneEvents.{world_event}
@@ -19,11 +19,10 @@ use Rattle.ldom_entries.specs.declared.entry.Entry.{Entry}
 use Rattle.ldom_world.proofs.Adding.{none_adds, one_adds}
 use Rattle.ldom_world.proofs.Leaving.{entry_left, left_of, none_accepted}
 use Rattle.ldom_world.proofs.Telling.{entry_tells, none_more}
-use Rattle.ldom_world.specs.OneLane.{EndSteps, LaneAnswers, LaneSteps, RecordedBut, Records}
+use Rattle.ldom_world.specs.OneLane.{EndSteps, LaneSteps, RecordedBut, Records}
 use Rattle.ldom_world.specs.Resting.{left_out}
 use Rattle.settle_loop.proofs.Keeping.{issued_set, next_is}
 use Rattle.settle_loop.specs.Issued.{issued_on, next_behind}
-use Rattle.vdisk_msg.specs.declared.request.Request.{Request}
 use Rattle.world_parts.specs.Parts.{Adds, Fits, FitsSoFar, MakesQuietStep, MakesStep}
 
 -- A LANE BY ITS NUMBER
@@ -59,7 +58,7 @@ line_many w v line old new (Ok done) fits so_far = run_many w v fits.entries fit
 line_many w v line old new (Err fault) fits so_far = run_many w v so_far.entries so_far.begins.run
 
 -- HOW MANY WERE ACCEPTED
-count_push : (old new : List Entry) (x : Entry) → new ≡ old ++ x ∷ []
+pub count_push : (old new : List Entry) (x : Entry) → new ≡ old ++ x ∷ []
     → accepted_count new ≡ accepted_count old + cond (is_accepted x) 1 0
 count_push old new x grew =
     ap (λ (l : List Entry). accepted_count l) grew ∙ sum_by_push (λ y. cond (is_accepted y) 1 0) old x
@@ -76,8 +75,8 @@ pub agrees_after : (line : Line) (w v : WorldState) (k : ℕ) (event : DiskEvent
     → OneMoves w k event v → world_event line x ≡ Some (OfLane k event)
     → new ≡ old ++ x ∷ [] → accepted_count old ≡ issued_on w.lanes → accepted_count new ≡ issued_on v.lanes
 agrees_after line w v k event x old new at says grew agrees =
-    let tells = entry_tells line x k event says in
-    omega (arith, count_push old new x grew, issued_moves w v k event (cond (is_accepted x) 1 0) at tells.next, agrees)
+    let issued = issued_moves w v k event (cond (is_accepted x) 1 0) at (entry_tells line x k event says) in
+    omega (arith, count_push old new x grew, issued, agrees)
 
 issued_there : (lanes : List LaneState) (k : ℕ) (s : LaneState) → slice_get lanes k ≡ Some s
     → s.client.next_id ≤ issued_on lanes
@@ -93,7 +92,7 @@ pub few_issued : (old : List Entry) (lanes : List LaneState) (k : ℕ) (s : Lane
 few_issued old lanes k s there agrees few =
     omega (arith, issued_there lanes k s there, agrees, few, count_by-le-length is_accepted old)
 
--- WHAT A LINE ASKED of one lane
+-- ONE LANE is set by its event
 pub one_moves : (w v : WorldState) (k : ℕ) (s t : LaneState) (event : DiskEvent) (j : ImageState)
     → slice_get w.lanes k ≡ Some s → LaneMoves s w.image event t j
     → v ≡ record { lanes = slice_set w.lanes k t; image = j } → OneMoves w k event v
@@ -104,44 +103,6 @@ one_moves w v k s t event j there moves is = record {
   moves = subst (λ (i : ImageState). LaneMoves s w.image event t i) (sym (ap (λ (x : WorldState). x.image) is)) moves;
   lanes = ap (λ (x : WorldState). x.lanes) is;
 }
-
-module _ (w v : WorldState) (k : ℕ) (s t : LaneState) (x : Entry) (old new : List Entry) where
-  pub call_fits : (call : Call) → slice_get w.lanes k ≡ Some s → LaneAnswers (Calls k call) k (AnswersCall call) s x t
-      → v ≡ record { lanes = slice_set w.lanes k t; image = w.image }
-      → new ≡ old ++ x ∷ [] → Fits w (Calls k call) old new v
-  call_fits call there at is grew =
-      let moves = one_moves w v k s t at.event w.image there (at.moves w.image) is in
-      record {
-        entries = OfLane k at.event ∷ [];
-        adds = one_adds (Calls k call) old new x (OfLane k at.event) grew at.says;
-        moves = record {
-          part_of = record { event = at.event; answers = at.answers; is = refl };
-          run = (v, moves, refl);
-        };
-      }
-
-  pub request_fits : (request : Request) → slice_get w.lanes k ≡ Some s
-      → LaneAnswers (Asked k request) k (AnswersRequest request) s x t
-      → v ≡ record { lanes = slice_set w.lanes k t; image = w.image } → new ≡ old ++ x ∷ []
-      → Fits w (Asked k request) old new v
-  request_fits request there at is grew =
-      let moves = one_moves w v k s t at.event w.image there (at.moves w.image) is in
-      record {
-        entries = OfLane k at.event ∷ [];
-        adds = one_adds (Asked k request) old new x (OfLane k at.event) grew at.says;
-        moves = record {
-          part_of = record { event = at.event; answers = at.answers; is = refl };
-          run = (v, moves, refl);
-        };
-      }
-
-  pub answer_agrees : (line : Line) (Answers : DiskEvent → Type 0) → slice_get w.lanes k ≡ Some s
-      → LaneAnswers line k Answers s x t
-      → v ≡ record { lanes = slice_set w.lanes k t; image = w.image } → new ≡ old ++ x ∷ []
-      → accepted_count old ≡ issued_on w.lanes → accepted_count new ≡ issued_on v.lanes
-  answer_agrees line Answers there at is grew agrees =
-      agrees_after line w v k at.event x old new (one_moves w v k s t at.event w.image there (at.moves w.image) is)
-      at.says grew agrees
 
 -- A STEP OF AN END
 pub end_steps : (in_settle : Bool) (w v : WorldState) (k : ℕ) (e : End) (s t : LaneState) (old : JournalState)

@@ -1,9 +1,19 @@
--- A world by its parts: lanes over an image, and one lane of them set.
-use Rattle.std.proofs.Common.{◌≡◌, ℕ, ◌<◌, List, length, slice_get, slice_set, get_or, Some, sym, ap, subst}
+-- A world by its parts: lanes over an image, and one lane of them set; and what a line asked of that lane.
+use Rattle.std.proofs.Common.{◌≡◌, ℕ, ◌<◌, List, [], ◌∷◌, ◌++◌, length, slice_get, slice_set, get_or, Some, refl, sym, ap, subst, ◌∙◌}
 use Rattle.disk_law.specs.ListState.{ImageState}
+use Rattle.disk_steps.specs.DiskEvent.{DiskEvent}
 use Rattle.disk_steps.specs.LaneState.{LaneState}
-use Rattle.lanes_world.specs.World.{WorldState}
-use Rattle.ldom_world.proofs.Lifting.{there_at}
+use Rattle.lanes_settle.specs.Settle.{OfLane, SettleEntry}
+use Rattle.lanes_world.specs.Lines.{AnswersCall, AnswersRequest, Asked, Call, Calls, Line, OneEntry, PartOf}
+use Rattle.lanes_world.specs.World.{OneMoves, WorldState}
+use Rattle.ldom_entries.specs.declared.entry.Entry.{Entry}
+use Rattle.ldom_journal.specs.Report.{accepted_count}
+use Rattle.ldom_world.proofs.Adding.{one_adds}
+use Rattle.ldom_world.proofs.Lifting.{agrees_after, one_moves, there_at}
+use Rattle.ldom_world.specs.OneLane.{LaneAnswers}
+use Rattle.settle_loop.specs.Issued.{issued_on}
+use Rattle.vdisk_msg.specs.declared.request.Request.{Request}
+use Rattle.world_parts.specs.Parts.{Fits}
 
 abbrev pub over : List LaneState → ImageState → WorldState
 over lanes image = record { lanes = lanes; image = image }
@@ -30,3 +40,44 @@ lane_set w lanes image k t is = ap (λ (x : WorldState). over (slice_set x.lanes
 pub image_there : (w : WorldState) (lanes : List LaneState) (image : ImageState) (P : ImageState → Type 0)
     → over lanes image ≡ w → P image → P w.image
 image_there w lanes image P is holds = subst P (ap (λ (x : WorldState). x.image) is) holds
+
+-- WHAT A LINE ASKED of a lane, and whose entry was put last
+module _ (w : WorldState) (lanes : List LaneState) (image : ImageState) (k : ℕ) (s t : LaneState) (x : Entry)
+    (old mid new : List Entry) (is : over lanes image ≡ w) (within : k < length w.lanes) (at : s ≡ get_or lanes k s)
+    (same : mid ≡ old) (grew : new ≡ mid ++ x ∷ []) where
+  put_last : new ≡ old ++ x ∷ []
+  put_last = grew ∙ ap (λ (l : List Entry). l ++ x ∷ []) same
+
+  answer_moves : (line : Line) (Answers : DiskEvent → Type 0) (answer : LaneAnswers line k Answers s x t)
+      → OneMoves w k answer.event (over (slice_set lanes k t) image)
+  answer_moves line Answers answer =
+      one_moves w (over (slice_set lanes k t) image) k s t answer.event w.image (lane_there w lanes image k s is within at)
+      (answer.moves w.image) (lane_set w lanes image k t is)
+
+  answer_fits : (line : Line) (Answers : DiskEvent → Type 0)
+      → ((part : List SettleEntry) → OneEntry k Answers part → PartOf line w.lanes part (slice_set lanes k t))
+      → LaneAnswers line k Answers s x t → Fits w line old new (over (slice_set lanes k t) image)
+  answer_fits line Answers as_part answer =
+      let part = OfLane k answer.event ∷ [] in
+      record {
+        entries = part;
+        adds = one_adds line old new x (OfLane k answer.event) put_last answer.says;
+        moves = record {
+          part_of = as_part part (record { event = answer.event; answers = answer.answers; is = refl });
+          run = (over (slice_set lanes k t) image, answer_moves line Answers answer, refl);
+        };
+      }
+
+  pub call_fits : (call : Call) → LaneAnswers (Calls k call) k (AnswersCall call) s x t
+      → Fits w (Calls k call) old new (over (slice_set lanes k t) image)
+  call_fits call answer = answer_fits (Calls k call) (AnswersCall call) (λ part one. one) answer
+
+  pub request_fits : (request : Request) → LaneAnswers (Asked k request) k (AnswersRequest request) s x t
+      → Fits w (Asked k request) old new (over (slice_set lanes k t) image)
+  request_fits request answer = answer_fits (Asked k request) (AnswersRequest request) (λ part one. one) answer
+
+  pub answer_agrees : (line : Line) (Answers : DiskEvent → Type 0) → LaneAnswers line k Answers s x t
+      → accepted_count old ≡ issued_on w.lanes → accepted_count new ≡ issued_on (slice_set lanes k t)
+  answer_agrees line Answers answer agrees =
+      agrees_after line w (over (slice_set lanes k t) image) k answer.event x old new (answer_moves line Answers answer)
+      answer.says put_last agrees

@@ -1,6 +1,5 @@
 -- What a lane is in a settle: its mark in a round, its tick, and its name where it is left over.
 use Rattle.std.proofs.Common.{◌≡◌, ℕ, ◌+◌, ◌<◌, Bool, true, false, Option, Some, List, [], ◌∷◌, ◌++◌, length, map, take, slice_get, slice_set, refl, sym, ap, ◌∙◌, subst, arith, append-nil}
-use Rattle.std.proofs.lemmas.List.Sums.{sum_by-append}
 use Rattle.std.specs.Prelude.{◌&&◌, ◌||◌, ◌==◌, cond, if◌then◌else◌, not}
 use Rattle.runs.specs.Run.{Run}
 use Rattle.disk_steps.specs.DiskEvent.{CalmTick, Rests}
@@ -10,7 +9,7 @@ use Rattle.lanes_settle.specs.Settle.{OfLane, SettleEntry, Unsettled}
 use Rattle.lanes_settle.specs.Ticks.{gets_tick, tick, waits_on}
 use Rattle.lanes_world.specs.Lines.{AnswersCall, Calls, Line, OneEntry, Settles, Ticks}
 use Rattle.lanes_world.specs.World.{OneMoves, WorldState, WorldStep}
-use Rattle.ldom_journal.specs.LaneEvents.{if_so, world_event}
+use Rattle.ldom_journal.specs.LaneEvents.{ChangesNothing, Meaning, NoRoomFor, Refuses, calm_event, if_so, meaning, meant, world_event}
 use Rattle.ldom_journal.specs.Report.{accepted_count, is_accepted}
 use Rattle.ldom_entries.specs.declared.entry.Entry.{Entry}
 use Rattle.ldom_entries.specs.declared.entry.Entry.TheVariants as entry
@@ -23,6 +22,7 @@ use Rattle.settle_loop.specs.RoundMade.{all_true}
 use Rattle.settle_loop.specs.TicksMade.{LaneTicked}
 use Rattle.world_parts.specs.Parts.{Adds, Fits, FitsSoFar, Says}
 use Rattle.ldom_world.proofs.Adding.{none_adds, one_adds}
+use Rattle.ldom_world.proofs.Lifting.{count_push}
 use Rattle.ldom_world.proofs.SettlingAdds.{names_go_by, ticks_go_by}
 use Rattle.ldom_world.specs.SettleParts.{Grew, NamesGoOn, TicksGoOn}
 
@@ -52,58 +52,33 @@ waits_by false true running is = is
 waits_by false false running is = is
 
 -- AN ENTRY THAT ACCEPTS NOTHING leaves the count
-count_one : (e : Entry) → is_accepted e ≡ false → accepted_count (e ∷ []) ≡ 0
-count_one e none = ap (λ (b : Bool). 0 + cond {A = ℕ} b 1 0) none
-
-none_more : (n m : ℕ) → m ≡ 0 → n + m ≡ n
-none_more n m zeroth = omega (arith, zeroth)
-
 pub count_stays : (old new : List Entry) (e : Entry) → is_accepted e ≡ false → new ≡ old ++ e ∷ []
     → accepted_count new ≡ accepted_count old
-count_stays old new e none is =
-    ap (λ (l : List Entry). accepted_count l) is ∙ sum_by-append _ old (e ∷ [])
-    ∙ none_more (accepted_count old) (accepted_count (e ∷ [])) (count_one e none)
+count_stays old new e none grew =
+    omega (arith, count_push old new e grew, ap (λ (b : Bool). cond {A = ℕ} b 1 0) none)
 
 -- THE EVENT OF A TICK is said by the same entry in whatever line it is
 calm_no_tick : (b : Bool) (j k : ℕ) → if_so b (OfLane j (Rests CalmTick)) ≡ Some (OfLane k tick) → ⊥
 calm_no_tick true j k is = cc is
 calm_no_tick false j k is = cc is
 
-tick_of_calm : (k : ℕ) (who : Who) → world_event (Calls k Ticks) (entry.Calm who) ≡ Some (OfLane k tick) → ⊥
+tick_of_calm : (k : ℕ) (who : Who) → calm_event (Calls k Ticks) who ≡ Some (OfLane k tick) → ⊥
 tick_of_calm k (OfWhole (Disk j)) is = calm_no_tick (k == j) j k is
 tick_of_calm k (OfEnd name) is = cc is
 
-tick_entry : (k : ℕ) (e : Entry) → world_event (Calls k Ticks) e ≡ Some (OfLane k tick)
-    → world_event Settles e ≡ Some (OfLane k tick)
-tick_entry k (entry.Accepted j id request) is = is
-tick_entry k (entry.Full who) is = absurd (cc is)
-tick_entry k (entry.Refused who why) is = absurd (cc is)
-tick_entry k (entry.Lost e packet) is = is
-tick_entry k (entry.Stopped j) is = is
-tick_entry k (entry.Started j) is = is
-tick_entry k (entry.Calm who) is = absurd (tick_of_calm k who is)
-tick_entry k entry.Settled is = is
-tick_entry k (entry.Unsettled who) is = is
-tick_entry k (entry.Idle e) is = is
-tick_entry k (entry.Off e) is = is
-tick_entry k (entry.Blocked e) is = is
-tick_entry k (entry.Joined e lost) is = is
-tick_entry k (entry.Took e packet opens) is = is
-tick_entry k (entry.Sent e packet opens) is = is
-tick_entry k (entry.Published e id) is = is
-tick_entry k (entry.Done j id operation status bytes) is = is
-tick_entry k (entry.Desc e slot bytes) is = is
-tick_entry k (entry.Moved e unit fault) is = is
-tick_entry k (entry.Stored e operation block count failed) is = is
-tick_entry k (entry.Finished e slot status) is = is
-tick_entry k (entry.Reset e cause packet lost) is = is
+tick_meant : (k : ℕ) (x : Meaning) → meant (Calls k Ticks) x ≡ Some (OfLane k tick)
+    → meant Settles x ≡ Some (OfLane k tick)
+tick_meant k (NoRoomFor who) is = absurd (cc is)
+tick_meant k (Refuses who why) is = absurd (cc is)
+tick_meant k (ChangesNothing who) is = absurd (tick_of_calm k who is)
+tick_meant k x is = is
 
 tick_said : (k : ℕ) (part : List Entry) → Says (Calls k Ticks) part (OfLane k tick ∷ [])
     → Says Settles part (OfLane k tick ∷ [])
 tick_said k [] says = absurd (cc says)
 tick_said k (e ∷ []) says =
     let one : world_event (Calls k Ticks) e ≡ Some (OfLane k tick) = cc says in
-    ap (λ (o : Option SettleEntry). o ∷ []) (tick_entry k e one)
+    ap (λ (o : Option SettleEntry). o ∷ []) (tick_meant k (meaning e) one)
 tick_said k (e ∷ f ∷ part) says = absurd (cc says)
 
 -- A CALL FOR A TICK of a lane that gets one is the tick of a settle
