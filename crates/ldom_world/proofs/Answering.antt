@@ -8,7 +8,6 @@ use Rattle.disk_steps.specs.DiskEvent.{Asks, CalmReset, CalmRestart, CalmStart, 
 use Rattle.disk_steps.specs.DiskEvent as disk
 use Rattle.disk_steps.specs.LaneState.{LaneState}
 use Rattle.disk_steps.specs.LaneStep.{LaneStep}
-use Rattle.domain_script.specs.declared.event.EndName.{EndName}
 use Rattle.domain_script.specs.declared.event.Lane.TheVariants.{Disk}
 use Rattle.domain_script.specs.declared.event.Side.{Side}
 use Rattle.domain_script.specs.declared.event.Side.TheVariants.{Client, Server}
@@ -18,6 +17,7 @@ use Rattle.lanes_settle.specs.Settle.{OfLane, SettleEntry}
 use Rattle.lanes_world.specs.Lines.{AnswersCall, AnswersRequest, Asked, Calls, Loses, Resets, Restarts, Starts, Stops, Ticks}
 use Rattle.ldc_queue.specs.declared.end.End.TheVariants.{B}
 use Rattle.ldom_journal.specs.LaneEvents.{end_of, if_so, is_end, is_same, world_event}
+use Rattle.ldom_entries.specs.Decoded.{end_at}
 use Rattle.ldom_entries.specs.declared.entry.Entry.{Entry}
 use Rattle.ldom_entries.specs.declared.entry.Entry.TheVariants as entry
 use Rattle.ldom_entries.specs.declared.entry.Who.TheVariants.{Lane as OfWhole, End as OfEnd}
@@ -29,16 +29,12 @@ use Rattle.vdisk_client.specs.declared.answers.IssueFault.TheVariants as fault
 use Rattle.vdisk_msg.specs.declared.request.Request.{Request}
 use Rattle.vio_tag.specs.declared.cause.Cause.TheVariants as the_cause
 
--- an end of a lane, by its number
-abbrev pub named : ℕ → Side → EndName
-named k side = record { lane = Disk k; side = side }
-
 -- the line names the end, or the lane, that the entry is about
 same_end : (side : Side) → is_same (end_of side) (end_of side) ≡ true
 same_end Client = refl
 same_end Server = refl
 
-own_end : (k : ℕ) (side : Side) → is_end k (end_of side) (named k side) ≡ true
+own_end : (k : ℕ) (side : Side) → is_end k (end_of side) (end_at k side) ≡ true
 own_end k side = ap (λ (b : Bool). b && is_same (end_of side) (end_of side)) (eq-eqb k k refl) ∙ same_end side
 
 own_said : (b : Bool) (x : SettleEntry) → b ≡ true → if_so b x ≡ Some x
@@ -47,22 +43,18 @@ own_said b x is = ap (λ (c : Bool). if_so c x) is
 -- a request that wasn't taken up
 refused_answers : (request : Request) (why : IssueFault) → AnswersRequest request (Asks (admitted (Err why) request))
 refused_answers request fault.Count = refl
-refused_answers request fault.Range = refl
-refused_answers request fault.Full = refl
+refused_answers request why = refl
 
 refused_says : (k : ℕ) (request : Request) (why : IssueFault)
     → world_event (Asked k request) (refused_entry k why) ≡ Some (OfLane k (Asks (admitted (Err why) request)))
 refused_says k request fault.Count =
     own_said (k == k) (OfLane k (Asks (admitted (Err fault.Count) request))) (eq-eqb k k refl)
-refused_says k request fault.Range =
-    own_said (k == k) (OfLane k (Asks (admitted (Err fault.Range) request))) (eq-eqb k k refl)
-refused_says k request fault.Full =
-    own_said (k == k) (OfLane k (Asks (admitted (Err fault.Full) request))) (eq-eqb k k refl)
+refused_says k request why = own_said (k == k) (OfLane k (Asks (admitted (Err why) request))) (eq-eqb k k refl)
 
 module _ (k : ℕ) (s t : LaneState) (x : Entry) where
   -- A RESET
   pub was_reset : (side : Side) (did : Bool) → did ≡ true → LaneStep s (reset_event (end_of side) did) t
-      → x ≡ entry.Reset (named k side) the_cause.Asked None 0
+      → x ≡ entry.Reset (end_at k side) the_cause.Asked None 0
       → LaneAnswers (Calls k (Resets (end_of side))) k (AnswersCall (Resets (end_of side))) s x t
   was_reset side did yes_is step is = record {
     event = reset_event (end_of side) true;
@@ -72,20 +64,20 @@ module _ (k : ℕ) (s t : LaneState) (x : Entry) where
   }
 
   pub not_reset : (side : Side) (did : Bool) → did ≡ false → LaneStep s (reset_event (end_of side) did) t
-      → x ≡ entry.Calm (OfEnd (named k side))
+      → x ≡ entry.Calm (OfEnd (end_at k side))
       → LaneAnswers (Calls k (Resets (end_of side))) k (AnswersCall (Resets (end_of side))) s x t
   not_reset side did no_is step is = record {
     event = reset_event (end_of side) false;
     answers = refl;
     moves = λ (i : ImageState). (subst (λ (b : Bool). LaneStep s (reset_event (end_of side) b) t) no_is step, refl);
     says = ap (λ (z : Entry). world_event (Calls k (Resets (end_of side))) z) is
-        ∙ own_said (is_end k (end_of side) (named k side)) (OfLane k (Rests (CalmReset (end_of side))))
+        ∙ own_said (is_end k (end_of side) (end_at k side)) (OfLane k (Rests (CalmReset (end_of side))))
         (own_end k side);
   }
 
   -- A RESTART
   pub was_restarted : (did : Bool) → did ≡ true → LaneStep s (restart_event did) t
-      → x ≡ entry.Reset (named k Server) the_cause.Restart None 0
+      → x ≡ entry.Reset (end_at k Server) the_cause.Restart None 0
       → LaneAnswers (Calls k Restarts) k (AnswersCall Restarts) s x t
   was_restarted did yes_is step is = record {
     event = restart_event true;
@@ -95,14 +87,14 @@ module _ (k : ℕ) (s t : LaneState) (x : Entry) where
   }
 
   pub not_restarted : (did : Bool) → did ≡ false → LaneStep s (restart_event did) t
-      → x ≡ entry.Calm (OfEnd (named k Server))
+      → x ≡ entry.Calm (OfEnd (end_at k Server))
       → LaneAnswers (Calls k Restarts) k (AnswersCall Restarts) s x t
   not_restarted did no_is step is = record {
     event = restart_event false;
     answers = tt;
     moves = λ (i : ImageState). (subst (λ (b : Bool). LaneStep s (restart_event b) t) no_is step, refl);
     says = ap (λ (z : Entry). world_event (Calls k Restarts) z) is
-        ∙ own_said (is_end k B (named k Server)) (OfLane k (Rests CalmRestart)) (own_end k Server);
+        ∙ own_said (is_end k B (end_at k Server)) (OfLane k (Rests CalmRestart)) (own_end k Server);
   }
 
   -- A STOP
@@ -147,7 +139,7 @@ module _ (k : ℕ) (s t : LaneState) (x : Entry) where
 
   -- A PACKET LOST
   pub was_lost : (side : Side) (lost : Option (List ℕ)) (packet : List ℕ) → lost ≡ Some packet
-      → LaneStep s (lost_event (end_of side) lost) t → x ≡ entry.Lost (named k side) packet
+      → LaneStep s (lost_event (end_of side) lost) t → x ≡ entry.Lost (end_at k side) packet
       → LaneAnswers (Calls k (Loses (end_of side))) k (AnswersCall (Loses (end_of side))) s x t
   was_lost side lost packet there step is = record {
     event = OnWire (wire.Lost (end_of side) packet);
@@ -160,7 +152,7 @@ module _ (k : ℕ) (s t : LaneState) (x : Entry) where
   }
 
   pub none_lost : (side : Side) (lost : Option (List ℕ)) → lost ≡ None → LaneStep s (lost_event (end_of side) lost) t
-      → x ≡ entry.Calm (OfEnd (named k side))
+      → x ≡ entry.Calm (OfEnd (end_at k side))
       → LaneAnswers (Calls k (Loses (end_of side))) k (AnswersCall (Loses (end_of side))) s x t
   none_lost side lost none step is = record {
     event = OnWire (Declines (NothingLost (end_of side)));
@@ -170,13 +162,13 @@ module _ (k : ℕ) (s t : LaneState) (x : Entry) where
       refl,
     );
     says = ap (λ (z : Entry). world_event (Calls k (Loses (end_of side))) z) is
-        ∙ own_said (is_end k (end_of side) (named k side)) (OfLane k (OnWire (Declines (NothingLost (end_of side)))))
+        ∙ own_said (is_end k (end_of side) (end_at k side)) (OfLane k (OnWire (Declines (NothingLost (end_of side)))))
         (own_end k side);
   }
 
   -- A TICK
   pub was_ticked : (did : Bool) → did ≡ true → LaneStep s (tick_event did) t
-      → x ≡ entry.Reset (named k Client) the_cause.Tick None 0
+      → x ≡ entry.Reset (end_at k Client) the_cause.Tick None 0
       → LaneAnswers (Calls k Ticks) k (AnswersCall Ticks) s x t
   was_ticked did yes_is step is = record {
     event = tick_event true;

@@ -32,25 +32,15 @@ use Rattle.world_parts.specs.Declared.{image_of}
 
 -- THE CLIENT: each answer is a step of its end, and leaves the image
 client_of_end : (answer : ClientOut) (last : List ℕ) → ResetsOwn answer → IsStep A (client_event answer last)
-client_of_end client_out.Idle last own = refl
-client_of_end client_out.Blocked last own = refl
-client_of_end client_out.Joined last own = refl
-client_of_end (client_out.Took packet opens) last own = refl
-client_of_end (client_out.Sent packet opens) last own = refl
 client_of_end (client_out.Published id) last own = tt
 client_of_end (client_out.Done id operation status len) last own = tt
 client_of_end (client_out.Reset cause packet) last own = (refl, own)
+client_of_end answer last own = refl
 
 client_moves : (answer : ClientOut) (last : List ℕ) (s t : LaneState) (i : ImageState)
     → LaneStep s (client_event answer last) t → LaneMoves s i (client_event answer last) t i
 client_moves client_out.Idle last s t i step = (step, refl)
-client_moves client_out.Blocked last s t i step = (step, refl)
-client_moves client_out.Joined last s t i step = (step, refl)
-client_moves (client_out.Took packet opens) last s t i step = (step, refl)
-client_moves (client_out.Sent packet opens) last s t i step = (step, refl)
-client_moves (client_out.Published id) last s t i step = (step, refl)
-client_moves (client_out.Done id operation status len) last s t i step = (step, refl)
-client_moves (client_out.Reset cause packet) last s t i step = (step, refl)
+client_moves answer last s t i step = (step, refl)
 
 pub client_steps : (in_settle : Bool) (k : ℕ) (answer : ClientOut) (last : List ℕ) (s t : LaneState)
     (old new : JournalState) (calm : Bool) (i : ImageState) → LaneStep s (client_event answer last) t
@@ -78,12 +68,6 @@ buffer_few slots slot count memory = omega (arith, length-take count (drop (buff
 
 pub completion_fits : (answer : ClientOut) (last : List ℕ) (s t : LaneState) (room : ℕ)
     → LaneStep s (client_event answer last) t → front_count s.client.pending ≤ room → HasRoomFor answer last room
-completion_fits client_out.Idle last s t room step enough = tt
-completion_fits client_out.Blocked last s t room step enough = tt
-completion_fits client_out.Joined last s t room step enough = tt
-completion_fits (client_out.Took packet opens) last s t room step enough = tt
-completion_fits (client_out.Sent packet opens) last s t room step enough = tt
-completion_fits (client_out.Published id) last s t room step enough = tt
 completion_fits (client_out.Done id operation status len) last s t room step enough =
     let done = step.step in
     let slot = completed_slot s.client done.session in
@@ -98,7 +82,7 @@ completion_fits (client_out.Done id operation status len) last s t room step eno
       front_given s.client.pending done.request done.front,
       enough,
     )
-completion_fits (client_out.Reset cause packet) last s t room step enough = tt
+completion_fits answer last s t room step enough = tt
 
 -- THE SERVER: each answer is a step of its end
 module _ (s t : LaneState) where
@@ -131,38 +115,22 @@ module _ (s t : LaneState) where
         → KeepsStoreOf answer old new
         → CallsOf answer (calls old) (calls new) (faults old) (faults new) → ServerMoves answer
     server_moves None served keeps counts = (served.step, same_image keeps)
-    server_moves (Some server_out.Idle) served keeps counts = ((served.gave, served.step), same_image keeps)
-    server_moves (Some server_out.Blocked) served keeps counts = ((served.gave, served.step), same_image keeps)
-    server_moves (Some server_out.Joined) served keeps counts = ((served.gave, served.step), same_image keeps)
-    server_moves (Some (server_out.Took packet opens)) served keeps counts =
-        ((served.gave, served.step), same_image keeps)
-    server_moves (Some (server_out.Sent packet opens)) served keeps counts =
-        ((served.gave, served.step), same_image keeps)
-    server_moves (Some (server_out.Desc slot bytes)) served keeps counts =
-        ((served.gave, served.step), same_image keeps)
-    server_moves (Some (server_out.Moved unit fault)) served keeps counts =
-        ((served.gave, served.step), same_image keeps)
     server_moves (Some (server_out.Stored operation block count failed)) served keeps counts =
         (served, same_faults failed (faults old) (faults new) counts.faults_are)
-    server_moves (Some (server_out.Finished slot status)) served keeps counts =
-        ((served.gave, served.step), same_image keeps)
     server_moves (Some (server_out.Reset cause packet)) served keeps counts =
         (reset_by served.gave cause packet served.step, same_image keeps)
+    server_moves (Some answer) served keeps counts = ((served.gave, served.step), same_image keeps)
 
     server_end : (answer : Option ServerOut) → Served s (content old) (served_event answer) t (content new)
         → IsStep B (served_event answer)
     server_end None served = tt
-    server_end (Some server_out.Idle) served = refl
-    server_end (Some server_out.Blocked) served = refl
-    server_end (Some server_out.Joined) served = refl
-    server_end (Some (server_out.Took packet opens)) served = refl
-    server_end (Some (server_out.Sent packet opens)) served = refl
     server_end (Some (server_out.Desc slot bytes)) served = tt
     server_end (Some (server_out.Moved unit fault)) served = tt
     server_end (Some (server_out.Stored operation block count failed)) served = tt
     server_end (Some (server_out.Finished slot status)) served = tt
     server_end (Some (server_out.Reset cause packet)) served =
         (refl, server_of_end served.gave cause packet served.step)
+    server_end (Some answer) served = refl
 
     pub server_steps : (in_settle : Bool) (k : ℕ) (answer : Option ServerOut) (before after : JournalState) (calm : Bool)
         → Served s (content old) (served_event answer) t (content new) → KeepsStoreOf answer old new

@@ -1,7 +1,7 @@
 -- What a step leaves in the journal, by its answer: the entry of its event, or none in a settle where it rests.
 use Rattle.std.proofs.Common.{◌≡◌, ℕ, Bool, true, false, ◌||◌, Some, List, [], ◌∷◌, refl, sym, ap, subst, ◌∙◌}
 use Rattle.std.specs.Prelude.{◌&&◌}
-use Rattle.disk_steps.specs.DiskEvent.{Asks, DiskEvent, Off, OnWire, Rests, Started, Stopped, Turns, Works}
+use Rattle.disk_steps.specs.DiskEvent.{Asks, DiskEvent, Off, OnWire, Turns}
 use Rattle.lane_law.specs.WireEvent as wire
 use Rattle.lanes_settle.specs.Rounds.{is_calm}
 use Rattle.lanes_settle.specs.Settle.{OfLane, SettleEntry, entry_of}
@@ -30,76 +30,32 @@ left_of true k event = []
 left_of false k event = OfLane k event ∷ []
 
 pub entry_left : (k : ℕ) (event : DiskEvent) → entry_of k event ≡ left_of (left_out event) k event
-entry_left k (OnWire (wire.Joined e lost)) = refl
-entry_left k (OnWire (wire.Reset e cause packet lost)) = refl
-entry_left k (OnWire (wire.Took e packet opens)) = refl
-entry_left k (OnWire (wire.Sent e packet opens)) = refl
 entry_left k (OnWire (wire.Idle e)) = refl
-entry_left k (OnWire (wire.Blocked e)) = refl
-entry_left k (OnWire (wire.Lost e packet)) = refl
-entry_left k (OnWire (wire.Injected e packet)) = refl
-entry_left k (OnWire (wire.Poked e at bytes)) = refl
-entry_left k (OnWire (wire.Declines declined)) = refl
-entry_left k (Asks admitted) = refl
-entry_left k (Works worked) = refl
-entry_left k (Turns Stopped) = refl
-entry_left k (Turns Started) = refl
 entry_left k (Turns Off) = refl
-entry_left k (Rests calm) = refl
+entry_left k event = refl
 
 pub none_accepted : (event : DiskEvent) (n : ℕ) → left_out event ≡ true → next_behind event n ≡ n
-none_accepted (OnWire event) n out = refl
 none_accepted (Asks admitted) n out = absurd (cc out)
-none_accepted (Works worked) n out = refl
-none_accepted (Turns switched) n out = refl
-none_accepted (Rests calm) n out = refl
+none_accepted event n out = refl
 
 -- THE ANSWERS of a client and of a server: which rest, and which are calm
 pub client_left_out : (answer : ClientOut) (last : List ℕ)
     → left_out (client_event answer last) ≡ client_rests answer
 client_left_out client_out.Idle last = refl
-client_left_out client_out.Blocked last = refl
-client_left_out client_out.Joined last = refl
-client_left_out (client_out.Took packet opens) last = refl
-client_left_out (client_out.Sent packet opens) last = refl
-client_left_out (client_out.Published id) last = refl
-client_left_out (client_out.Done id operation status len) last = refl
-client_left_out (client_out.Reset cause packet) last = refl
+client_left_out answer last = refl
 
 pub client_calm : (answer : ClientOut) (last : List ℕ)
     → is_calm (client_event answer last) ≡ (client_rests answer || client_blocked answer)
 client_calm client_out.Idle last = refl
-client_calm client_out.Blocked last = refl
-client_calm client_out.Joined last = refl
-client_calm (client_out.Took packet opens) last = refl
-client_calm (client_out.Sent packet opens) last = refl
-client_calm (client_out.Published id) last = refl
-client_calm (client_out.Done id operation status len) last = refl
-client_calm (client_out.Reset cause packet) last = refl
+client_calm answer last = refl
 
 pub server_left_out : (answer : ServerOut) → left_out (server_event answer) ≡ server_rests answer
 server_left_out server_out.Idle = refl
-server_left_out server_out.Blocked = refl
-server_left_out server_out.Joined = refl
-server_left_out (server_out.Took packet opens) = refl
-server_left_out (server_out.Sent packet opens) = refl
-server_left_out (server_out.Desc slot bytes) = refl
-server_left_out (server_out.Moved unit fault) = refl
-server_left_out (server_out.Stored operation block count failed) = refl
-server_left_out (server_out.Finished slot status) = refl
-server_left_out (server_out.Reset cause packet) = refl
+server_left_out answer = refl
 
 pub server_calm : (answer : ServerOut) → is_calm (server_event answer) ≡ (server_rests answer || server_blocked answer)
 server_calm server_out.Idle = refl
-server_calm server_out.Blocked = refl
-server_calm server_out.Joined = refl
-server_calm (server_out.Took packet opens) = refl
-server_calm (server_out.Sent packet opens) = refl
-server_calm (server_out.Desc slot bytes) = refl
-server_calm (server_out.Moved unit fault) = refl
-server_calm (server_out.Stored operation block count failed) = refl
-server_calm (server_out.Finished slot status) = refl
-server_calm (server_out.Reset cause packet) = refl
+server_calm answer = refl
 
 -- BY AN ANSWER that rests in a settle, and by any other
 second_of : (a b : Bool) → (a && b) ≡ true → b ≡ true
