@@ -7,6 +7,7 @@ ghost use Rattle.settle_loop.specs.Issued.{issued_on};
 ghost use Rattle.world_parts.specs.Lines.{IsForDisks, line_of};
 ghost use Rattle.world_parts.specs.Parts.{Fits, FitsSoFar};
 
+use crate::calls::LaneCall;
 use crate::world::World;
 use domain_script::{Event, Lane};
 use ldom_journal::Journal;
@@ -46,12 +47,18 @@ impl<D: Store> World<D> {
                 self.steps(number_of(end.lane), end.side, *count, journal)
             }
             Event::Round { count } => self.rounds(*count, journal),
-            Event::Reset { end } => self.reset(number_of(end.lane), end.side, journal),
-            Event::Restart { end } => self.restart(number_of(end.lane), journal),
-            Event::Stop { disk } => self.stop(*disk, journal),
-            Event::Start { disk } => self.start(*disk, journal),
-            Event::Lose { end } => self.lose(number_of(end.lane), end.side, journal),
-            Event::Tick { lane } => self.tick(number_of(*lane), journal),
+            Event::Reset { end } => {
+                self.answer_call(number_of(end.lane), LaneCall::Reset(end.side), journal)
+            }
+            Event::Restart { end } => {
+                self.answer_call(number_of(end.lane), LaneCall::Restart, journal)
+            }
+            Event::Stop { disk } => self.answer_call(*disk, LaneCall::Stop, journal),
+            Event::Start { disk } => self.answer_call(*disk, LaneCall::Start, journal),
+            Event::Lose { end } => {
+                self.answer_call(number_of(end.lane), LaneCall::Lose(end.side), journal)
+            }
+            Event::Tick { lane } => self.answer_call(number_of(*lane), LaneCall::Tick, journal),
         }
     }
 }

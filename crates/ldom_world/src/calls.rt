@@ -12,10 +12,11 @@ ghost use Rattle.lanes_world.specs.Lines.{AnswersCall, Calls, Loses, Resets, Res
 ghost use Rattle.settle_loop.specs.Issued.{issued_on};
 ghost use Rattle.world_parts.specs.Parts.{Fits, FitsSoFar};
 
-use crate::entries::{client_of, end_of, name_of, server_of};
+use crate::entries::{client_of, end_of, server_of};
 use crate::world::World;
 use disk_lane::DiskLane;
 use domain_script::{EndName, Lane, Side};
+use ldom_entries::end_at;
 use ldom_journal::{Entry, Journal, Who};
 use vio_bytes::NoMemory;
 use vio_io::Store;
@@ -24,105 +25,28 @@ use vio_tag::Cause;
 /// A call of a lane.
 #[derive(Clone, Copy)]
 pub enum LaneCall {
+    /// Resets an end, but a stopped server's.
     Reset(Side),
+
+    /// Restarts a server, but a stopped one.
     Restart,
+
+    /// Stops a server that runs.
     Stop,
+
+    /// Starts a server that is stopped.
     Start,
+
+    /// Loses the packet that has waited longest for an end.
     Lose(Side),
+
+    /// Nothing comes any more for a client, which is reset where it isn't finished.
     Tick,
 }
 
 impl<D: Store> World<D> {
-    /// Resets an end, but a stopped server's.
-    pub(crate) fn reset(
-        &mut self,
-        disk: u32,
-        side: Side,
-        journal: &mut Journal,
-    ) -> Result<(), NoMemory>
-        requires disk { disk < length self.old.lanes }
-        requires agrees { accepted_count journal.old.entries ≡ issued_on self.old.lanes }
-        ensures fits { OnOk result (Fits self.old (Calls disk (Resets (end_of side))) journal.old.entries
-            journal.new.entries self.new) }
-        ensures so_far { OnErr result (FitsSoFar self.old (Calls disk (Resets (end_of side))) journal.old.entries
-            journal.new.entries self.new) }
-        ensures agrees { accepted_count journal.new.entries ≡ issued_on self.new.lanes }
-    {
-        self.answer_call(disk, LaneCall::Reset(side), journal)
-    }
-
-    /// Restarts a server, but a stopped one.
-    pub(crate) fn restart(&mut self, disk: u32, journal: &mut Journal) -> Result<(), NoMemory>
-        requires disk { disk < length self.old.lanes }
-        requires agrees { accepted_count journal.old.entries ≡ issued_on self.old.lanes }
-        ensures fits { OnOk result (Fits self.old (Calls disk Restarts) journal.old.entries journal.new.entries
-            self.new) }
-        ensures so_far { OnErr result (FitsSoFar self.old (Calls disk Restarts) journal.old.entries
-            journal.new.entries self.new) }
-        ensures agrees { accepted_count journal.new.entries ≡ issued_on self.new.lanes }
-    {
-        self.answer_call(disk, LaneCall::Restart, journal)
-    }
-
-    /// Stops a server that runs.
-    pub(crate) fn stop(&mut self, disk: u32, journal: &mut Journal) -> Result<(), NoMemory>
-        requires disk { disk < length self.old.lanes }
-        requires agrees { accepted_count journal.old.entries ≡ issued_on self.old.lanes }
-        ensures fits { OnOk result (Fits self.old (Calls disk Stops) journal.old.entries journal.new.entries
-            self.new) }
-        ensures so_far { OnErr result (FitsSoFar self.old (Calls disk Stops) journal.old.entries journal.new.entries
-            self.new) }
-        ensures agrees { accepted_count journal.new.entries ≡ issued_on self.new.lanes }
-    {
-        self.answer_call(disk, LaneCall::Stop, journal)
-    }
-
-    /// Starts a server that is stopped.
-    pub(crate) fn start(&mut self, disk: u32, journal: &mut Journal) -> Result<(), NoMemory>
-        requires disk { disk < length self.old.lanes }
-        requires agrees { accepted_count journal.old.entries ≡ issued_on self.old.lanes }
-        ensures fits { OnOk result (Fits self.old (Calls disk Starts) journal.old.entries journal.new.entries
-            self.new) }
-        ensures so_far { OnErr result (FitsSoFar self.old (Calls disk Starts) journal.old.entries
-            journal.new.entries self.new) }
-        ensures agrees { accepted_count journal.new.entries ≡ issued_on self.new.lanes }
-    {
-        self.answer_call(disk, LaneCall::Start, journal)
-    }
-
-    /// Loses the packet that has waited longest for an end.
-    pub(crate) fn lose(
-        &mut self,
-        disk: u32,
-        side: Side,
-        journal: &mut Journal,
-    ) -> Result<(), NoMemory>
-        requires disk { disk < length self.old.lanes }
-        requires agrees { accepted_count journal.old.entries ≡ issued_on self.old.lanes }
-        ensures fits { OnOk result (Fits self.old (Calls disk (Loses (end_of side))) journal.old.entries
-            journal.new.entries self.new) }
-        ensures so_far { OnErr result (FitsSoFar self.old (Calls disk (Loses (end_of side))) journal.old.entries
-            journal.new.entries self.new) }
-        ensures agrees { accepted_count journal.new.entries ≡ issued_on self.new.lanes }
-    {
-        self.answer_call(disk, LaneCall::Lose(side), journal)
-    }
-
-    /// Nothing comes any more for a client, which is reset where it isn't finished.
-    pub(crate) fn tick(&mut self, disk: u32, journal: &mut Journal) -> Result<(), NoMemory>
-        requires disk { disk < length self.old.lanes }
-        requires agrees { accepted_count journal.old.entries ≡ issued_on self.old.lanes }
-        ensures fits { OnOk result (Fits self.old (Calls disk Ticks) journal.old.entries journal.new.entries
-            self.new) }
-        ensures so_far { OnErr result (FitsSoFar self.old (Calls disk Ticks) journal.old.entries journal.new.entries
-            self.new) }
-        ensures agrees { accepted_count journal.new.entries ≡ issued_on self.new.lanes }
-    {
-        self.answer_call(disk, LaneCall::Tick, journal)
-    }
-
-    // Calls a lane once there is room for the entry.
-    fn answer_call(
+    /// Calls the lane of the disk with this number, once there is room for the entry.
+    pub(crate) fn answer_call(
         &mut self,
         disk: u32,
         call: LaneCall,
@@ -164,7 +88,7 @@ fn reset_end(lane: &mut DiskLane, disk: u32, side: Side) -> Entry
         lane.old result lane.new }
     ensures shape { lane.new.shape ≡ lane.old.shape }
 {
-    let end = name_of(disk, side);
+    let end = end_at(disk, side);
     if lane.reset(end_of(side)) {
         reset_entry(end, Cause::Asked)
     } else {
@@ -211,7 +135,7 @@ fn lose_packet(lane: &mut DiskLane, disk: u32, side: Side) -> Entry
         lane.old result lane.new }
     ensures shape { lane.new.shape ≡ lane.old.shape }
 {
-    let end = name_of(disk, side);
+    let end = end_at(disk, side);
     match lane.lose(end_of(side)) {
         Some(packet) => Entry::Lost { end, packet },
         None => Entry::Calm { who: Who::End(end) },

@@ -13,7 +13,8 @@ ghost use Rattle.vdisk_client.specs.Calls.{client_event};
 ghost use Rattle.vdisk_server.specs.Answering.{server_event};
 
 use disk_lane::{ClientOut, DiskLane, End, ServerOut};
-use domain_script::{EndName, Lane, Side};
+use domain_script::{EndName, Side};
+use ldom_entries::end_at;
 use ldom_journal::{Bytes, Journal};
 use std::alloc::Global;
 use std::mem;
@@ -28,28 +29,18 @@ pub fn end_of(side: Side) -> End
     }
 }
 
-/// An end of the disk with this number.
-pub fn name_of(disk: u32, side: Side) -> EndName
-    ensures { result ≡ record { lane = Disk disk; side = side } }
-{
-    EndName {
-        lane: Lane::Disk(disk),
-        side,
-    }
-}
-
-/// Its client.
+/// The client of the disk with this number.
 pub fn client_of(disk: u32) -> EndName
     ensures { result ≡ record { lane = Disk disk; side = Client } }
 {
-    name_of(disk, Side::Client)
+    end_at(disk, Side::Client)
 }
 
 /// Its server.
 pub fn server_of(disk: u32) -> EndName
     ensures { result ≡ record { lane = Disk disk; side = Server } }
 {
-    name_of(disk, Side::Server)
+    end_at(disk, Side::Server)
 }
 
 /// Puts what the step of this lane's client leaves in the journal, and tells whether the step was calm. In a settle a

@@ -13,6 +13,7 @@ ghost use Rattle.settle_loop.specs.Issued.{issued_on};
 ghost use Rattle.settle_loop.specs.RoundMade.{all_true};
 ghost use Rattle.world_parts.specs.Parts.{Fits, FitsSoFar};
 
+use crate::calls::LaneCall;
 use crate::world::{MOST_DISKS, World};
 use disk_lane::DiskLane;
 use domain_script::{Lane, Side};
@@ -160,7 +161,7 @@ impl<D: Store> World<D> {
         if !self.gets_tick(disk, had[disk as usize]) {
             return Ok(false);
         }
-        self.tick(disk, journal)?;
+        self.answer_call(disk, LaneCall::Tick, journal)?;
         had[disk as usize] = true;
         Ok(true)
     }

@@ -18,4 +18,4 @@ returns-clause-ticked g c =
     let gets = c.gets_tick.ensures at.0 at.1 in
     ticked_goes_on c.args.disk c.args.self.now _ c.args.journal.now.entries _ c.args.had.now _ at.0 _ at.1
     (slice_get-get_or c.args.had.now c.args.disk false c.requires.place) c.requires.place
-    (sym gets ∙ c.if-not-gets_tick.false) (search rules) c.in_ok-tick.ensures.fits
+    (sym gets ∙ c.if-not-gets_tick.false) (search rules) c.in_ok-answer_call.ensures.fits
