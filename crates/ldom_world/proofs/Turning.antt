@@ -37,6 +37,9 @@ none_turned w v old new same none = record {
   run = sym same;
 }
 
+pub nothing_turned : (w : WorldState) (old : List Entry) → TurnsMade [] w old old w
+nothing_turned w old = none_turned w w old old refl refl
+
 one_turned : (k : ℕ) (e : End) (w v : WorldState) (old new : List Entry) → MakesStep k e w old new v
     → TurnsMade (turn k e ∷ []) w old new v
 one_turned k e w v old new made = record {
@@ -140,6 +143,10 @@ module _ (k : ℕ) (w m v : WorldState) (first old new : List Entry) where
       (as_begun (round_turns 0 k ++ turn k A ∷ turn k B ∷ []) (round_turns 0 (k + 1)) w v first new (round_more k)
       (begun_behind (round_turns 0 k) (turn k A ∷ turn k B ∷ []) w m v first old new before begun)))
 
+pub round_of_all : (n many : ℕ) (w v : WorldState) (old new : List Entry) → n ≡ many
+    → TurnsMade (round_turns 0 n) w old new v → TurnsMade (round_turns 0 many) w old new v
+round_of_all n many w v old new all turned = subst (λ (i : ℕ). TurnsMade (round_turns 0 i) w old new v) all turned
+
 -- ROUNDS, one after the other
 turns_both : (n more many : ℕ) → turns_of (n + more) many ≡ turns_of n many ++ turns_of more many
 turns_both zero more many = ap (λ (i : ℕ). turns_of i many) (let is : 0 + more ≡ more = omega (arith) in is)
@@ -186,13 +193,14 @@ module _ (n : ℕ) (w m v : WorldState) (first old new : List Entry) where
       (begun_behind (turns_of n many) (round_turns 0 many) w m v first old new before
       (subst (λ (i : ℕ). TurnsBegun (round_turns 0 i) m old new v) same begun)))))
 
-pub rounds_fit : (count : ℕ) (w v : WorldState) (old new : List Entry)
-    → TurnsMade (turns_of count (length w.lanes)) w old new v → Fits w (Rounds count) old new v
-rounds_fit count w v old new turned = record {
-  entries = turned.entries;
-  adds = turned.adds (Rounds count);
-  moves = record { part_of = turned.steps; run = turned.run };
-}
+pub rounds_fit : (n count : ℕ) (w v : WorldState) (old new : List Entry) → n ≡ count
+    → TurnsMade (turns_of n (length w.lanes)) w old new v → Fits w (Rounds count) old new v
+rounds_fit n count w v old new all turned =
+    subst (λ (i : ℕ). Fits w (Rounds i) old new v) all (record {
+      entries = turned.entries;
+      adds = turned.adds (Rounds n);
+      moves = record { part_of = turned.steps; run = turned.run };
+    })
 
 -- STEPS of one end, one after the other
 same_both : (n more : ℕ) (next : Turn) → replicate (n + more) next ≡ replicate n next ++ replicate more next
@@ -232,10 +240,18 @@ module _ (k : ℕ) (e : End) (n : ℕ) (w m v : WorldState) (first old new : Lis
         };
       }
 
-pub steps_fit : (k : ℕ) (e : End) (count : ℕ) (w v : WorldState) (old new : List Entry)
-    → TurnsMade (replicate count (turn k e)) w old new v → Fits w (Steps k e count) old new v
-steps_fit k e count w v old new turned = record {
-  entries = turned.entries;
-  adds = turned.adds (Steps k e count);
-  moves = record { part_of = turned.steps; run = turned.run };
-}
+pub steps_fit : (k : ℕ) (e : End) (n count : ℕ) (w v : WorldState) (old new : List Entry) → n ≡ count
+    → TurnsMade (replicate n (turn k e)) w old new v → Fits w (Steps k e count) old new v
+steps_fit k e n count w v old new all turned =
+    subst (λ (i : ℕ). Fits w (Steps k e i) old new v) all (record {
+      entries = turned.entries;
+      adds = turned.adds (Steps k e n);
+      moves = record { part_of = turned.steps; run = turned.run };
+    })
+
+-- what the search goes by for these loops
+pub ruleset round_on = (nothing_turned, round_turned, round_of_all)
+
+pub ruleset rounds_on = (nothing_turned, rounds_turned, rounds_fit)
+
+pub ruleset steps_on = (nothing_turned, one_more_step, steps_fit)

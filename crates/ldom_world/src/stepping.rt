@@ -25,6 +25,7 @@ use vio_io::Store;
 
 impl<D: Store> World<D> {
     /// So many steps of an end of the disk with this number.
+    #[tactic(auto, using(crate::proofs::Turning::steps_on))]
     pub(crate) fn steps(
         &mut self,
         disk: u32,
@@ -47,6 +48,7 @@ impl<D: Store> World<D> {
     }
 
     /// So many rounds: in each, every lane in order makes a step of its client and then one of its server.
+    #[tactic(auto, using(crate::proofs::Turning::rounds_on))]
     pub(crate) fn rounds(&mut self, count: u32, journal: &mut Journal) -> Result<(), NoMemory>
         requires agrees { accepted_count journal.old.entries ≡ issued_on self.old.lanes }
         ensures fits { OnOk result (Fits self.old (Rounds count) journal.old.entries journal.new.entries self.new) }
@@ -61,6 +63,7 @@ impl<D: Store> World<D> {
     }
 
     // One round over all lanes.
+    #[tactic(auto, using(crate::proofs::Turning::round_on))]
     fn round(&mut self, journal: &mut Journal) -> Result<(), NoMemory>
         requires agrees { accepted_count journal.old.entries ≡ issued_on self.old.lanes }
         ensures made { OnOk result (TurnsMade (round_turns 0 (length self.old.lanes)) self.old journal.old.entries
