@@ -24,7 +24,7 @@ use Rattle.vdisk_client.specs.declared.answers.ClientOut.TheVariants as client_o
 use Rattle.vdisk_msg.specs.Requested.{buffer_of, buffer_place}
 use Rattle.vdisk_msg.specs.Requests.{given_count}
 use Rattle.vdisk_msg.specs.declared.request.Request.{Request}
-use Rattle.vdisk_server.specs.Answering as server
+use Rattle.descriptor_work.specs.Calling as server
 use Rattle.descriptor_work.specs.declared.answers.ServerOut.{ServerOut}
 use Rattle.descriptor_work.specs.declared.answers.ServerOut.TheVariants as server_out
 use Rattle.vio_tag.specs.declared.cause.Cause.{Cause}
