@@ -6,7 +6,7 @@ use Rattle.domain_script.specs.declared.event.Side.{Side}
 use Rattle.vdisk_msg.specs.declared.request.Request.{Request}
 use Rattle.vio_tag.specs.declared.cause.Cause.{Cause}
 use Rattle.kept_requests.specs.Bytes.{BytesState}
-use Rattle.ldom_entries.specs.Beside.{Lists, Share, Holds, join, nothing, rest_of, share_of}
+use Rattle.ldom_entries.specs.Beside.{Holds, Lists, Share, join, made, nothing, rest_of, share_of}
 use Rattle.ldom_entries.specs.Decoded.{AreComplete, end_at, entries_of, entry_of, share}
 use Rattle.kept_journal.specs.KeptState.{IsKept}
 use Rattle.kept_journal.specs.PartsState.{PartsState, PutsParts, with_cause}
@@ -15,9 +15,6 @@ use Rattle.ldom_entries.specs.declared.entry.Entry.{Entry}
 use Rattle.ldom_entries.specs.declared.entry.Entry.TheVariants as entry
 use Rattle.ldom_entries.specs.declared.header.Header.{Header}
 use Rattle.ldom_entries.specs.declared.header.Header.TheVariants as header
-
-abbrev made : List ℕ → List (List ℕ) → List (List ℕ) → List BytesState → List Request → List Cause → List Entry → Lists
-made n p d r q c w = record { numbers = n; packets = p; descriptors = d; reads = r; requests = q; causes = c; wholes = w }
 
 lists_same : (a b : Lists) → a.numbers ≡ b.numbers → a.packets ≡ b.packets → a.descriptors ≡ b.descriptors → a.reads ≡ b.reads → a.requests ≡ b.requests
     → a.causes ≡ b.causes → a.wholes ≡ b.wholes → a ≡ b

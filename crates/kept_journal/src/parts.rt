@@ -27,19 +27,14 @@ pub(crate) struct Parts {
 impl Model for Parts {
     ghost use Rattle.std.specs.Prelude.{◌≡◌, ◌+◌, ◌*◌, ◌≤◌, length, vec_capacity};
     ghost use Rattle.kept_journal.specs.PartsState.{PartsState};
+    ghost use Rattle.ldom_entries.specs.Beside.{made};
 
     ghost Value = { PartsState };
 
     ghost view = { λ p. record {
-      lists = record {
-        numbers = p.numbers.items;
-        packets = p.packets.items;
-        descriptors = p.descriptors.items;
-        reads = p.reads.items;
-        requests = p.requests.items;
-        causes = p.causes.items;
-        wholes = p.wholes.items;
-      };
+      lists =
+          made p.numbers.items p.packets.items p.descriptors.items p.reads.items p.requests.items p.causes.items
+          p.wholes.items;
       ready = p.ready;
     } };
 

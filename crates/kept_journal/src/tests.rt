@@ -41,22 +41,8 @@ const ROWS: [Row; 25] = [
     ("finished", 31, 5),
 ];
 
-/// Those of them that a user of the disks may see.
-const MAY_BE_SEEN: [Row; 13] = [
-    ("full", 13, 0),
-    ("refused", 13, 0),
-    ("refused", 13, 1),
-    ("stopped", 3, 0),
-    ("started", 3, 0),
-    ("calm", 31, 0),
-    ("settled", 0, 0),
-    ("unsettled", 30, 0),
-    ("done", 3, 5),
-    ("read", 3, 512),
-    ("lost", 31, 64),
-    ("reset", 31, 0),
-    ("reset", 30, 3),
-];
+/// The places of those that a user of the disks may see.
+const MAY_BE_SEEN: [usize; 13] = [1, 2, 3, 4, 5, 6, 7, 8, 9, 10, 15, 19, 20];
 
 const CLIENT: EndName = EndName {
     lane: Lane::Disk(3),
@@ -304,9 +290,9 @@ fn each_kind_is_read_as_it_was_put(rt: HostRuntime) -> Result<(), Fail> {
 fn entries_that_nobody_sees_are_passed_over(rt: HostRuntime) -> Result<(), Fail> {
     let journal = journal_of_all(rt.alloc())?;
     let mut rest = journal.entries();
-    for expected in MAY_BE_SEEN.iter() {
+    for place in MAY_BE_SEEN {
         rest.pass_unseen();
-        assert_eq!(rt; row(rest.next_entry()), *expected);
+        assert_eq!(rt; Some(&row(rest.next_entry())), ROWS.get(place));
     }
     rest.pass_unseen();
     assert!(rt; rest.next_entry().is_none());

@@ -16,6 +16,10 @@ pub record Lists : Type 0 where
   pub causes : List Cause
   pub wholes : List Entry
 
+-- these lists
+abbrev pub made : List ℕ → List (List ℕ) → List (List ℕ) → List BytesState → List Request → List Cause → List Entry → Lists
+made n p d r q c w = record { numbers = n; packets = p; descriptors = d; reads = r; requests = q; causes = c; wholes = w }
+
 -- how many of each list an entry has
 pub record Share : Type 0 where
   pub numbers : ℕ

@@ -1,5 +1,5 @@
 ghost use Rattle.std.specs.Prelude.{◌≡◌, ◌<◌, ◌≤◌, true, ◌∷◌, length};
-ghost use Rattle.ldom_entries.specs.Beside.{Holds, rest_of, share_of};
+ghost use Rattle.ldom_entries.specs.Beside.{Holds, made, rest_of, share_of};
 ghost use Rattle.ldom_entries.specs.Decoded.{a_whole, cause_in, descriptor_in, first_entry, first_number, kind_of};
 ghost use Rattle.ldom_entries.specs.Decoded.{needs, one_where, packet_in, packet_where, read_in, request_in};
 ghost use Rattle.ldom_entries.specs.Decoded.{second_number, share, these, whole_in};
@@ -28,19 +28,11 @@ pub struct Beside<'a> {
 }
 
 impl<'a> Model for Beside<'a> {
-    ghost use Rattle.ldom_entries.specs.Beside.{Lists};
+    ghost use Rattle.ldom_entries.specs.Beside.{Lists, made};
 
     ghost Value = { Lists };
 
-    ghost view = { λ b. record {
-      numbers = b.numbers.now;
-      packets = b.packets;
-      descriptors = b.descriptors;
-      reads = b.reads.now;
-      requests = b.requests.now;
-      causes = b.causes.now;
-      wholes = b.wholes.now;
-    } };
+    ghost view = { λ b. made b.numbers.now b.packets b.descriptors b.reads.now b.requests.now b.causes.now b.wholes.now };
 }
 
 impl<'a> Beside<'a> {
@@ -54,15 +46,8 @@ impl<'a> Beside<'a> {
         causes: &'a [Cause],
         wholes: &'a [WholeEntry],
     ) -> Self
-        ensures { result ≡ record {
-          numbers = numbers.now;
-          packets = packets.entry;
-          descriptors = descriptors.entry;
-          reads = reads.now;
-          requests = requests.now;
-          causes = causes.now;
-          wholes = wholes.now;
-        } }
+        ensures { result ≡
+            made numbers.now packets.entry descriptors.entry reads.now requests.now causes.now wholes.now }
     {
         Beside {
             numbers,

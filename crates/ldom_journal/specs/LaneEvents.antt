@@ -5,7 +5,7 @@ use Rattle.ldc_queue.specs.declared.end.End.{End}
 use Rattle.ldc_queue.specs.declared.end.End.TheVariants.{A, B}
 use Rattle.lane_law.specs.WireEvent.{WireEvent, Declines, NothingLost}
 use Rattle.lane_law.specs.WireEvent as wire
-use Rattle.disk_steps.specs.DiskEvent.{DiskEvent, OnWire, Asks, Works, Turns, Rests, Worked, Calm, CalmTick, CalmStop, CalmStart, CalmReset, CalmRestart}
+use Rattle.disk_steps.specs.DiskEvent.{DiskEvent, OnWire, Asks, Works, Turns, Rests, Calm, CalmTick, CalmStop, CalmStart, CalmReset, CalmRestart}
 use Rattle.disk_steps.specs.DiskEvent as disk
 use Rattle.lanes_settle.specs.Settle.{SettleEntry, OfLane}
 use Rattle.lanes_world.specs.Lines.{Asked, Call, Calls, Line, Loses, Resets, Restarts, Starts, Stops, Ticks}

@@ -1,73 +1,11 @@
 // The names of lanes and ends as lines put them.
-ghost use Rattle.std.specs.Prelude.{◌≡◌, ◌+◌, ◌<◌, ◌≤◌, ◌++◌, length, take};
-ghost use Rattle.ldom_journal.specs.EntryText.{disk_name, side_text};
+ghost use Rattle.std.specs.Prelude.{◌≡◌, ◌<◌, ◌≤◌, length, take};
+ghost use Rattle.ldom_journal.specs.EntryText.{disk_name};
 ghost use Rattle.ldom_journal.specs.LaneNames.{lane_names};
 
-use domain_script::{Name, Names, Side};
-use gathered_text::{SHORT_ROOM, ShortText};
-use line_words::side_word;
+use domain_script::{Name, Names};
+use line_words::LaneNames;
 use std::marker::Model;
-
-/// The name of a lane and those of its ends. A clause sees the lane's.
-#[derive(Drop)]
-pub struct LaneNames {
-    lane: ShortText,
-    client: ShortText,
-    server: ShortText,
-}
-
-impl Model for LaneNames {
-    ghost use Rattle.std.specs.Prelude.{◌≡◌, ℕ, List, ◌++◌};
-    ghost use Rattle.domain_script.specs.declared.event.Side.TheVariants.{Client, Server};
-    ghost use Rattle.ldom_journal.specs.EntryText.{side_text};
-
-    ghost Value = { List ℕ };
-
-    ghost view = { λ n. n.lane };
-
-    ghost invariant = { λ n. (n.client ≡ n.lane ++ side_text Client) × (n.server ≡ n.lane ++ side_text Server) };
-}
-
-impl LaneNames {
-    fn new(name: &[u8]) -> Self
-        requires { length name.now ≤ 8 }
-        ensures { result ≡ name.now }
-    {
-        LaneNames {
-            lane: joined(name, b""),
-            client: joined(name, side_word(Side::Client)),
-            server: joined(name, side_word(Side::Server)),
-        }
-    }
-
-    /// The lane's.
-    pub fn lane(&self) -> &ShortText
-        ensures { result.now ≡ self.now }
-    {
-        &self.lane
-    }
-
-    /// That of an end.
-    pub fn end(&self, side: Side) -> &ShortText
-        ensures { result.now ≡ self.now ++ side_text side }
-    {
-        match side {
-            Side::Client => &self.client,
-            Side::Server => &self.server,
-        }
-    }
-}
-
-/// Bytes, and others behind them.
-fn joined(front: &[u8], behind: &[u8]) -> ShortText
-    requires { length front.now + length behind.now ≤ SHORT_ROOM }
-    ensures { result ≡ front.now ++ behind.now }
-{
-    let mut text = ShortText::new();
-    text.push(front);
-    text.push(behind);
-    text
-}
 
 fn name_bytes(name: &Name) -> &[u8]
     ensures bytes { result.now ≡ take name.now.len name.now.bytes }
