@@ -66,9 +66,9 @@ holds_join s l m h = record {
   are_whole = subst AreKeptWhole (sym (take-append-le s.wholes l.wholes m.wholes h.has_wholes)) h.are_whole;
 }
 
--- the share that takes these lists whole
-abbrev pub whole_share : Lists → Share
-whole_share l = record {
+-- the share that takes all of these lists
+abbrev pub all_share : Lists → Share
+all_share l = record {
   numbers = length l.numbers;
   packets = length l.packets;
   descriptors = length l.descriptors;
@@ -78,9 +78,9 @@ whole_share l = record {
   wholes = length l.wholes;
 }
 
-share_whole : (l : Lists) → share_of (whole_share l) l ≡ l
-share_whole l =
-    lists_same (share_of (whole_share l) l) l
+share_all : (l : Lists) → share_of (all_share l) l ≡ l
+share_all l =
+    lists_same (share_of (all_share l) l) l
     (take-length l.numbers)
     (take-length l.packets)
     (take-length l.descriptors)
@@ -89,9 +89,9 @@ share_whole l =
     (take-length l.causes)
     (take-length l.wholes)
 
-rest_whole : (l : Lists) → rest_of (whole_share l) l ≡ nothing
-rest_whole l =
-    lists_same (rest_of (whole_share l) l) nothing
+rest_all : (l : Lists) → rest_of (all_share l) l ≡ nothing
+rest_all l =
+    lists_same (rest_of (all_share l) l) nothing
     (drop-length l.numbers)
     (drop-length l.packets)
     (drop-length l.descriptors)
@@ -100,8 +100,8 @@ rest_whole l =
     (drop-length l.causes)
     (drop-length l.wholes)
 
-holds_whole : (l : Lists) → AreKeptWhole l.wholes → Holds (whole_share l) l
-holds_whole l kept = record {
+holds_all : (l : Lists) → AreKeptWhole l.wholes → Holds (all_share l) l
+holds_all l kept = record {
   has_numbers = omega arith;
   has_packets = omega arith;
   has_descriptors = omega arith;
@@ -113,23 +113,23 @@ holds_whole l kept = record {
 }
 
 -- one header, with its share beside it
-one_entry : (h : Header) (m : Lists) → share h ≡ whole_share m → entries_of (h ∷ []) m ≡ entry_of h m ∷ []
+one_entry : (h : Header) (m : Lists) → share h ≡ all_share m → entries_of (h ∷ []) m ≡ entry_of h m ∷ []
 one_entry h m is =
-    ap (λ (s : Share). entry_of h (share_of s m) ∷ []) is ∙ ap (λ (l : Lists). entry_of h l ∷ []) (share_whole m)
+    ap (λ (s : Share). entry_of h (share_of s m) ∷ []) is ∙ ap (λ (l : Lists). entry_of h l ∷ []) (share_all m)
 
-one_complete : (h : Header) (m : Lists) → share h ≡ whole_share m → AreKeptWhole m.wholes → AreComplete (h ∷ []) m
+one_complete : (h : Header) (m : Lists) → share h ≡ all_share m → AreKeptWhole m.wholes → AreComplete (h ∷ []) m
 one_complete h m is kept =
-    subst (λ (s : Share). Holds s m × (rest_of s m ≡ nothing)) (sym is) (holds_whole m kept, rest_whole m)
+    subst (λ (s : Share). Holds s m × (rest_of s m ≡ nothing)) (sym is) (holds_all m kept, rest_all m)
 
 -- A FURTHER HEADER, with its share beside it, is a further entry
-entries_join : (headers : List Header) (l m : Lists) (h : Header) → AreComplete headers l → share h ≡ whole_share m → entries_of (headers ++ h ∷ []) (join l m) ≡ entries_of headers l ++ entry_of h m ∷ []
+entries_join : (headers : List Header) (l m : Lists) (h : Header) → AreComplete headers l → share h ≡ all_share m → entries_of (headers ++ h ∷ []) (join l m) ≡ entries_of headers l ++ entry_of h m ∷ []
 entries_join [] l m h complete is = ap (λ (x : Lists). entries_of (h ∷ []) (join x m)) complete ∙ one_entry h m is
 entries_join (g ∷ headers) l m h complete is =
     ap (λ (x : Lists). entry_of g x ∷ entries_of (headers ++ h ∷ []) (rest_of (share g) (join l m))) (share_join (share g) l m complete.0)
     ∙ ap (λ (x : Lists). entry_of g (share_of (share g) l) ∷ entries_of (headers ++ h ∷ []) x) (rest_join (share g) l m complete.0)
     ∙ ap (λ (x : List Entry). entry_of g (share_of (share g) l) ∷ x) (entries_join headers (rest_of (share g) l) m h complete.1 is)
 
-complete_join : (headers : List Header) (l m : Lists) (h : Header) → AreComplete headers l → share h ≡ whole_share m → AreKeptWhole m.wholes
+complete_join : (headers : List Header) (l m : Lists) (h : Header) → AreComplete headers l → share h ≡ all_share m → AreKeptWhole m.wholes
     → AreComplete (headers ++ h ∷ []) (join l m)
 complete_join [] l m h complete is kept = subst (λ (x : Lists). AreComplete (h ∷ []) (join x m)) (sym complete) (one_complete h m is kept)
 complete_join (g ∷ headers) l m h complete is kept = (
@@ -138,20 +138,20 @@ complete_join (g ∷ headers) l m h complete is kept = (
 )
 
 -- the same by what a push leaves
-pub entries_more : (headers later : List Header) (s t : PartsState) (m : Lists) (h : Header) → AreComplete headers s.lists → later ≡ headers ++ h ∷ [] → PutsParts s m t → share h ≡ whole_share m → entries_of later t.lists ≡ entries_of headers s.lists ++ entry_of h m ∷ []
+pub entries_more : (headers later : List Header) (s t : PartsState) (m : Lists) (h : Header) → AreComplete headers s.lists → later ≡ headers ++ h ∷ [] → PutsParts s m t → share h ≡ all_share m → entries_of later t.lists ≡ entries_of headers s.lists ++ entry_of h m ∷ []
 entries_more headers later s t m h complete more puts is =
     ap (λ (x : List Header). entries_of x t.lists) more
     ∙ ap (λ (x : Lists). entries_of (headers ++ h ∷ []) x) puts.lists
     ∙ entries_join headers s.lists m h complete is
 
-complete_more : (headers later : List Header) (s t : PartsState) (m : Lists) (h : Header) → AreComplete headers s.lists → later ≡ headers ++ h ∷ [] → PutsParts s m t → share h ≡ whole_share m → AreComplete later t.lists
+complete_more : (headers later : List Header) (s t : PartsState) (m : Lists) (h : Header) → AreComplete headers s.lists → later ≡ headers ++ h ∷ [] → PutsParts s m t → share h ≡ all_share m → AreComplete later t.lists
 complete_more headers later s t m h complete more puts is =
     subst (λ (x : List Header). AreComplete x t.lists) (sym more)
     (subst (λ (x : Lists). AreComplete (headers ++ h ∷ []) x) (sym puts.lists) (complete_join headers s.lists m h complete is puts.wholes))
 
 -- and there is room for one less
 pub kept_more : (headers later : List Header) (s t : PartsState) (m : Lists) (h : Header) (capacity grown room : ℕ) → IsKept headers s capacity room → PutsParts s m t
-    → later ≡ headers ++ h ∷ [] → share h ≡ whole_share m → grown ≡ capacity
+    → later ≡ headers ++ h ∷ [] → share h ≡ all_share m → grown ≡ capacity
     → IsKept later t grown (room - 1)
 kept_more headers later s t m h capacity grown room kept puts more is same =
     let long : length later ≡ length headers + 1 = ap length more ∙ length-append headers (h ∷ []) in
@@ -162,7 +162,7 @@ kept_more headers later s t m h capacity grown room kept puts more is same =
     }
 
 -- a reset has its packet beside it where it has one
-pub reset_share : (side : Side) (disk n : ℕ) (cause : Cause) (is : Bool) (packet : Option (List ℕ)) → is ≡ is_some packet → share (header.Reset side is disk) ≡ whole_share (with_cause n cause packet)
+pub reset_share : (side : Side) (disk n : ℕ) (cause : Cause) (is : Bool) (packet : Option (List ℕ)) → is ≡ is_some packet → share (header.Reset side is disk) ≡ all_share (with_cause n cause packet)
 reset_share side disk n cause is None e = ap (λ (b : Bool). share (header.Reset side b disk)) e
 reset_share side disk n cause is (Some p) e = ap (λ (b : Bool). share (header.Reset side b disk)) e
 

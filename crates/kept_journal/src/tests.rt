@@ -287,7 +287,7 @@ fn each_kind_is_read_as_it_was_put(rt: HostRuntime) -> Result<(), Fail> {
 }
 
 #[test]
-fn entries_that_nobody_sees_are_passed_over(rt: HostRuntime) -> Result<(), Fail> {
+fn entries_that_nobody_may_see_are_passed_over(rt: HostRuntime) -> Result<(), Fail> {
     let journal = journal_of_all(rt.alloc())?;
     let mut rest = journal.entries();
     for place in MAY_BE_SEEN {

@@ -20,17 +20,13 @@ first_whole : (entries : List Entry) → AreKeptWhole entries → may_be_seen (s
 first_whole [] whole = refl
 first_whole (first ∷ others) whole = or_true (is_seen first) (is_whole first) whole.0
 
-neither : (a b : Bool) → (a || b) ≡ false → a ≡ false
-neither true b is = is
-neither false b is = refl
-
 -- what stands beside a header doesn't change whether its entry may be seen
 seen_by_kind : (h : Header) (l : Lists) → Holds (share h) l → may_be_seen (first_entry h l) ≡ may_be_seen (kind_of h)
 seen_by_kind header.Whole l holds = first_whole (take 1 l.wholes) holds.are_whole
 seen_by_kind h l holds = refl
 
 abbrev IsUnseen : Entry → Type 0
-IsUnseen entry = is_seen entry ≡ false
+IsUnseen entry = may_be_seen entry ≡ false
 
 -- nothing is passed over
 pub passes_none : (old new : List Entry) → old ≡ new → PassesUnseen old new
@@ -48,7 +44,7 @@ passes_one headers others h l m first unseen complete left =
       are =
           ap (λ (hs : List Header). entries_of hs l) first
           ∙ ap (λ (x : Lists). own ∷ entries_of others x) (sym left);
-      unseen = All-cons IsUnseen own [] (neither (is_seen own) (is_whole own) (seen_by_kind h l holds ∙ unseen)) (All-nil IsUnseen);
+      unseen = All-cons IsUnseen own [] (seen_by_kind h l holds ∙ unseen) (All-nil IsUnseen);
     }
 
 -- some entries are, and then further ones

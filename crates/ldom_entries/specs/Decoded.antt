@@ -24,7 +24,7 @@ abbrev pub end_at : ℕ → Side → EndName
 end_at disk side = record { lane = Disk disk; side = side }
 
 abbrev pub who_at : ℕ → Part → Who
-who_at disk the_part.Whole = OfLane (Disk disk)
+who_at disk the_part.Lane = OfLane (Disk disk)
 who_at disk the_part.Client = OfEnd (end_at disk Client)
 who_at disk the_part.Server = OfEnd (end_at disk Server)
 
@@ -133,6 +133,6 @@ abbrev pub AreComplete : List Header → Lists → Type 0
 AreComplete [] l = l ≡ nothing
 AreComplete (h ∷ headers) l = Holds (share h) l × AreComplete headers (rest_of (share h) l)
 
--- the kind of a header's entry, which doesn't ask what stands beside it
+-- the kind of a header's entry, which doesn't ask what stands beside it; for an entry that is kept whole, a kind that is
 abbrev pub kind_of : Header → Entry
 kind_of h = entry_of h nothing

@@ -14,15 +14,15 @@ is_seen (entry.Done disk id operation status bytes) = true
 is_seen (entry.Reset e cause packet lost) = true
 is_seen other = false
 
--- of `old` there is `new` left: what was passed over is not seen
-pub record PassesUnseen (old new : List Entry) : Type 0 where
-  pub passed : List Entry
-  pub are : old ≡ passed ++ new
-  pub unseen : All (λ entry. is_seen entry ≡ false) passed
-
 -- an entry that may be seen: one that is kept whole isn't looked into
 abbrev pub may_be_seen : Entry → Bool
 may_be_seen entry = is_seen entry || is_whole entry
+
+-- of `old` there is `new` left: what was passed over can't be seen
+pub record PassesUnseen (old new : List Entry) : Type 0 where
+  pub passed : List Entry
+  pub are : old ≡ passed ++ new
+  pub unseen : All (λ entry. may_be_seen entry ≡ false) passed
 
 -- the first of the entries may be seen, where there is one
 abbrev pub BeginsSeen : List Entry → Type 0

@@ -282,7 +282,7 @@ impl<'a> Beside<'a> {
         }
     }
 
-    /// A request was completed. Beside it: its id, its status and, where it is a `read`, the bytes.
+    /// A request was completed. Beside it: its id, its status and, where `read` says so, the bytes.
     fn done(&mut self, operation: u8, read: bool, disk: u32) -> EntryRef<'a>
         requires { Holds (these 2 0 0 (one_where read) 0 0) self.old }
         ensures told { told result ≡ first_entry (the_header.Done operation read disk) self.old }

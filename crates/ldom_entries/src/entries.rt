@@ -49,6 +49,7 @@ impl<'a> Entries<'a> {
     {
         match self.headers {
             [header, rest @ ..] => {
+                // Only a place: the entry is written over it.
                 let mut entry = idle(Side::Client, 0);
                 self.beside.read_into(*header, &mut entry);
                 self.headers = rest;
@@ -58,7 +59,7 @@ impl<'a> Entries<'a> {
         }
     }
 
-    /// Passes over the entries up to the next one that a user of the disks sees or that is kept whole, and makes
+    /// Passes over entries that no user of the disks sees, until the next one is seen or is kept whole, and makes
     /// nothing of them.
     pub fn pass_unseen(&mut self)
         ensures passed { PassesUnseen self.old self.new }

@@ -9,13 +9,13 @@ use domain_script::{EndName, Lane, Side};
 /// A lane as a whole, or one of its ends: its client's or its server's.
 #[derive(Clone, Copy, Debug, PartialEq, Eq)]
 pub enum Part {
-    Whole,
+    Lane,
     Client,
     Server,
 }
 
 /// The kind of an entry, its disk and its flags, in eight bytes: the disk stands last, so that no gap is before it.
-/// What else it has stands in lists beside it.
+/// What else it has stands in lists beside it, and so does all of an entry that is kept whole.
 #[derive(Clone, Copy, Debug, PartialEq, Eq)]
 pub enum Header {
     /// Beside it: the id, and the request.
@@ -65,7 +65,7 @@ pub enum Header {
         disk: u32,
     },
 
-    /// Beside it: the id, the status and, where it is a `read`, the bytes.
+    /// Beside it: the id, the status and, where `read` says so, the bytes.
     Done {
         operation: u8,
         read: bool,
@@ -138,7 +138,7 @@ pub fn part_of(who: Who) -> (u32, Part)
     ensures { who_at result.0 result.1 ≡ who }
 {
     match who {
-        Who::Lane(Lane::Disk(disk)) => (disk, Part::Whole),
+        Who::Lane(Lane::Disk(disk)) => (disk, Part::Lane),
         Who::End(
             EndName {
                 lane: Lane::Disk(disk),
@@ -169,7 +169,7 @@ pub fn who_at(disk: u32, part: Part) -> Who
     ensures { result ≡ who_at disk part }
 {
     match part {
-        Part::Whole => Who::Lane(Lane::Disk(disk)),
+        Part::Lane => Who::Lane(Lane::Disk(disk)),
         Part::Client => Who::End(end_at(disk, Side::Client)),
         Part::Server => Who::End(end_at(disk, Side::Server)),
     }

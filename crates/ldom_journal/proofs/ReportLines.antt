@@ -1,10 +1,11 @@
 -- The lines of a report, one after another.
 use Rattle.std.proofs.Common.{◌≡◌, refl, ℕ, ◌+◌, ◌≤◌, Bool, true, false, List, [], ◌∷◌, ◌++◌, length, append_assoc, append-nil, sym, ap, subst, ◌∙◌, arith}
-use Rattle.std.specs.Prelude.{All, if◌then◌else◌}
+use Rattle.std.specs.Prelude.{◌||◌, All, if◌then◌else◌}
 use Rattle.std.proofs.lemmas.List.{length-append}
 use Rattle.std.proofs.lemmas.List.Elements.{All-cons, All-head, All-nil, All-tail}
 use Rattle.domain_script.specs.declared.event.DiskDecl.{DiskDecl}
-use Rattle.ldom_entries.specs.Seen.{PassesUnseen}
+use Rattle.ldom_entries.specs.Seen.{PassesUnseen, is_seen}
+use Rattle.ldom_entries.specs.Whole.{is_whole}
 use Rattle.ldom_entries.specs.declared.entry.Entry.{Entry}
 use Rattle.ldom_journal.specs.declared.status.Mode.{Mode}
 use Rattle.ldom_journal.specs.declared.status.Mode.TheVariants.{EndOnly, Run, Trace}
@@ -50,12 +51,23 @@ pub leaves_none : (mode : Mode) (old new : List Entry) → old ≡ new → Leave
 leaves_none mode old new same =
     record { left_out = []; are = same; unshown = All-nil (λ (e : Entry). shows mode e ≡ false) }
 
+neither : (a b : Bool) → (a || b) ≡ false → a ≡ false
+neither true b is = is
+neither false b is = refl
+
+unshown : (entries : List Entry) → All (λ entry. may_be_seen entry ≡ false) entries → All (λ entry. shows Run entry ≡ false) entries
+unshown [] none = All-nil (λ (e : Entry). shows Run e ≡ false)
+unshown (entry ∷ entries) none =
+    let P : Entry → Type 0 = λ e. may_be_seen e ≡ false in
+    All-cons (λ (e : Entry). shows Run e ≡ false) entry entries
+    (neither (is_seen entry) (is_whole entry) (All-head P entry entries none)) (unshown entries (All-tail P entry entries none))
+
 pub leaves_unseen : (mode : Mode) (old middle new : List Entry) → mode ≡ Run → PassesUnseen old middle → middle ≡ new → LeavesOut mode old new
 leaves_unseen mode old middle new run passes same = record {
   left_out = passes.passed;
   are = passes.are ∙ ap (λ (l : List Entry). passes.passed ++ l) same;
   unshown =
-      subst (λ (m : Mode). All (λ (e : Entry). shows m e ≡ false) passes.passed) (sym run) passes.unseen;
+      subst (λ (m : Mode). All (λ (e : Entry). shows m e ≡ false) passes.passed) (sym run) (unshown passes.passed passes.unseen);
 }
 
 -- all is left out, where the mode shows none

@@ -5,7 +5,7 @@ use Rattle.ldc_queue.specs.declared.end.End.{End}
 use Rattle.ldc_queue.specs.declared.end.End.TheVariants.{A, B}
 use Rattle.lane_law.specs.WireEvent.{WireEvent, Declines, NothingLost}
 use Rattle.lane_law.specs.WireEvent as wire
-use Rattle.disk_steps.specs.DiskEvent.{DiskEvent, OnWire, Asks, Works, Turns, Rests, Calm, CalmTick, CalmStop, CalmStart, CalmReset, CalmRestart}
+use Rattle.disk_steps.specs.DiskEvent.{DiskEvent, OnWire, Asks, Works, Turns, Rests, CalmTick, CalmStop, CalmStart, CalmReset, CalmRestart}
 use Rattle.disk_steps.specs.DiskEvent as disk
 use Rattle.lanes_settle.specs.Settle.{SettleEntry, OfLane}
 use Rattle.lanes_world.specs.Lines.{Asked, Call, Calls, Line, Loses, Resets, Restarts, Starts, Stops, Ticks}
@@ -102,7 +102,7 @@ pub data Meaning : Type 0 where
   LeavesOver : (who : Who) → Meaning
   LeavesNothing : Meaning
 
--- laws of lanes go by what an entry means: this alone lists the kinds of entry for them
+-- what each kind of entry means
 abbrev pub meaning : Entry → Meaning
 meaning (entry.Accepted k id request) = AtLane k (Asks (disk.Accepted id request))
 meaning (entry.Full who) = NoRoomFor who

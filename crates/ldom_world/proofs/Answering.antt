@@ -4,7 +4,7 @@ use Rattle.std.proofs.lemmas.Bool.{eq-eqb}
 use Rattle.std.specs.Prelude.{◌==◌, ◌&&◌}
 use Rattle.disk_lane.specs.Events.{lost_event, reset_event, restart_event, start_event, stop_event, tick_event}
 use Rattle.disk_law.specs.ListState.{ImageState}
-use Rattle.disk_steps.specs.DiskEvent.{Asks, CalmReset, CalmRestart, CalmStart, CalmStop, CalmTick, DiskEvent, OnWire, Rests, Turns}
+use Rattle.disk_steps.specs.DiskEvent.{Asks, CalmReset, CalmRestart, CalmStart, CalmStop, CalmTick, OnWire, Rests}
 use Rattle.disk_steps.specs.DiskEvent as disk
 use Rattle.disk_steps.specs.LaneState.{LaneState}
 use Rattle.disk_steps.specs.LaneStep.{LaneStep}

@@ -6,7 +6,7 @@ use Rattle.ldc_queue.specs.declared.end.End.TheVariants.{A, B}
 use Rattle.disk_steps.specs.LaneState.{LaneState}
 use Rattle.lanes_settle.specs.Settle.{SettleEntry, Settled, entry_of, most_rounds}
 use Rattle.lanes_settle.specs.Ticks.{no_marks}
-use Rattle.lanes_world.specs.Lines.{Line, LineBegins, LineMoves}
+use Rattle.lanes_world.specs.Lines.{LineBegins, LineMoves}
 use Rattle.lanes_world.specs.Lines as script
 use Rattle.lanes_world.specs.World.{WorldState}
 use Rattle.ldom_entries.specs.declared.entry.Entry.{Entry}
