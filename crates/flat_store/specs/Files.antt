@@ -13,8 +13,8 @@ ReadsFront content at n buf = ReadsRange content at (take n buf)
 abbrev pub WritesFront : Option (List ℕ) → Option (List ℕ) → ℕ → ℕ → List ℕ → Type 0
 WritesFront old new at n bytes = WritesRange old new at (take n bytes)
 
--- how many calls moved all that was asked, how many made what was written last, how many moved less or failed, and how
--- many were interrupted
+-- What the calls of a file came to, counted by kind: how many moved all that was asked, how many synced what was written,
+-- how many moved less or failed, and how many were interrupted. A count stands still at last_count.
 pub record FileCalls : Type 0 where
   pub moved : ℕ
   pub synced : ℕ
@@ -37,12 +37,12 @@ abbrev pub after_fault : FileFault → FileCalls → FileCalls
 after_fault Interrupted c = one_interrupted c
 after_fault Other c = one_failed c
 
--- behind a call that was asked to move so many bytes, by its answer
+-- after a call that was asked to move so many bytes, by its answer
 abbrev pub after_move : ℕ → Result ℕ FileFault → FileCalls → FileCalls
 after_move wanted (Ok moved) c = if moved == wanted then one_moved c else one_failed c
 after_move wanted (Err fault) c = after_fault fault c
 
--- behind a call that was asked to make last what was written
+-- after a call that was asked to sync what was written
 abbrev pub after_sync : {A : Type 0} → Result A FileFault → FileCalls → FileCalls
 after_sync (Ok done) c = one_synced c
 after_sync (Err fault) c = after_fault fault c
@@ -53,7 +53,7 @@ pub record MovedOnce (old new : FileCalls) : Type 0 where
   pub synced : new.synced ≡ old.synced
   pub failed : new.failed ≡ old.failed
 
--- one call made what was written last, and no other did anything
+-- one call synced what was written, and no other did anything
 pub record SyncedOnce (old new : FileCalls) : Type 0 where
   pub moved : new.moved ≡ old.moved
   pub synced : new.synced ≡ next_count old.synced

@@ -1,37 +1,46 @@
--- An image of the program is a store as its variant is: zeros in memory, or a file, which tells no bytes.
-use Rattle.std.specs.Prelude.{◌≡◌, ℕ, List, Option, Some, None, IfSome, length, refl}
+-- An image of the program is a store as its variant is: zeros in memory, or a file, whose bytes are told where it tells them.
+use Rattle.std.specs.Prelude.{◌≡◌, ℕ, List, Option, Some, None, IfSome, length, refl, ⊤}
 use Rattle.vio_io.specs.FaultPlan.{Plan}
+use Rattle.flat_store.specs.Files.{FileCalls}
+use Rattle.flat_store.specs.declared.image_file.ImageFile.{Ghosts}
 use Rattle.flat_store.specs.declared.std_host.HostDisk.{HostDisk}
 use Rattle.flat_store.specs.declared.std_host.HostDisk.TheVariants.{Memory, File}
 
-abbrev pub content_of : HostDisk → Option (List ℕ)
-content_of (Memory store) = Some store.bytes
-content_of (File store) = None
+abbrev pub content_of : {F : Type 0} → Ghosts F → HostDisk F → Option (List ℕ)
+content_of g (Memory store) = Some store.bytes
+content_of g (File store) = g.content store.file
 
-abbrev pub size_of : HostDisk → ℕ
-size_of (Memory store) = length store.bytes
-size_of (File store) = store.file.len
+abbrev pub size_of : {F : Type 0} → Ghosts F → HostDisk F → ℕ
+size_of g (Memory store) = length store.bytes
+size_of g (File store) = g.size store.file
 
 -- how often it was called
-abbrev pub calls_of : HostDisk → ℕ
+abbrev pub calls_of : {F : Type 0} → HostDisk F → ℕ
 calls_of (Memory store) = store.plan.calls
 calls_of (File store) = store.calls
 
 -- how often it was asked to flush
-abbrev pub flushes_of : HostDisk → ℕ
+abbrev pub flushes_of : {F : Type 0} → HostDisk F → ℕ
 flushes_of (Memory store) = store.flushes
 flushes_of (File store) = store.flushes
 
 -- how often it failed
-abbrev pub faults_of : HostDisk → ℕ
+abbrev pub faults_of : {F : Type 0} → HostDisk F → ℕ
 faults_of (Memory store) = store.plan.faults
 faults_of (File store) = store.faults
 
 -- which calls of zeros fail
-abbrev pub plan_of : HostDisk → Option Plan
+abbrev pub plan_of : {F : Type 0} → HostDisk F → Option Plan
 plan_of (Memory store) = Some store.plan
 plan_of (File store) = None
 
-pub told_length : (disk : HostDisk) → IfSome (content_of disk) (λ bytes. length bytes ≡ size_of disk)
-told_length (Memory store) = refl
-told_length (File store) = tt
+-- zeros stay zeros in memory, and a file stays a file, of whose calls before and after this holds
+abbrev pub FileCalled : {F : Type 0} → Ghosts F → (FileCalls → FileCalls → Type 0) → HostDisk F → HostDisk F → Type 0
+FileCalled g Holds (Memory old) (Memory new) = ⊤
+FileCalled g Holds (Memory old) (File new) = ⊥
+FileCalled g Holds (File old) (Memory new) = ⊥
+FileCalled g Holds (File old) (File new) = Holds (g.calls old.file) (g.calls new.file)
+
+pub told_length : {F : Type 0} (g : Ghosts F) → ((file : F) → IfSome (g.content file) (λ bytes. length bytes ≡ g.size file)) → (disk : HostDisk F) → IfSome (content_of g disk) (λ bytes. length bytes ≡ size_of g disk)
+told_length g told (Memory store) = refl
+told_length g told (File store) = told store.file

@@ -50,7 +50,7 @@ impl CallCounts {
         }
     }
 
-    /// A call that made what was written last.
+    /// A call that synced what was written.
     pub(crate) fn note_sync(&mut self)
         ensures { self.new ≡ one_synced self.old }
     {

@@ -46,7 +46,7 @@ pub trait ImageFile: Drop {
         ensures interrupted { result ≡ Err FileFault.Interrupted → content self.new ≡ content self.old }
         ensures size { size self.new ≡ size self.old };
 
-    /// What was written before is to last. It changes no byte.
+    /// One call: syncs what was written before. It changes no byte.
     fn sync(&mut self) -> Result<(), FileFault>
         ensures calls { calls self.new ≡ after_sync result (calls self.old) }
         ensures content { content self.new ≡ content self.old }

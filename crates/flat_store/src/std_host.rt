@@ -4,28 +4,29 @@ ghost use Rattle.vio_io.specs.Causes.{Rose, next_count};
 ghost use Rattle.vio_io.specs.Given.{next_given};
 ghost use Rattle.vio_io.specs.FaultPlan.{after_call, fails_next, unused};
 ghost use Rattle.vio_io.specs.Stores.{IsUnitRange, KeepsOutside, ReadsRange, WritesRange};
-ghost use Rattle.flat_store.specs.HostDiskState.{calls_of, content_of, faults_of, flushes_of, plan_of, size_of};
+ghost use Rattle.flat_store.specs.Files.{Lacked, MovedOnce, SyncedOnce};
+ghost use Rattle.flat_store.specs.HostDiskState.{FileCalled, calls_of, content_of, faults_of, flushes_of, plan_of, size_of};
 ghost use Rattle.flat_store.specs.Hosts.{zeros_alone};
 
-use crate::{FileStore, StdFile, ZeroStore};
+use crate::{FileStore, ImageFile, StdFile, ZeroStore};
 use std::alloc::Global;
 use std::fs::File;
 use std::rt::Files;
 use vio_io::{AttachFault, Failed, Host, Store};
 
-/// The image that a host of the program gives.
+/// The image that a host of the program gives: zeros in memory, or a file.
 #[derive(Drop)]
-pub enum HostDisk {
+pub enum HostDisk<F: ImageFile> {
     Memory(ZeroStore),
-    File(FileStore<StdFile>),
+    File(FileStore<F>),
 }
 
-impl Store for HostDisk {
+impl<F: ImageFile> Store for HostDisk<F> {
     ghost use Rattle.flat_store.specs.HostDiskState.{calls_of, content_of, faults_of, flushes_of, size_of, told_length};
 
-    ghost content = { content_of };
+    ghost content = { content_of F.ImageFile };
 
-    ghost size = { size_of };
+    ghost size = { size_of F.ImageFile };
 
     ghost calls = { calls_of };
 
@@ -33,7 +34,7 @@ impl Store for HostDisk {
 
     ghost faults = { faults_of };
 
-    ghost told_size = { told_length };
+    ghost told_size = { told_length (record { content = F.content; size = F.size; calls = F.calls }) F.told_size };
 
     fn len(&self) -> u64 {
         match self {
@@ -43,10 +44,10 @@ impl Store for HostDisk {
     }
 
     fn read_at(&mut self, at: u64, buf: &mut [u8]) -> Result<(), Failed>
-        requires { IsUnitRange (size_of self.old) at (length buf.old) }
-        ensures told { OnOk result (ReadsRange (content_of self.old) at buf.new) }
-        ensures content { content_of self.new ≡ content_of self.old }
-        ensures size { size_of self.new ≡ size_of self.old }
+        requires { IsUnitRange (size_of F.ImageFile self.old) at (length buf.old) }
+        ensures told { OnOk result (ReadsRange (content_of F.ImageFile self.old) at buf.new) }
+        ensures content { content_of F.ImageFile self.new ≡ content_of F.ImageFile self.old }
+        ensures size { size_of F.ImageFile self.new ≡ size_of F.ImageFile self.old }
         ensures calls { calls_of self.new ≡ next_count (calls_of self.old) }
         ensures flushes { flushes_of self.new ≡ flushes_of self.old }
         ensures ok { OnOk result (faults_of self.new ≡ faults_of self.old) }
@@ -54,6 +55,8 @@ impl Store for HostDisk {
         ensures cause { OnErr result (Rose (faults_of self.old) (faults_of self.new)) }
         ensures once { OnErr result (faults_of self.new ≡ next_count (faults_of self.old)) }
 
+        ensures succeeded { OnOk result (FileCalled F.ImageFile MovedOnce self.old self.new) }
+        ensures lacked { OnErr result (FileCalled F.ImageFile Lacked self.old self.new) }
         ensures fails { IfSome (plan_of self.old) (λ plan. IsErr result ↔ IsTrue (fails_next plan)) }
         ensures plan { IfSome (plan_of self.old) (λ plan. plan_of self.new ≡ Some (after_call plan)) }
     {
@@ -64,10 +67,10 @@ impl Store for HostDisk {
     }
 
     fn write_at(&mut self, at: u64, bytes: &[u8]) -> Result<(), Failed>
-        requires { IsUnitRange (size_of self.old) at (length bytes.now) }
-        ensures told { OnOk result (WritesRange (content_of self.old) (content_of self.new) at bytes.now) }
-        ensures outside { KeepsOutside (content_of self.old) (content_of self.new) at (length bytes.now) }
-        ensures size { size_of self.new ≡ size_of self.old }
+        requires { IsUnitRange (size_of F.ImageFile self.old) at (length bytes.now) }
+        ensures told { OnOk result (WritesRange (content_of F.ImageFile self.old) (content_of F.ImageFile self.new) at bytes.now) }
+        ensures outside { KeepsOutside (content_of F.ImageFile self.old) (content_of F.ImageFile self.new) at (length bytes.now) }
+        ensures size { size_of F.ImageFile self.new ≡ size_of F.ImageFile self.old }
         ensures calls { calls_of self.new ≡ next_count (calls_of self.old) }
         ensures flushes { flushes_of self.new ≡ flushes_of self.old }
         ensures ok { OnOk result (faults_of self.new ≡ faults_of self.old) }
@@ -75,9 +78,11 @@ impl Store for HostDisk {
         ensures cause { OnErr result (Rose (faults_of self.old) (faults_of self.new)) }
         ensures once { OnErr result (faults_of self.new ≡ next_count (faults_of self.old)) }
 
+        ensures succeeded { OnOk result (FileCalled F.ImageFile MovedOnce self.old self.new) }
+        ensures lacked { OnErr result (FileCalled F.ImageFile Lacked self.old self.new) }
         ensures fails { IfSome (plan_of self.old) (λ plan. IsErr result ↔ IsTrue (fails_next plan)) }
         ensures plan { IfSome (plan_of self.old) (λ plan. plan_of self.new ≡ Some (after_call plan)) }
-        ensures refused { OnErr result (IfSome (plan_of self.old) (λ _. content_of self.new ≡ content_of self.old)) }
+        ensures refused { OnErr result (IfSome (plan_of self.old) (λ _. content_of F.ImageFile self.new ≡ content_of F.ImageFile self.old)) }
     {
         match self {
             HostDisk::Memory(store) => store.write_at(at, bytes),
@@ -86,8 +91,8 @@ impl Store for HostDisk {
     }
 
     fn flush(&mut self) -> Result<(), Failed>
-        ensures content { content_of self.new ≡ content_of self.old }
-        ensures size { size_of self.new ≡ size_of self.old }
+        ensures content { content_of F.ImageFile self.new ≡ content_of F.ImageFile self.old }
+        ensures size { size_of F.ImageFile self.new ≡ size_of F.ImageFile self.old }
         ensures calls { calls_of self.new ≡ next_count (calls_of self.old) }
         ensures flushes { flushes_of self.new ≡ next_count (flushes_of self.old) }
         ensures ok { OnOk result (faults_of self.new ≡ faults_of self.old) }
@@ -95,6 +100,8 @@ impl Store for HostDisk {
         ensures cause { OnErr result (Rose (faults_of self.old) (faults_of self.new)) }
         ensures once { OnErr result (faults_of self.new ≡ next_count (faults_of self.old)) }
 
+        ensures succeeded { OnOk result (FileCalled F.ImageFile SyncedOnce self.old self.new) }
+        ensures lacked { OnErr result (FileCalled F.ImageFile Lacked self.old self.new) }
         ensures fails { IfSome (plan_of self.old) (λ plan. IsErr result ↔ IsTrue (fails_next plan)) }
         ensures plan { IfSome (plan_of self.old) (λ plan. plan_of self.new ≡ Some (after_call plan)) }
     {
@@ -136,7 +143,7 @@ impl<R: Files<File = File> + Drop> StdHost<R> {
 }
 
 impl<R: Files<File = File> + Drop> Host for StdHost<R> {
-    type Disk = HostDisk;
+    type Disk = HostDisk<StdFile>;
 
     ghost gives = { λ _ name least. zeros_alone name least };
 
@@ -146,8 +153,13 @@ impl<R: Files<File = File> + Drop> Host for StdHost<R> {
 
     ghost dash = { λ _ least. refl };
 
-    fn attach(&mut self, alloc: Global, name: &str, least: u64) -> Result<HostDisk, AttachFault>
-        ensures gives { IfOk result (λ disk. content_of disk ≡ zeros_alone name.now least) }
+    fn attach(
+        &mut self,
+        alloc: Global,
+        name: &str,
+        least: u64,
+    ) -> Result<HostDisk<StdFile>, AttachFault>
+        ensures gives { IfOk result (λ disk. content_of ⟦<StdFile as ImageFile>⟧ disk ≡ zeros_alone name.now least) }
         ensures fresh { IfOk result (λ disk. faults_of disk ≡ 0) }
         ensures given { OnOk result (self.new.given ≡ next_given self.old.given) }
         ensures none { OnErr result (self.new.given ≡ self.old.given) }

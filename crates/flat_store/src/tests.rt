@@ -100,6 +100,68 @@ impl ImageFile for AnsweringFile {
     }
 }
 
+/// A file in memory, which tells its bytes.
+#[derive(Drop)]
+struct HeldFile {
+    store: MemStore,
+    calls: CallCounts,
+}
+
+impl ImageFile for HeldFile {
+    ghost use Rattle.std.specs.Prelude.{Some, length, refl};
+
+    ghost content = { λ f. Some f.store.bytes };
+
+    ghost size = { λ f. length f.store.bytes };
+
+    ghost calls = { λ f. f.calls };
+
+    ghost told_size = { λ _. refl };
+
+    fn len(&self) -> u64 {
+        self.store.len()
+    }
+
+    fn read_some(&mut self, at: u64, buf: &mut [u8]) -> Result<usize, FileFault> {
+        match self.store.read_at(at, buf) {
+            Ok(()) => {
+                self.calls.note_move(true);
+                Ok(buf.len())
+            }
+            Err(Failed) => {
+                self.calls.note_fault(FileFault::Other);
+                Err(FileFault::Other)
+            }
+        }
+    }
+
+    fn write_some(&mut self, at: u64, bytes: &[u8]) -> Result<usize, FileFault> {
+        match self.store.write_at(at, bytes) {
+            Ok(()) => {
+                self.calls.note_move(true);
+                Ok(bytes.len())
+            }
+            Err(Failed) => {
+                self.calls.note_fault(FileFault::Other);
+                Err(FileFault::Other)
+            }
+        }
+    }
+
+    fn sync(&mut self) -> Result<(), FileFault> {
+        match self.store.flush() {
+            Ok(()) => {
+                self.calls.note_sync();
+                Ok(())
+            }
+            Err(Failed) => {
+                self.calls.note_fault(FileFault::Other);
+                Err(FileFault::Other)
+            }
+        }
+    }
+}
+
 // Whether reading a block of a file that answers so succeeds. It counts a fault where it doesn't.
 fn reads(interruptions: u32, answer: Result<usize, FileFault>) -> Option<bool> {
     let mut store = FileStore::new(AnsweringFile::new(interruptions, answer));
@@ -137,6 +199,23 @@ fn a_short_call_of_a_file_is_a_fault_and_an_interrupted_one_is_tried_again(rt: H
         let flushed = succeeds || (interruptions < 10_000 && answer.is_ok());
         assert_eq!(rt; flushes(interruptions, answer), Some(flushed));
     }
+}
+
+#[test]
+fn a_disk_over_a_file_reads_what_was_written_and_fails_as_the_file(
+    rt: HostRuntime,
+) -> Result<(), Fail> {
+    let mut disk = HostDisk::File(FileStore::new(HeldFile {
+        store: MemStore::new(rt.alloc(), &[5; 1024], &[3])?,
+        calls: CallCounts::new(),
+    }));
+    let mut block = [0u8; 512];
+    assert_eq!(rt; disk.len(), 1024);
+    assert_eq!(rt; disk.write_at(512, &[9; 512]), Ok(()));
+    assert_eq!(rt; disk.read_at(512, &mut block), Ok(()));
+    assert!(rt; block == [9; 512] && disk.flush().is_ok() && !disk.faulty());
+    assert!(rt; disk.flush().is_err() && disk.faulty());
+    Ok(())
 }
 
 #[test]
