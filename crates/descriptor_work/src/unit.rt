@@ -1,6 +1,6 @@
 // The bytes of a unit on their way between the client and the store.
 
-ghost use Rattle.std.specs.Prelude.{◌≡◌, ◌≤◌, length, take, Some, None, MatchResult, OnErr, OnOk};
+ghost use Rattle.std.specs.Prelude.{◌≡◌, ◌≤◌, length, take, [], Some, None, IfOk, MatchResult, OnErr, OnOk};
 ghost use Rattle.cookie_copy.specs.Faults.{PagesWithin, both_up, first_copy_fault};
 ghost use Rattle.cookie_copy.specs.Moved.{moved_in};
 ghost use Rattle.cookie_copy.specs.declared.fault.Access.TheVariants.{Read};
@@ -17,7 +17,7 @@ use vio_bytes::NoMemory;
 use vio_io::{Failed, Store};
 
 /// The most bytes of a unit: 16 blocks of 512.
-pub const UNIT: u64 = 8192;
+pub(crate) const UNIT: u64 = 8192;
 
 /// Room for one unit, with the bytes that it holds at its front.
 #[derive(Drop)]
@@ -38,7 +38,9 @@ impl Model for UnitBuffer {
 
 impl UnitBuffer {
     /// An empty one. The one refusal is for want of memory.
-    pub fn new(alloc: Global) -> Result<UnitBuffer, NoMemory> {
+    pub fn new(alloc: Global) -> Result<UnitBuffer, NoMemory>
+        ensures { IfOk result (λ u. u ≡ []) }
+    {
         let bytes = vec![in alloc; 0; UNIT as usize]?;
         Ok(UnitBuffer { bytes, held: 0 })
     }
