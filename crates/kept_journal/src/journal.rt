@@ -5,7 +5,9 @@ use crate::kept_entries::KeptEntries;
 use crate::reading::nth;
 use cookie_copy::CopyFault;
 use domain_script::EndName;
-use ldom_entries::{Bytes, Entries, Entry, EntryRef, Header, KeptRequest, Who, disk_of, part_of};
+use ldom_entries::{
+    Bytes, Entries, Entry, EntryRef, Header, KeptRequest, Who, Why, disk_of, part_of,
+};
 use std::alloc::Global;
 use std::marker::Model;
 use vio_bytes::NoMemory;
@@ -227,6 +229,33 @@ impl Journal {
         self.resets += 1;
     }
 
+    /// As many requests are pending as the ring holds.
+    fn push_full(&mut self, who: Who)
+        requires { 0 < self.old.room }
+        ensures { Puts self.old (the_entry.Full who) self.new }
+    {
+        let (disk, part) = part_of(who);
+        self.kept.push_plain(Header::Full { part, disk });
+    }
+
+    /// A request that was refused.
+    fn push_refused(&mut self, who: Who, why: Why)
+        requires { 0 < self.old.room }
+        ensures { Puts self.old (the_entry.Refused who why) self.new }
+    {
+        let (disk, part) = part_of(who);
+        self.kept.push_plain(Header::Refused { part, why, disk });
+    }
+
+    /// What a line asked for and changes nothing.
+    fn push_calm(&mut self, who: Who)
+        requires { 0 < self.old.room }
+        ensures { Puts self.old (the_entry.Calm who) self.new }
+    {
+        let (disk, part) = part_of(who);
+        self.kept.push_plain(Header::Calm { part, disk });
+    }
+
     /// A settle that ended though something is left to do here.
     fn push_unsettled(&mut self, who: Who)
         requires { 0 < self.old.room }
@@ -263,6 +292,12 @@ impl Journal {
         ensures { Puts self.old entry self.new }
     {
         match entry {
+            Entry::Full { who } => self.push_full(who),
+            Entry::Refused { who, why } => self.push_refused(who, why),
+            Entry::Stopped { disk } => self.kept.push_plain(Header::Stopped { disk }),
+            Entry::Started { disk } => self.kept.push_plain(Header::Started { disk }),
+            Entry::Calm { who } => self.push_calm(who),
+            Entry::Settled => self.kept.push_plain(Header::Settled),
             Entry::Unsettled { who } => self.push_unsettled(who),
             Entry::Idle { end } => self.push_idle(end),
             Entry::Off { end } => self.push_off(end),

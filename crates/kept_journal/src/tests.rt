@@ -42,7 +42,7 @@ const ROWS: [Row; 25] = [
 ];
 
 /// The places of those that a user of the disks may see.
-const MAY_BE_SEEN: [usize; 13] = [1, 2, 3, 4, 5, 6, 7, 8, 9, 10, 15, 19, 20];
+const MAY_BE_SEEN: [usize; 10] = [1, 2, 3, 7, 8, 9, 10, 15, 19, 20];
 
 const CLIENT: EndName = EndName {
     lane: Lane::Disk(3),
@@ -240,6 +240,12 @@ fn row(entry: Option<EntryRef<'_>>) -> Row {
     };
     match entry {
         EntryRef::Accepted { disk, request, .. } => ("accepted", disk.into(), block(request)),
+        EntryRef::Full { who } => ("full", whom(who), 0),
+        EntryRef::Refused { who, why } => ("refused", whom(who), (why == Why::Range).into()),
+        EntryRef::Stopped { disk } => ("stopped", disk.into(), 0),
+        EntryRef::Started { disk } => ("started", disk.into(), 0),
+        EntryRef::Calm { who } => ("calm", whom(who), 0),
+        EntryRef::Settled => ("settled", 0, 0),
         EntryRef::Unsettled { who } => ("unsettled", whom(who), 0),
         EntryRef::Idle { end } => ("idle", at(end), 0),
         EntryRef::Off { end } => ("off", at(end), 0),
@@ -262,13 +268,7 @@ fn row(entry: Option<EntryRef<'_>>) -> Row {
 /// The row of an entry that is kept whole.
 fn whole_row(entry: &Entry) -> Row {
     match entry {
-        Entry::Full { who } => ("full", whom(*who), 0),
-        Entry::Refused { who, why } => ("refused", whom(*who), (*why == Why::Range).into()),
         Entry::Lost { end, packet } => ("lost", at(*end), packet.len() as u64),
-        Entry::Stopped { disk } => ("stopped", (*disk).into(), 0),
-        Entry::Started { disk } => ("started", (*disk).into(), 0),
-        Entry::Calm { who } => ("calm", whom(*who), 0),
-        Entry::Settled => ("settled", 0, 0),
         _ => ("other", 0, 0),
     }
 }

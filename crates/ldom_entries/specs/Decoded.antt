@@ -84,6 +84,12 @@ a_whole = record (needs 0 0) { wholes = 1 }
 -- HOW MUCH STANDS BESIDE A HEADER
 abbrev pub share : Header → Share
 share (header.Accepted disk) = these 1 0 0 0 1 0
+share (header.Full part disk) = needs 0 0
+share (header.Refused part why disk) = needs 0 0
+share (header.Stopped disk) = needs 0 0
+share (header.Started disk) = needs 0 0
+share (header.Calm part disk) = needs 0 0
+share header.Settled = needs 0 0
 share (header.Unsettled part disk) = needs 0 0
 share (header.Idle side disk) = needs 0 0
 share (header.Off side disk) = needs 0 0
@@ -103,6 +109,12 @@ share header.Whole = a_whole
 -- THE ENTRY of a header and what stands beside it
 abbrev pub entry_of : Header → Lists → Entry
 entry_of (header.Accepted disk) l = entry.Accepted disk (first_number l) (request_in l)
+entry_of (header.Full part disk) l = entry.Full (who_at disk part)
+entry_of (header.Refused part why disk) l = entry.Refused (who_at disk part) why
+entry_of (header.Stopped disk) l = entry.Stopped disk
+entry_of (header.Started disk) l = entry.Started disk
+entry_of (header.Calm part disk) l = entry.Calm (who_at disk part)
+entry_of header.Settled l = entry.Settled
 entry_of (header.Unsettled part disk) l = entry.Unsettled (who_at disk part)
 entry_of (header.Idle side disk) l = entry.Idle (end_at disk side)
 entry_of (header.Off side disk) l = entry.Off (end_at disk side)
@@ -133,6 +145,6 @@ abbrev pub AreComplete : List Header → Lists → Type 0
 AreComplete [] l = l ≡ nothing
 AreComplete (h ∷ headers) l = Holds (share h) l × AreComplete headers (rest_of (share h) l)
 
--- the kind of a header's entry, which doesn't ask what stands beside it; for an entry that is kept whole, a kind that is
+-- the kind of a header's entry, which doesn't ask what stands beside it; for an entry that is kept whole, one that may be seen
 abbrev pub kind_of : Header → Entry
 kind_of h = entry_of h nothing

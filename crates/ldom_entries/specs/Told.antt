@@ -9,6 +9,12 @@ use Rattle.ldom_entries.specs.declared.entry_ref.EntryRef.TheVariants as shown
 -- the entry that was put, by what is read of it
 abbrev pub told : EntryRef → Entry
 told (shown.Accepted disk id request) = entry.Accepted disk id request.now
+told (shown.Full who) = entry.Full who
+told (shown.Refused who why) = entry.Refused who why
+told (shown.Stopped disk) = entry.Stopped disk
+told (shown.Started disk) = entry.Started disk
+told (shown.Calm who) = entry.Calm who
+told shown.Settled = entry.Settled
 told (shown.Unsettled who) = entry.Unsettled who
 told (shown.Idle e) = entry.Idle e
 told (shown.Off e) = entry.Off e

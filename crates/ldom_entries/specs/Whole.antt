@@ -4,9 +4,16 @@ use Rattle.ldom_entries.specs.declared.entry.Entry.{Entry}
 use Rattle.ldom_entries.specs.declared.entry.Entry.TheVariants as entry
 
 -- Whether an entry is kept whole. What comes with a step of an end, or for each disk of a settle, may come millions of
--- times and is kept in a few bytes; so is what carries a request. Any other comes at most once for a line of a script.
+-- times, and what tells of a line of a script at least as often as there are such lines: these are kept in a few bytes.
+-- Any other is kept as it is, and needs no header of its own.
 abbrev pub is_whole : Entry → Bool
 is_whole (entry.Accepted disk id request) = false
+is_whole (entry.Full who) = false
+is_whole (entry.Refused who why) = false
+is_whole (entry.Stopped disk) = false
+is_whole (entry.Started disk) = false
+is_whole (entry.Calm who) = false
+is_whole entry.Settled = false
 is_whole (entry.Unsettled who) = false
 is_whole (entry.Idle e) = false
 is_whole (entry.Off e) = false

@@ -1,6 +1,6 @@
 ghost use Rattle.std.specs.Prelude.{◌≡◌, ◌<◌, ◌≤◌, true, ◌∷◌, length};
-ghost use Rattle.ldom_entries.specs.Beside.{Holds, made, rest_of, share_of};
-ghost use Rattle.ldom_entries.specs.Decoded.{a_whole, cause_in, descriptor_in, first_entry, first_number, kind_of};
+ghost use Rattle.ldom_entries.specs.Beside.{Holds, Lists, made, rest_of, share_of};
+ghost use Rattle.ldom_entries.specs.Decoded.{a_whole, cause_in, descriptor_in, entry_of, first_entry, first_number, kind_of};
 ghost use Rattle.ldom_entries.specs.Decoded.{needs, one_where, packet_in, packet_where, read_in, request_in};
 ghost use Rattle.ldom_entries.specs.Decoded.{second_number, share, these, whole_in};
 ghost use Rattle.ldom_entries.specs.Told.{told};
@@ -8,7 +8,7 @@ ghost use Rattle.ldom_entries.specs.declared.header.Header.TheVariants as the_he
 
 use crate::entry_ref::EntryRef;
 use crate::header::{Header, Part, end_at, who_at};
-use crate::{Bytes, KeptRequest, WholeEntry};
+use crate::{Bytes, KeptRequest, WholeEntry, Why};
 use cookie_copy::CopyFault;
 use domain_script::Side;
 use std::marker::Model;
@@ -171,10 +171,6 @@ impl<'a> Beside<'a> {
     {
         match header {
             Header::Accepted { disk } => *entry = self.accepted(disk),
-            Header::Unsettled { part, disk } => *entry = unsettled(part, disk),
-            Header::Idle { side, disk } => *entry = idle(side, disk),
-            Header::Off { side, disk } => *entry = off(side, disk),
-            Header::Blocked { side, disk } => *entry = blocked(side, disk),
             Header::Joined { side, disk } => *entry = self.joined(side, disk),
             Header::Took { side, opens, disk } => *entry = self.took(side, opens, disk),
             Header::Sent { side, opens, disk } => *entry = self.sent(side, opens, disk),
@@ -195,6 +191,7 @@ impl<'a> Beside<'a> {
             Header::Finished { side, disk } => *entry = self.finished(side, disk),
             Header::Reset { side, packet, disk } => *entry = self.reset(side, packet, disk),
             Header::Whole => *entry = EntryRef::Whole(self.whole()),
+            plain => read_plain(plain, entry),
         }
     }
 
@@ -206,6 +203,7 @@ impl<'a> Beside<'a> {
     {
         match header {
             Header::Idle { .. } | Header::Off { .. } | Header::Blocked { .. } => {}
+            Header::Stopped { .. } | Header::Started { .. } | Header::Calm { .. } => {}
             Header::Took { .. } | Header::Sent { .. } => {
                 self.packet();
             }
@@ -375,6 +373,54 @@ impl<'a> Beside<'a> {
             packet: self.packet_where(packet),
             lost: self.number(),
         }
+    }
+}
+
+/// Reads the entry of a header beside which nothing stands. It is written where it lies, as `read_into` does.
+fn read_plain<'a>(header: Header, entry: &mut EntryRef<'a>)
+    requires { share header ≡ needs 0 0 }
+    ensures { (l : Lists) → told entry.new ≡ entry_of header l }
+{
+    match header {
+        Header::Full { part, disk } => *entry = full(part, disk),
+        Header::Refused { part, why, disk } => *entry = refused(part, why, disk),
+        Header::Stopped { disk } => *entry = EntryRef::Stopped { disk },
+        Header::Started { disk } => *entry = EntryRef::Started { disk },
+        Header::Calm { part, disk } => *entry = calm(part, disk),
+        Header::Settled => *entry = EntryRef::Settled,
+        Header::Unsettled { part, disk } => *entry = unsettled(part, disk),
+        Header::Idle { side, disk } => *entry = idle(side, disk),
+        Header::Off { side, disk } => *entry = off(side, disk),
+        Header::Blocked { side, disk } => *entry = blocked(side, disk),
+        _ => unreachable!(),
+    }
+}
+
+/// As many requests are pending as the ring holds.
+fn full<'a>(part: Part, disk: u32) -> EntryRef<'a>
+    ensures { told result ≡ kind_of (the_header.Full part disk) }
+{
+    EntryRef::Full {
+        who: who_at(disk, part),
+    }
+}
+
+/// A request was refused.
+fn refused<'a>(part: Part, why: Why, disk: u32) -> EntryRef<'a>
+    ensures { told result ≡ kind_of (the_header.Refused part why disk) }
+{
+    EntryRef::Refused {
+        who: who_at(disk, part),
+        why,
+    }
+}
+
+/// What the line asked for changes nothing.
+fn calm<'a>(part: Part, disk: u32) -> EntryRef<'a>
+    ensures { told result ≡ kind_of (the_header.Calm part disk) }
+{
+    EntryRef::Calm {
+        who: who_at(disk, part),
     }
 }
 

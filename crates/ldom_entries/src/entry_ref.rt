@@ -1,4 +1,4 @@
-use crate::{Bytes, KeptRequest, Who, WholeEntry};
+use crate::{Bytes, KeptRequest, Who, WholeEntry, Why};
 use cookie_copy::CopyFault;
 use domain_script::EndName;
 use trimmed_arrays::TrimmedArray;
@@ -13,6 +13,23 @@ pub enum EntryRef<'a> {
         id: u64,
         request: &'a KeptRequest,
     },
+    Full {
+        who: Who,
+    },
+    Refused {
+        who: Who,
+        why: Why,
+    },
+    Stopped {
+        disk: u32,
+    },
+    Started {
+        disk: u32,
+    },
+    Calm {
+        who: Who,
+    },
+    Settled,
     Unsettled {
         who: Who,
     },

@@ -2,7 +2,7 @@ ghost use Rattle.std.specs.Prelude.{◌≡◌};
 ghost use Rattle.ldom_entries.specs.Decoded.{end_at, kind_of, who_at};
 ghost use Rattle.ldom_entries.specs.Seen.{may_be_seen};
 
-use crate::Who;
+use crate::{Who, Why};
 use cookie_copy::CopyFault;
 use domain_script::{EndName, Lane, Side};
 
@@ -22,6 +22,26 @@ pub enum Header {
     Accepted {
         disk: u32,
     },
+    Full {
+        part: Part,
+        disk: u32,
+    },
+    Refused {
+        part: Part,
+        why: Why,
+        disk: u32,
+    },
+    Stopped {
+        disk: u32,
+    },
+    Started {
+        disk: u32,
+    },
+    Calm {
+        part: Part,
+        disk: u32,
+    },
+    Settled,
     Unsettled {
         part: Part,
         disk: u32,
@@ -117,7 +137,13 @@ impl Header {
     {
         matches!(
             self,
-            Header::Unsettled { .. } | Header::Done { .. } | Header::Reset { .. } | Header::Whole
+            Header::Full { .. }
+                | Header::Refused { .. }
+                | Header::Settled
+                | Header::Unsettled { .. }
+                | Header::Done { .. }
+                | Header::Reset { .. }
+                | Header::Whole
         )
     }
 }

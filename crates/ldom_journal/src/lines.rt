@@ -13,7 +13,7 @@ ghost use Rattle.kept_requests.specs.BlockWord.{blocks_text};
 ghost use Rattle.vio_io.specs.Causes.{Rose};
 
 use crate::line_names::{push_end, push_end_number};
-use crate::request_lines::{push_about, push_accepted, push_done};
+use crate::request_lines::{push_about, push_accepted, push_done, push_of_disk, push_refused};
 use crate::short_names::{LineNames, names_of_lanes};
 use crate::step_lines::{
     push_carried, push_descriptor, push_finished, push_joined, push_moved, push_reset, push_stored,
@@ -38,6 +38,12 @@ fn push_front(text: &mut Text, mode: Mode, entry: &EntryRef<'_>, names: &LineNam
 {
     match entry {
         EntryRef::Accepted { disk, id, request } => push_accepted(text, *disk, *id, request, names),
+        EntryRef::Full { who } => push_about(text, b"full ", who, names),
+        EntryRef::Refused { who, why } => push_refused(text, who, *why, names),
+        EntryRef::Stopped { disk } => push_of_disk(text, b"stopped ", *disk, names),
+        EntryRef::Started { disk } => push_of_disk(text, b"started ", *disk, names),
+        EntryRef::Calm { who } => push_about(text, b"calm ", who, names),
+        EntryRef::Settled => text.push(b"settled"),
         EntryRef::Unsettled { who } => push_about(text, b"unsettled ", who, names),
         EntryRef::Idle { end } => push_end(text, b"idle ", *end, names),
         EntryRef::Off { end } => push_end(text, b"off ", *end, names),

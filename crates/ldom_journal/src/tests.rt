@@ -182,14 +182,6 @@ fn trace_alone_shows_accepted(rt: HostRuntime) -> Result<(), Fail> {
     Ok(())
 }
 
-/// The entry at this place, where it is kept whole.
-fn whole_at(journal: &Journal, place: usize) -> Option<&Entry> {
-    match journal.get(place) {
-        Some(EntryRef::Whole(whole)) => Some(whole.entry()),
-        _ => None,
-    }
-}
-
 #[test]
 fn a_journal_keeps_its_entries_in_order(rt: HostRuntime) -> Result<(), Fail> {
     let alloc = rt.alloc();
@@ -200,8 +192,8 @@ fn a_journal_keeps_its_entries_in_order(rt: HostRuntime) -> Result<(), Fail> {
     }
     note(&mut journal, Entry::Full { who: D0 })?;
     assert_eq!(rt; journal.len(), 1001);
-    assert!(rt; matches!(whole_at(&journal, 0), Some(Entry::Settled)));
-    assert!(rt; matches!(whole_at(&journal, 1000), Some(Entry::Full { .. })));
+    assert!(rt; matches!(journal.get(0), Some(EntryRef::Settled)));
+    assert!(rt; matches!(journal.get(1000), Some(EntryRef::Full { .. })));
     assert!(rt; journal.get(1001).is_none());
     Ok(())
 }

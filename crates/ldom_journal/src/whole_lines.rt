@@ -4,7 +4,6 @@ ghost use Rattle.ldom_entries.specs.Whole.{is_whole};
 ghost use Rattle.ldom_journal.specs.EntryText.{bytes_text, entry_lines, head_text, shows};
 ghost use Rattle.ldom_journal.specs.HasWords.{HasWords, IsEnd};
 
-use crate::request_lines::{push_about, push_of_disk, push_refused};
 use crate::short_names::LineNames;
 use crate::step_lines::push_packet;
 use crate::{Entry, Mode};
@@ -30,8 +29,7 @@ fn push_whole_packet(
 }
 
 /// Puts the line of an entry that is kept whole, but for the line feed. Answers whether the mode shows it: where it
-/// doesn't, nothing is put. Each such kind has its arm: those that a run shows come first, and after them those that a
-/// trace alone shows.
+/// doesn't, nothing is put. Each such kind has its arm; that of one which a run shows would come before the first.
 fn push_whole_head(text: &mut Text, mode: Mode, entry: &Entry, names: &LineNames<'_>) -> bool
     requires whole { is_whole entry.now ≡ true }
     requires words { HasWords names.now.disks entry.now }
@@ -42,15 +40,8 @@ fn push_whole_head(text: &mut Text, mode: Mode, entry: &Entry, names: &LineNames
     ensures len { length text.new ≤ length text.old + 599 }
 {
     match entry {
-        _ if mode == Mode::EndOnly => return false,
-        Entry::Full { who } => push_about(text, b"full ", who, names),
-        Entry::Refused { who, why } => push_refused(text, who, *why, names),
-        Entry::Settled => text.push(b"settled"),
-        _ if mode == Mode::Run => return false,
+        _ if mode != Mode::Trace => return false,
         Entry::Lost { end, packet } => push_whole_packet(text, b"lost ", *end, packet, names),
-        Entry::Stopped { disk } => push_of_disk(text, b"stopped ", *disk, names),
-        Entry::Started { disk } => push_of_disk(text, b"started ", *disk, names),
-        Entry::Calm { who } => push_about(text, b"calm ", who, names),
         _ => unreachable!(),
     }
     true

@@ -6,7 +6,7 @@ ghost use Rattle.world_parts.specs.Lines.{IsForDisks};
 use crate::World;
 use domain_script::{DiskDecl, EndName, Event, Lane, Name, Names, Request, Side};
 use flat_store::MemStore;
-use ldom_journal::{Entry, EntryRef, Journal};
+use ldom_journal::{EntryRef, Journal};
 use std::alloc::Global;
 use std::test::Fail;
 use vio_bytes::NoMemory;
@@ -127,10 +127,7 @@ fn is_read(journal: &Journal) -> bool {
         ) => bytes.len() == 512,
         _ => false,
     };
-    let settled = match journal.get(84) {
-        Some(EntryRef::Whole(last)) => matches!(last.entry(), Entry::Settled),
-        _ => false,
-    };
+    let settled = matches!(journal.get(84), Some(EntryRef::Settled));
     done && settled && journal.len() == 85
 }
 
