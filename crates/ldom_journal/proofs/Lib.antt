@@ -1,4 +1,3 @@
-mod LaneNames
 mod LineParts
 pub mod ReportLines
 pub mod StopLemmas

@@ -1,5 +1,5 @@
 -- The line of an entry.
-use Rattle.std.specs.Prelude.{ℕ, Bool, true, false, ◌==◌, ◌&&◌, if◌then◌else◌, List, [], ◌++◌, take, slice_get, Option, Some, None, codes, decimal}
+use Rattle.std.specs.Prelude.{ℕ, Bool, true, false, ◌==◌, ◌&&◌, if◌then◌else◌, List, [], ◌++◌, take, Option, Some, codes, decimal}
 use Rattle.std.specs.List.{flat_map}
 use Rattle.hex.specs.Hex.{encode_lower}
 use Rattle.cookie_copy.specs.declared.fault.CopyFault.{CopyFault}
@@ -7,40 +7,16 @@ use Rattle.vio_tag.specs.CauseText.{cause_text}
 use Rattle.vio_tag.specs.declared.cause.Cause.{Cause}
 use Rattle.domain_script.specs.declared.event.DiskDecl.{DiskDecl}
 use Rattle.domain_script.specs.declared.event.EndName.{EndName}
-use Rattle.domain_script.specs.declared.event.Lane.{Lane}
-use Rattle.domain_script.specs.declared.event.Lane.TheVariants.{Disk}
 use Rattle.vdisk_msg.specs.declared.request.Request.{Request}
 use Rattle.vdisk_msg.specs.declared.request.Request.TheVariants.{Read, Write, Flush}
-use Rattle.ldom_entries.specs.declared.entry.Who.{Who}
-use Rattle.ldom_entries.specs.declared.entry.Who.TheVariants.{Lane as OfLane, End as OfEnd}
 use Rattle.ldom_entries.specs.declared.entry.Entry.{Entry}
 use Rattle.ldom_entries.specs.declared.entry.Entry.TheVariants as entry
 use Rattle.ldom_journal.specs.declared.status.Mode.{Mode}
 use Rattle.ldom_journal.specs.declared.status.Mode.TheVariants.{Run, Trace, EndOnly}
 use Rattle.kept_requests.specs.BlockWord.{blocks_text}
 pub use Rattle.ldom_entries.specs.Seen.{is_seen, may_be_seen}
+pub use Rattle.line_words.specs.LineNames.{declared_name, disk_name, end_name, end_text, id_text, lane_name, number_text, who_name}
 pub use Rattle.line_words.specs.LineWords.{failed_word, fault_word, opens_text, operation_word, side_text, why_word}
-
--- a disk's name, nothing where there is no disk
-abbrev pub declared_name : Option DiskDecl → List ℕ
-declared_name (Some disk) = take disk.name.len disk.name.bytes
-declared_name None = []
-
--- the name of the disk with this number, in the order of declaration
-abbrev pub disk_name : List DiskDecl → ℕ → List ℕ
-disk_name disks k = declared_name (slice_get disks k)
-
--- the name of a lane, and that of an end
-abbrev pub lane_name : List DiskDecl → Lane → List ℕ
-lane_name disks (Disk k) = disk_name disks k
-
-abbrev pub end_name : List DiskDecl → EndName → List ℕ
-end_name disks e = lane_name disks e.lane ++ side_text e.side
-
--- the name of whom an entry is about
-abbrev pub who_name : List DiskDecl → Who → List ℕ
-who_name disks (OfLane lane) = lane_name disks lane
-who_name disks (OfEnd e) = end_name disks e
 
 -- a range of blocks: the first, and how many
 abbrev pub range_text : ℕ → ℕ → List ℕ
@@ -52,17 +28,7 @@ request_text (Read block count) = codes " read " ++ range_text block count
 request_text (Write block count fill) = codes " write " ++ range_text block count ++ codes " " ++ encode_lower (take fill.len fill.bytes)
 request_text Flush = codes " flush"
 
--- the kind of a request's entry, its disk and its id
-abbrev pub id_text : List ℕ → List DiskDecl → ℕ → ℕ → List ℕ
-id_text kind disks disk id = kind ++ disk_name disks disk ++ codes " " ++ decimal id
-
--- the kind of an entry and its end; and a number behind them, or bytes
-abbrev pub end_text : List ℕ → List DiskDecl → EndName → List ℕ
-end_text kind disks e = kind ++ end_name disks e
-
-abbrev pub number_text : List ℕ → List DiskDecl → EndName → ℕ → List ℕ
-number_text kind disks e n = end_text kind disks e ++ codes " " ++ decimal n
-
+-- the kind of an entry and its end, and bytes behind them
 abbrev pub bytes_text : List ℕ → List DiskDecl → EndName → List ℕ → List ℕ
 bytes_text kind disks e bytes = end_text kind disks e ++ codes " " ++ encode_lower bytes
 

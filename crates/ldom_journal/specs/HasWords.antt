@@ -1,26 +1,11 @@
 -- What an entry needs so that its line can be written.
 use Rattle.std.specs.Prelude.{◌≡◌, ℕ, ◌%◌, ◌<◌, ◌≤◌, List, length, ⊤}
 use Rattle.domain_script.specs.declared.event.DiskDecl.{DiskDecl}
-use Rattle.domain_script.specs.declared.event.EndName.{EndName}
-use Rattle.domain_script.specs.declared.event.Lane.{Lane}
-use Rattle.domain_script.specs.declared.event.Lane.TheVariants.{Disk}
-use Rattle.ldom_entries.specs.declared.entry.Who.{Who}
-use Rattle.ldom_entries.specs.declared.entry.Who.TheVariants.{Lane as OfLane, End as OfEnd}
 use Rattle.ldom_entries.specs.declared.entry.Entry.{Entry}
 use Rattle.ldom_entries.specs.declared.entry.Entry.TheVariants as entry
 use Rattle.ldom_journal.specs.LaneEvents.{Meaning, AtWire, AtClient, AtServer, AtLane, NoRoomFor, Refuses, ChangesNothing, LeavesOver, LeavesNothing, meaning}
 pub use Rattle.line_words.specs.HasFault.{HasFault}
-
--- what is named is declared: a disk, a lane, an end
-abbrev pub IsLane : List DiskDecl → Lane → Type 0
-IsLane disks (Disk k) = k < length disks
-
-abbrev pub IsEnd : List DiskDecl → EndName → Type 0
-IsEnd disks e = IsLane disks e.lane
-
-abbrev pub IsDeclared : List DiskDecl → Who → Type 0
-IsDeclared disks (OfLane lane) = IsLane disks lane
-IsDeclared disks (OfEnd e) = IsEnd disks e
+pub use Rattle.line_words.specs.IsDeclared.{IsDeclared, IsEnd, IsLane}
 
 -- the operation is one of the three
 pub record IsOperation (operation : ℕ) : Type 0 where

@@ -3,7 +3,6 @@ pub mod EntryText
 pub mod Failing
 pub mod HasWords
 pub mod LaneEvents
-pub mod LaneNames
 pub mod LeftOut
 pub mod LineParts
 pub mod LinesEnd

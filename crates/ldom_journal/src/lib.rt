@@ -4,10 +4,8 @@
 #![tactic(auto)]
 
 mod end_line;
-mod line_names;
 mod lines;
 mod request_lines;
-mod short_names;
 mod status;
 mod step_lines;
 mod stop;

@@ -12,9 +12,7 @@ ghost use Rattle.ldom_entries.specs.Told.{told};
 ghost use Rattle.kept_requests.specs.BlockWord.{blocks_text};
 ghost use Rattle.vio_io.specs.Causes.{Rose};
 
-use crate::line_names::{push_end, push_end_number};
 use crate::request_lines::{push_about, push_accepted, push_done, push_of_disk, push_refused};
-use crate::short_names::{LineNames, names_of_lanes};
 use crate::step_lines::{
     push_carried, push_descriptor, push_finished, push_joined, push_moved, push_reset, push_stored,
 };
@@ -22,7 +20,7 @@ use crate::whole_lines::push_whole;
 use crate::{Bytes, Entries, EntryRef, Journal, Mode, VD_OP_BREAD};
 use domain_script::Names;
 use gathered_text::{TEXT_ROOM, Text};
-use line_words::put_blocks;
+use line_words::{LineNames, names_of_lanes, push_end, push_end_number, put_blocks};
 use vio_io::{Failed, Sink};
 
 /// More bytes than a line has, but for the words of a read.

@@ -3,11 +3,9 @@ ghost use Rattle.std.specs.Prelude.{◌≡◌, ◌+◌, ◌≤◌, ◌<◌, ◌+
 ghost use Rattle.ldom_journal.specs.EntryText.{disk_name, done_text, id_text, range_text, request_text, who_name, why_word};
 ghost use Rattle.ldom_journal.specs.HasWords.{IsDeclared};
 
-use crate::line_names::{push_disk, push_id, push_who};
-use crate::short_names::LineNames;
 use crate::{KeptRequest, Who, Why};
 use gathered_text::{TEXT_ROOM, Text};
-use line_words::{operation_word, why_word};
+use line_words::{LineNames, operation_word, push_disk, push_id, push_who, why_word};
 use vdisk_msg::{Fill, Request};
 
 fn fill_bytes(fill: &Fill) -> &[u8]

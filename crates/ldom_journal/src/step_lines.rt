@@ -6,14 +6,13 @@ ghost use Rattle.ldom_journal.specs.EntryText.{bytes_text, call_text, end_text, 
 ghost use Rattle.ldom_journal.specs.HasWords.{HasFault, IsEnd};
 
 use crate::Mode;
-use crate::line_names::{push_end, push_end_number};
 use crate::request_lines::push_range;
-use crate::short_names::LineNames;
 use cookie_copy::CopyFault;
 use domain_script::EndName;
 use gathered_text::{TEXT_ROOM, Text};
 use line_words::{
-    failed_word, fault_word, opens_word, operation_word, push_array, push_reset_cause,
+    LineNames, failed_word, fault_word, opens_word, operation_word, push_array, push_end,
+    push_end_number, push_reset_cause,
 };
 use trimmed_arrays::TrimmedArray;
 use vio_tag::Cause;

@@ -4,11 +4,11 @@ ghost use Rattle.ldom_entries.specs.Whole.{is_whole};
 ghost use Rattle.ldom_journal.specs.EntryText.{bytes_text, entry_lines, head_text, shows};
 ghost use Rattle.ldom_journal.specs.HasWords.{HasWords, IsEnd};
 
-use crate::short_names::LineNames;
 use crate::step_lines::push_packet;
 use crate::{Entry, Mode};
 use domain_script::EndName;
 use gathered_text::{TEXT_ROOM, Text};
+use line_words::LineNames;
 use trimmed_arrays::TrimmedArray;
 
 /// An end and a packet with all its bytes, after the kind of their entry.

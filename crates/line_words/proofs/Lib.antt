@@ -1,1 +1,2 @@
+mod DiskNames
 mod PaddedArrays

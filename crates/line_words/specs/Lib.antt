@@ -1,2 +1,5 @@
 pub mod HasFault
+pub mod IsDeclared
+pub mod LaneNames
+pub mod LineNames
 pub mod LineWords

@@ -1,4 +1,4 @@
-//! The words of a report's lines that name no entry: those of sides, operations and faults, the names of a lane and its
+//! The words of a report's lines that name no entry: those of sides, operations and faults, the names of disks, lanes and
 //! ends, the causes of resets, arrays in digits, and the blocks that a read gave.
 #![tactic(auto)]
 
@@ -6,10 +6,14 @@ mod array_text;
 mod block_words;
 mod cause_text;
 mod lane_names;
+mod line_names;
+mod short_names;
 mod words;
 
 pub use array_text::push_array;
 pub use block_words::put_blocks;
 pub use cause_text::push_reset_cause;
 pub use lane_names::LaneNames;
+pub use line_names::{push_disk, push_end, push_end_number, push_id, push_who};
+pub use short_names::{LineNames, names_of_lanes};
 pub use words::{failed_word, fault_word, opens_word, operation_word, side_word, why_word};

@@ -1,12 +1,12 @@
 // The names in an entry's line.
 ghost use Rattle.std.specs.Prelude.{◌≡◌, ◌+◌, ◌≤◌, ◌<◌, ◌++◌, length};
-ghost use Rattle.ldom_journal.specs.EntryText.{disk_name, end_name, end_text, id_text, lane_name, number_text, who_name};
-ghost use Rattle.ldom_journal.specs.HasWords.{IsDeclared, IsEnd, IsLane};
+ghost use Rattle.line_words.specs.IsDeclared.{IsDeclared, IsEnd, IsLane};
+ghost use Rattle.line_words.specs.LineNames.{disk_name, end_name, end_text, id_text, lane_name, number_text, who_name};
 
-use crate::Who;
-use crate::short_names::LineNames;
+use crate::LineNames;
 use domain_script::{EndName, Lane};
 use gathered_text::{TEXT_ROOM, Text};
+use ldom_entries::Who;
 
 /// The name of a disk.
 pub fn push_disk(text: &mut Text, disk: u32, names: &LineNames<'_>)

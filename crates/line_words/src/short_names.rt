@@ -1,10 +1,10 @@
 // The names of lanes and ends as lines put them.
 ghost use Rattle.std.specs.Prelude.{◌≡◌, ◌<◌, ◌≤◌, length, take};
-ghost use Rattle.ldom_journal.specs.EntryText.{disk_name};
-ghost use Rattle.ldom_journal.specs.LaneNames.{lane_names};
+ghost use Rattle.line_words.specs.LaneNames.{lane_names};
+ghost use Rattle.line_words.specs.LineNames.{disk_name};
 
+use crate::LaneNames;
 use domain_script::{Name, Names};
-use line_words::LaneNames;
 use std::marker::Model;
 
 fn name_bytes(name: &Name) -> &[u8]
@@ -53,7 +53,7 @@ pub struct LineNames<'a> {
 impl<'a> Model for LineNames<'a> {
     ghost use Rattle.std.specs.Prelude.{◌≡◌, ◌≤◌, length};
     ghost use Rattle.domain_script.specs.NamesState.{NamesState};
-    ghost use Rattle.ldom_journal.specs.LaneNames.{lane_names};
+    ghost use Rattle.line_words.specs.LaneNames.{lane_names};
 
     ghost Value = { NamesState };
 
@@ -73,7 +73,7 @@ impl<'a> LineNames<'a> {
     }
 
     /// The names of a disk's lane.
-    #[tactic(auto, using(crate::proofs::LaneNames::name_at))]
+    #[tactic(auto, using(crate::proofs::DiskNames::name_at))]
     pub fn of_disk(&self, disk: u32) -> &'a LaneNames
         requires { disk < length self.now.disks }
         ensures { result.now ≡ disk_name self.now.disks disk }

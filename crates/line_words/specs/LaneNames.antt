@@ -1,7 +1,7 @@
 -- The names of lanes by the numbers of their disks.
 use Rattle.std.specs.Prelude.{ℕ, List, [], ◌∷◌, map}
 use Rattle.domain_script.specs.declared.event.DiskDecl.{DiskDecl}
-use Rattle.ldom_journal.specs.EntryText.{disk_name}
+use Rattle.line_words.specs.LineNames.{disk_name}
 
 -- those of the eight disks that can be declared, nothing for one that isn't
 abbrev pub lane_names : List DiskDecl → List (List ℕ)

@@ -2,8 +2,8 @@
 use Rattle.std.proofs.Common.{◌≡◌, refl, ℕ, ◌<◌, ◌≤◌, zero, suc, List, length, ap, ◌∙◌, arith}
 use Rattle.std.specs.Prelude.{slice_index_or}
 use Rattle.domain_script.specs.declared.event.DiskDecl.{DiskDecl}
-use Rattle.ldom_journal.specs.EntryText.{disk_name}
-use Rattle.ldom_journal.specs.LaneNames.{lane_names}
+use Rattle.line_words.specs.LaneNames.{lane_names}
+use Rattle.line_words.specs.LineNames.{disk_name}
 
 at_place : (disks : List DiskDecl) (k : ℕ) (d : List ℕ) → k < 8
     → slice_index_or (lane_names disks) k d ≡ disk_name disks k
