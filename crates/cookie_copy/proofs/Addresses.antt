@@ -27,7 +27,7 @@ and_same : (a : Bool) → (a && a) ≡ a
 and_same true = refl
 and_same false = refl
 
--- what is asked of the addresses of a cookie and of those behind it
+-- what is asked of the addresses of a cookie and of those after it
 pub asked_cons : (test : ℕ → Bool) (cookie : Cookie) (cookies : List Cookie) (skip n : ℕ)
     → list_all test (moved_spots (cookie ∷ cookies) skip n)
     ≡ (list_all test (range_with_len (cookie.address + skip) (min (cookie.size - skip) n)) && list_all test (moved_spots cookies (skip - cookie.size) (n - (cookie.size - skip))))
@@ -38,7 +38,7 @@ asked_cons test cookie cookies skip n =
 pub asked_nothing : (test : ℕ → Bool) (skip n : ℕ) → list_all test (moved_spots [] skip n) ≡ true
 asked_nothing test skip n = ap (list_all test) (moved_nothing skip n)
 
--- the cookie at an index and those behind it
+-- the cookie at an index and those after it
 pub asked_at : (test : ℕ → Bool) (cookies : List Cookie) (i : ℕ) (d : Cookie) (skip n : ℕ) → i < length cookies
     → list_all test (moved_spots (drop i cookies) skip n)
     ≡ (list_all test (range_with_len ((get_or cookies i d).address + skip) (min ((get_or cookies i d).size - skip) n))
@@ -73,7 +73,7 @@ asked_one test by_page a n some within =
     let more : suc (n - 1) ≡ n = omega arith in
     sym (page_asked test by_page a (n - 1) (omega arith)) ∙ ap (λ (m : ℕ). list_all test (range_with_len a m)) more
 
--- the first n addresses of a range, which lie in one page, and those behind them
+-- the first n addresses of a range, which lie in one page, and those after them
 pub asked_page : (test : ℕ → Bool) → ((a b : ℕ) → a / 8192 ≡ b / 8192 → test a ≡ test b)
     → (address done len k : ℕ) → done < len → k ≡ min (8192 - (address + done) % 8192) (len - done)
     → list_all test (range_with_len (address + done) (len - done)) ≡ (test (address + done) && list_all test (range_with_len (address + (done + k)) (len - (done + k))))
@@ -170,11 +170,11 @@ all_paged test other is [] passed = refl
 all_paged test other is (x ∷ xs) passed =
     paged_more (has_page x) (other x) (test x) (list_all has_page xs) (list_all test xs) (list_all other xs) (is x) passed (all_paged test other is xs)
 
--- how many bytes are held by the cookie at an index and those behind it
+-- how many bytes are held by the cookie at an index and those after it
 pub held_at : (cookies : List Cookie) (i : ℕ) (d : Cookie) → i < length cookies → held (drop i cookies) ≡ (get_or cookies i d).size + held (drop (i + 1) cookies)
 held_at cookies i d below = ap held (drop_more cookies i d below)
 
--- what is left behind a cookie, counted as one number
+-- what is left after a cookie, counted as one number
 pub left_on : (cookies : List Cookie) (i : ℕ) (d : Cookie) (window next : Window) (all : ℕ) → i < length cookies
     → next ≡ record { skip = window.skip - (get_or cookies i d).size; len = window.len - ((get_or cookies i d).size - window.skip) }
     → window.skip + window.len - held (drop i cookies) ≡ all
@@ -206,7 +206,7 @@ aligned_end test cookies i found all past before =
 pub paged_below : (a n : ℕ) → n ≢ 0 → list_all has_page (range_with_len a n) ≡ true → a + n ≤ 2 ^ 60
 paged_below a n some is = let whole = paged_range a n in grind (arith, nat_tests)
 
--- behind the last cookie nothing is left to ask
+-- after the last cookie nothing is left to ask
 pub asked_all : (test : ℕ → Bool) (cookies : List Cookie) (i skip n : ℕ) (found all : Bool) → length cookies ≤ i
     → (found && list_all test (moved_spots (drop i cookies) skip n)) ≡ all → found ≡ all
 asked_all test cookies i skip n found all past before =
@@ -223,7 +223,7 @@ asked_page_on test by_page address done len k rest old new found all below rest_
     asked_step old new found all (test (address + done)) (list_all test (range_with_len (address + (done + k)) (len - (done + k)))) (list_all test (range_with_len (address + done) (len - done)))
     (asked_page test by_page address done len k below k_whole) is found_is before
 
--- the addresses of a range that are left behind its first k
+-- the addresses of a range that are left after its first k
 pub range_split : (address done len k next : ℕ) → next ≡ done + k → next ≤ len
     → range_with_len (address + done) (len - done) ≡ range_with_len (address + done) k ++ range_with_len (address + next) (len - next)
 range_split address done len k next next_is within =
@@ -233,7 +233,7 @@ range_split address done len k next next_is within =
     ∙ range-add (address + done) k (len - next)
     ∙ ap (λ (p : ℕ). range_with_len (address + done) k ++ range_with_len p (len - next)) place
 
--- what all addresses of a range pass, those of its front pass and those behind it
+-- what all addresses of a range pass, those of its front pass and those after it
 pub passed_front : (test : ℕ → Bool) (address done len k next : ℕ) → next ≡ done + k → next ≤ len
     → list_all test (range_with_len (address + done) (len - done)) ≡ true → list_all test (range_with_len (address + done) k) ≡ true
 passed_front test address done len k next next_is within passed =
@@ -251,7 +251,7 @@ pub passed_first : (test : ℕ → Bool) (a n : ℕ) → 0 < n → list_all test
 passed_first test a zero some passed = absurd (omega arith)
 passed_first test a (suc n) some passed = and_left (test a) _ passed
 
--- what is moved of the cookie at an index, and of those behind it
+-- what is moved of the cookie at an index, and of those after it
 pub moved_at : (cookies : List Cookie) (i : ℕ) (d : Cookie) (window next : Window) (k : ℕ) → i < length cookies
     → next ≡ record { skip = window.skip - (get_or cookies i d).size; len = window.len - ((get_or cookies i d).size - window.skip) }
     → k ≡ min ((get_or cookies i d).size - window.skip) window.len
@@ -264,18 +264,18 @@ moved_at cookies i d window next k below next_is k_is =
     ∙ ap (λ (m : ℕ). range_with_len (cookie.address + window.skip) m ++ moved_spots (drop (i + 1) cookies) (window.skip - cookie.size) (window.len - (cookie.size - window.skip))) (sym k_is)
     ∙ ap (λ (w : Window). range_with_len (cookie.address + window.skip) k ++ moved_spots (drop (i + 1) cookies) w.skip w.len) (sym next_is)
 
--- what all addresses pass, those of the cookie pass and those behind it
+-- what all addresses pass, those of the cookie pass and those after it
 pub passed_cookie : (test : ℕ → Bool) (all here rest : List ℕ) → all ≡ here ++ rest → list_all test all ≡ true
     → (list_all test here ≡ true) × (list_all test rest ≡ true)
 passed_cookie test all here rest is passed =
     let both : (list_all test here && list_all test rest) ≡ true = sym (list_all-append test here rest) ∙ sym (ap (list_all test) is) ∙ passed in
     (and_left _ _ both, and_right (list_all test here) _ both)
 
--- behind the last cookie nothing is left
+-- after the last cookie nothing is left
 pub moved_end : (cookies : List Cookie) (i skip n : ℕ) → length cookies ≤ i → moved_spots (drop i cookies) skip n ≡ []
 moved_end cookies i skip n past = ap (λ (cs : List Cookie). moved_spots cs skip n) (drop_all i cookies past) ∙ moved_nothing skip n
 
--- what is moved behind a cookie of which no byte is moved
+-- what is moved after a cookie of which no byte is moved
 pub moved_past : (cookies : List Cookie) (i : ℕ) (d : Cookie) (skip n : ℕ) (all : List ℕ) → i < length cookies → (get_or cookies i d).size ≤ skip
     → moved_spots (drop i cookies) skip n ≡ all → moved_spots (drop (i + 1) cookies) (skip - (get_or cookies i d).size) n ≡ all
 moved_past cookies i d skip n all below past before =

@@ -23,7 +23,7 @@ nothing_at (suc entries) (suc index) = nothing_at entries index
 pub within_new : (entries size : ℕ) → PagesWithin (replicate entries None) size
 within_new entries size = record { within = λ index entry found. let no : None ≡ Some entry = sym (nothing_at entries index) ∙ found in absurd (cc no) }
 
--- what is granted at an index behind a change there
+-- what is granted at an index after a change there
 changed_at : (table : List (Option Entry)) (at : ℕ) (new : Option Entry) (index : ℕ)
     → (granted (set table at new) index ≡ granted table index) ⊎ ((index ≡ at) × (granted (set table at new) index ≡ new))
 changed_at table at new index =

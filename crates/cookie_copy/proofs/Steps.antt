@@ -26,7 +26,7 @@ in_end f done rest buf all none within long before =
     let counted : done ≡ length buf = sym (length-take-le done buf within) ∙ ap length whole ∙ long in
     sym (take_all done buf (omega arith)) ∙ whole
 
--- bytes written to places, and then to those behind them
+-- bytes written to places, and then to those after them
 pub write_append : (front left bytes memory : List ℕ) → length front ≤ length bytes
     → write_spots (front ++ left) bytes memory ≡ write_spots left (drop (length front) bytes) (write_spots front (take (length front) bytes) memory)
 write_append [] left bytes memory within = refl

@@ -19,6 +19,6 @@ pub record IsIdentity (table : List (Option Entry)) (pages : ℕ) : Type 0 where
 abbrev pub copied_in : List ℕ → List Cookie → ℕ → ℕ → List ℕ
 copied_in memory cookies offset n = map (slice_index memory) (moved_spots cookies offset n)
 
--- the memory behind a copy out
+-- the memory after a copy out
 abbrev pub copied_out : List ℕ → List Cookie → ℕ → List ℕ → List ℕ
 copied_out memory cookies offset bytes = write_spots (moved_spots cookies offset (length bytes)) bytes memory

@@ -8,7 +8,7 @@ use Rattle.map_table.specs.declared.table.Entry.{Entry}
 use Rattle.map_table.specs.declared.table.Spot.{Spot}
 use Rattle.map_table.specs.declared.table.LookFault.{LookFault}
 
--- the addresses of cookies' bytes, those of one cookie behind those of the one before: whole numbers, which don't wrap
+-- the addresses of cookies' bytes, those of one cookie after those of the one before: whole numbers, which don't wrap
 unfoldable pub spots : List Cookie → List ℕ
 spots [] = []
 spots (cookie ∷ cookies) = range_with_len cookie.address cookie.size ++ spots cookies

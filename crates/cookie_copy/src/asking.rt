@@ -59,7 +59,7 @@ impl Access {
     }
 }
 
-/// Asks what is moved of a cookie, some bytes behind its first `skip`: its pages only where all of them
+/// Asks what is moved of a cookie, some bytes after its first `skip`: its pages only where all of them
 /// have the page size code 0.
 pub(crate) fn ask_part(
     access: Access,

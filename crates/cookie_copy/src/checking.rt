@@ -11,7 +11,7 @@ use crate::fault::Access;
 use crate::window::Window;
 use map_table::{Cookie, MapTable};
 
-/// What is known of the cookies that were looked at, and what of the copy is left behind them.
+/// What is known of the cookies that were looked at, and what of the copy is left after them.
 #[derive(Clone, Copy)]
 pub(crate) struct Checked {
     pub(crate) aligned: bool,

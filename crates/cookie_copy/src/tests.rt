@@ -58,7 +58,7 @@ const ACROSS: [Cookie; 1] = [Cookie {
     size: 16,
 }];
 
-/// A word behind all addresses that have a page.
+/// A word after all addresses that have a page.
 const FAR: [Cookie; 1] = [Cookie {
     address: 1 << 60,
     size: 8,
@@ -115,7 +115,7 @@ fn a_refused_copy_moves_no_byte(rt: HostRuntime) -> Result<(), Fail> {
     Ok(())
 }
 
-/// Cookies of 8 bytes, of a page and of two, behind one another: the last word of the page at index 0, the page at
+/// Cookies of 8 bytes, of a page and of two, after one another: the last word of the page at index 0, the page at
 /// index 2, the pages at the indices 0 and 1.
 const COOKIES: [Cookie; 3] = [
     Cookie {

@@ -4,7 +4,7 @@ ghost use Rattle.std.specs.Prelude.{◌≡◌, ◌+◌, ◌-◌, ◌%◌, ◌^�
 
 use map_table::Cookie;
 
-/// What a copy passes over of the cookies that are left, and how many bytes it moves behind that.
+/// What a copy passes over of the cookies that are left, and how many bytes it moves after that.
 #[derive(Clone, Copy)]
 pub(crate) struct Window {
     pub(crate) skip: u64,
@@ -27,7 +27,7 @@ impl Window {
         cookie.size.saturating_sub(self.skip).min(self.len)
     }
 
-    /// What is left to do behind a cookie of which it moves no byte.
+    /// What is left to do after a cookie of which it moves no byte.
     pub(crate) fn past(&self, cookie: &Cookie) -> Window
         requires { min (cookie.now.size - self.now.skip) self.now.len ≡ 0 }
         ensures { result ≡ record {
@@ -41,7 +41,7 @@ impl Window {
         }
     }
 
-    /// What is left to do behind a cookie.
+    /// What is left to do after a cookie.
     pub(crate) fn behind(&self, cookie: &Cookie) -> Window
         ensures { result ≡ record { skip = self.now.skip - cookie.now.size; len = self.now.len - (cookie.now.size - self.now.skip) } }
     {

@@ -22,7 +22,7 @@ free count = replicate count None
 zero_more : (n : ℕ) → 0 + n ≡ n
 zero_more n = omega arith
 
--- behind pages that are granted the first free one is the next
+-- after pages that are granted the first free one is the next
 place_behind : (from count : ℕ) (rest : List (Option Entry)) → position_or_len is_none (map own (range_with_len from count) ++ None ∷ rest) ≡ count
 place_behind from zero rest = refl
 place_behind from (suc count) rest =

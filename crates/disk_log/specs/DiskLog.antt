@@ -50,7 +50,7 @@ abbrev pub after_idle : DiskEvent → Option End
 after_idle (OnWire event) = idle_in event
 after_idle _ = None
 
--- the log behind one more event
+-- the log after one more event
 abbrev pub after : DiskLog → DiskEvent → DiskLog
 after l event = record {
   shape = l.shape;

@@ -45,6 +45,6 @@ pub record May (l : DiskLog) (event : DiskEvent) : Type 0 where
   pub two_idle : TwoIdleAt l event
   pub tick : TickAt l event
 
--- the events of a lane, each of which may stand behind those before it
+-- the events of a lane, each of which may stand after those before it
 abbrev pub IsLawful : Shape → List DiskEvent → Type 0
 IsLawful shape events = Lawful May after (nothing_yet shape) events

@@ -11,7 +11,7 @@ whole_with false message = None
 abbrev pub ended_by : List ℕ → List ℕ → Option (List ℕ)
 ended_by half packet = whole_with (is_part packet && (fragment_at packet).stop) (half ++ (fragment_at packet).bytes)
 
--- the fields of a message, DRING_DATA's behind its tag
+-- the fields of a message, DRING_DATA's after its tag
 abbrev pub subtype_of : List ℕ → ℕ
 subtype_of message = number_at 1 1 message
 

@@ -1,5 +1,5 @@
 -- How near the image is, as what happened tells: of the pending requests the server finished the first k in this session and stored the
--- first u blocks of the write behind them, the first m were published in an earlier session, and the first p ever.
+-- first u blocks of the write after them, the first m were published in an earlier session, and the first p ever.
 use Rattle.std.specs.Prelude.{ℕ, ◌+◌, ◌-◌, ◌==◌, max, Bool, true, false, if◌then◌else◌}
 use Rattle.lane_law.specs.WireEvent.{Reset, WireEvent}
 use Rattle.disk_steps.specs.DiskEvent.{Desc, DiskEvent, Done, Finished, Misplaced, Moved, OnWire, Published, Stopped, Stored, Turns, Worked, Works}
@@ -34,7 +34,7 @@ abbrev pub near_wired : NearLog → WireEvent → NearLog
 near_wired n (Reset e cause packet lost) = disturbed_near n
 near_wired n _ = n
 
--- behind one more event, by the number of requests that were done before it
+-- after one more event, by the number of requests that were done before it
 abbrev pub after_near : ℕ → NearLog → DiskEvent → NearLog
 after_near done n (OnWire event) = near_wired n event
 after_near done n (Works event) = near_worked done n event

@@ -29,7 +29,7 @@ abbrev pub IdleAt : DiskLog → DiskEvent → Type 0
 IdleAt l (OnWire (Idle e)) = (waiting_for e l.wire.wire ≡ []) × EndIsIdle e l
 IdleAt l _ = ⊤
 
--- TWO IDLE ENDS, one directly behind the other, where nobody meddled and nothing was lost: nothing is pending, and both sessions are open
+-- TWO IDLE ENDS, one directly after the other, where nobody meddled and nothing was lost: nothing is pending, and both sessions are open
 pub record IsAtRest (l : DiskLog) : Type 0 where
   pub finished : l.work.done ≡ length l.work.issued
   pub client_open : l.work.client ≢ None

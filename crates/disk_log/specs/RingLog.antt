@@ -41,7 +41,7 @@ abbrev pub cleared_if : Bool → ℕ → List SlotLog → List SlotLog
 cleared_if true slots ring = replicate slots Free
 cleared_if false slots ring = ring
 
--- the slots behind one more event, by the counts before it
+-- the slots after one more event, by the counts before it
 abbrev pub after_ring : ℕ → WorkLog → List SlotLog → event.DiskEvent → List SlotLog
 after_ring slots w ring (event.OnWire (Sent A packet opens)) = cleared_if opens slots ring
 after_ring slots w ring (event.Works (event.Published id)) = published_at slots w.client id ring

@@ -57,7 +57,7 @@ WorkNumbersAt l (Works (Desc slot bytes)) = InServer l.work.server (MayFetch l s
 WorkNumbersAt l (Works Misplaced) = ⊥
 WorkNumbersAt l _ = ⊤
 
--- THE RANGES: an INFO has the next number, begins behind the range before and names published ones alone; an ACK that is heard names
+-- THE RANGES: an INFO has the next number, begins after the range before and names published ones alone; an ACK that is heard names
 -- announced ones alone, and one that is said finished ones alone
 abbrev pub IfRange : Option (List ℕ) → (List ℕ → Type 0) → Type 0
 IfRange None holds = ⊤

@@ -144,7 +144,7 @@ abbrev pub finished_in : ℕ → List Opened → List Opened
 finished_in status [] = []
 finished_in status (session ∷ before) = record session { statuses = session.statuses ++ status ∷ [] } ∷ before
 
--- the log behind one more event, of a disk of so many blocks and a ring of so many slots
+-- the log after one more event, of a disk of so many blocks and a ring of so many slots
 abbrev pub after_work : ℕ → ℕ → TalkLog → WorkLog → DiskEvent → WorkLog
 after_work blocks slots t l (OnWire event) = work_wired slots t l event
 after_work blocks slots t l (Asks (Accepted id request)) = record l { issued = l.issued ++ request ∷ [] }

@@ -55,7 +55,7 @@ session_behind Goes s = s.session
 session_behind ComesUp s = s.session
 session_behind EndsShake s = opened_if (put_opens EndsShake s.shake) s
 
--- the client behind putting what its link owes
+-- the client after putting what its link owes
 abbrev pub client_put : ClientState → ClientState
 client_put s = record s {
   link = behind_put s.link;

@@ -44,7 +44,7 @@ completed_descriptor s session memory = slot_says.disk_desc_of (slot_bytes 128 (
 abbrev pub given_bytes : ℕ → Request → ℕ → ℕ → List ℕ → List ℕ
 given_bytes status request slots slot memory = if status == 0 then buffer_of slots slot (given_count request) memory else []
 
--- the packet that the rule puts, and the client behind it
+-- the packet that the rule puts, and the client after it
 pub record ClientSends (s : ClientState) (at : Seen) (memory : List ℕ) (bytes : List ℕ) (opens : Bool) (t : ClientState) (new : List ℕ) : Type 0 where
   pub held : ClientState
   pub holds : client_holds (client_rule s at) s ≡ Some held

@@ -30,7 +30,7 @@ kind_in _ k own = Goes
 abbrev pub put_kind : LinkState → Bool → PutKind
 put_kind k own = kind_in k.phase k own
 
--- the handshake behind it
+-- the handshake after it
 abbrev pub shake_behind : PutKind → Handshake → Handshake
 shake_behind Goes h = h
 shake_behind ComesUp h = shake_up h

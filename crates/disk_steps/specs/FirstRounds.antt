@@ -136,7 +136,7 @@ first_rounds = round_1 ++ round_2 ++ round_3 ++ round_4 ++ round_5 ++ round_6 ++
 abbrev pub small_shape : Shape
 small_shape = record { first = 0; blocks = 64; slots = 8; entries = 8 }
 
--- They are a run, over any memory and any table. Behind it both sessions are open; the client has cleared its ring, published the request
+-- They are a run, over any memory and any table. After it both sessions are open; the client has cleared its ring, published the request
 -- in slot 0 and announced it, and the server was asked for it.
 pub record RunsFirstRounds (memory : List ℕ) (table : List (Option Entry)) (request : Request) : Type 0 where
   pub behind : LaneState

@@ -30,7 +30,7 @@ pub record IsShape (shape : Shape) : Type 0 where
   pub entries : IsPowerOfTwo shape.entries
 
 -- How near the image is to the content of the requests that are done: of the pending requests the server finished the first k in this
--- session, and stored the first u blocks of the write behind them; the first m were published in an earlier session.
+-- session, and stored the first u blocks of the write after them; the first m were published in an earlier session.
 pub record NearCounts : Type 0 where
   pub k : ℕ
   pub m : ℕ
@@ -81,7 +81,7 @@ fresh shape = fresh_over shape (replicate (8192 * pages_of shape) 0) (own_table 
 abbrev pub risen : ℕ → ℕ → ℕ
 risen n count = min (n + count) (2 ^ 32 - 1)
 
--- behind a completion, a descriptor that got its status, and a reset or stop of an end
+-- after a completion, a descriptor that got its status, and a reset or stop of an end
 abbrev pub near_done : NearCounts → NearCounts
 near_done n = record { k = n.k - 1; m = n.m - 1; u = n.u }
 

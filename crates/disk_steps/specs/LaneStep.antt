@@ -20,7 +20,7 @@ use Rattle.disk_steps.specs.ServerWork.{Reach}
 abbrev pub sizes_of : LaneState → Sizes
 sizes_of s = record { entries = s.shape.entries; memory = length s.memory }
 
--- the counts behind an event of the work: a store that fails stores nothing, and a read or a flush no block of a write
+-- the counts after an event of the work: a store that fails stores nothing, and a read or a flush no block of a write
 abbrev pub stored_blocks : ℕ → ℕ → Bool → ℕ → ℕ
 stored_blocks operation count true u = u
 stored_blocks operation count false u = if operation == 2 then risen u count else u

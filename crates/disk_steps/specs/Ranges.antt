@@ -8,6 +8,6 @@ range_length slots start end = (end + slots - start % slots) % slots + 1
 abbrev pub is_other : ℕ → ℕ → Bool
 is_other expected found = if expected == found then false else true
 
--- a number of 8 bytes that goes on behind its last value
+-- a number of 8 bytes that goes on after its last value
 abbrev pub wrapped : ℕ → ℕ
 wrapped n = n % 18446744073709551616

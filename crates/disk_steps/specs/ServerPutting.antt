@@ -28,7 +28,7 @@ session_behind Goes session = session
 session_behind ComesUp session = session
 session_behind EndsShake session = session
 
--- the server behind putting what its link owes
+-- the server after putting what its link owes
 abbrev pub server_put : ServerState → ServerState
 server_put s = record s {
   link = behind_put s.link;

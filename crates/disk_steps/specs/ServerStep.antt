@@ -16,7 +16,7 @@ use Rattle.disk_steps.specs.ServerState.{Ends, Progress, ServerSession, ServerSt
 use Rattle.disk_steps.specs.ServerTaking.{GoesOn, Resets, ServerTakes}
 use Rattle.disk_steps.specs.ServerWork.{CanFetch, EndFails, FetchFails, MovesIn, Reach, StoresIn, first_progress, header_of, slot_at, slot_fetched, with_done, with_word, word_fault}
 
--- the packet that the rule puts, and the server behind it
+-- the packet that the rule puts, and the server after it
 pub record ServerSends (s : ServerState) (at : Seen) (bytes : List ℕ) (opens : Bool) (t : ServerState) : Type 0 where
   pub held : ServerState
   pub holds : server_holds (server_rule s at) s ≡ Some held

@@ -105,7 +105,7 @@ in_fault work reach unit = first_copy_fault reach.both Read reach.table (data_co
 abbrev pub out_fault : Work → Reach → ℕ → List ℕ → Option CopyFault
 out_fault work reach unit bytes = first_copy_fault reach.both Write reach.table (data_cookies work) (8192 * unit) (length bytes)
 
--- A unit that is copied in, and one that is copied out: the progress behind it, and the memory. A copy that is refused changes nothing,
+-- A unit that is copied in, and one that is copied out: the progress after it, and the memory. A copy that is refused changes nothing,
 -- and ends the descriptor with the status 22.
 abbrev pub gathered : Option CopyFault → Work → Reach → ℕ → Progress
 gathered (Some why) work reach unit = Ends 22

@@ -34,7 +34,7 @@ pub record NamesDisk (names : NamesState) (word : List ℕ) (disk : ℕ) : Type 
 abbrev pub NamesLane : NamesState → List ℕ → Lane → Type 0
 NamesLane names word (lane.Disk disk) = NamesDisk names word disk
 
--- the word is the name of the end's lane with its side behind it
+-- the word is the name of the end's lane with its side after it
 pub record NamesEnd (names : NamesState) (word : List ℕ) (end : EndName) : Type 0 where
   pub name : List ℕ
   pub spelled : word ≡ name ++ side_text end.side

@@ -33,7 +33,7 @@ pub record SpellsName (word : List ℕ) (name : Name) : Type 0 where
   pub len : name.len ≡ length word
   pub bytes : name.bytes ≡ word ++ replicate (8 - length word) 0
 
--- how the side of an end stands behind its lane's name
+-- how the side of an end stands after its lane's name
 abbrev pub side_text : Side → List ℕ
 side_text Client = codes ".c"
 side_text Server = codes ".s"

@@ -34,7 +34,7 @@ pub fn name(word: &[u8]) -> Option<Name>
     })
 }
 
-/// The name and the side that a word spells: `.c` behind a client's name, `.s` behind a server's.
+/// The name and the side that a word spells: `.c` after a client's name, `.s` after a server's.
 pub fn name_and_side(word: &[u8]) -> Option<(&[u8], Side)>
     ensures { MatchOption result ((name : List ℕ) (side : side_data) → word.now ≢ name ++ side_text side) (λ p. word.now ≡ p.0.now ++ side_text p.1) }
 {

@@ -42,7 +42,7 @@ slot_put size n k at piece memory below within room =
     let fits : size * k + size ≤ size * n = slot_fits size k n below in
     range_at-put_at_part at (size * k) size piece memory within (omega arith)
 
--- what lies behind the ring stays
+-- what lies after the ring stays
 pub behind_put : (size n k at p w : ℕ) (piece memory : List ℕ) → k < n → at + length piece ≤ size → size * n ≤ length memory → size * n ≤ p
     → range_at p w (put_at (size * k + at) piece memory) ≡ range_at p w memory
 behind_put size n k at p w piece memory below within room past =
@@ -165,7 +165,7 @@ free_at size (suc i) (suc slots) is below =
     ∙ ap (λ (xs : List ℕ). take size xs) (sym (drop-drop (size * i) size (free_slots size (suc slots))) ∙ ap (drop (size * i)) (drop_at (free_slot size) (free_slots size slots) size (free_long size is)))
     ∙ free_at size i slots is (omega arith)
 
--- behind a clear each slot holds nothing
+-- after a clear each slot holds nothing
 pub slot_cleared : (size slots i : ℕ) (memory : List ℕ) → IsSlotSize size → i < slots → slot_bytes size i (put_at 0 (free_slots size slots) memory) ≡ free_slot size
 slot_cleared size slots i memory is below =
     let long = length-free_slots size slots is in
@@ -175,7 +175,7 @@ slot_cleared size slots i memory is below =
     ap (λ (p : ℕ). range_at p size (put_at 0 (free_slots size slots) memory)) place
     ∙ range_at-put_at_inside (size * i) size 0 (free_slots size slots) memory (omega (arith, long)) start ∙ free_at size i slots is below
 
--- and what lies behind the ring stays
+-- and what lies after the ring stays
 pub behind_clear : (size slots p w : ℕ) (memory : List ℕ) → IsSlotSize size → size * slots ≤ length memory → size * slots ≤ p
     → range_at p w (put_at 0 (free_slots size slots) memory) ≡ range_at p w memory
 behind_clear size slots p w memory is room past =

@@ -40,7 +40,7 @@ pub fn slot_of(id: u64, base: u64, slots: u32) -> u32
     ((id - base) % slots as u64) as u32
 }
 
-/// Copies a descriptor in. It is looked at only behind the copy: `NotReady` where its state isn't READY.
+/// Copies a descriptor in. It is looked at only after the copy: `NotReady` where its state isn't READY.
 pub fn fetch<const SLOT: usize>(
     channel: &Channel,
     end: End,

@@ -67,7 +67,7 @@ impl<const SLOT: usize> Ring<SLOT> {
         memory.write(place::<SLOT>(slot), &[VIO_DESC_FREE]);
     }
 
-    /// Makes all slots zeros with the state FREE. All bytes behind the ring stay.
+    /// Makes all slots zeros with the state FREE. All bytes after the ring stay.
     pub fn clear(&self, memory: &mut Memory)
         requires size { IsSlotSize SLOT }
         requires room { SLOT * self.now.slots ≤ length memory.old }

@@ -20,11 +20,11 @@ pub record ListHostState : Type 0 where
 abbrev pub refuses : ListHostState → List ℕ → Bool
 refuses h name = h.attach_fails || not (bytes_eq name (codes "-") || bytes_eq name h.name)
 
--- behind giving a disk: it is counted, and all else stays
+-- after giving a disk: it is counted, and all else stays
 abbrev pub after_giving : ListHostState → ListHostState
 after_giving h = record h { given = next_given h.given }
 
--- behind giving none under this name: a refusal is counted, and all else stays
+-- after giving none under this name: a refusal is counted, and all else stays
 abbrev pub after_none : ListHostState → List ℕ → ListHostState
 after_none h name = record h { faults = if refuses h name then next_count h.faults else h.faults }
 

@@ -12,7 +12,7 @@ use zero_pages::{PAGE, ZeroPages};
 /// that a call wrote lie there: the others are zeros without being touched.
 #[derive(Drop)]
 pub struct ZeroStore {
-    /// Those of the size and, where it ends within a page, more zeros behind it.
+    /// Those of the size and, where it ends within a page, more zeros after it.
     pages: ZeroPages,
     size: usize,
     plan: FaultPlan,

@@ -3,7 +3,7 @@ use Rattle.std.proofs.Common.{◌≡◌, refl, ℕ, ◌+◌, ◌-◌, ◌<◌, �
 use Rattle.std.specs.Prelude.{slice_index}
 use Rattle.hex.specs.Hex.{lower_digits}
 
--- 0 to 9, and behind them a to f
+-- 0 to 9, and after them a to f
 pub figure_of : (n : ℕ) → n < 10 → 48 + n ≡ slice_index lower_digits n
 figure_of zero lt = refl
 figure_of (suc zero) lt = refl

@@ -44,7 +44,7 @@ impl ShortText {
         self.len = end;
     }
 
-    /// Its bytes, and what is behind them, up to sixteen.
+    /// Its bytes, and what is after them, up to sixteen.
     pub(crate) fn padded(&self) -> &[u8; 16]
         ensures text { take (length self.now) result.now ≡ self.now }
         ensures len { length result.now ≡ 16 }

@@ -37,7 +37,7 @@ fn asked(words: &[String]) -> Option<(Shape, u32)> {
     }
 }
 
-// The words behind the program's name.
+// The words after the program's name.
 fn words_of<R: Env + AllocGlobal>(rt: &R) -> Result<Vec<String>, AllocError> {
     let mut words = Vec::new(rt.alloc());
     let args = match env::args(rt) {

@@ -1,4 +1,4 @@
--- What writes to a client's memory do behind its ring.
+-- What writes to a client's memory do after its ring.
 use Rattle.std.proofs.Common.{◌≡◌, ℕ, ◌+◌, ◌-◌, ◌*◌, ◌<◌, ◌≤◌, List, [], ◌∷◌, drop, take, length, refl, sym, ap, ◌∙◌, arith, length-drop, inr, None}
 use Rattle.std.proofs.lemmas.List.{drop-drop, take_all}
 use Rattle.dring.proofs.Turning.{length-free_slots, slot_fits}
@@ -33,7 +33,7 @@ range_behind front q n memory = ap (take n) (sym (drop-drop q front memory))
 all_behind : (front : ℕ) (memory : List ℕ) → range_at front (length memory - front) memory ≡ drop front memory
 all_behind front memory = take_all (length memory - front) (drop front memory) (omega (arith, length-drop front memory))
 
--- what is put behind a front, and into it
+-- what is put after a front, and into it
 pub drop_put : (front q : ℕ) (piece memory : List ℕ) → front + q + length piece ≤ length memory → drop front (put_at (front + q) piece memory) ≡ put_at q piece (drop front memory)
 drop_put front q piece memory room =
     let n = length memory - front in

@@ -82,7 +82,7 @@ pub record Completes (v w : View) : Type 0 where
   pub finished : 1 ≤ v.k
   pub is : w ≡ record v { pending = behind; session = Some (record session { completed = session.completed + 1 }); k = v.k - 1; m = v.m - 1 }
 
--- a descriptor is fetched, that of the request behind those that are finished
+-- a descriptor is fetched, that of the request after those that are finished
 abbrev pub first_of : Request → Progress
 first_of (Read block count) = Reads 0
 first_of (Write block count fill) = Gathers 0
@@ -96,7 +96,7 @@ pub record Fetches (v w : View) : Type 0 where
   pub first : work.progress ≡ first_of request
   pub is : w ≡ record v { work = Some work }
 
--- and goes on, from one progress to the next, over the buffers behind it and the blocks of a write that are stored
+-- and goes on, from one progress to the next, over the buffers after it and the blocks of a write that are stored
 pub record Serves (session : ClientSession) (from to : Progress) (request : Request) (u : ℕ) (buffers : List ℕ) (v w : View) : Type 0 where
   pub work : Work
   pub there : v.session ≡ Some session

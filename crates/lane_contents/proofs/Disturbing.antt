@@ -18,7 +18,7 @@ use Rattle.lane_contents.proofs.LaneRuns.{AlongContents, at_step, contents_step,
 use Rattle.lane_contents.proofs.Standing.{Before, ever_count}
 use Rattle.lane_contents.proofs.WorkCounts.{calm}
 
--- THE COUNTS behind an event of the wire
+-- THE COUNTS after an event of the wire
 end_near : (e : End) (s : LaneState) (event : WireEvent) (t : LaneState) → EndOnWire e s event t → t.near ≡ near_on_wire s event
 end_near A s event t step = ap (λ (x : LaneState). x.near) step.is
 end_near B s event t step = ap (λ (x : LaneState). x.near) step.1.is

@@ -32,7 +32,7 @@ use Rattle.lane_contents.proofs.LastWrites.{last_write}
 use Rattle.lane_contents.proofs.NearRuns.{fresh_is_near, run_near, run_step}
 use Rattle.lane_contents.proofs.Statuses.{run_done_zero}
 
--- THE CONTENT of what is done, behind an event
+-- THE CONTENT of what is done, after an event
 front_content : (first : List ℕ) (issued : List Request) (done : ℕ) (pending : List Request) → pending ≡ drop done issued → 1 ≤ length pending
     → front_done (after_requests first (take done issued)) pending ≡ after_requests first (take (done + 1) issued)
 front_content first issued done [] is some = absurd (omega (arith, some))

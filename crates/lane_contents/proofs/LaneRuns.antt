@@ -124,7 +124,7 @@ failed_before s (Rests event) t step not = sym (rest_failed s event t step) ∙ 
 pub stored_well : (s : LaneState) (gave : List ℕ) (operation block count : ℕ) (failed : Bool) (t : LaneState) → ServerWorks s gave (Stored operation block count failed) t → t.failed ≡ false → failed ≡ false
 stored_well s gave operation block count failed t step not = (either_false s.failed failed (sym (ap (λ (x : LaneState). x.failed) step.is) ∙ not)).1
 
--- THE COUNTS behind an event
+-- THE COUNTS after an event
 near_behind : (s : LaneState) (l : DiskLog) (event : DiskEvent) (t : LaneState) → Before s l → StepFacts s l event t → LaneStands t (after l event) → LaneStep s event t → NearStands t (after l event)
 near_behind s l (OnWire event) t before facts behind step = near_wire s l event t before facts behind step
 near_behind s l (Asks event) t before facts behind step = near_asked s l event t before step
@@ -132,7 +132,7 @@ near_behind s l (Works event) t before facts behind step = near_work s l event t
 near_behind s l (Turns event) t before facts behind step = near_turned s l event t before step
 near_behind s l (Rests event) t before facts behind step = near_calm s l event t before step
 
--- THE CONTENTS behind it
+-- THE CONTENTS after it
 store_contents : (s : LaneState) (l : DiskLog) (operation block count : ℕ) (failed : Bool) (gave : List ℕ) (t : LaneState) → Before s l → ContentsStand (view_of s) → failed ≡ false
     → ServerWorks s gave (Stored operation block count failed) t → ContentsStand (view_of t)
 store_contents s l operation block count failed gave t before contents well step =
@@ -186,7 +186,7 @@ pub record AlongContents (shape : Shape) (s : LaneState) (l : DiskLog) : Type 0 
   pub near : l.wire.forged ≡ false → NearStands s l
   pub contents : l.wire.forged ≡ false → s.failed ≡ false → ContentsStand (view_of s)
 
--- what is known of a step behind a run
+-- what is known of a step after a run
 pub record AtStep (s : LaneState) (l : DiskLog) (event : DiskEvent) (t : LaneState) : Type 0 where
   pub before : Before s l
   pub facts : StepFacts s l event t

@@ -52,7 +52,7 @@ not_up Down q not = refl
 not_up Resetting q not = refl
 not_up Up q not = absurd (not refl)
 
--- behind an end that was configured the other isn't up, or stays as it was
+-- after an end that was configured the other isn't up, or stays as it was
 pub peer_not_live : (x y : ChannelState) (q : Option ServerCounts) → ((d : ServerCounts) → y ≡ Up → q ≡ Some d → x ≡ Up) → counts_while (peer_behind x y) q ≡ None
 peer_not_live Up y q alive = not_up (peer_behind Up y) q (upset_not y)
 peer_not_live Down y q alive = not_live Down y q alive (λ up. absurd (cc up))

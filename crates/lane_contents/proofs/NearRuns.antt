@@ -85,7 +85,7 @@ event_near s l (Turns event) t content image next before contents facts clean we
 event_near s l (Rests event) t content image next before contents facts clean well step does near =
     changed_near s l (Rests event) t content image next before contents (lane_changes s l (Rests event) t before contents facts clean tt step) does near
 
--- behind a run
+-- after a run
 pub record RunStep (shape : Shape) (events : List DiskEvent) (s : LaneState) (event : DiskEvent) (t : LaneState) : Type 0 where
   pub clean : (after (log_of after (nothing_yet shape) events) event).wire.forged ≡ false
   pub at : AtStep s (log_of after (nothing_yet shape) events) event t

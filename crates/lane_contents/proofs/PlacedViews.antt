@@ -87,7 +87,7 @@ work_counts None w None work is agrees = let never : Some work ≡ None = sym is
 work_counts None w (Some c) work is agrees = absurd agrees
 work_counts (Some v) w q work is agrees = (v, refl)
 
--- THE DESCRIPTOR IN WORK is that of the request behind those that are finished
+-- THE DESCRIPTOR IN WORK is that of the request after those that are finished
 pub record Working (s : LaneState) (l : DiskLog) (work : Work) : Type 0 where
   pub session : ServerSession
   pub at : AtWork s l session

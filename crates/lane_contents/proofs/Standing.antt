@@ -1,4 +1,4 @@
--- What is known of a lane that nobody forges, before an event and behind it, and how its near counts stand to its log.
+-- What is known of a lane that nobody forges, before an event and after it, and how its near counts stand to its log.
 use Rattle.std.proofs.Common.{◌≡◌, ℕ, ◌+◌, ◌-◌, ◌≤◌, Some, sym, ap}
 use Rattle.ldc_queue.specs.declared.end.ChannelState.TheVariants.{Up}
 use Rattle.disk_log.specs.DiskLog.{DiskLog}

@@ -1,4 +1,4 @@
--- The definitions on a disk of two blocks: two writes, one of them stored half, in work or behind a reset, and an image that isn't near.
+-- The definitions on a disk of two blocks: two writes, one of them stored half, in work or after a reset, and an image that isn't near.
 use Rattle.std.proofs.Common.{◌≡◌, ℕ, zero, suc, ◌+◌, ◌<◌, ◌⊎◌, List, [], ◌∷◌, ◌++◌, replicate, Some, inl, inr, refl, ap, arith}
 use Rattle.std.specs.Prelude.{slice_index}
 use Rattle.vdisk_msg.specs.declared.request.Fill.{Fill}
@@ -50,7 +50,7 @@ in_work = record {
     others (suc zero) below not = inl refl
     others (suc (suc b)) below not = absurd (omega (arith, below))
 
--- behind a reset it was published in an earlier session, and is to be stored again
+-- after a reset it was published in an earlier session, and is to be stored again
 behind_reset : NearContent 2 zeros (both_blocks ∷ []) 0 1 0 half_stored
 unfolding repeated
 behind_reset = record {
@@ -80,7 +80,7 @@ read_shows = (refl, blocks)
     blocks zero less = inl refl
     blocks (suc b) less = absurd (omega (arith, less))
 
--- where both were disturbed it may show the write behind it
+-- where both were disturbed it may show the write after it
 read_disturbed : FrontShows zeros (Read 1 1 ∷ last_block ∷ []) 2 (replicate 512 9)
 unfolding repeated
 read_disturbed = (refl, blocks)

@@ -107,7 +107,7 @@ unit_in r pages place size u n cookies identity few room within is none =
     ∙ ap (λ (cs : List Cookie). copied_in r.memory cs (8192 * u) n) is
     ∙ copied_in_range r.memory (take (cookie_count size) (buffer_cookies place size)) place size (8192 * u) n named.0 within room
 
--- IN THE BUFFERS behind the ring
+-- IN THE BUFFERS after the ring
 place_split : (slots slot u : ℕ) → buffer_place slots slot + 8192 * u ≡ ring_end slots + (32768 * slot + 8192 * u)
 place_split slots slot u = omega arith
 

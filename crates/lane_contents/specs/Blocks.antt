@@ -9,7 +9,7 @@ use Rattle.vdisk_msg.specs.Requests.{after_request, written}
 abbrev pub block_at : ℕ → List ℕ → List ℕ
 block_at b bytes = range_at (512 * b) 512 bytes
 
--- the content behind requests, one after another
+-- the content after requests, one after another
 abbrev pub after_requests : List ℕ → List Request → List ℕ
 after_requests content [] = content
 after_requests content (request ∷ requests) = after_requests (after_request content request) requests

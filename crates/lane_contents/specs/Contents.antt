@@ -45,7 +45,7 @@ pub record ContentsStand (v : View) : Type 0 where
   pub work : (work : Work) → v.work ≡ Some work → (request : Request) → slice_get v.pending v.k ≡ Some request → ProgressIs work.progress v.u request
   pub none : v.work ≡ None → v.u ≡ 0
 
--- the descriptor in work is that of the request behind those that are finished
+-- the descriptor in work is that of the request after those that are finished
 pub record ServesRequest (v : View) (work : Work) : Type 0 where
   pub request : Request
   pub next : slice_get v.pending v.k ≡ Some request

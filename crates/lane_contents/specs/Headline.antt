@@ -39,7 +39,7 @@ pub record NoneAmong (first : List ℕ) (requests : List Request) (b : ℕ) (byt
 abbrev pub LastWrite : List ℕ → List Request → ℕ → List ℕ → Type 0
 LastWrite first requests b bytes = LastAmong requests b bytes ⊎ NoneAmong first requests b bytes
 
--- a write that was issued behind the request that is done next, and was disturbed with it by a reset or a stop
+-- a write that was issued after the request that is done next, and was disturbed with it by a reset or a stop
 pub record LaterWrite (l : DiskLog) (b : ℕ) (bytes : List ℕ) : Type 0 where
   pub id : ℕ
   pub request : Request

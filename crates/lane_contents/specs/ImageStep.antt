@@ -46,7 +46,7 @@ ImageStep s _ t image next = next ≡ image
 abbrev pub region_of : Shape → List ℕ → List ℕ
 region_of shape store = range_at (512 * shape.first) (512 * shape.blocks) store
 
--- what lies before the region and behind it
+-- what lies before the region and after it
 pub record SameAround (shape : Shape) (store new : List ℕ) : Type 0 where
   pub before : take (512 * shape.first) new ≡ take (512 * shape.first) store
   pub behind : drop (512 * (shape.first + shape.blocks)) new ≡ drop (512 * (shape.first + shape.blocks)) store

@@ -18,7 +18,7 @@ pub record View : Type 0 where
   pub k : ℕ
   pub m : ℕ
   pub u : ℕ
-  -- the client's memory behind the ring: each slot's four pages
+  -- the client's memory after the ring: each slot's four pages
   pub buffers : List ℕ
 
 -- a server whose end isn't up does nothing more with its descriptor

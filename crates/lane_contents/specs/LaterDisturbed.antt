@@ -1,4 +1,4 @@
--- The writes that a read may show though they were issued behind it were disturbed with it: each request below `done + m` was pending at a
+-- The writes that a read may show though they were issued after it were disturbed with it: each request below `done + m` was pending at a
 -- reset or a stop.
 use Rattle.std.specs.Prelude.{◌≡◌, ◌+◌, ◌≤◌, ◌⊎◌, length}
 use Rattle.disk_log.specs.DiskLog.{DiskLog}

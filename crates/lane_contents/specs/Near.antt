@@ -18,7 +18,7 @@ pub record NearView (blocks : ℕ) (content : List ℕ) (v : View) (image : List
 abbrev pub IsNear : List ℕ → LaneState → List ℕ → Type 0
 IsNear content s image = NearView s.client.blocks content (view_of s) image
 
--- WHAT A COMPLETION SHOWS of the content before it: block by block the content's bytes, or those of a write behind it that was published in
+-- WHAT A COMPLETION SHOWS of the content before it: block by block the content's bytes, or those of a write after it that was published in
 -- an earlier session
 abbrev pub FrontShows : List ℕ → List Request → ℕ → List ℕ → Type 0
 FrontShows content [] m bytes = ⊥

@@ -1,5 +1,5 @@
 -- HOW NEAR an image is to a disk's content. The content has the writes that are done; of the pending requests the server finished the first
--- k in its session and stored the first u blocks of the write behind them, and the first m were published in an earlier session.
+-- k in its session and stored the first u blocks of the write after them, and the first m were published in an earlier session.
 use Rattle.std.specs.Prelude.{◌≡◌, ℕ, ◌+◌, ◌<◌, ◌≤◌, ◌⊎◌, List, take, Option, Some, None, slice_get}
 use Rattle.vdisk_msg.specs.declared.request.Request.{Request}
 use Rattle.vdisk_msg.specs.declared.request.Request.TheVariants.{Read, Write, Flush}
@@ -14,7 +14,7 @@ pub record PendingPuts (pending : List Request) (since m b : ℕ) (bytes : List 
   pub there : slice_get pending place ≡ Some request
   pub puts : Puts request b bytes
 
--- The bytes of a block are those behind the first n pending requests, or those of a later write that was disturbed.
+-- The bytes of a block are those after the first n pending requests, or those of a later write that was disturbed.
 abbrev pub Shows : List ℕ → List Request → ℕ → ℕ → ℕ → List ℕ → Type 0
 Shows content pending n m b bytes = (bytes ≡ block_at b (after_requests content (take n pending))) ⊎ PendingPuts pending n m b bytes
 
@@ -30,7 +30,7 @@ abbrev pub PutsIn : Option Request → ℕ → List ℕ → Type 0
 PutsIn (Some request) b bytes = Puts request b bytes
 PutsIn None b bytes = ⊥
 
--- A block that was stored has the write's bytes; each other block of the disk shows the content behind the first k, or a later write that was
+-- A block that was stored has the write's bytes; each other block of the disk shows the content after the first k, or a later write that was
 -- published in an earlier session.
 pub record NearContent (blocks : ℕ) (content : List ℕ) (pending : List Request) (k m u : ℕ) (image : List ℕ) : Type 0 where
   pub stored : (b : ℕ) → IsAmong (slice_get pending k) u b → PutsIn (slice_get pending k) b (block_at b image)

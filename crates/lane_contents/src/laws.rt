@@ -50,7 +50,7 @@ pub fn images_stay_near()
 {}
 
 /// On a lane that nobody forged and whose store didn't fail, where the image is near the content of the requests that
-/// are done: a completion of a read carries its blocks, and each of them is the content's, or that of a write behind it
+/// are done: a completion of a read carries its blocks, and each of them is the content's, or that of a write after it
 /// which was published in an earlier session; any other completion carries nothing.
 pub fn completions_show_their_content()
     ensures { (shape : Shape) (events : List DiskEvent) (s : LaneState) (id operation status : ℕ) (bytes : List ℕ)
@@ -104,7 +104,7 @@ pub fn later_writes_were_disturbed()
 {}
 
 /// On a lane that nobody forged and whose store didn't fail: a server's step with a store that tells its bytes is a
-/// step of the disk's image, which is the disk's region of the store, and leaves what lies before the region and behind
+/// step of the disk's image, which is the disk's region of the store, and leaves what lies before the region and after
 /// it.
 pub fn a_store_has_the_image_as_its_region()
     ensures image { (shape : Shape) (events : List DiskEvent) (s : LaneState) (event : DiskEvent) (t : LaneState)
@@ -120,7 +120,7 @@ pub fn a_store_has_the_image_as_its_region()
 {}
 
 /// On a lane that nobody forged, also where a store failed: its near counts are those of its log. Of the pending
-/// requests the server finished the first k in its session, and stored the first u blocks of the write behind them;
+/// requests the server finished the first k in its session, and stored the first u blocks of the write after them;
 /// the first m were published in an earlier session, and the first p ever.
 pub fn near_counts_are_the_logs()
     ensures { (shape : Shape) (events : List DiskEvent) (s : LaneState)
@@ -132,7 +132,7 @@ pub fn near_counts_are_the_logs()
 /// Along every run of a lane with the image of its disk, from a first content on, that nobody forged and whose store
 /// didn't fail, whatever was lost, reset, stopped or restarted: each completion is of the first request that isn't
 /// done, with status 0; that of a read shows for each block the last earlier write, or the first content where there is
-/// none; or else a write that was issued behind it, where both were disturbed by a reset or a stop.
+/// none; or else a write that was issued after it, where both were disturbed by a reset or a stop.
 pub fn completions_show_the_last_write()
     ensures { (shape : Shape) (first : List ℕ) (events : List DiskEvent) (a : Imaged)
         (id operation status : ℕ) (bytes : List ℕ) (b : Imaged)

@@ -26,7 +26,7 @@ use Rattle.vio_tag.specs.declared.cause.Cause.TheVariants as cause
 use Rattle.lane_invariant.specs.Advances.{PutAdvances, TakeAdvances}
 use Rattle.lane_invariant.specs.Conversation.{IsAsking}
 
--- PUTS. The link behind a packet that is put in a phase
+-- PUTS. The link after a packet that is put in a phase
 abbrev behind_in : LinkPhase → LinkState → LinkState
 behind_in ph k = record k {
   phase = phase_behind_put ph;

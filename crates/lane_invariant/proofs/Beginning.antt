@@ -56,7 +56,7 @@ peer_joined_few Resetting peer waiting other lost budget own new controls now f 
     few_lower lost (length waiting) 1 (length other) (live_budget peer budget) controls new (live_budget peer budget) now f few (omega arith) left
 peer_joined_few Resetting peer waiting other lost budget own new controls now f small few two (inr up) = absurd (cc)
 
--- the packets without a number behind a client's begin
+-- the packets without a number after a client's begin
 own_controls : (e : ChannelState) (ph : LinkPhase) (waiting : List (List ℕ)) → live_puts e ph + unnumbered waiting ≤ 2 → 2 + unnumbered (queue_behind e waiting) ≤ 2
 own_controls Up ph waiting c = omega arith
 own_controls Down ph waiting c = c
@@ -73,7 +73,7 @@ takes_left_behind Up ph = inr refl
 takes_left_behind Down ph = inl (omega arith)
 takes_left_behind Resetting ph = inl (omega arith)
 
--- and behind a server's
+-- and after a server's
 peer_controls : (e peer : ChannelState) (ph : LinkPhase) (waiting : List (List ℕ)) → live_puts peer ph + unnumbered waiting ≤ 2
     → live_puts (peer_behind e peer) ph + unnumbered (queue_behind e waiting) ≤ 2
 peer_controls Up peer ph waiting c = omega (arith, live_puts_few (upset peer) ph)

@@ -81,7 +81,7 @@ pub infos_few : (slots pending : ℕ) (session : Option ClientSession) → Count
 infos_few slots pending None counts = omega arith
 infos_few slots pending (Some s) counts = omega (arith, counts.acked)
 
--- behind the link's coming up one message is owed and nothing follows
+-- after the link's coming up one message is owed and nothing follows
 version_more : (role : Role) → one_more role Version ≡ 0
 version_more Initiator = refl
 version_more Responder = refl
@@ -104,7 +104,7 @@ begun_opening Responder h slots = version_opening h.role slots
 pub up_opening : (h : Handshake) (slots : ℕ) → opening_left (shake_up h).role (shake_up h).phase slots ≡ 0
 up_opening h slots = begun_opening h.role h slots
 
--- behind a message that was put: the next one was counted, and so were the INFO of a session that opens
+-- after a message that was put: the next one was counted, and so were the INFO of a session that opens
 ready_more : (role : Role) → one_more role OwnReady ≡ 0
 ready_more Initiator = refl
 ready_more Responder = refl

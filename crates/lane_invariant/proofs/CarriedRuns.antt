@@ -19,7 +19,7 @@ use Rattle.lane_invariant.proofs.StandingSteps.{OnlyWire, same_client, wire_only
 use Rattle.lane_invariant.specs.MemoryStands.{MemoryStands}
 use Rattle.lane_invariant.specs.Standing.{LaneStands}
 
--- the lane behind an event of a server's work, and one that is the same in client and memory
+-- the lane after an event of a server's work, and one that is the same in client and memory
 server_memory : (s : LaneState) (event : Worked) (t : LaneState) → MemoryStands s → WorkStep s event t → t.client ≡ s.client → MemoryStands t
 server_memory s event t stands step same = kept_memory s t stands (same_client s t same) (work_step_long s event t stands step)
 

@@ -28,7 +28,7 @@ use Rattle.lane_invariant.specs.Conversation.{IsAsking, SameTalk, TakesOne}
 use Rattle.lane_invariant.specs.Standing.{SessionStands}
 use Rattle.lane_invariant.specs.Sound.{ClientSound, CountsInOrder, InOrder, OwesShort}
 
--- the client behind a link that heard a packet
+-- the client after a link that heard a packet
 pub record TakenBy (s : ClientState) (m : LinkState) (t : ClientState) : Type 0 where
   pub link : SameTalk t.link m
   pub sends : t.link.to_send ≡ m.to_send

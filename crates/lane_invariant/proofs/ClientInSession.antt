@@ -55,7 +55,7 @@ pub shape_of : (l : DiskLog) (events : List DiskEvent) → (log_of after l event
 shape_of l [] = refl
 shape_of l (event ∷ events) = shape_of (after l event) events
 
--- IT TAKES an acknowledgement that names its ring, begins behind those that it took, and ends where it announced
+-- IT TAKES an acknowledgement that names its ring, begins after those that it took, and ends where it announced
 pub same_is : (one other : ℕ) → one ≡ other → is_other one other ≡ false
 same_is one other is = ap (λ (x : ℕ). is_other one x) (sym is) ∙ ap (λ (b : Bool). if b then false else true) (same_number one)
 

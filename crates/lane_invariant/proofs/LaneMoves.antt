@@ -31,7 +31,7 @@ first_waits packet (one ∷ waiting) is = let same : one ≡ packet = cc is in a
 room_left : (n entries : ℕ) → nat_lt (n + 1) entries ≡ true → entries ≤ 256 → n + 1 ≤ 256
 room_left n entries room few = omega (arith, ltb-true (n + 1) entries room, few)
 
--- what was lost behind a packet that is taken, and behind an end that begins
+-- what was lost after a packet that is taken, and after an end that begins
 past_none : (packets : List (List ℕ)) (lost : ℕ) → lost ≡ 0 → lost_past packets lost ≡ 0
 past_none [] lost none = none
 past_none (packet ∷ packets) lost none = refl

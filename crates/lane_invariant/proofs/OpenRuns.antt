@@ -51,7 +51,7 @@ heard_open : (b : Bool) (sid base : ℕ) (f : ClientCounts → ClientCounts) (o 
 heard_open true sid base f o = refl
 heard_open false sid base f o = change_open f o
 
--- THE CLIENT'S, behind a packet that it put
+-- THE CLIENT'S, after a packet that it put
 announced_open : (o : Option ClientSession) → is_some (announced o) ≡ is_some o
 announced_open None = refl
 announced_open (Some s) = refl

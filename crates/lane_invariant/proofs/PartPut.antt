@@ -1,4 +1,4 @@
--- What an end has said behind one more packet that its link put: a packet of the link's handshake, or the next part of what it holds.
+-- What an end has said after one more packet that its link put: a packet of the link's handshake, or the next part of what it holds.
 use Rattle.std.proofs.Common.{◌≡◌, ℕ, ◌≤◌, ◌-◌, Bool, true, false, Some, List, [], ◌∷◌, ◌++◌, length, take, replicate, min, refl, sym, ap, ◌∙◌, arith}
 use Rattle.std.specs.Prelude.{nat_eq, nat_le, ⊤}
 use Rattle.std.proofs.lemmas.List.{length-take, take-append-le, take_all}
@@ -114,7 +114,7 @@ part_puts k m turns bytes follows at puts =
     part_in k.to_send k m (behind_put k) turns puts.packet bytes follows refl
     (ap (λ (x : LinkPhase). with_link (owed_in x k) (behind_put k)) (sym at) ∙ puts.next) puts.spelled
 
--- what was said behind it: with the last part a message more
+-- what was said after it: with the last part a message more
 pub said_last : (k : LinkState) (turns : List Turn) (bytes : List ℕ) → SaysPart k turns bytes → length k.to_send ≤ 56 → nat_le (length k.to_send) 56 ≡ true
     → (said (Said bytes ∷ turns) ≡ said turns ++ (half_said turns ++ k.to_send) ∷ []) × (half_said (Said bytes ∷ turns) ≡ [])
 said_last k turns bytes part short last =

@@ -26,7 +26,7 @@ first_length packet waiting first = omega (arith, ap length first)
 pub first_unnumbered : (packet : List ℕ) (waiting : List (List ℕ)) → IsFirst packet waiting → unnumbered waiting ≡ unnumbered (drop 1 waiting) + unless (is_numbered packet) 0
 first_unnumbered packet waiting first = ap unnumbered first ∙ unless_more (is_numbered packet) (unnumbered (drop 1 waiting))
 
--- the phase of the link that holds a packet, and of the one behind it, as the peer counts them
+-- the phase of the link that holds a packet, and of the one after it, as the peer counts them
 phase_puts : (k m : LinkState) → SameTalk k m → puts_left k.phase ≡ puts_left m.phase
 phase_puts k m same = ap puts_left same.phase
 

@@ -197,7 +197,7 @@ decoded_few k (Err fault) asking = tt
 heard_few : (k m : LinkState) (bytes : List ℕ) → IsAsking k.phase → TakesBytes k bytes (Heard m) → FewBy k (Heard m)
 heard_few k m bytes asking takes = subst (λ (answer : LinkTake). FewBy k answer) (sym takes.is) (decoded_few k takes.decoded asking)
 
--- WHAT IT HEARS of a message, behind its link
+-- WHAT IT HEARS of a message, after its link
 abbrev HearsBy : ClientState → hear.ClientTake → Type 0
 HearsBy x (hear.GoesOn t) = OwedInTurn t.shake.phase t.shake.owed → ClientHears x t
 HearsBy x (hear.Resets cause) = ⊤
@@ -265,7 +265,7 @@ by_bytes : (x : ClientState) (d : Result Message TagFault) → x.link.phase ≡ 
 by_bytes x (Ok message) up none one = by_message x x.session message refl up none one
 by_bytes x (Err fault) up none one = tt
 
--- and behind its link alone
+-- and after its link alone
 by_whole : (x t : ClientState) (whole : Option (List ℕ)) → (whole ≡ None) ⊎ (x.link.phase ≡ phase.Established) → x.shake.owed ≡ None → x.shake.offer.both_rings ≡ false
     → OwedInTurn t.shake.phase t.shake.owed → hear.HearsWhole x whole (hear.GoesOn t) → ClientHears x t
 by_whole x t None known none one turn hears =

@@ -1,4 +1,4 @@
--- What a handshake has still to put doesn't grow by what it takes, where it owes nothing before and in its turn behind.
+-- What a handshake has still to put doesn't grow by what it takes, where it owes nothing before, and after it what is in turn.
 use Rattle.std.proofs.Common.{◌≡◌, ℕ, ◌+◌, ◌≤◌, Bool, true, false, Option, Some, None, List, refl, sym, ap, subst, arith}
 use Rattle.std.specs.Prelude.{⊤, ◌==◌, ◌&&◌, nat_le, min, if◌then◌else◌}
 use Rattle.ldc_link.specs.declared.phase.Role.{Role}

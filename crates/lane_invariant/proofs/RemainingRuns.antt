@@ -48,7 +48,7 @@ held_opens s at (client_rules.Takes packet) held may holds opens = absurd (cc)
 held_opens s at (client_rules.Publishes session request) held may holds opens = absurd (cc)
 held_opens s at client_rules.Rests held may holds opens = absurd (cc)
 
--- by the ends behind a step
+-- by the ends after a step
 by_client : (s t u : LaneState) → t ≡ u → u.server ≡ s.server → Opens u.client → StepsStand s → StepsStand t
 by_client s t u is same opens stands =
     subst StepsStand (sym is) (record { opens = opens; fit = subst (λ (v : ServerState). CountsFit v.session) (sym same) stands.fit })

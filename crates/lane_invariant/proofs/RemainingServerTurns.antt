@@ -42,7 +42,7 @@ pub record Calm (most : ℕ) (x : ServerState) : Type 0 where
   pub one_ring : x.shake.offer.both_rings ≡ false
   pub fits : CountsFit x.session
 
--- and what is asked of it behind
+-- and what is asked of it after
 pub record Turns (most : ℕ) (x u : ServerState) (opens : Bool) : Type 0 where
   pub owed : OwedInTurn u.shake.phase u.shake.owed
   pub opened : opens ≡ true → (x.session ≡ None) × (x.work ≡ None)

@@ -1,4 +1,4 @@
--- What a handshake has still to put, behind its link's coming up and behind a message that was put.
+-- What a handshake has still to put, after its link's coming up and after a message that was put.
 use Rattle.std.proofs.Common.{◌≡◌, ℕ, ◌+◌, ◌≤◌, length, refl, ap, ◌∙◌, arith}
 use Rattle.ldc_link.specs.declared.phase.Role.{Role}
 use Rattle.ldc_link.specs.declared.phase.Role.TheVariants.{Initiator, Responder}

@@ -114,7 +114,7 @@ took_falls s (OnWire (Took B packet opens)) t step turn =
     (server_took s.wire.wire s.wire.lossy s.client s.server t.server packet may.0 may.1 turn)
 took_falls s _ t step turn = absurd turn
 
--- a packet that the client takes, where what it owes behind it is in turn
+-- a packet that the client takes, where what it owes after it is in turn
 pub client_took_falls : (s : LaneState) (packet : List ℕ) (opens : Bool) (t : LaneState) → IsAsking s.client.link.phase → ClientInTurn s.client t.client
     → LaneStep s (OnWire (Took A packet opens)) t → remaining t + 1 ≤ remaining s
 client_took_falls s packet opens t asking turn step =

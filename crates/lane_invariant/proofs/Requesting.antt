@@ -37,7 +37,7 @@ took_kept c packet t sound takes =
     let by = by_link c packet takes.link t sound takes.takes takes.hears in
     record { pending = by.2.pending; next = by.2.next; blocks = by.2.blocks; slots = by.2.slots; session = λ done first stands. by.2.keeps done stands }
 
--- a session behind a packet that was put
+-- a session after a packet that was put
 announced_stands : (done : ℕ) (session : Option ClientSession) → SessionStands done session → SessionStands done (announced session)
 announced_stands done None stands = tt
 announced_stands done (Some s) stands = stands
@@ -85,7 +85,7 @@ held_kept c at (Takes packet) held may is = absurd (cc)
 held_kept c at (Publishes session request) held may is = absurd (cc)
 held_kept c at Rests held may is = absurd (cc)
 
--- one behind the other
+-- one after the other
 both_kept : (c m t : ClientState) → KeepsRequests c m → KeepsRequests m t → KeepsRequests c t
 both_kept c m t one other = record {
   pending = other.pending ∙ one.pending;

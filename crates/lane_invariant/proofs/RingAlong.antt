@@ -1,4 +1,4 @@
--- The ring along every run of a lane whose sessions agree behind every run, and the status of a completion.
+-- The ring along every run of a lane whose sessions agree after every run, and the status of a completion.
 use Rattle.std.proofs.Common.{◌≡◌, ℕ, false, List, [], ◌∷◌, ◌++◌, refl, sym, ap, ◌∙◌, subst}
 use Rattle.std.specs.Prelude.{⊤}
 use Rattle.runs.specs.Lawful.{log_append, log_of, run_lawful}
@@ -56,7 +56,7 @@ status_along shape events s t id operation status bytes sound agree run step cle
     let l = log_of after (nothing_yet shape) events in
     completes_slot s l id operation status bytes t (known_of s l along.all along.ring (agree events s run clean) clean) step
 
--- WITHOUT A PREMISE, as the sessions agree behind every run
+-- WITHOUT A PREMISE, as the sessions agree after every run
 pub run_ring : (shape : Shape) (events : List DiskEvent) (s : LaneState) → IsShape shape → Run LaneStep (fresh shape) events s → RingStands s (log_of after (nothing_yet shape) events)
 run_ring shape events s sound run = ring_along shape events s sound (always_agree shape sound) run
 

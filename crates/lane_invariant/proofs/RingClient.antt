@@ -22,7 +22,7 @@ use Rattle.lane_invariant.specs.SlotsWritten.{FreesSlot, PublishesSlot}
 ring_room : (slots : ℕ) (memory : List ℕ) → length memory ≡ memory_long slots → 128 * slots ≤ length memory
 ring_room slots memory long = omega (arith, long)
 
--- a write's bytes go behind the ring
+-- a write's bytes go after the ring
 filled_behind : (request : Request) (slots slot : ℕ) (memory : List ℕ) → size_of request ≤ 32768 → slot < slots → length memory ≡ memory_long slots
     → SameSlots slots memory (filled_buffer request (buffer_place slots slot) memory)
 filled_behind (Read block count) slots slot memory few below long = equal_slots slots memory memory refl

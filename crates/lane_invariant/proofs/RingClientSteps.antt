@@ -82,7 +82,7 @@ publishing s l id session request known is k id_is_number next =
       turn = omega (arith, within, completed, acked, announced, base, published, done, known.sound.pending, slots_are s l known.stands);
     }
 
--- the session behind it, and what of ids stays
+-- the session after it, and what of ids stays
 abbrev one_more : ClientCounts → ClientCounts
 one_more c = record c { published = c.published + 1 }
 

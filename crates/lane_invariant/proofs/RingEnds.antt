@@ -1,4 +1,4 @@
--- What a server's work on a fetched descriptor does to the ring: a unit goes behind it, and the slot gets its status and is DONE.
+-- What a server's work on a fetched descriptor does to the ring: a unit goes after it, and the slot gets its status and is DONE.
 use Rattle.std.proofs.Common.{◌≡◌, ℕ, ◌+◌, ◌%◌, ◌^◌, ◌<◌, List, length, set, Option, Some, inl, refl, sym, ap, ◌∙◌, subst, arith}
 use Rattle.std.specs.Prelude.{slice_get}
 use Rattle.std.proofs.lemmas.Nat.{mod_below}
@@ -49,7 +49,7 @@ has_work s l v w known work is =
 pub work_below : (s : LaneState) (l : DiskLog) (d : ServerCounts) → Known s l → d.finished % l.shape.slots < l.shape.slots
 work_below s l d known = mod_below d.finished l.shape.slots (some_slots s l known)
 
--- A UNIT goes behind the ring
+-- A UNIT goes after the ring
 unit_behind : (p : Progress) (w : Work) (ring : RingOf) (r : Reach) (pages slot id unit : ℕ) (fault : Option CopyFault) (next : Progress) (new : List ℕ) → Sizes ring slot
     → length r.memory ≡ memory_long ring.slots → IsIdentity r.table pages → HoldsIssued ring slot id 2 0 w.bytes → MovesIn p w r unit fault next new → SameSlots ring.slots r.memory new
 unit_behind (Gives u bytes) w ring r pages slot id unit fault next new sizes long identity holds moves =

@@ -1,4 +1,4 @@
--- The log of the ring behind an event that leaves its slots as they are: what is known of bytes, numbers and work carries over.
+-- The log of the ring after an event that leaves its slots as they are: what is known of bytes, numbers and work carries over.
 use Rattle.std.proofs.Common.{◌≡◌, ℕ, ◌+◌, Bool, true, false, List, Option, Some, None, ◌⊎◌, inl, inr, refl, sym, ap, ◌∙◌, subst, arith}
 use Rattle.std.specs.Prelude.{⊤, ◌-◌, ◌%◌, slice_get}
 use Rattle.ldc_queue.specs.declared.end.ChannelState.{ChannelState}
@@ -82,7 +82,7 @@ work_kept r ring None (Some d) keeps stand = λ one. absurd (omega (arith, keeps
 work_kept r ring (Some c) (Some d) (inl none) stand = λ one. absurd (omega (arith, none, one))
 work_kept r ring (Some c) (Some d) (inr same) stand = work_same r ring c d same stand
 
--- where the server's end is up behind it
+-- where the server's end is up after it
 work_live : (r : RingOf) (ring : List SlotLog) (o q : Option ServerCounts) (up : Type 0) → KeepsWork o q → (up → WorkStands r ring o) → up ⊎ (q ≡ None) → WorkStands r ring q
 work_live r ring o q up keeps stand (inl is) = work_kept r ring o q keeps (stand is)
 work_live r ring o q up keeps stand (inr none) = subst (WorkStands r ring) (sym none) tt

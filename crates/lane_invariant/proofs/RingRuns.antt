@@ -1,4 +1,4 @@
--- Where the sessions agree before an event and behind it, the event keeps that each slot of the ring has the bytes and the number that
+-- Where the sessions agree before an event and after it, the event keeps that each slot of the ring has the bytes and the number that
 -- the log of the ring says.
 use Rattle.std.proofs.Common.{◌≡◌, ℕ, ◌+◌, ◌-◌, ◌*◌, ◌^◌, ◌<◌, ◌≤◌, Bool, true, false, List, [], ◌∷◌, ◌++◌, length, replicate, take, Option, Some, None, sym, ap, ◌∙◌, subst, arith, length-append}
 use Rattle.std.specs.Prelude.{if◌then◌else◌, ◌==◌, slice_get, zero, suc}
@@ -149,7 +149,7 @@ issued_behind s l (Turns Started) t stands few step = few
 issued_behind s l (Turns Off) t stands few step = few
 issued_behind s l (Rests event) t stands few step = few
 
--- where nobody forged behind an event, nobody had before it
+-- where nobody forged after an event, nobody had before it
 wire_before : (l : DiskLog) (event : WireEvent) → (after l (OnWire event)).wire.forged ≡ false → l.wire.forged ≡ false
 wire_before l (Joined e lost) not = not
 wire_before l (Reset e cause packet lost) not = not

@@ -1,4 +1,4 @@
--- Each event keeps the slots of the ring, where the sessions agree before it and behind it.
+-- Each event keeps the slots of the ring, where the sessions agree before it and after it.
 use Rattle.std.proofs.Common.{◌≡◌, ℕ, ◌^◌, ◌<◌, Bool, false, List, length, inl, inr, refl, sym, ap, ◌∙◌, subst}
 use Rattle.ldc_queue.specs.declared.end.End.TheVariants.{A, B}
 use Rattle.lane_law.specs.WireLog.{WireLog}

@@ -1,4 +1,4 @@
--- What a server's work does to the ring in session: the next slot is fetched and ACCEPTED, a unit goes behind the ring, and the slot gets
+-- What a server's work does to the ring in session: the next slot is fetched and ACCEPTED, a unit goes after the ring, and the slot gets
 -- its status and is DONE.
 use Rattle.std.proofs.Common.{◌≡◌, ℕ, ◌+◌, ◌%◌, ◌^◌, ◌<◌, ◌≤◌, Bool, true, false, List, length, set, Option, Some, None, refl, sym, ap, ◌∙◌, subst, arith}
 use Rattle.std.specs.Prelude.{slice_get, slice_index, ◌==◌}
@@ -147,11 +147,11 @@ work_first (Some work) d agree = omega (arith, agree.2)
 finished_first : (s : LaneState) (l : DiskLog) (v : ServerSession) → Known s l → (work : AtWork s l v) → work.of.counts.finished ≤ work.of.counts.descs
 finished_first s l v known work = work_first s.server.work work.of.counts work.of.work
 
--- the server's counts behind it
+-- the server's counts after it
 abbrev fetched_counts : DiskLog → List ℕ → ServerCounts → ServerCounts
 fetched_counts l bytes c = record c { descs = c.descs + 1; desc = bytes; owed = pieces (slot_says.disk_desc_of bytes) l.shape.blocks 0x0e }
 
--- the ring behind a slot that is marked
+-- the ring after a slot that is marked
 marked_ring : (s : LaneState) (l : DiskLog) (d : ServerCounts) (k : ClientCounts) (slot : ℕ) (bytes new : List ℕ) → Known s l → l.work.server ≡ Some d → l.work.client ≡ Some k
     → (ready : ReadyNext s l d k slot bytes) → OneSlot 128 l.shape.slots slot s.memory new → slot_bytes 128 slot new ≡ put_at 0 (header_of 3 bytes) (slot_bytes 128 slot s.memory)
     → (t : LaneState) → t.memory ≡ new → InRing t (after l (Works (Desc slot bytes)))

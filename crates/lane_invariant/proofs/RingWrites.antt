@@ -96,7 +96,7 @@ ring_word_answered s r pages slots slot at both identity cookies below within ev
     ∙ no_fault_range access.Write r.table pages (own_cookies slots) 0 b.size (128 * slot + at) 8 identity b.spots_are (omega (arith, fits, holds, within)) (omega (arith, inside, room))
     (even_aligned slot at (own_cookies slots) even b.aligned)
 
--- THROUGH A BUFFER'S COOKIES a unit is written behind the ring
+-- THROUGH A BUFFER'S COOKIES a unit is written after the ring
 pub record IntoBuffer (r : Reach) (place size u : ℕ) (bytes : List ℕ) (cookies : List Cookie) : Type 0 where
   pub written : moved_out r.table r.memory cookies (8192 * u) bytes ≡ put_at (place + 8192 * u) bytes r.memory
   pub within : 8192 * u + length bytes ≤ size

@@ -26,7 +26,7 @@ use Rattle.lane_invariant.specs.Budget.{server_speaks}
 use Rattle.lane_invariant.specs.Conversation.{SameTalk, TakesOne}
 use Rattle.lane_invariant.specs.Sound.{OwesShort, ServerSound}
 
--- the server behind a link that heard a packet
+-- the server after a link that heard a packet
 pub record TakenBy (m : LinkState) (t : ServerState) : Type 0 where
   pub link : SameTalk t.link m
   pub sends : t.link.to_send ≡ m.to_send

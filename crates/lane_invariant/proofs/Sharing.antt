@@ -40,7 +40,7 @@ pub some_left : (k : LinkState) (xs : List ℕ) (one : Packet × LinkState) (m :
 some_left k [] one m is = absurd (cc)
 some_left k (x ∷ xs) one m is = omega arith
 
--- behind a packet that was put
+-- after a packet that was put
 pub behind_short : (kind : PutKind) (h : Handshake) → OwesShort h → OwesShort (shake_behind kind h)
 behind_short Goes h short = short
 behind_short ComesUp h short = up_short h short

@@ -82,7 +82,7 @@ reads_back r slot id state status bytes sizes small holds =
     status_has_widths (record (descriptor_of id holds.request slot r.slots) { state = state }) status holds.status_fits marked in
     ap disk_desc_of holds.bytes_are ∙ canonical_reads_back (stated id holds.request slot r.slots state status) fits
 
--- THE MARK: ACCEPTED behind READY
+-- THE MARK: ACCEPTED after READY
 ack_is : (id : ℕ) (request : Request) (slot slots state status : ℕ) → (stated id request slot slots state status).ack ≡ 1
 unfolding descriptor_of
 ack_is id request slot slots state status = refl

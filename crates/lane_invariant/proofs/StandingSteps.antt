@@ -20,7 +20,7 @@ use Rattle.disk_steps.specs.ClientRule.{client_rule}
 use Rattle.lane_invariant.specs.Sound.{ClientSound}
 use Rattle.lane_invariant.specs.Standing.{LaneStands, MayOfRequests}
 
--- a state and a log behind an event
+-- a state and a log after an event
 pub record Behind (s : LaneState) (l : DiskLog) (event : DiskEvent) (t : LaneState) : Type 0 where
   pub may : MayOfRequests l event
   pub stands : LaneStands t (after l event)

@@ -76,7 +76,7 @@ owes_keep : (role : Role) (p : Phase) (s : Handshake) (q : Phase) (t : Handshake
 owes_keep role p s q t None keeps owes_so = tt
 owes_keep role p s q t (Some message) keeps owes_so = says_keep role p s q t message keeps owes_so
 
--- a handshake behind another: it keeps the words, and owes what it may
+-- a handshake after another: it keeps the words, and owes what it may
 abbrev pub GoesBehind : Role → Phase → Handshake → Handshake → Type 0
 GoesBehind role p s t = KeepsWords role p s t.phase t × OwesSo role t.phase t.offer t.draft t.owed
 

@@ -1,4 +1,4 @@
--- The messages that an end has heard behind one more packet: with a message that is whole by it, where one is.
+-- The messages that an end has heard after one more packet: with a message that is whole by it, where one is.
 use Rattle.std.proofs.Common.{◌≡◌, ℕ, Bool, true, false, Option, Some, None, List, [], ◌∷◌, ◌++◌, refl, sym, ap, ◌∙◌, subst}
 use Rattle.std.specs.Prelude.{if◌then◌else◌, nat_eq, ⊤, IfOk, Result, Ok, Err}
 use Rattle.ldc_packet.specs.Decoding.{Unpacks}

@@ -13,7 +13,7 @@ use Rattle.lane_invariant.specs.Budget.{client_speaks, server_speaks}
 use Rattle.lane_invariant.specs.Conversation.{Conversation}
 use Rattle.lane_invariant.specs.Sound.{ClientSound, ServerSound}
 
--- what the two ends said and heard behind these events, each since it last began
+-- what the two ends said and heard after these events, each since it last began
 abbrev pub talk_behind : List DiskEvent → TalkLog
 talk_behind events = log_of after_talk nothing_said events
 

@@ -1,4 +1,4 @@
--- What an end may owe behind a packet that it took, on a lane where both follow the handshake: no refusal, and a message of one packet, or
+-- What an end may owe after a packet that it took, on a lane where both follow the handshake: no refusal, and a message of one packet, or
 -- of two where it is the registration of a ring or its answer.
 use Rattle.std.specs.Prelude.{◌≡◌, ◌≢◌, ℕ, ◌≤◌, ◌<◌, Bool, true, false, length, List, ⊤, Option, Some, None}
 use Rattle.ldc_packet.specs.declared.packet.Subtype.TheVariants.{Nack}
@@ -26,7 +26,7 @@ abbrev pub OwedInTurn : Phase → Option Message → Type 0
 OwedInTurn phase None = ⊤
 OwedInTurn phase (Some message) = (message.subtype ≢ Nack) × (parts (length (canonical message)) ≤ most_parts phase)
 
--- the state before the packet and behind it: one ring, no message left over, and what is owed
+-- the state before the packet and after it: one ring, no message left over, and what is owed
 pub record ClientInTurn (c t : ClientState) : Type 0 where
   pub one_ring : c.shake.offer.both_rings ≡ false
   pub whole : c.link.whole ≡ None

@@ -54,7 +54,7 @@ pub record RingStands (s : LaneState) (l : DiskLog) : Type 0 where
   pub statuses : StatusStands l.work.server
   pub unforged : l.wire.forged ≡ false → InRing s l
 
--- the sessions agree behind every run of a lane of this shape that nobody forged
+-- the sessions agree after every run of a lane of this shape that nobody forged
 abbrev pub AlwaysAgree : Shape → Type 0
 AlwaysAgree shape = (events : List DiskEvent) (s : LaneState) → Run LaneStep (fresh shape) events s
     → (log_of after (nothing_yet shape) events).wire.forged ≡ false → SessionsAgree s (log_of after (nothing_yet shape) events)

@@ -171,7 +171,7 @@ pub fn a_client_writes_one_slot()
 
 /// What remains to be done on a lane, along every run, also where somebody forges packets and memory. A fresh lane has
 /// 36 before it. Each step of an end that takes nothing lowers it: that an end joins or puts a packet, that the client
-/// publishes or completes a request, and that the server fetches a descriptor, does a piece of it or ends it. Behind a
+/// publishes or completes a request, and that the server fetches a descriptor, does a piece of it or ends it. After a
 /// reset of an end that was up exactly 35 remain, and 16 for each pending request; where a packet was lost before, that
 /// is less than remained. Where nobody forged, a packet that an end takes lowers it too; so of the steps by which an
 /// end does something no more follow one another than remain.
@@ -314,7 +314,7 @@ pub fn slots_stand_in_order()
         → RingInOrder s (log_of after (nothing_yet shape) events) k }
 {}
 
-/// A tick resets the client only where its session isn't open or something is pending, and so it is behind it: no
+/// A tick resets the client only where its session isn't open or something is pending, and so it is after it: no
 /// request is lost, nobody has forged by it, and the server runs as before. Where the client's end is up no packet is
 /// lost of those that are put from then on, 35 remain and 16 for each pending request, and where a packet was lost
 /// before, that is less than remained.

@@ -1,5 +1,5 @@
 -- The order of a handshake, as the talk of an end shows it where its session opens: a row of packets and messages that it said and
--- heard, one behind the other, and between them only what may stand aside. The row is read as the talk stands, newest first.
+-- heard, one after the other, and between them only what may stand aside. The row is read as the talk stands, newest first.
 use Rattle.std.specs.Prelude.{◌≡◌, ℕ, ◌%◌, ◌⊎◌, Bool, true, false, List, [], ◌∷◌, ◌++◌, ⊤}
 use Rattle.vio_bytes.specs.Place.{number_at}
 use Rattle.ldc_packet.specs.Spelling.{ctrl_at, env_at, subtype_at, type_at}
@@ -41,7 +41,7 @@ pub data Line : Type 0 where
   Hears : (subtype envelope : ℕ) → Line
 
 -- A ring of its own is registered by a disk's client and by both ends of a port. The guest of a port answers for the switch's ring
--- before it goes on, and the switch registers its own behind its answer.
+-- before it goes on, and the switch registers its own after its answer.
 abbrev pub own_ring_lines : Bool → Role → List Line
 own_ring_lines false role = []
 own_ring_lines true Initiator = Says 2 0x0003 ∷ Hears 1 0x0003 ∷ []
@@ -76,7 +76,7 @@ pub record EndsAs (subtype envelope sid : ℕ) (half packet : List ℕ) : Type 0
   pub of_envelope : message_at.envelope_at (half ++ (fragment_at packet).bytes) ≡ envelope
   pub of_sid : sid_in (half ++ (fragment_at packet).bytes) ≡ sid
 
--- the turn is the line's, behind the turns before it
+-- the turn is the line's, after the turns before it
 abbrev pub Meets : ℕ → Line → Turn → List Turn → Type 0
 Meets sid (SaysControl control) (Said packet) before = IsControlOf control packet
 Meets sid (HearsControl control) (Heard packet) before = IsControlOf control packet
@@ -84,7 +84,7 @@ Meets sid (Says subtype envelope) (Said packet) before = EndsAs subtype envelope
 Meets sid (Hears subtype envelope) (Heard packet) before = EndsAs subtype envelope sid (half_heard before) packet
 Meets sid _ _ before = ⊥
 
--- the lines that are still to be met are not behind the link's coming up, or not before the version was agreed on
+-- the lines that are still to be met are not after the link's coming up, or not before the version was agreed on
 abbrev pub ComesUpBelow : List Line → Type 0
 ComesUpBelow [] = ⊥
 ComesUpBelow (SaysControl RdxGiven ∷ lines) = ⊤
@@ -109,15 +109,15 @@ abbrev pub MayEnd : Bool → List ℕ → Type 0
 MayEnd false message = ⊤
 MayEnd true message = message_at.subtype_at message ≡ 4
 
--- What may stand between the lines: what was said, parts of messages and refusals, behind the link's coming up; a responder's refusals
--- of versions; and what was heard, parts behind the link's coming up, and control packets.
+-- What may stand between the lines: what was said, parts of messages and refusals, after the link's coming up; a responder's refusals
+-- of versions; and what was heard, parts after the link's coming up, and control packets.
 abbrev pub IsAside : Role → List Line → Turn → List Turn → Type 0
 IsAside role lines (Said packet) before =
     (ComesUpBelow lines × (is_part packet ≡ true) × MayEnd (fragment_at packet).stop (half_said before ++ (fragment_at packet).bytes))
     ⊎ MayRefuse role lines packet
 IsAside role lines (Heard packet) before = ComesUpBelow lines ⊎ (is_part packet ≡ false)
 
--- the turns are the lines, one behind the other, and what stands aside
+-- the turns are the lines, one after the other, and what stands aside
 abbrev pub Follows : Role → ℕ → List Line → List Turn → Type 0
 Follows role sid [] [] = ⊤
 Follows role sid (line ∷ lines) [] = ⊥

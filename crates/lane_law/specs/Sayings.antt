@@ -18,7 +18,7 @@ count_heard [] = 0
 count_heard (Said packet ∷ turns) = count_heard turns
 count_heard (Heard packet ∷ turns) = more_if (is_numbered packet) (count_heard turns)
 
--- what has come of a message behind one more packet, where this had come before
+-- what has come of a message after one more packet, where this had come before
 abbrev pub half_past : Bool → Fragment → List ℕ → List ℕ
 half_past true part half = half_with part.stop (half ++ part.bytes)
 half_past false part half = half
@@ -33,7 +33,7 @@ half_heard [] = []
 half_heard (Said packet ∷ turns) = half_heard turns
 half_heard (Heard packet ∷ turns) = half_past (is_part packet) (fragment_at packet) (half_heard turns)
 
--- the messages behind one more packet, where these were whole before and this had come of the next
+-- the messages after one more packet, where these were whole before and this had come of the next
 abbrev pub whole_by : Bool → List ℕ → List (List ℕ) → List (List ℕ)
 whole_by true message messages = messages ++ message ∷ []
 whole_by false message messages = messages

@@ -39,7 +39,7 @@ abbrev pub says : End → List ℕ → TalkLog → TalkLog
 says A packet l = record l { client = Said packet ∷ l.client; links = more_if (is_rdx packet) l.links }
 says B packet l = record l { server = Said packet ∷ l.server }
 
--- Behind one more event. A packet that a reset carries was never heard.
+-- After one more event. A packet that a reset carries was never heard.
 abbrev pub talk_moved : TalkLog → WireEvent → TalkLog
 talk_moved l (Joined e lost) = silenced e l
 talk_moved l (Reset e cause packet lost) = silenced e l

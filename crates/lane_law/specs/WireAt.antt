@@ -1,4 +1,4 @@
--- Where an event of the wire may stand, behind those before it, also where somebody forges packets. Each law is a predicate of its
+-- Where an event of the wire may stand, after those before it, also where somebody forges packets. Each law is a predicate of its
 -- own; what they say of one packet is read from its bytes by their places.
 use Rattle.std.specs.Prelude.{◌≡◌, ◌≢◌, ℕ, ◌+◌, ◌%◌, ◌<◌, ◌≤◌, true, false, List, length, Option, Some, None, slice_get, ⊤}
 use Rattle.ldc_packet.specs.declared.packet.Packet.{Packet}

@@ -1,4 +1,4 @@
--- The wire behind what happened: its two ends and what waits for each, whether somebody meddled with it, and whether a packet was
+-- The wire after what happened: its two ends and what waits for each, whether somebody meddled with it, and whether a packet was
 -- lost since its queues were last emptied.
 use Rattle.std.specs.Prelude.{Bool, true, false}
 use Rattle.ldc_queue.specs.declared.end.ChannelState.{ChannelState}
@@ -21,7 +21,7 @@ lossy_behind Up lossy = false
 lossy_behind Down lossy = lossy
 lossy_behind Resetting lossy = lossy
 
--- Behind one more event. The packet that a reset carries has left a queue that is emptied: only an end that is up takes one.
+-- After one more event. The packet that a reset carries has left a queue that is emptied: only an end that is up takes one.
 abbrev pub wire_moved : WireLog → WireEvent → WireLog
 wire_moved l (Joined e lost) = record l { wire = configured e l.wire; lossy = lossy_behind (state_of e l.wire) l.lossy }
 wire_moved l (Reset e cause packet lost) = record l { wire = configured e l.wire; lossy = lossy_behind (state_of e l.wire) l.lossy }
@@ -34,6 +34,6 @@ wire_moved l (Idle e) = l
 wire_moved l (Blocked e) = l
 wire_moved l (Declines d) = l
 
--- behind a stop of the server, which closes its end and empties the queues
+-- after a stop of the server, which closes its end and empties the queues
 abbrev pub server_closed : WireLog → WireLog
 server_closed l = record l { wire = closed B l.wire; lossy = false }

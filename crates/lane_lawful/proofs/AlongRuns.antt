@@ -1,4 +1,4 @@
--- What may be said of an event behind each run of a lane is a law along every run.
+-- What may be said of an event after each run of a lane is a law along every run.
 use Rattle.std.proofs.Common.{◌≡◌, List, [], ◌∷◌, ◌++◌, refl, sym, ap, ◌∙◌, subst}
 use Rattle.runs.specs.Lawful.{Lawful, log_append, log_of, run_lawful}
 use Rattle.runs.specs.Run.{Run, run_push}

@@ -75,7 +75,7 @@ server_calm s (OnWire (Blocked A)) t step calm = absurd (cc calm)
 server_calm s (OnWire event) t step calm = absurd calm
 server_calm s event t step calm = absurd calm
 
--- THE END IS STILL behind it, and the other stays so
+-- THE END IS STILL after it, and the other stays so
 abbrev pub StaysStill : End → LaneState → Type 0
 StaysStill A s = (s.wire.wire.end_a ≡ Up) × ((client_rules.client_rule s.client (at_client s) ≡ client_rules.Rests) ⊎ ((at_client s).room ≡ false))
 StaysStill B s = (s.wire.wire.end_b ≡ Up) × ((server_rules.server_rule s.server (at_server s) ≡ server_rules.Rests) ⊎ ((at_server s).room ≡ false))

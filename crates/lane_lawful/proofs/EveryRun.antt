@@ -1,4 +1,4 @@
--- Every run of a lane is lawful: each event may stand behind those before it, by each of the laws.
+-- Every run of a lane is lawful: each event may stand after those before it, by each of the laws.
 use Rattle.std.proofs.Common.{List, [], ◌∷◌}
 use Rattle.runs.specs.Lawful.{Lawful}
 use Rattle.runs.specs.Run.{Run}

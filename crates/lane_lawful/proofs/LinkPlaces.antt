@@ -91,7 +91,7 @@ ToClient lossy ModeAnswered waiting = AtMost lossy mode_answer waiting
 ToClient lossy BothUp waiting = AllNumbered waiting
 ToClient lossy _ waiting = waiting ≡ []
 
--- WHAT WAS SAID AND HEARD with numbers: of the client RDX, with which its link is up, and parts behind it; of the server parts, once it
+-- WHAT WAS SAID AND HEARD with numbers: of the client RDX, with which its link is up, and parts after it; of the server parts, once it
 -- heard RDX
 pub record IsReady (bytes : List ℕ) : Type 0 where
   pub number : ℕ

@@ -75,7 +75,7 @@ part_taken k part false come one other is may = absurd (cc is)
 takes_may : (k : LinkState) (part : Fragment) → k.phase ≡ phase.Established → MayCome k.half_heard part → takes_part k part ≡ Heard (with_part k part)
 takes_may k part at may = part_taken k part (is_up k) (may_come k.half_heard part) the_cause.Fragment the_cause.Unexpected (ap is_established at) (may_so k.half_heard part may)
 
--- WHAT A LINK MAKES of a packet with a number: a gap, or what comes behind it, which it takes where the packet is the next
+-- WHAT A LINK MAKES of a packet with a number: a gap, or what comes after it, which it takes where the packet is the next
 pub record Turned (k : LinkState) (said heard : List (List ℕ)) (packet : List ℕ) : Type 0 where
   pub number : ℕ
   pub behind : LinkTake

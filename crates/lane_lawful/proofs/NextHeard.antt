@@ -21,7 +21,7 @@ use Rattle.lane_invariant.proofs.LaneMoves.{first_waits}
 use Rattle.lane_invariant.proofs.WholeHeard.{link_hears, with_whole}
 use Rattle.lane_lawful.proofs.LinkLawful.{WayTo}
 
--- the other end is up, and said it behind all that this end heard
+-- the other end is up, and said it after all that this end heard
 pub record NextHeard (mine theirs : List Turn) (peer : ChannelState) (message : List ℕ) : Type 0 where
   pub up : peer ≡ Up
   pub front : IsFront (heard mine ++ message ∷ []) (said theirs)

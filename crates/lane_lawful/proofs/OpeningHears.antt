@@ -57,7 +57,7 @@ stands_on role h turns packet left now is stands =
     subst (λ (xs : List ℕ). ShakeStands role h (Heard_ packet ∷ turns) xs) (sym is)
     (record { role_is = stands.role_is; single = stands.single; came = hears_came role h.phase (sid_of h) h.owed turns packet left stands.came })
 
--- the link behind it, and the link that took it, which is in the same phase
+-- the link after it, and the link that took it, which is in the same phase
 pub record HearsBy (role : Role) (k heard l : LinkState) (packet : List ℕ) : Type 0 where
   pub takes : TakesBytes k packet (Heard heard)
   pub phase_is : l.phase ≡ heard.phase

@@ -1,4 +1,4 @@
--- The packets of a link's own handshake are lines of its end's row, one behind the other.
+-- The packets of a link's own handshake are lines of its end's row, one after the other.
 use Rattle.std.proofs.Common.{◌≡◌, ℕ, Bool, true, false, inl, inr, Some, List, [], ◌∷◌, ◌++◌, refl, sym, ap, ◌∙◌, subst}
 use Rattle.std.proofs.lemmas.Bool.{and_parts, eqb-true}
 use Rattle.std.specs.Prelude.{◌&&◌, nat_eq, if◌then◌else◌, Result, Ok, Err, ⊤}

@@ -69,7 +69,7 @@ ends_as turns packet message subtype envelope sid ends s e n =
 pub of_sid : (one other : ℕ) → one ≡ other → one % 4294967296 ≡ other % 4294967296
 of_sid one other is = ap (λ (n : ℕ). n % 4294967296) is
 
--- A HANDSHAKE before its session is open, or behind that
+-- A HANDSHAKE before its session is open, or after that
 pub record ShakeStands (role : Role) (h : Handshake) (turns : List Turn) (left : List ℕ) : Type 0 where
   pub role_is : h.role ≡ role
   pub single : h.offer.both_rings ≡ false

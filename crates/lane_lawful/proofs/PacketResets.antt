@@ -1,4 +1,4 @@
--- Where nobody forged, a packet for which an end resets itself is a gap behind a loss, or ends a message that the end hears badly in session.
+-- Where nobody forged, a packet for which an end resets itself is a gap after a loss, or ends a message that the end hears badly in session.
 use Rattle.std.proofs.Common.{◌≡◌, ℕ, Bool, true, false, Option, Some, None, List, refl, sym, subst, ◌⊎◌, inl, inr}
 use Rattle.std.specs.Prelude.{◌&&◌, if◌then◌else◌, not}
 use Rattle.runs.specs.Lawful.{log_of}

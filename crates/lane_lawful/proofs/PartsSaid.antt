@@ -1,4 +1,4 @@
--- Along every run the parts of messages that an end said since it last began are those that may come, one behind the other.
+-- Along every run the parts of messages that an end said since it last began are those that may come, one after the other.
 use Rattle.std.proofs.Common.{◌≡◌, ℕ, ◌≤◌, Bool, true, false, List, [], ◌∷◌, ◌++◌, length, take, refl, sym, ap, ◌∙◌, subst, arith}
 use Rattle.std.specs.Prelude.{◌||◌, nat_eq, ◌&&◌}
 use Rattle.std.proofs.lemmas.List.{append-nil, length-take-le}
@@ -33,7 +33,7 @@ use Rattle.lane_lawful.specs.Laws.{SaidAt}
 abbrev pub PartsSaid : List Turn → Type 0
 PartsSaid turns = AllMayCome [] (fragments_in (numbered_said turns))
 
--- one part more behind those that may come
+-- one part more after those that may come
 come_more : (half : List ℕ) (xs : List Fragment) (f : Fragment) → AllMayCome half xs → MayCome (half_in half xs) f → AllMayCome half (xs ++ f ∷ [])
 come_more half [] f all may = (may, tt)
 come_more half (x ∷ xs) f all may = (all.0, come_more (half_with x.stop (half ++ x.bytes)) xs f all.1 may)

@@ -47,7 +47,7 @@ said_long d Responder PeerReadyAnswered = refl
 said_long d Responder AllSaid = refl
 
 -- where the initiator says the next message it has said no more than the responder, and where the responder does, one more; but for the two
--- messages that the responder says one behind the other
+-- messages that the responder says one after the other
 record AsksNext (n : Place) : Type 0 where
   few : count_at Initiator n ≤ 4
   less : count_at Initiator n ≤ count_at Responder n

@@ -62,7 +62,7 @@ use Rattle.lane_invariant.specs.TableStands.{TableAt}
 use Rattle.lane_lawful.proofs.StatusSteps.{NoneDone, front_named, hears_fifth, says_fifth}
 use Rattle.lane_lawful.specs.Statuses.{IsNamed}
 
--- WHAT IS KNOWN before an event and behind it
+-- WHAT IS KNOWN before an event and after it
 pub record Around (shape : Shape) (s : LaneState) (l : DiskLog) (event : DiskEvent) (t : LaneState) : Type 0 where
   pub known : Known s l
   pub knows : Knows s l

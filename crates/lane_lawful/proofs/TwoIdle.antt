@@ -1,4 +1,4 @@
--- Where an end is idle directly behind the other, where nobody forged and nothing was lost, nothing is pending and both sessions are open.
+-- Where an end is idle directly after the other, where nobody forged and nothing was lost, nothing is pending and both sessions are open.
 use Rattle.std.proofs.Common.{Some, List, ap, ◌∙◌, subst}
 use Rattle.runs.specs.Lawful.{Lawful, log_of}
 use Rattle.runs.specs.Run.{Run}

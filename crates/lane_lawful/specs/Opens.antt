@@ -99,7 +99,7 @@ abbrev pub IsRefusal : Option Message → Type 0
 IsRefusal None = ⊤
 IsRefusal (Some message) = message.subtype ≡ Nack
 
--- behind its agreement to the peer's RDX it waits for nothing
+-- after its agreement to the peer's RDX it waits for nothing
 abbrev pub MayWait : Phase → Type 0
 MayWait PeerReadyTaken = ⊥
 MayWait _ = ⊤
@@ -135,7 +135,7 @@ pub record Comes (role : Role) (phase : Phase) (sid : ℕ) (owed : Option Messag
   pub stage : Owing role phase sid owed turns ⊎ Waiting role phase sid owed turns
   pub carries : Carries owed (half_said turns) left
 
--- once the session is open its order is behind it
+-- once the session is open its order is after it
 abbrev pub ShakeCame : Role → Phase → ℕ → Option Message → List Turn → List ℕ → Type 0
 ShakeCame role Open sid owed turns left = ⊤
 ShakeCame role phase sid owed turns left = Comes role phase sid owed turns left

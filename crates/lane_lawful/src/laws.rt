@@ -117,7 +117,7 @@ pub fn work_is_done_as_it_was_asked()
 
 /// Along every run of a lane, also where somebody forges packets and memory: a session opens in the handshake's order.
 /// What the end said and heard since it last began, up to the packet by which its session opens, is the row of its link's
-/// handshake and of its messages, one behind the other and all of one sid; between them stand only refusals, parts of
+/// handshake and of its messages, one after the other and all of one sid; between them stand only refusals, parts of
 /// messages, and what was heard once the link was up.
 pub fn sessions_open_in_order()
     ensures { (shape : Shape) (events : List DiskEvent) (s : LaneState)
@@ -138,7 +138,7 @@ pub fn a_lane_agrees_with_its_log()
 {}
 
 /// Along every run of a lane, where nobody forged until then and no packet was lost since the queues were last emptied:
-/// where an end makes an idle step directly behind an idle step of the other, all requests that were accepted are done,
+/// where an end makes an idle step directly after an idle step of the other, all requests that were accepted are done,
 /// and both sessions are open.
 pub fn two_idle_ends_have_finished()
     ensures { (shape : Shape) (events : List DiskEvent) (s : LaneState)
@@ -146,8 +146,8 @@ pub fn two_idle_ends_have_finished()
         → Lawful TwoIdleAt after (nothing_yet shape) events }
 {}
 
-/// Of two steps of a lane, one of each end and one behind the other, in either order, that are calm: each idles, finds
-/// no room for its packet, or is that of a stopped server. Behind them both ends are still, but for a stopped
+/// Of two steps of a lane, one of each end and one after the other, in either order, that are calm: each idles, finds
+/// no room for its packet, or is that of a stopped server. After them both ends are still, but for a stopped
 /// server's, also where somebody forges packets and memory: each is up, and has nothing to take and nothing to do, or
 /// the other's queue has no room. Where nobody forged and the server runs, both idle, and the lane is as it was:
 /// never is there no room. And where moreover no packet was lost since the queues were last emptied, all is done:

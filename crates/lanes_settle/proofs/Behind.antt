@@ -1,4 +1,4 @@
--- What stands behind quiet rounds: all ends are still; and behind the last round of a settle each running lane is finished, or is one that
+-- What stands after quiet rounds: all ends are still; and after the last round of a settle each running lane is finished, or is one that
 -- somebody forged and that had its tick.
 use Rattle.std.proofs.Common.{◌≡◌, ◌⊎◌, inl, inr, Bool, true, false, List, [], ◌∷◌, refl, sym, ap, ◌∙◌, subst}
 use Rattle.std.specs.Prelude.{◌||◌, if◌then◌else◌}
@@ -23,7 +23,7 @@ all_still (s ∷ lanes) (r ∷ rounds) (t ∷ behind) made quiet =
     (quiet_still s r t made.0 (and_left (is_quiet r) (are_quiet rounds) quiet), all_still lanes rounds behind made.1 (and_right (is_quiet r) (are_quiet rounds) quiet))
 all_still _ _ _ made quiet = absurd made
 
--- NOTHING IS LOST behind a lane's tick
+-- NOTHING IS LOST after a lane's tick
 abbrev pub IsWhole : LaneState → Bool → Type 0
 IsWhole s had = had ≡ true → s.wire.lossy ≡ false
 

@@ -1,4 +1,4 @@
--- Counts over entries one after another: how often an end is stuck is bounded by how often it found no room, from 0 behind an entry that
+-- Counts over entries one after another: how often an end is stuck is bounded by how often it found no room, from 0 after an entry that
 -- isn't Blocked.
 use Rattle.std.proofs.Common.{◌≡◌, ℕ, ◌+◌, ◌≤◌, ◌⊎◌, inl, inr, Bool, true, false, List, [], ◌∷◌, ◌++◌, refl, arith}
 use Rattle.std.specs.Prelude.{◌&&◌, ◌==◌, if◌then◌else◌}
@@ -29,7 +29,7 @@ stuck_most : (k : ℕ) (e : End) (n : ℕ) (x : SettleEntry) → stuck k e n x �
 stuck_most k e n (OfLane j (OnWire (Blocked d))) = counted ((j == k) && is_end d e) n
 stuck_most k e n _ = omega (arith)
 
--- an entry is Blocked, or the answer of the settle; or nothing is stuck behind it
+-- an entry is Blocked, or the answer of the settle; or nothing is stuck after it
 still_or_none : (k : ℕ) (e : End) (x : SettleEntry) → (moves x ≡ 0) ⊎ ((n : ℕ) → stuck k e n x ≡ 0)
 still_or_none k e (OfLane j (OnWire (Blocked d))) = inl refl
 still_or_none k e _ = inr (λ n. refl)

@@ -29,7 +29,7 @@ below_stay j (s ∷ lanes) part below =
     itself : (j : ℕ) → j ≤ j
     itself j = omega (arith)
 
--- A LANE with an own front of the part, and the lanes behind it with the rest
+-- A LANE with an own front of the part, and the lanes after it with the rest
 one_and_more : (j : ℕ) (s : LaneState) (lanes : List LaneState) (own later part : List SettleEntry) (t : LaneState) (others behind : List LaneState) → Run LaneStep s (happened j own) t
     → IsBelow (j + 1) own → happened j later ≡ [] → LanesMove (j + 1) lanes later others → part ≡ own ++ later → behind ≡ t ∷ others → LanesMove j (s ∷ lanes) part behind
 one_and_more j s lanes own later part t others behind run below none more is rest =

@@ -1,4 +1,4 @@
--- One lane at the tick behind a quiet round: what remains falls where nobody forged, and nothing is lost any more behind it.
+-- One lane at the tick after a quiet round: what remains falls where nobody forged, and nothing is lost any more after it.
 use Rattle.std.proofs.Common.{◌≡◌, ◌<◌, ◌⊎◌, inl, inr, Bool, true, false, None, refl, sym, ap, ◌∙◌}
 use Rattle.std.specs.Prelude.{if◌then◌else◌}
 use Rattle.ldc_queue.specs.declared.end.End.TheVariants.{A}

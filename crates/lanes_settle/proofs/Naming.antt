@@ -1,4 +1,4 @@
--- Where the rounds of a settle ran out some lane is named: one that wasn't quiet in the last of them, or one that had its tick behind it.
+-- Where the rounds of a settle ran out some lane is named: one that wasn't quiet in the last of them, or one that had its tick after it.
 use Rattle.std.proofs.Common.{◌≡◌, ℕ, ◌+◌, ◌≤◌, Bool, true, false, List, [], ◌∷◌, ◌++◌, length, refl, sym, ◌∙◌, subst, arith, length-append}
 use Rattle.std.specs.Prelude.{◌&&◌, ◌||◌, if◌then◌else◌}
 use Rattle.runs.specs.Run.{run_split}
@@ -17,7 +17,7 @@ use Rattle.lanes_settle.specs.Ticks.{TickLanes, TicksWhere, gets_tick, some_get_
 abbrev pub named : ℕ → Bool → Bool → List SettleEntry
 named j quiet waits = if quiet && (if waits then false else true) then [] else Unsettled j ∷ []
 
--- one name more, or those behind it
+-- one name more, or those after it
 longer : (one rest all : ℕ) → all ≡ one + rest → 1 ≤ rest → 1 ≤ all
 longer one rest all is some = omega (arith, is, some)
 

@@ -1,5 +1,5 @@
 -- Counts over the entries of one round: each end finds no room once at most; where not all lanes are quiet something moved; and the ticks
--- behind a quiet round move too.
+-- after a quiet round move too.
 use Rattle.std.proofs.Common.{◌≡◌, ℕ, ◌+◌, ◌≤◌, ◌<◌, Bool, true, false, List, [], ◌∷◌, ◌++◌, refl, subst, arith}
 use Rattle.std.proofs.lemmas.Bool.{eqb-true}
 use Rattle.std.specs.Prelude.{◌&&◌, ◌||◌, ◌==◌, if◌then◌else◌}

@@ -1,4 +1,4 @@
--- The lanes together: a round, and the ticks behind it, lower what remains on all of them, where nobody forged one.
+-- The lanes together: a round, and the ticks after it, lower what remains on all of them, where nobody forged one.
 use Rattle.std.proofs.Common.{◌≡◌, ℕ, ◌+◌, ◌*◌, ◌≤◌, ◌<◌, ◌⊎◌, inl, inr, Bool, true, false, List, [], ◌∷◌, length, refl, sym, ap, ◌∙◌, subst, arith}
 use Rattle.std.specs.Prelude.{◌&&◌, ◌||◌, if◌then◌else◌}
 use Rattle.disk_steps.specs.LaneState.{LaneState}

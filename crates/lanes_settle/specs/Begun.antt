@@ -24,7 +24,7 @@ pub record ClientMade (j : ℕ) (s : LaneState) (lanes : List LaneState) (part :
   pub is : part ≡ entry_of j event
   pub rest : behind ≡ after ∷ lanes
 
--- both made theirs, and more may have been made on the lanes behind it
+-- both made theirs, and more may have been made on the lanes after it
 pub record BothMade (More : List SettleEntry → List LaneState → Type 0) (j : ℕ) (s : LaneState) (part : List SettleEntry) (behind : List LaneState) : Type 0 where
   pub round : LaneRound
   pub after : LaneState
@@ -56,7 +56,7 @@ TickFront j (s ∷ lanes) (had ∷ marks) part behind =
     NoMore (s ∷ lanes) part behind ⊎ TickMade (TickFront (j + 1) lanes marks) j (gets_tick s had) s part behind
 TickFront j lanes marks part behind = NoMore lanes part behind
 
--- behind a round in which all lanes were quiet; where none gets a tick, only the answer is wanting
+-- after a round in which all lanes were quiet; where none gets a tick, only the answer is wanting
 pub record QuietFront (now : Settling) (part : List SettleEntry) (behind : List LaneState) : Type 0 where
   pub steps : List LaneRound
   pub between : List LaneState

@@ -13,7 +13,7 @@ use Rattle.lanes_settle.specs.Rounds.{LaneRound}
 use Rattle.lanes_settle.specs.Settle.{SettleEntry}
 use Rattle.lanes_settle.specs.Sums.{IsUnforged}
 
--- Behind a settle that ends settled a lane that runs is finished, or had its tick; where nobody forged it, it is finished, and where moreover
+-- After a settle that ends settled a lane that runs is finished, or had its tick; where nobody forged it, it is finished, and where moreover
 -- no packet was lost since the queues were last emptied, both sessions are open and nothing waits.
 pub record EndsFinished (t : LaneState) (had : Bool) : Type 0 where
   pub ticked : t.stopped ≡ false → (is_finished t.client ≡ true) ⊎ (had ≡ true)
@@ -30,7 +30,7 @@ abbrev pub LanesEnd : ℕ → List SettleEntry → List LaneState → Type 0
 LanesEnd j part [] = ⊤
 LanesEnd j part (t ∷ behind) = EndsIn j part t × LanesEnd (j + 1) part behind
 
--- Both ends of a lane are still behind its two steps, but for a stopped server's: in the log of whatever run led to it.
+-- Both ends of a lane are still after its two steps, but for a stopped server's: in the log of whatever run led to it.
 abbrev pub IsStillBehind : LaneState → LaneRound → LaneState → Type 0
 IsStillBehind s r t =
     (shape : Shape) (events : List DiskEvent) → IsShape shape → Run LaneStep (fresh shape) events s

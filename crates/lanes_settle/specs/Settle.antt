@@ -1,4 +1,4 @@
--- A settle over the lanes of disks: rounds, until one in which all lanes are quiet and behind which none gets a tick; and the part of the
+-- A settle over the lanes of disks: rounds, until one in which all lanes are quiet and after which none gets a tick; and the part of the
 -- journal that it gives.
 use Rattle.std.specs.Prelude.{◌≡◌, ◌⊎◌, ℕ, ◌+◌, ◌*◌, ◌<◌, Bool, true, false, ◌&&◌, if◌then◌else◌, List, [], ◌∷◌, ◌++◌, length}
 use Rattle.runs.specs.Run.{Run}
@@ -20,7 +20,7 @@ entry_of k (OnWire (Idle e)) = []
 entry_of k (Turns Off) = []
 entry_of k event = OfLane k event ∷ []
 
--- the entries of a round, and of the ticks behind it, of the lanes from this number on
+-- the entries of a round, and of the ticks after it, of the lanes from this number on
 abbrev pub round_entries : ℕ → List LaneRound → List SettleEntry
 round_entries k [] = []
 round_entries k (r ∷ rounds) = entry_of k r.client ++ entry_of k r.server ++ round_entries (k + 1) rounds
@@ -37,12 +37,12 @@ pub record Settling : Type 0 where
 abbrev pub begin : List LaneState → Settling
 begin lanes = record { lanes = lanes; marks = no_marks lanes }
 
--- a round with the ticks behind it, and what they leave in the journal
+-- a round with the ticks after it, and what they leave in the journal
 pub record SettleRound : Type 0 where
   pub steps : List LaneRound
   pub entries : List SettleEntry
 
--- behind a round in which not all lanes were quiet nothing is done; behind another the ticks
+-- after a round in which not all lanes were quiet nothing is done; after another the ticks
 abbrev pub TicksBehind : Bool → Settling → List LaneRound → List LaneState → List SettleEntry → Settling → Type 0
 TicksBehind false w steps between entries v =
     (v ≡ record { lanes = between; marks = w.marks }) × (entries ≡ round_entries 0 steps)
@@ -50,13 +50,13 @@ TicksBehind true w steps between entries v =
     (some_get_ticks between w.marks ≡ true) × TickLanes between w.marks v.lanes × (v.marks ≡ marked between w.marks)
     × (entries ≡ round_entries 0 steps ++ tick_entries 0 between w.marks)
 
--- A ROUND THAT GOES ON: not all lanes are quiet in it, or behind it some get a tick
+-- A ROUND THAT GOES ON: not all lanes are quiet in it, or after it some get a tick
 pub record GoesOn (w : Settling) (round : SettleRound) (v : Settling) : Type 0 where
   pub between : List LaneState
   pub made : MakeRound w.lanes round.steps between
   pub behind : TicksBehind (are_quiet round.steps) w round.steps between round.entries v
 
--- THE LAST ROUND: all lanes are quiet in it, and behind it none gets a tick
+-- THE LAST ROUND: all lanes are quiet in it, and after it none gets a tick
 pub record IsLast (w : Settling) (steps : List LaneRound) (behind : List LaneState) : Type 0 where
   pub made : MakeRound w.lanes steps behind
   pub quiet : are_quiet steps ≡ true

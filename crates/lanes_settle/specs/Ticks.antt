@@ -1,4 +1,4 @@
--- The ticks of a settle: behind a round in which all lanes are quiet, each lane that isn't finished, whose server runs, and that had no
+-- The ticks of a settle: after a round in which all lanes are quiet, each lane that isn't finished, whose server runs, and that had no
 -- tick in this settle gets one.
 use Rattle.std.specs.Prelude.{◌≡◌, Bool, true, false, ◌||◌, if◌then◌else◌, List, [], ◌∷◌, None, ⊤}
 use Rattle.ldc_queue.specs.declared.end.End.TheVariants.{A}
@@ -33,7 +33,7 @@ TickLanes [] [] [] = ⊤
 TickLanes (s ∷ lanes) (had ∷ marks) (t ∷ behind) = TicksWhere (gets_tick s had) s t × TickLanes lanes marks behind
 TickLanes _ _ _ = ⊥
 
--- which lanes had a tick, behind these
+-- which lanes had a tick, after these
 abbrev pub marked : List LaneState → List Bool → List Bool
 marked (s ∷ lanes) (had ∷ marks) = (had || gets_tick s had) ∷ marked lanes marks
 marked _ _ = []

@@ -37,7 +37,7 @@ pub fn a_settle_of_unforged_lanes_ends_settled()
         → Settles start part behind }
 {}
 
-/// Behind a settle that ends settled each lane that runs is finished, its client's session open and nothing pending, or
+/// After a settle that ends settled each lane that runs is finished, its client's session open and nothing pending, or
 /// had its tick; where nobody forged it, it is finished, also beside lanes that somebody forged; and where moreover no
 /// packet was lost since the queues were last emptied, both sessions are open and nothing waits for either end.
 pub fn running_lanes_are_finished_behind_a_settle()
@@ -49,7 +49,7 @@ pub fn running_lanes_are_finished_behind_a_settle()
         → EachMarked EndsFinished behind now.marks }
 {}
 
-/// Behind a round in which all lanes are quiet each end of every lane is still, but for a stopped server's, also where
+/// After a round in which all lanes are quiet each end of every lane is still, but for a stopped server's, also where
 /// somebody forges packets and memory. So it is at each tick of a settle, and where it ends settled.
 pub fn all_ends_are_still_behind_a_quiet_round()
     ensures { (lanes : List LaneState) (steps : List LaneRound) (behind : List LaneState)

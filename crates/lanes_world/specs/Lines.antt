@@ -91,7 +91,7 @@ pub record AreFirstSteps (turns : List Turn) (part : List SettleEntry) : Type 0 
   pub turns_are : turns ≡ made ++ left
   pub steps : AreSteps made part
 
--- THE PART OF A LINE, over the lanes before it and those behind it
+-- THE PART OF A LINE, over the lanes before it and those after it
 abbrev pub PartOf : Line → List LaneState → List SettleEntry → List LaneState → Type 0
 PartOf Nothing lanes part behind = part ≡ []
 PartOf (Asked k request) lanes part behind = OneEntry k (AnswersRequest request) part
@@ -123,6 +123,6 @@ pub record LineBegins (w : WorldState) (line : Line) (part : List SettleEntry) (
 abbrev pub LineStep : WorldState → Line × List SettleEntry → WorldState → Type 0
 LineStep w line v = LineMoves w line.0 line.1 v
 
--- the journal of a script: the parts of its lines, one behind the other
+-- the journal of a script: the parts of its lines, one after the other
 abbrev pub entries_of : List (Line × List SettleEntry) → List SettleEntry
 entries_of lines = flat_map (λ (line : Line × List SettleEntry). line.1) lines

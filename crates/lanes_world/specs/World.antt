@@ -12,7 +12,7 @@ pub record WorldState : Type 0 where
   pub lanes : List LaneState
   pub image : ImageState
 
--- the image's count of faults behind a call of the store
+-- the image's count of faults after a call of the store
 abbrev pub FaultsAfter : Bool → ℕ → ℕ → Type 0
 FaultsAfter true before now = now ≡ next_count before
 FaultsAfter false before now = now ≡ before

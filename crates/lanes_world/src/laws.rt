@@ -15,7 +15,7 @@ pub fn each_lane_runs_by_its_events()
         → Run WorldStep (fresh_world shapes image) entries w → LanesRun shapes entries w }
 {}
 
-/// A script leads a world line by line: what it leads to is where the world runs by the parts of all lines, one behind
+/// A script leads a world line by line: what it leads to is where the world runs by the parts of all lines, one after
 /// the other.
 pub fn a_script_runs_a_world_by_its_parts()
     ensures { (w : WorldState) (lines : List (Line × List SettleEntry)) (v : WorldState)

@@ -1,4 +1,4 @@
--- The parts that a link takes are those that may come, one behind the other. What it is offered and what is seen of it
+-- The parts that a link takes are those that may come, one after the other. What it is offered and what is seen of it
 -- change nothing of what it follows.
 use Rattle.std.proofs.Common.{◌≡◌, ℕ, true, false, List, [], ◌∷◌, ◌++◌, Ok, Err, sym, ◌∙◌, subst, append-nil}
 use Rattle.std.specs.Prelude.{Result}
@@ -22,7 +22,7 @@ use Rattle.ldc_link.proofs.Following.{parts_more, quiet}
 use Rattle.ldc_link.proofs.Hearing.{heard_step}
 use Rattle.ldc_link.proofs.Spelled.{has_number, has_part, spelled_fragment, spelled_numbered, spelled_part}
 
--- one part more behind those that may come
+-- one part more after those that may come
 may_come_more : (half : List ℕ) (xs : List Fragment) (f : Fragment) → AllMayCome half xs → MayCome (half_in half xs) f
     → AllMayCome half (xs ++ f ∷ [])
 may_come_more half [] f all may = (may, tt)

@@ -110,7 +110,7 @@ seen_whole : (b : Bool) (message : List ℕ) (messages : List (List ℕ)) → se
 seen_whole true message messages = refl
 seen_whole false message messages = refl
 
--- the link behind a part, once its message was seen
+-- the link after a part, once its message was seen
 next_of : LinkState → Fragment → LinkState
 next_of k part = cleared (counted (with_part k part))
 

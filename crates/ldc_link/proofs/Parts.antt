@@ -25,7 +25,7 @@ padded message len is =
 pub zeros_padded : (part : List ℕ) (len : ℕ) → length part ≡ len → drop len (part ++ drop len (replicate 56 0)) ≡ replicate (56 - len) 0
 zeros_padded part len long = drop_at part (drop len (replicate 56 0)) len long ∙ drop-replicate len 56 0
 
--- what is left behind a part
+-- what is left after a part
 pub left_behind : (message : List ℕ) (sent left : ℕ) → sent + left ≡ length message → drop (sent + min left 56) message ≡ drop 56 (drop sent message)
 left_behind message sent left is =
     elim (cases_lt 56 left) [

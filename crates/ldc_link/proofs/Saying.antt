@@ -19,7 +19,7 @@ established : (ph : LinkPhase) → is_established ph ≡ true → ph ≡ phase.E
 established phase.Established up = refl
 established _ up = absurd (cc)
 
--- the link behind the next part
+-- the link after the next part
 pub behind_part : LinkState → LinkState
 behind_part k = record k { phase = phase.Established; put_next = next_number k.put_next; to_send = drop 56 k.to_send; begun = has_more k.to_send }
 

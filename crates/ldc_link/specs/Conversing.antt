@@ -1,4 +1,4 @@
--- What a link does with packets one behind the other, and the messages that are parts of them.
+-- What a link does with packets one after the other, and the messages that are parts of them.
 use Rattle.std.specs.Prelude.{◌≡◌, ℕ, false, List, [], ◌∷◌, length, take, Option, Some, None, ⊤}
 use Rattle.ldc_packet.specs.declared.packet.Body.{Body}
 use Rattle.ldc_packet.specs.declared.packet.Body.TheVariants.{Part, Rdx, Rtr, Rts, Vers}
@@ -29,7 +29,7 @@ abbrev pub carried : List Packet → List Fragment
 carried [] = []
 carried (packet ∷ packets) = fragment_of packet.body ∷ carried packets
 
--- their seqids are n and those behind it, modulo 2^32
+-- their seqids are n and those after it, modulo 2^32
 abbrev pub AreNumbered : ℕ → List Packet → Type 0
 AreNumbered n [] = ⊤
 AreNumbered n (packet ∷ packets) = (packet.seqid ≡ n) × AreNumbered (next_number n) packets

@@ -9,7 +9,7 @@ use Rattle.ldc_link.specs.declared.phase.LinkPhase.{LinkPhase}
 use Rattle.ldc_link.specs.declared.phase.LinkPhase.TheVariants as phase
 use Rattle.ldc_link.specs.LinkState.{LinkState, next_number}
 
--- a part has up to 56 bytes, and zeros behind them
+-- a part has up to 56 bytes, and zeros after them
 abbrev pub part_bytes : List ℕ → List ℕ
 part_bytes message = take 56 message ++ replicate (56 - length message) 0
 
@@ -66,7 +66,7 @@ owes_in _ = false
 abbrev pub owes_control : LinkState → Bool
 owes_control k = owes_in k.phase
 
--- the phase behind the packet of the handshake
+-- the phase after the packet of the handshake
 abbrev pub phase_behind_put : LinkPhase → LinkPhase
 phase_behind_put phase.OwesVersInfo = phase.AwaitsVersAck
 phase_behind_put phase.OwesRts = phase.AwaitsRtr
@@ -90,7 +90,7 @@ abbrev pub begun_behind_put : LinkPhase → List ℕ → Bool → Bool
 begun_behind_put phase.Established message begun = has_more message
 begun_behind_put _ message begun = begun
 
--- the link behind putting what it owes
+-- the link after putting what it owes
 abbrev pub behind_put : LinkState → LinkState
 behind_put k = record k {
   phase = phase_behind_put k.phase;
@@ -103,6 +103,6 @@ abbrev pub with_link : Option Packet → LinkState → Option (Packet × LinkSta
 with_link None k = None
 with_link (Some packet) k = Some (packet, k)
 
--- what is put next, if anything, and the link behind it
+-- what is put next, if anything, and the link after it
 abbrev pub link_puts : LinkState → Option (Packet × LinkState)
 link_puts k = with_link (owed_packet k) (behind_put k)

@@ -20,7 +20,7 @@ pub data LinkTake : Type 0 where
   Heard : LinkState → LinkTake
   Unheard : Cause → LinkTake
 
--- The phase behind a control packet, or why it isn't taken. Version 1.0 is offered and agreed on; an offer with another major is
+-- The phase after a control packet, or why it isn't taken. Version 1.0 is offered and agreed on; an offer with another major is
 -- refused with the major that could be agreed on, or 0.
 abbrev pub answer_to : ℕ → LinkPhase
 answer_to major = if nat_eq major 1 then phase.OwesVersAck else if nat_eq major 0 then phase.OwesVersNack 0 else phase.OwesVersNack 1
@@ -97,7 +97,7 @@ takes_body k subtype seqid Rdx = in_turn k seqid (goes_to k (phase_behind_rdx k.
 takes_body k subtype seqid (Part start stop len bytes) =
     in_turn k seqid (takes_part k (record { start = start; stop = stop; bytes = take len bytes }))
 
--- the link behind a packet, or why it isn't taken
+-- the link after a packet, or why it isn't taken
 abbrev pub link_take : LinkState → Packet → LinkTake
 link_take k packet = takes_body k packet.subtype packet.seqid packet.body
 

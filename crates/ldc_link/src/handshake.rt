@@ -29,7 +29,7 @@ pub(crate) fn first_phase(role: Role) -> LinkPhase
 }
 
 impl LinkPhase {
-    /// The phase behind a version that was offered or answered.
+    /// The phase after a version that was offered or answered.
     pub(crate) fn take_vers(
         self,
         subtype: Subtype,
@@ -48,7 +48,7 @@ impl LinkPhase {
         }
     }
 
-    /// The phase behind RTS.
+    /// The phase after RTS.
     pub(crate) fn take_rts(self, subtype: Subtype, mode: u8) -> Result<LinkPhase, Cause>
         ensures { result ≡ in_mode mode (phase_behind_rts self subtype) }
     {
@@ -59,7 +59,7 @@ impl LinkPhase {
         }
     }
 
-    /// The phase behind RTR.
+    /// The phase after RTR.
     pub(crate) fn take_rtr(self, subtype: Subtype, mode: u8) -> Result<LinkPhase, Cause>
         ensures { result ≡ in_mode mode (phase_behind_rtr self subtype) }
     {
@@ -70,7 +70,7 @@ impl LinkPhase {
         }
     }
 
-    /// The phase behind RDX.
+    /// The phase after RDX.
     pub(crate) fn take_rdx(self, subtype: Subtype) -> Result<LinkPhase, Cause>
         ensures { result ≡ phase_behind_rdx self subtype }
     {
@@ -80,7 +80,7 @@ impl LinkPhase {
         }
     }
 
-    /// The phase behind putting the packet that is owed.
+    /// The phase after putting the packet that is owed.
     pub(crate) fn put(self) -> LinkPhase
         ensures { result ≡ phase_behind_put self }
     {

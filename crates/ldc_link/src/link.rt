@@ -326,7 +326,7 @@ impl Link {
         }
     }
 
-    // The link behind putting what it owes.
+    // The link after putting what it owes.
     fn note_put(&mut self)
         ensures { self.new ≡ behind_put self.old }
     {

@@ -97,7 +97,7 @@ impl Link {
         Ok(())
     }
 
-    // The phase behind a control packet that is taken.
+    // The phase after a control packet that is taken.
     fn go(&mut self, behind: Result<LinkPhase, Cause>) -> Result<(), Cause>
         ensures exact { answer_of result self.new ≡ goes_to self.old behind }
         ensures unchanged { OnErr result (self.new ≡ self.old) }

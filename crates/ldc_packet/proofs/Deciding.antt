@@ -53,7 +53,7 @@ control bytes s some most (inr above) (inl rts) _ = (Rts (env_at bytes), refl, t
 control bytes s some most (inr _) (inr above) (inl rtr) = (Rtr (env_at bytes), refl, tt, (omega (arith, above, rtr), refl))
 control bytes s some most (inr _) (inr _) (inr above) = (Rdx, refl, tt, omega (arith, above, most))
 
--- a data packet is a part: its bytes, and zeros behind them
+-- a data packet is a part: its bytes, and zeros after them
 data_part : (bytes : List ℕ) → length bytes ≡ 64 → env_at bytes < 256 → 1 ≤ env_at bytes % 64 → env_at bytes % 64 ≤ 56 → HasBody Info 2 bytes
 data_part bytes long fits some most =
     let env : ℕ = env_at bytes in

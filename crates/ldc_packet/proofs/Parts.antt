@@ -34,7 +34,7 @@ part_unpacks bytes head size kind subtype env seqid some within room =
       fault = tt;
     }
 
--- what is left of zeros behind a part
+-- what is left of zeros after a part
 pub zeros_left : (len : ℕ) (bytes : List ℕ) → drop 8 bytes ≡ replicate 56 0
     → drop (8 + len) bytes ≡ replicate (56 - len) 0
 zeros_left len bytes zeros = sym (drop-drop len 8 bytes) ∙ ap (drop len) zeros ∙ drop-replicate len 56 0

@@ -5,7 +5,7 @@ use Rattle.std.proofs.lemmas.Nat.{and_mask}
 use Rattle.std.proofs.lemmas.Nat.Bits.{and_pow}
 use Rattle.ldc_packet.specs.Spelling.{flag, part_env}
 
--- zeros stay behind what was copied into the front of a list of zeros
+-- zeros stay after what was copied into the front of a list of zeros
 pub zeros_behind : (len : ℕ) (part rest : List ℕ) → length part ≡ len → rest ≡ drop len (replicate 56 0)
     → drop len (part ++ rest) ≡ replicate (56 - len) 0
 zeros_behind len part rest long is = drop_at part rest len long ∙ is ∙ drop-replicate len 56 0

@@ -118,7 +118,7 @@ fn part(bytes: &[u8; 64]) -> Option<Body>
     })
 }
 
-// The first `len` bytes of the payload, and zeros behind them.
+// The first `len` bytes of the payload, and zeros after them.
 fn part_bytes(bytes: &[u8; 64], len: usize) -> [u8; 56]
     requires { len ≤ 56 }
     ensures room { length result ≡ 56 }

@@ -1,4 +1,4 @@
--- The parts that may come, one behind the other, are those of the messages that they make, and no others.
+-- The parts that may come, one after the other, are those of the messages that they make, and no others.
 use Rattle.std.proofs.Common.{◌≡◌, ℕ, ◌≤◌, Bool, true, false, List, [], ◌∷◌, ◌++◌, length, refl, sym, ap, ◌∙◌, subst, append_assoc, append-nil, arith, length-append}
 use Rattle.std.specs.Prelude.{◌↔◌}
 use Rattle.ldc_queue.specs.Fragments.{AreFlagged, AreParts, Fragment, FragmentsOf, joined}

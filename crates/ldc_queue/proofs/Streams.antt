@@ -16,7 +16,7 @@ use Rattle.ldc_queue.specs.Wire.{peer_behind, peer_of, queue_behind, state_of, u
 pub one_turn : (place gone : ℕ) → gone < 4294967296 → (place + gone + 1) % 4294967296 ≡ (place + 1) % 4294967296 → gone ≡ 0
 one_turn place gone few same = omega (arith, few, same)
 
--- the numbered packets of lists, one behind the other
+-- the numbered packets of lists, one after the other
 kept-append : (b : Bool) (packet : List ℕ) (xs ys : List (List ℕ)) → kept b packet (xs ++ ys) ≡ kept b packet xs ++ ys
 kept-append true packet xs ys = refl
 kept-append false packet xs ys = refl

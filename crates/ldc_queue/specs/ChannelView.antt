@@ -41,7 +41,7 @@ HasRoom e c = length (waiting_for e c.wire) + 1 < c.entries
 abbrev pub IsFull : End → ChannelView → Type 0
 IsFull e c = length (waiting_for e c.wire) + 1 ≡ c.entries
 
--- a place behind configuring an end that was in the state
+-- a place after configuring an end that was in the state
 abbrev pub place_behind : ChannelState → ℕ → ℕ
 place_behind Up place = 0
 place_behind Down place = place

@@ -8,7 +8,7 @@ pub record Fragment : Type 0 where
   pub stop : Bool
   pub bytes : List ℕ
 
--- their bytes, one behind the other
+-- their bytes, one after the other
 abbrev pub joined : List Fragment → List ℕ
 joined [] = []
 joined (fragment ∷ fragments) = fragment.bytes ++ joined fragments

@@ -60,7 +60,7 @@ pub record FrontOf (half : List ℕ) (fragments : List Fragment) : Type 0 where
   pub parts : AreParts fragments
   pub flags : AreFrontFlagged true fragments
 
--- the parts are those of the messages, one message behind the other, and the first ones of a further message
+-- the parts are those of the messages, one message after the other, and the first ones of a further message
 abbrev pub AreCutFrom : List Fragment → List (List ℕ) → List ℕ → Type 0
 AreCutFrom fragments [] half = FrontOf half fragments
 AreCutFrom fragments (message ∷ messages) half =

@@ -29,7 +29,7 @@ lost_for B l = l.lost_b
 abbrev pub nothing_yet : QueueLog
 nothing_yet = record { wire = fresh_wire; talk_a = []; talk_b = []; lost_a = 0; lost_b = 0 }
 
--- a count of lost packets behind configuring an end that was in the state, and behind taking a packet
+-- a count of lost packets after configuring an end that was in the state, and after taking a packet
 abbrev pub lost_behind : ChannelState → ℕ → ℕ
 lost_behind Up lost = 0
 lost_behind Down lost = lost
@@ -39,7 +39,7 @@ abbrev pub lost_past : List (List ℕ) → ℕ → ℕ
 lost_past [] lost = lost
 lost_past (packet ∷ packets) lost = 0
 
--- the log behind one more event
+-- the log after one more event
 abbrev pub after : QueueLog → QueueEvent → QueueLog
 after l (Join A) = record {
   wire = configured A l.wire;
@@ -79,7 +79,7 @@ IsFirst packet waiting = waiting ≡ packet ∷ drop 1 waiting
 
 -- Where an event may stand at a channel of two links that nobody forges. The ends that put and take are up; what is taken or lost
 -- has waited longest; the numbered packets that an end put, and those that it took, count up from 1 since it was configured; of
--- two numbered ones that it takes one behind the other fewer than 2^32 between them were lost.
+-- two numbered ones that it takes one after the other fewer than 2^32 between them were lost.
 abbrev pub MayStand : QueueLog → QueueEvent → Type 0
 MayStand l (Join e) = ⊤
 MayStand l (Close e) = ⊤
@@ -92,7 +92,7 @@ MayStand l (Take e packet) =
 MayStand l (Lose e packet) = IsFirst packet (waiting_for e l.wire)
 MayStand l (Forge e packet) = ⊥
 
--- the log of a list of events that begins at a log, and that each may stand behind those before it
+-- the log of a list of events that begins at a log, and that each may stand after those before it
 abbrev pub log_of : QueueLog → List QueueEvent → QueueLog
 log_of l [] = l
 log_of l (event ∷ events) = log_of (after l event) events

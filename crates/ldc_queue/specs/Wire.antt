@@ -38,7 +38,7 @@ upset Up = Resetting
 upset Down = Down
 upset Resetting = Resetting
 
--- the other end, and a queue, behind configuring an end that was in the first state: only one that was `Up` gives anything up
+-- the other end, and a queue, after configuring an end that was in the first state: only one that was `Up` gives anything up
 abbrev pub peer_behind : ChannelState → ChannelState → ChannelState
 peer_behind Up peer = upset peer
 peer_behind Down peer = peer

@@ -94,7 +94,7 @@ impl Queue {
         (self.head + PACKET * self.len()) % (PACKET * self.entries)
     }
 
-    /// Puts a packet behind those that wait.
+    /// Puts a packet after those that wait.
     pub(crate) fn push(&mut self, packet: &[u8; 64]) -> Result<(), Full>
         ensures variant { IsOk result ↔ (length self.old.packets + 1 < self.old.entries) }
         ensures full { OnErr result (length self.old.packets + 1 ≡ self.old.entries) }

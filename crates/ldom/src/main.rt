@@ -27,7 +27,7 @@ fn main(rt: HostRuntime) -> ExitCode {
     ExitCode::from(outcome.status.number())
 }
 
-// The words behind the program's name. Words that are no text are none of the program's: they count as no words.
+// The words after the program's name. Words that are no text are none of the program's: they count as no words.
 fn words_of<R: Env + AllocGlobal>(rt: &R) -> Result<Vec<String>, AllocError> {
     let mut words = Vec::new(rt.alloc());
     let args = match env::args(rt) {

@@ -28,7 +28,7 @@ request_text (Read block count) = codes " read " ++ range_text block count
 request_text (Write block count fill) = codes " write " ++ range_text block count ++ codes " " ++ encode_lower (take fill.len fill.bytes)
 request_text Flush = codes " flush"
 
--- the kind of an entry and its end, and bytes behind them
+-- the kind of an entry and its end, and bytes after them
 abbrev pub bytes_text : List ℕ → List DiskDecl → EndName → List ℕ → List ℕ
 bytes_text kind disks e bytes = end_text kind disks e ++ codes " " ++ encode_lower bytes
 
@@ -58,7 +58,7 @@ reset_text mode disks e cause packet lost = end_text (codes "reset ") disks e ++
 abbrev pub done_text : List DiskDecl → ℕ → ℕ → ℕ → ℕ → List ℕ
 done_text disks disk id operation status = id_text (codes "done ") disks disk id ++ codes " " ++ operation_word operation ++ codes " " ++ decimal status
 
--- what stands behind a completion: the words of its blocks after a read with status 0
+-- what stands after a completion: the words of its blocks after a read with status 0
 abbrev pub read_text : Entry → List ℕ
 read_text (entry.Done disk id operation status bytes) = if (operation == 1) && (status == 0) then blocks_text bytes.items else []
 read_text other = []

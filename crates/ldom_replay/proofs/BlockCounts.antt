@@ -3,7 +3,7 @@ use Rattle.std.proofs.Common.{◌≡◌, ℕ, ◌+◌, zero, suc, List, [], ◌�
 use Rattle.domain_script.specs.declared.event.DiskDecl.{DiskDecl}
 use Rattle.world_parts.specs.Declared.{blocks_of}
 
--- those of the disk with this number, and those behind it
+-- those of the disk with this number, and those after it
 behind_one : (disks : List DiskDecl) (k : ℕ) (disk : DiskDecl) → Some disk ≡ slice_get disks k → blocks_of (drop k disks) ≡ disk.blocks + blocks_of (drop (suc k) disks)
 behind_one [] k disk is = absurd (cc is)
 behind_one (first ∷ disks) zero disk is = let same : first ≡ disk = cc is in ap (λ (d : DiskDecl). d.blocks + blocks_of disks) same

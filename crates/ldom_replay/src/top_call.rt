@@ -42,7 +42,7 @@ pub struct Outcome<D: Store> {
     pub journal: Journal,
     pub image: Option<D>,
 
-    /// The lanes of the script's disks as they stand behind its last step, by their numbers in the order of
+    /// The lanes of the script's disks as they stand after its last step, by their numbers in the order of
     /// declaration, where it was run over an image.
     pub lanes: Option<Lanes>,
 }

@@ -17,7 +17,7 @@ fn script_of(alloc: Global, steps: u32, line: &str) -> Result<String, AllocError
     Ok(script)
 }
 
-/// Both requests complete once, in order, whatever disturbs them behind so many steps; beside that ends are reset.
+/// Both requests complete once, in order, whatever disturbs them after so many steps; beside that ends are reset.
 fn completes(rt: &impl Abort, alloc: Global, steps: u32, line: &str) -> Result<(), Fail> {
     let script = script_of(alloc, steps, line)?;
     let replayed = run_words(alloc, &["run", "-"], script.as_bytes())?;

@@ -9,7 +9,7 @@ use vio_io::Store;
 /// A script, and the report of its run.
 type Row = (&'static str, &'static str);
 
-/// Replays each script, and compares its report. All end well, and the lanes of their disks stand behind them.
+/// Replays each script, and compares its report. All end well, and the lanes of their disks stand after them.
 fn compare_runs(rt: &impl Abort, alloc: Global, rows: &[Row]) -> Result<(), Fail> {
     for (script, report) in rows {
         let outcome = compare(rt, alloc, &["run", "-"], script.as_bytes(), report, 0)?;
@@ -71,7 +71,7 @@ fn resets_stops_and_restarts(rt: HostRuntime) -> Result<(), Fail> {
                 "disk d0 64 8 16\nwrite d0 0 64 ab\nround 29\nrestart d0.s\nsettle\n",
                 "reset d0.s restart\ndone d0 0 write 0\nsettled\nend lines=5 accepted=1 done=1 pending=0 resets=1 frames=0 status=0\n",
             ),
-            // A read that was read before a reset is read again, behind a write that came after it.
+            // A read that was read before a reset is read again, after a write that came after it.
             (
                 "disk d0 64 8 16\nread d0 0 1\nround 24\nwrite d0 0 1 ab\nstep d0.c 2\nstep d0.s 20\nreset d0.c\nsettle\n",
                 "reset d0.c asked\ndone d0 0 read 0 *ab\ndone d0 1 write 0\nsettled\nend lines=8 accepted=2 done=2 pending=0 resets=1 frames=0 status=0\n",

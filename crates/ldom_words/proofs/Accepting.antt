@@ -88,7 +88,7 @@ shape_at _ _ = new_shape []
 abbrev shape_of : OverImage → Shape
 shape_of over = shape_at over (built program_app).subs
 
--- the walk over the one word behind its name, by what was met
+-- the walk over the one word after its name, by what was met
 abbrev image_walk : OverImage → Text → Held × Step → Walk
 image_walk over word met = after_step (shape_of over).rules word (walk_from nothing_held) met.0 met.1
 

@@ -1,4 +1,4 @@
--- A journal with the entries that were added to it: none, one, and some behind others.
+-- A journal with the entries that were added to it: none, one, and some after others.
 use Rattle.std.proofs.Common.{◌≡◌, Option, Some, List, [], ◌∷◌, ◌++◌, refl, sym, ap, ap₂, ◌∙◌, append_assoc, append-nil}
 use Rattle.lanes_settle.specs.Settle.{SettleEntry}
 use Rattle.lanes_world.specs.Lines.{Line}

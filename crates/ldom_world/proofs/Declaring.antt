@@ -1,4 +1,4 @@
--- The lanes of declared disks, one behind another, and the world that they make.
+-- The lanes of declared disks, one after another, and the world that they make.
 use Rattle.std.proofs.Common.{◌≡◌, ℕ, zero, suc, ◌+◌, ◌*◌, ◌≤◌, Some, None, List, [], ◌∷◌, ◌++◌, length, map, take, slice_get, refl, sym, ap, subst, ◌∙◌, arith}
 use Rattle.std.proofs.lemmas.List.{length-append, take_all}
 use Rattle.disk_steps.specs.LaneState.{IsShape, LaneState, Shape, fresh}
@@ -21,7 +21,7 @@ disk_shape first disk is = record {
   entries = is.queue_power;
 }
 
--- ONE MORE DISK behind others
+-- ONE MORE DISK after others
 blocks_both : (first blocks rest : ℕ) → (first + blocks) + rest ≡ first + (blocks + rest)
 blocks_both first blocks rest = omega (arith)
 

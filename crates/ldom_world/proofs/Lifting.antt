@@ -116,7 +116,7 @@ end_steps in_settle w v k e s t old calm new j there at is = record {
   leaves = at.leaves;
 }
 
--- one that is recorded, behind a journal with these entries
+-- one that is recorded, after a journal with these entries
 module _ (k : ℕ) (event : DiskEvent) (old new : JournalState) (first : List Entry) (same : old.entries ≡ first) where
   put_behind : (put : Records k event old new) → new.entries ≡ first ++ put.entry ∷ []
   put_behind put = put.puts.entries ∙ ap (λ (l : List Entry). l ++ put.entry ∷ []) same

@@ -26,7 +26,7 @@ lane_there w lanes image k s is within at =
     subst (λ (l : List LaneState). slice_get l k ≡ Some s) same
     (there_at lanes k s (subst (λ (l : List LaneState). k < length l) (sym same) within) at)
 
--- and the world behind a call of it
+-- and the world after a call of it
 pub one_set : (w : WorldState) (lanes : List LaneState) (image behind : ImageState) (k : ℕ) (t : LaneState)
     → over lanes image ≡ w
     → over (slice_set lanes k t) behind ≡ over (slice_set w.lanes k t) behind

@@ -1,4 +1,4 @@
--- A journal in a settle: each turn adds its own entries behind those of the turns before.
+-- A journal in a settle: each turn adds its own entries after those of the turns before.
 use Rattle.std.proofs.Common.{◌≡◌, ℕ, ◌+◌, ◌<◌, ◌≤◌, Bool, true, false, Some, Result, Ok, Err, List, [], ◌∷◌, ◌++◌, length, replicate, take, slice_get, slice_set, refl, sym, subst, arith}
 use Rattle.std.specs.Prelude.{◌&&◌, ◌||◌, OnErr}
 use Rattle.ldc_queue.specs.declared.end.End.{End}
@@ -23,7 +23,7 @@ use Rattle.ldom_world.proofs.Adding.{both_add, none_adds, one_adds}
 use Rattle.world_parts.specs.Parts.{Adds, Fits, FitsSoFar, MakesQuietStep}
 use Rattle.ldom_world.specs.SettleParts.{Grew, NamesAdd, NamesAddFront, NamesGoOn, RoundAdds, RoundAddsFront, RoundBreaks, RoundGoesOn, RoundsAdd, TicksAdd, TicksAddFront, TicksGoOn, TurnBreaks, TurnGoesOn}
 
--- A JOURNAL that grew by nothing, by more behind others, and by what else it may be taken for
+-- A JOURNAL that grew by nothing, by more after others, and by what else it may be taken for
 pub none_grew : (Holds : List SettleEntry → Type 0) (old : List Entry) → Holds [] → Grew Holds old old
 none_grew Holds old holds = record { entries = []; adds = none_adds script.Settles old old refl; holds = holds }
 

@@ -1,4 +1,4 @@
-// A settle: rounds, until one in which all lanes are quiet and behind which none gets a tick.
+// A settle: rounds, until one in which all lanes are quiet and after which none gets a tick.
 
 ghost use Rattle.std.specs.Prelude.{◌≡◌, ◌&&◌, ◌*◌, ◌<◌, ◌≤◌, ◌^◌, length, not, slice_get, slice_set, take, Some, IfOk, OnErr, OnOk};
 ghost use Rattle.disk_steps.specs.LaneState.{LaneState};
@@ -41,7 +41,7 @@ impl<D: Store> World<D> {
         self.name_left(&quiet, journal)
     }
 
-    /// One round of a settle, with the ticks behind it where all lanes were quiet. Tells whether the settle ended: then
+    /// One round of a settle, with the ticks after it where all lanes were quiet. Tells whether the settle ended: then
     /// the journal has its answer.
     #[tactic(auto, using(crate::proofs::SettlingAdds::turn_is_loud, crate::proofs::SettlingAdds::turn_ticks))]
     fn settle_turn(

@@ -14,7 +14,7 @@ use vio_bytes::NoMemory;
 use vio_io::Store;
 
 /// The lanes of a script's disks, by their numbers in the order of declaration, and the image that all of them are
-/// served from: each disk is a region of it, one behind another.
+/// served from: each disk is a region of it, one after another.
 #[derive(Drop)]
 pub struct World<D: Store> {
     pub(crate) alloc: Global,
@@ -41,7 +41,7 @@ impl<D: Store> Model for World<D> {
 }
 
 impl<D: Store> World<D> {
-    /// The world of these declarations over an image that holds all their blocks: the disks stand in it one behind
+    /// The world of these declarations over an image that holds all their blocks: the disks stand in it one after
     /// another. Where memory is wanted the image is given back.
     pub fn new(alloc: Global, names: &Names, image: D) -> Result<Self, (NoMemory, D)>
         requires image { bytes_needed names.now.disks ≤ D.size image }

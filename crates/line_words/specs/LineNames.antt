@@ -33,7 +33,7 @@ who_name disks (OfEnd e) = end_name disks e
 abbrev pub id_text : List ℕ → List DiskDecl → ℕ → ℕ → List ℕ
 id_text kind disks disk id = kind ++ disk_name disks disk ++ codes " " ++ decimal id
 
--- the kind of an entry and its end; and a number behind them
+-- the kind of an entry and its end; and a number after them
 abbrev pub end_text : List ℕ → List DiskDecl → EndName → List ℕ
 end_text kind disks e = kind ++ end_name disks e
 

@@ -8,7 +8,7 @@ use Rattle.domain_script.specs.declared.event.Side.TheVariants.{Client, Server}
 use Rattle.ldom_entries.specs.declared.entry.Why.{Why}
 use Rattle.ldom_entries.specs.declared.entry.Why.TheVariants.{Count, Range}
 
--- what stands behind a lane's name for an end: `.c` is the client's, `.s` the server's
+-- what stands after a lane's name for an end: `.c` is the client's, `.s` the server's
 abbrev pub side_text : Side → List ℕ
 side_text Client = codes ".c"
 side_text Server = codes ".s"
@@ -32,7 +32,7 @@ abbrev pub failed_word : Bool → List ℕ
 failed_word true = codes "failed"
 failed_word false = codes "ok"
 
--- behind a packet by which the session opened
+-- after a packet by which the session opened
 abbrev pub opens_text : Bool → List ℕ
 opens_text true = codes " opens"
 opens_text false = []

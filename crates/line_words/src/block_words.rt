@@ -8,7 +8,7 @@ use gathered_text::{TEXT_ROOM, Text};
 use ldom_entries::{Bytes, shortest_word};
 use vio_io::{Failed, Sink};
 
-/// The most bytes of a word's text, a space, `*` and two digits for each byte of a block, and one for what comes behind.
+/// The most bytes of a word's text, a space, `*` and two digits for each byte of a block, and one for what comes after.
 const WORD_ROOM: usize = 1027;
 
 /// Puts the text of a word.

@@ -17,7 +17,7 @@ fn push_two(text: &mut Text, first: &[u8], second: &[u8])
     text.push(second);
 }
 
-/// A number behind its name.
+/// A number after its name.
 fn push_one(text: &mut Text, name: &[u8], number: u64)
     requires { length text.old + length name.now + 20 ≤ TEXT_ROOM }
     ensures text { text.new ≡ text.old ++ name.now ++ decimal number }
@@ -27,7 +27,7 @@ fn push_one(text: &mut Text, name: &[u8], number: u64)
     text.push_number(number);
 }
 
-/// Two numbers, each behind its name.
+/// Two numbers, each after its name.
 fn push_numbers(text: &mut Text, first: &[u8], a: u64, second: &[u8], b: u64)
     requires { length text.old + length first.now + length second.now + 40 ≤ TEXT_ROOM }
     ensures text { text.new ≡ text.old ++ numbers first.now a second.now b }

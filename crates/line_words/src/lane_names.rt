@@ -58,7 +58,7 @@ impl LaneNames {
     }
 }
 
-/// Bytes, and others behind them.
+/// Bytes, and others after them.
 fn joined(front: &[u8], behind: &[u8]) -> ShortText
     requires { length front.now + length behind.now ≤ SHORT_ROOM }
     ensures { result ≡ front.now ++ behind.now }

@@ -9,7 +9,7 @@ use domain_script::Side;
 use ldom_entries::Why;
 use vdisk_msg::{VD_OP_BREAD, VD_OP_BWRITE, VD_OP_FLUSH};
 
-/// What stands behind a lane's name for an end.
+/// What stands after a lane's name for an end.
 pub fn side_word(side: Side) -> &'static [u8]
     ensures bytes { result.now ≡ side_text side }
     ensures short { length result.now ≤ 2 }
@@ -46,7 +46,7 @@ pub fn operation_word(operation: u8) -> &'static [u8]
     }
 }
 
-/// What stands behind a packet by which a session opened, if it did.
+/// What stands after a packet by which a session opened, if it did.
 pub fn opens_word(opens: bool) -> &'static [u8]
     ensures bytes { result.now ≡ opens_text opens }
     ensures short { length result.now ≤ 6 }

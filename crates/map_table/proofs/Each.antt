@@ -17,7 +17,7 @@ pub each_replicate : {A : Type 0} (P : A → Type 0) (n : ℕ) (x : A) → P x �
 each_replicate P zero x holds = tt
 each_replicate P (suc n) x holds = (holds, each_replicate P n x holds)
 
--- it holds of the front and of what is behind it
+-- it holds of the front and of what is after it
 pub each_of_both : {A : Type 0} (P : A → Type 0) (n : ℕ) (xs : List A) → AllByRecursion P (take n xs) → AllByRecursion P (drop n xs) → AllByRecursion P xs
 each_of_both {A} P n xs front behind =
     subst (λ (ys : List A). AllByRecursion P ys) (take-append-drop n xs) (each_append P (take n xs) (drop n xs) front behind)

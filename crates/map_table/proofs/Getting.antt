@@ -29,7 +29,7 @@ cookies_by_place cookies at count bytes len each =
     same_lists cookies (cookies_at at count bytes) (omega (arith, length-cookies_at at count bytes))
     (λ k d below. let inside : k < count = omega arith in each k d inside ∙ sym (get_or-cookies_at at count bytes k d inside))
 
--- a number that stands behind a front
+-- a number that stands after a front
 number_behind : (front rest : List ℕ) (at width value : ℕ) → length front ≡ at → value < 256 ^ width
     → number_at width at (front ++ (big_bytes width value ++ rest)) ≡ value
 number_behind front rest at width value long fits =

@@ -1,4 +1,4 @@
--- One piece of bytes put behind another.
+-- One piece of bytes put after another.
 use Rattle.std.proofs.Common.{◌≡◌, ℕ, ◌+◌, ◌*◌, ◌<◌, ◌≤◌, List, [], ◌∷◌, ◌++◌, length, get_or, take, drop, refl, sym, ap, ◌∙◌, arith}
 use Rattle.std.proofs.lemmas.List.{append_assoc, append-nil, drop-drop, drop_all, drop_at, length-append, length-take-le, take_at, take_more}
 use Rattle.std.proofs.lemmas.List.Concat.{flat_map-append}
@@ -6,7 +6,7 @@ use Rattle.vio_bytes.specs.Place.{put_at}
 use Rattle.map_table.specs.Cookies.{cookie_bytes, cookies_bytes}
 use Rattle.map_table.specs.declared.cookie.Cookie.{Cookie}
 
--- a piece and the one behind it are one piece
+-- a piece and the one after it are one piece
 pub put_both : (at next : ℕ) (a b bytes one two : List ℕ) → one ≡ put_at at a bytes → two ≡ put_at next b one
     → next ≡ at + length a → next ≤ length bytes → two ≡ put_at at (a ++ b) bytes
 put_both at next a b bytes one two is_one is_two place room =
@@ -23,7 +23,7 @@ put_both at next a b bytes one two is_one is_two place room =
     ∙ append_assoc (take at bytes) a (b ++ drop (at + length (a ++ b)) bytes)
     ∙ ap (λ (xs : List ℕ). take at bytes ++ xs) (sym (append_assoc a b (drop (at + length (a ++ b)) bytes)))
 
--- a piece that is put behind what was written to the front
+-- a piece that is put after what was written to the front
 pub put_behind : (at : ℕ) (front piece bytes new : List ℕ) → length front ≡ at
     → new ≡ put_at at piece (front ++ drop at bytes)
     → new ≡ front ++ (piece ++ drop (at + length piece) bytes)
@@ -37,7 +37,7 @@ put_behind at front piece bytes new long is =
     ∙ ap (λ (xs : List ℕ). xs ++ (piece ++ drop (at + length piece) (front ++ drop at bytes))) head
     ∙ ap (λ (xs : List ℕ). front ++ (piece ++ xs)) behind
 
--- the same where nothing is left behind the piece
+-- the same where nothing is left after the piece
 pub put_last : (at : ℕ) (front piece bytes new : List ℕ) → length front ≡ at → length bytes ≡ at + length piece
     → new ≡ put_at at piece (front ++ drop at bytes) → new ≡ front ++ piece
 put_last at front piece bytes new long room is =

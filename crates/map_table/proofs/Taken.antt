@@ -6,7 +6,7 @@ use Rattle.std.specs.List.{position, position_or_len}
 use Rattle.map_table.specs.Table.{KeepsTaken, first_free}
 use Rattle.map_table.specs.declared.table.Entry.{Entry}
 
--- behind those that are taken the first free one is the same
+-- after those that are taken the first free one is the same
 pub taken_behind : {X : Type 0} (table : List (Option X)) (taken : ℕ) → taken ≤ position_or_len is_none table
     → position_or_len is_none table ≡ taken + position_or_len is_none (drop taken table)
 taken_behind table zero below = omega arith
@@ -43,7 +43,7 @@ raised : (test : Bool) (by index : ℕ) → cond test (Some (by + index)) None �
 raised true by index = refl
 raised false by index = refl
 
--- so it is found behind them, with as many before it
+-- so it is found after them, with as many before it
 pub first_behind : {X : Type 0} (table : List (Option X)) (taken : ℕ) → taken ≤ length table → taken ≤ position_or_len is_none table
     → position is_none table ≡ option_map (λ (k : ℕ). taken + k) (position is_none (take (length table - taken) (drop taken table)))
 first_behind {X} table taken within below =

@@ -128,7 +128,7 @@ impl MapTable {
     }
 }
 
-// The first free entry, looked for behind those that are taken.
+// The first free entry, looked for after those that are taken.
 fn first_free_behind(entries: &[Option<Entry>], taken: usize) -> Option<usize>
     requires within { taken ≤ length entries.now }
     requires taken { TakenBelow taken entries.now }

@@ -3,12 +3,12 @@ use Rattle.std.specs.Prelude.{◌≡◌, List, [], ◌∷◌, ◌++◌, refl, �
 use Rattle.std.proofs.Common.{subst}
 use Rattle.runs.specs.Run.{Run}
 
--- the log behind events
+-- the log after events
 abbrev pub log_of : {L E : Type 0} → (L → E → L) → L → List E → L
 log_of after l [] = l
 log_of after l (e ∷ es) = log_of after (after l e) es
 
--- each event may stand behind those before it
+-- each event may stand after those before it
 abbrev pub Lawful : {L E : Type 0} → (L → E → Type 0) → (L → E → L) → L → List E → Type 0
 Lawful May after l [] = ⊤
 Lawful May after l (e ∷ es) = May l e × Lawful May after (after l e) es
@@ -23,7 +23,7 @@ run_lawful {S} {L} {E} Step May after Agrees step s t l (e ∷ es) agrees run =
     let rest = run_lawful Step May after Agrees step run.0 t (after l e) es first.1 run.2 in
     ((first.0, rest.0), rest.1)
 
--- the log behind two lists of events
+-- the log after two lists of events
 pub log_append : {L E : Type 0} (after : L → E → L) (l : L) (before behind : List E) → log_of after l (before ++ behind) ≡ log_of after (log_of after l before) behind
 log_append after l [] behind = refl
 log_append after l (e ∷ before) behind = log_append after (after l e) before behind

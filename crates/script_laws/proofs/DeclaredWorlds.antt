@@ -48,7 +48,7 @@ pub lines_told : (w : WorldState) (lines : List (Event × List Entry)) (v : Worl
 lines_told w [] v run = run
 lines_told w (line ∷ lines) v run = (run.0, line_told w line run.0 run.1, lines_told run.0 lines v run.2)
 
--- and all of them: their parts, one behind the other
+-- and all of them: their parts, one after the other
 pub told_is : (lines : List (Event × List Entry)) → told lines ≡ world.entries_of (map as_told lines)
 told_is [] = refl
 told_is (line ∷ lines) = ap (λ (l : List SettleEntry). told_by line ++ l) (told_is lines)

@@ -64,7 +64,7 @@ abbrev pub lane_resets : SettleEntry → ℕ
 lane_resets (OfLane k (OnWire (Reset e cause packet lost))) = 1
 lane_resets _ = 0
 
--- of entries one behind another
+-- of entries one after another
 abbrev pub texts : DiskDecl → List SettleEntry → List ℕ
 texts disk entries = flat_map (lane_text disk) entries
 

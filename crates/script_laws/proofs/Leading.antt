@@ -1,5 +1,5 @@
 -- What a script's journal leads to, also where want of memory cut off its last line: nobody forged a lane, no disk is
--- left over, and behind each settle all lanes are finished whose servers run.
+-- left over, and after each settle all lanes are finished whose servers run.
 use Rattle.std.proofs.Common.{◌≡◌, inl, inr, ℕ, ◌≤◌, List, [], ◌∷◌, ◌++◌, length, map, sym, ap, ◌∙◌, subst, append_assoc, append-nil}
 use Rattle.runs.specs.Run.{Run, run_append}
 use Rattle.disk_law.specs.ListState.{ImageState}

@@ -16,7 +16,7 @@ use Rattle.ldom_journal.specs.LaneEvents.{lane_number}
 use Rattle.script_laws.specs.Attached.{is_opening}
 use Rattle.world_parts.specs.Lines.{IsForDisks, LineStep, line_of}
 
--- the names behind a line that is neither blank nor a declaration
+-- the names after a line that is neither blank nor a declaration
 abbrev pub closed : NamesState → NamesState
 closed names = record { disks = names.disks; ended = true }
 

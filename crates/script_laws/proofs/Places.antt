@@ -1,4 +1,4 @@
--- Where an element of two lists, one behind the other, stands; and where an entry of a script's lines does.
+-- Where an element of two lists, one after the other, stands; and where an entry of a script's lines does.
 use Rattle.std.proofs.Common.{◌≡◌, ◌⊎◌, inl, inr, List, [], ◌∷◌, ◌++◌, refl, sym, ap, ◌∙◌, subst, append_assoc}
 use Rattle.lanes_settle.specs.Settle.{SettleEntry}
 use Rattle.lanes_world.specs.Lines.{Line, entries_of}
@@ -7,7 +7,7 @@ pub no_place : {X : Type 0} (before : List X) (x : X) (behind : List X) → [] �
 no_place {X} [] x behind is = absurd (cc is)
 no_place {X} (y ∷ before) x behind is = absurd (cc is)
 
--- IN THE FIRST of two lists, with more of it behind
+-- IN THE FIRST of two lists, with more of it after
 pub record InFirst {X : Type 0} (one two before : List X) (x : X) (behind : List X) : Type 0 where
   pub rest : List X
   pub is : one ≡ before ++ x ∷ rest
@@ -42,7 +42,7 @@ place_in {X} (y ∷ one) two (z ∷ before) x behind is =
     subst (λ (v : X). InEither (y ∷ one) two (v ∷ before) x behind) same
     (one_further y one two before x behind (place_in one two before x behind rest))
 
--- IN A LINE of a script, behind so much of its part
+-- IN A LINE of a script, after so much of its part
 pub record InLine (lines : List (Line × List SettleEntry)) (before : List SettleEntry) (entry : SettleEntry)
     (behind : List SettleEntry) : Type 0 where
   pub front : List (Line × List SettleEntry)

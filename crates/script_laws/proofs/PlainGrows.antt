@@ -203,7 +203,7 @@ line_grows disk p (event.Issue number request) =
 line_grows disk p event.Settle = settle_grows disk p
 line_grows disk p _ = grows_still disk p p refl refl
 
--- LINES one behind another
+-- LINES one after another
 pub run_same : (disk : DiskDecl) (p : Plain) (events : List Event)
     → listed (plain_run disk p events) ≡ lanes.plain_run (shape_of 0 disk) (listed p) (map line_of events)
 run_same disk p [] = refl

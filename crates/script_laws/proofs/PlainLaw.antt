@@ -40,7 +40,7 @@ pub record PlainLaw (disk : DiskDecl) (content : List ℕ) (events : List Event)
   pub told : v.image.told ≡ Some (plain_content disk content events)
   pub ids : completed_ids journal ≡ plain_ids disk content events
 
--- the plain run behind the script
+-- the plain run after the script
 abbrev ran : DiskDecl → List ℕ → List Event → Plain
 ran disk content events = plain_run disk (untouched content) events
 

@@ -54,7 +54,7 @@ of_ticks k (s ∷ lanes) (had ∷ marks) =
     both (if gets_tick s had then OfLane k tick ∷ [] else []) (tick_entries (k + 1) lanes marks)
     (one_tick (gets_tick s had) k) (of_ticks (k + 1) lanes marks)
 
--- ROUNDS with the ticks behind them
+-- ROUNDS with the ticks after them
 goes_on : (quiet : Bool) (w : Settling) (steps : List LaneRound) (between : List LaneState)
     (entries : List SettleEntry) (v : Settling) → TicksBehind quiet w steps between entries v → AreOfLanes entries
 goes_on false w steps between entries v behind =

@@ -22,7 +22,7 @@ use Rattle.world_parts.specs.Declared.{world_of}
 use Rattle.world_parts.specs.Lines.{LineStep, line_of}
 use Rattle.world_parts.specs.Script.{FitsCutOff, cut_lines}
 
--- A SETTLE behind these lines: its part, or a front of it
+-- A SETTLE after these lines: its part, or a front of it
 pub record SettlesBehind (disks : List DiskDecl) (image : ImageState) (before : List (Event × List Entry))
     (part : List SettleEntry) : Type 0 where
   pub at : WorldState

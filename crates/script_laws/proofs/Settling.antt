@@ -1,4 +1,4 @@
--- Each settle of a script's lines ends settled, no disk is left over, and behind it all lanes are finished whose
+-- Each settle of a script's lines ends settled, no disk is left over, and after it all lanes are finished whose
 -- servers run.
 use Rattle.std.proofs.Common.{◌≡◌, ℕ, zero, suc, ◌+◌, ◌≤◌, true, false, List, [], ◌∷◌, ◌++◌, length, map, slice_get, Some, sym, ap, ◌∙◌, subst, arith}
 use Rattle.runs.specs.Lawful.{log_of}
@@ -52,7 +52,7 @@ end_at j part (t ∷ lanes) zero s ends there clean runs =
     runs
 end_at j part (t ∷ lanes) (suc x) s ends there clean runs = end_at (j + 1) part lanes x s ends.1 there clean runs
 
--- so they are in the world behind these entries, and both ends of each are still
+-- so they are in the world after these entries, and both ends of each are still
 pub record FinishedAt (disks : List DiskDecl) (image : ImageState) (before : List SettleEntry) : Type 0 where
   pub at : WorldState
   pub run : Run WorldStep (world_of disks image) before at

@@ -1,4 +1,4 @@
--- Behind a quiet round both ends of a lane are still by its log, whose entries leave out its silent steps.
+-- After a quiet round both ends of a lane are still by its log, whose entries leave out its silent steps.
 use Rattle.std.proofs.Common.{◌≡◌, ◌⊎◌, inl, inr, ℕ, ◌+◌, ◌≤◌, Bool, true, false, List, [], ◌∷◌, ◌++◌, length, Option, Some, None, refl, sym, ap, ◌∙◌, subst}
 use Rattle.std.specs.Prelude.{◌==◌, if◌then◌else◌, ⊤}
 use Rattle.runs.specs.Lawful.{log_append, log_of}

@@ -60,7 +60,7 @@ part_tells asked (e ∷ part) (m ∷ entries) says =
       seen = λ x. ap (λ (l : List plain.DiskEvent). cons_option (disk_event x asked e) l) (rest.seen x);
     }
 
--- TELLINGS one behind the other
+-- TELLINGS one after the other
 entries_both : (xs ys : List Telling) → entries_told (xs ++ ys) ≡ entries_told xs ++ entries_told ys
 entries_both [] ys = refl
 entries_both (t ∷ xs) ys = ap (λ (l : List Entry). t.entry ∷ l) (entries_both xs ys)
@@ -108,7 +108,7 @@ line_first line lines part entries one rest = record {
       (one.seen x) (rest.seen x);
 }
 
--- a line behind others
+-- a line after others
 pub flat_push : {X Y : Type 0} (f : X → List Y) (xs : List X) (x : X) → flat_map f xs ++ f x ≡ flat_map f (xs ++ x ∷ [])
 flat_push {X} {Y} f xs x =
     ap (λ (l : List Y). flat_map f xs ++ l) (sym (append-nil (f x))) ∙ sym (flat_map-append f xs (x ∷ []))

@@ -31,7 +31,7 @@ use Rattle.script_laws.proofs.SettleTicks.{NoTick, front_none, round_none}
 use Rattle.script_laws.proofs.Stillness.{calm_round, still_by}
 use Rattle.script_laws.specs.Still.{AreStillBy}
 
--- A TICK of this lane behind so much of the part
+-- A TICK of this lane after so much of the part
 pub record TickAt (x : ℕ) (so_far : List SettleEntry) (start : LaneState) : Type 0 where
   pub lane : LaneState
   pub run : Run LaneStep start (happened x so_far) lane
@@ -264,7 +264,7 @@ quiet_at _ _ _ x s made quiet there = absurd made
 module _ (lanes : List LaneState) (marks : List Bool) (steps : List LaneRound) (between : List LaneState)
     (later : List SettleEntry) (behind : List LaneState) (clean : AreClean lanes) (made : MakeRound lanes steps between)
     (quiet : are_quiet steps ≡ true) (front : TickFront 0 between marks later behind) where
-  -- a tick behind all entries of the round
+  -- a tick after all entries of the round
   behind_round : (x : ℕ) (past : List SettleEntry) (s : LaneState) (at : QuietAt x s between) → LostAt x past at.lane
       → slice_get lanes x ≡ Some s → TickAt x (round_entries 0 steps ++ past) s
   behind_round x past s at lost there =

@@ -36,7 +36,7 @@ abbrev pub AreTold : ℕ → List SettleEntry → Type 0
 AreTold many [] = ⊤
 AreTold many (entry ∷ entries) = IsTold many entry × AreTold many entries
 
--- LANES that nobody forged behind a run were not forged before it
+-- LANES that nobody forged after a run were not forged before it
 each_before : (P : LaneState → Type 0) (lanes : List LaneState) (k : ℕ) (s t : LaneState) → slice_get lanes k ≡ Some s
     → (P t → P s) → Each P (slice_set lanes k t) → Each P lanes
 each_before P [] k s t there back all = absurd (cc there)

@@ -30,7 +30,7 @@ outside_behind : (first place : ℕ) (xs ys : List Request) → IsOutsideAll fir
 outside_behind first place [] ys outside = outside
 outside_behind first place (x ∷ xs) ys outside = outside_behind first place xs ys outside.1
 
--- the requests of the first event of a lane, and of those behind it
+-- the requests of the first event of a lane, and of those after it
 both_issued : (events behind : List DiskEvent)
     → issued (requests_of (events ++ behind)) ≡ issued (requests_of events) ++ issued (requests_of behind)
 both_issued events behind =

@@ -16,7 +16,7 @@ use Rattle.world_parts.specs.Script.{FitsScript, FitsCutOff}
 use Rattle.lanes_world.specs.World.{WorldState}
 use Rattle.domain_script.specs.Limits.{most_lines}
 
--- what the journal got behind so many entries, by how it ended: after want of memory the last line's part may be cut off
+-- what the journal got after so many entries, by how it ended: after want of memory the last line's part may be cut off
 abbrev pub GrewTo : Ending → ℕ → WorldState → List Event → List Entry → WorldState → Type 0
 GrewTo MayBeCut entries s events part t = FitsScript entries s events part t ⊎ FitsCutOff entries s events part t
 GrewTo other entries s events part t = FitsScript entries s events part t

@@ -28,7 +28,7 @@ pub record HearsAFront (e : End) (talk : TalkLog) : Type 0 where
   pub packets : IsFront (numbered_heard (talk_of e talk)) (numbered_said (talk_of (peer_of e) talk))
   pub messages : IsFront (heard (talk_of e talk)) (said (talk_of (peer_of e) talk))
 
--- A LANE AT THE END: each thing that happened to it may happen behind those before it, by the laws of the wire, of
+-- A LANE AT THE END: each thing that happened to it may happen after those before it, by the laws of the wire, of
 -- requests, of work and of quiet steps; it stands as its log says; nobody forged it; an end that is up heard in order
 -- what the other said; and where both sessions are open they are one.
 pub record LaneStands (shape : Shape) (x : ℕ) (entries : List SettleEntry) (s : LaneState) : Type 0 where

@@ -1,4 +1,4 @@
--- The same of a journal that entries are added to: each turn adds its own behind those of the turns before.
+-- The same of a journal that entries are added to: each turn adds its own after those of the turns before.
 use Rattle.std.proofs.Common.{◌≡◌, ℕ, ◌+◌, ◌<◌, ◌≤◌, Bool, true, false, List, [], ◌∷◌, ◌++◌, length, take, slice_get, slice_set, Some, refl, sym, ap, ◌∙◌, append_assoc, append-nil}
 use Rattle.std.specs.Prelude.{◌&&◌}
 use Rattle.ldc_queue.specs.declared.end.End.TheVariants.{A, B}
@@ -18,7 +18,7 @@ use Rattle.settle_loop.specs.Names.{NamesUpTo, name_of}
 use Rattle.settle_loop.specs.RoundMade.{LaneMade, RoundBegun, RoundUpTo, all_true}
 use Rattle.settle_loop.specs.TicksMade.{LaneTicked, TicksBegun, TicksUpTo}
 
--- NOTHING IS ADDED, entries are, and more behind them
+-- NOTHING IS ADDED, entries are, and more after them
 pub none_added : (Holds : List SettleEntry → Type 0) (old : List SettleEntry) → Holds [] → Added Holds old old
 none_added Holds old holds = record { entries = []; is = sym (append-nil old); holds = holds }
 

@@ -1,4 +1,4 @@
--- The rounds of a settle so far: none yet; one more, in which not all lanes are quiet, or behind which some got a tick; and how it ends,
+-- The rounds of a settle so far: none yet; one more, in which not all lanes are quiet, or after which some got a tick; and how it ends,
 -- by a last round, by names, or where memory is wanted.
 use Rattle.std.proofs.Common.{◌≡◌, ℕ, zero, suc, ◌+◌, ◌*◌, ◌<◌, ◌≤◌, Bool, true, false, inl, inr, List, [], ◌∷◌, ◌++◌, length, map, take, drop, replicate, refl, sym, ap, ap₂, ◌∙◌, subst, arith, append_assoc, length-append}
 use Rattle.runs.specs.Run.{Run, run_append, run_push}
@@ -161,7 +161,7 @@ settled start w m v count entries part later had have quiet marks some gone few 
           (run_append WorldStep w m v part (later ++ Settled ∷ []) up.run (run_append WorldStep m v v later (Settled ∷ []) ticks.run (v, refl, refl)));
     }
 
--- THE ROUNDS RAN OUT, and the names stand behind them
+-- THE ROUNDS RAN OUT, and the names stand after them
 some_rounds : (count pending many : ℕ) → many ≡ count → count ≡ 4096 + 64 * pending → 1 ≤ many
 some_rounds count pending many one two = omega (arith, one, two)
 
@@ -184,7 +184,7 @@ run_out start w count entries part had quiet gone most named =
       run = run_append WorldStep start w w entries part gone.moves (names_run (length w.lanes) w quiet part named);
     }
 
--- MEMORY IS WANTED: in a round, among the ticks behind it or for the answer, and among the names
+-- MEMORY IS WANTED: in a round, among the ticks after it or for the answer, and among the names
 pub wants_in_round : (start w v : WorldState) (count : ℕ) (entries later : List SettleEntry) (had quiet : List Bool) → GoneOn start count entries had quiet w → count < most_rounds start.lanes
     → RoundBegun w later v → LineBegins start script.Settles (entries ++ later) v
 wants_in_round start w v count entries later had quiet gone few begun = record {

@@ -163,7 +163,7 @@ next_asks s (Accepted id request) t step = ap (λ (x : ClientState). x.next_id) 
 next_asks s (Full request) t step = ap (λ (x : ClientState). x.next_id) step.0.2
 next_asks s (Refused why request) t step = ap (λ (x : ClientState). x.next_id) step.0.1
 
--- THE NEXT ID behind an event
+-- THE NEXT ID after an event
 pub next_is : (s : LaneState) (event : DiskEvent) (t : LaneState) → LaneStep s event t → t.client.next_id ≡ next_behind event s.client.next_id
 next_is s (OnWire event) t step = next_on_wire s event t step
 next_is s (Asks event) t step = next_asks s event t step

@@ -1,4 +1,4 @@
--- The names up to a lane: they begin, go on by the next lane, and are those of all lanes behind the last; they leave the world as it is.
+-- The names up to a lane: they begin, go on by the next lane, and are those of all lanes after the last; they leave the world as it is.
 use Rattle.std.proofs.Common.{◌≡◌, ℕ, zero, suc, ◌+◌, Bool, true, false, List, [], ◌∷◌, ◌++◌, length, map, take, drop, slice_get, Some, refl, sym, ap, ap₂, ◌∙◌, subst, arith, append_assoc, append-nil}
 use Rattle.std.specs.Prelude.{◌&&◌, if◌then◌else◌}
 use Rattle.runs.specs.Run.{Run, run_append}

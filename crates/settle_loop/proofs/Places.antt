@@ -54,7 +54,7 @@ take_length [] k x there = absurd (cc there)
 take_length (z ∷ xs) zero x there = refl
 take_length (z ∷ xs) (suc k) x there = ap suc (take_length xs k x there)
 
--- lists with the same rest have the same first of it, and the same behind that
+-- lists with the same rest have the same first of it, and the same after that
 pub get_first : {X : Type 0} (xs : List X) (k : ℕ) → slice_get xs k ≡ slice_get (drop k xs) 0
 get_first [] zero = refl
 get_first [] (suc k) = refl
@@ -93,7 +93,7 @@ pub drop_whole : {X : Type 0} (xs : List X) → drop (length xs) xs ≡ []
 drop_whole [] = refl
 drop_whole (x ∷ xs) = drop_whole xs
 
--- a list with nothing behind so many is these
+-- a list with nothing after so many is these
 pub take_most : {X : Type 0} (xs : List X) (k : ℕ) → drop k xs ≡ [] → take k xs ≡ xs
 take_most [] zero nothing = refl
 take_most [] (suc k) nothing = refl

@@ -1,4 +1,4 @@
--- A round up to a lane: it begins, goes on by the two steps of the next lane, and is a round where it comes behind the last; where memory
+-- A round up to a lane: it begins, goes on by the two steps of the next lane, and is a round where it comes after the last; where memory
 -- is wanted, what was made is a front of one.
 use Rattle.std.proofs.Common.{◌≡◌, ℕ, suc, ◌+◌, ◌<◌, Bool, inl, inr, List, [], ◌∷◌, ◌++◌, length, map, take, drop, slice_get, slice_set, Some, refl, sym, ap, ap₂, ◌∙◌, subst, arith, append_assoc, append-nil, take-append-drop}
 use Rattle.std.specs.Prelude.{◌&&◌}
@@ -14,7 +14,7 @@ use Rattle.settle_loop.proofs.Making.{made_run, made_step}
 use Rattle.settle_loop.proofs.Places.{after_one, drop_one, drop_set, drop_whole, get_set, map_both, same_first, same_next, set_twice, take_length, take_most, take_one, take_set, take_set_one, take_whole}
 use Rattle.settle_loop.specs.RoundMade.{LaneMade, RoundBegun, RoundUpTo, all_true}
 
--- ONE LANE IS SET behind the first ones, of lanes whose rest is as it was
+-- ONE LANE IS SET after the first ones, of lanes whose rest is as it was
 pub record SetAt (k : ℕ) (start lanes behind : List LaneState) (s t : LaneState) : Type 0 where
   pub front : take (k + 1) start ≡ take k start ++ s ∷ []
   pub now : take (k + 1) behind ≡ take k lanes ++ t ∷ []
@@ -136,7 +136,7 @@ round_goes_on k start w m v entries one two quiet marks calm still up client ser
     subst (λ (l : List Bool). RoundUpTo (k + 1) start (entries ++ (one ++ two)) l v) (sym is)
     (lane_more k start w v entries one two quiet calm still up (lane_rounds k w m v one two calm still client server) less)
 
--- IT IS A ROUND behind the last lane
+-- IT IS A ROUND after the last lane
 pub round_made : (start now : WorldState) (entries : List SettleEntry) (quiet : List Bool) (up : RoundUpTo (length start.lanes) start entries quiet now) → MakeRound start.lanes up.steps now.lanes
 round_made start now entries quiet up =
     subst (λ (l : List LaneState). MakeRound l up.steps now.lanes) (take_whole start.lanes)

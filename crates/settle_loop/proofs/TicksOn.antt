@@ -1,4 +1,4 @@
--- The ticks up to a lane: they begin, go on by the next lane, which gets one or none, and are those of all lanes behind the last; where
+-- The ticks up to a lane: they begin, go on by the next lane, which gets one or none, and are those of all lanes after the last; where
 -- memory is wanted, they are a front of them.
 use Rattle.std.proofs.Common.{◌≡◌, ℕ, suc, ◌+◌, ◌<◌, ◌≤◌, Bool, true, false, Option, inl, inr, List, [], ◌∷◌, ◌++◌, length, take, drop, slice_get, slice_set, Some, refl, sym, ap, ap₂, ◌∙◌, subst, arith, append_assoc, append-nil, take-append-drop}
 use Rattle.std.specs.Prelude.{◌||◌, if◌then◌else◌}
@@ -193,7 +193,7 @@ none_ticked k start w entries had have some mark up now next less =
     (subst (λ (b : Bool). TicksUpTo (k + 1) start had (entries ++ []) b (slice_set have k (mark || false)) w) (or_false some)
     (ticks_go_on k start w w entries [] had have some mark false up now next less)))
 
--- THEY ARE ALL behind the last lane
+-- THEY ARE ALL after the last lane
 pub record AllTicked (start : WorldState) (had : List Bool) (entries : List SettleEntry) (some : Bool) (have : List Bool) (now : WorldState) : Type 0 where
   pub ticks : TickLanes start.lanes (take (length start.lanes) had) now.lanes
   pub leaves : entries ≡ tick_entries 0 start.lanes (take (length start.lanes) had)

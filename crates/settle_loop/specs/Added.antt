@@ -2,7 +2,7 @@
 use Rattle.std.specs.Prelude.{◌≡◌, List, ◌++◌}
 use Rattle.lanes_settle.specs.Settle.{SettleEntry}
 
--- behind the old ones, with what holds of them
+-- after the old ones, with what holds of them
 pub record Added (Holds : List SettleEntry → Type 0) (old new : List SettleEntry) : Type 0 where
   pub entries : List SettleEntry
   pub is : new ≡ old ++ entries

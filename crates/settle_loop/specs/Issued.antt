@@ -3,7 +3,7 @@ use Rattle.std.specs.Prelude.{ℕ, ◌+◌, List, [], ◌∷◌}
 use Rattle.disk_steps.specs.DiskEvent.{Accepted, Asks, DiskEvent}
 use Rattle.disk_steps.specs.LaneState.{LaneState}
 
--- the client's next id behind an event
+-- the client's next id after an event
 abbrev pub next_behind : DiskEvent → ℕ → ℕ
 next_behind (Asks (Accepted id request)) next = next + 1
 next_behind event next = next

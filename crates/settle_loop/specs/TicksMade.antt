@@ -1,4 +1,4 @@
--- Which lanes got their tick so far, behind a round in which all lanes were quiet.
+-- Which lanes got their tick so far, after a round in which all lanes were quiet.
 use Rattle.std.specs.Prelude.{◌≡◌, ℕ, Bool, true, false, List, [], ◌∷◌, length, take, drop, Some, slice_get}
 use Rattle.runs.specs.Run.{Run}
 use Rattle.disk_steps.specs.LaneState.{LaneState}

@@ -17,7 +17,7 @@ ghost use Rattle.settle_loop.specs.Names.{name_of, NamesUpTo};
 ghost use Rattle.settle_loop.specs.RoundMade.{all_true, LaneMade, RoundBegun, RoundUpTo};
 ghost use Rattle.settle_loop.specs.TicksMade.{LaneTicked, TicksBegun, TicksUpTo};
 
-/// A round begins with no lane, goes on by a step of the next lane's client and one of its server, and behind the last
+/// A round begins with no lane, goes on by a step of the next lane's client and one of its server, and after the last
 /// lane it is a round; the marks then say whether all lanes were quiet in it.
 pub fn a_round_is_made_lane_by_lane()
     ensures begins { (w : WorldState) (quiet : List Bool) → RoundUpTo 0 w [] quiet w }
@@ -56,7 +56,7 @@ pub fn names_are_given_lane_by_lane()
 {}
 
 /// A settle begins with no round; it goes on by one in which not all lanes were quiet, or by one in which they were and
-/// behind which some got a tick. It ends settled by one behind which none got a tick, where fewer than the most were
+/// after which some got a tick. It ends settled by one after which none got a tick, where fewer than the most were
 /// made; and where the most were made it ends with the names.
 pub fn a_settle_is_made_round_by_round()
     ensures begins { (start : WorldState) (had quiet : List Bool)

@@ -25,7 +25,7 @@ impl<'a> Model for TrimmedArray<'a> {
 }
 
 impl<'a> TrimmedArray<'a> {
-    /// An array of a size by its front: zeros are behind it.
+    /// An array of a size by its front: zeros are after it.
     pub fn new(front: &'a [u8], size: usize) -> Self
         requires within { length front.now ≤ size }
         requires small { size ≤ 255 }
@@ -34,7 +34,7 @@ impl<'a> TrimmedArray<'a> {
         TrimmedArray { front, size }
     }
 
-    /// The bytes that are kept. Those of the array that are behind them are zeros.
+    /// The bytes that are kept. Those of the array that are after them are zeros.
     pub fn front(&self) -> &'a [u8]
         ensures front { self.now ≡ result.now ++ replicate (length self.now - length result.now) 0 }
         ensures within { length result.now ≤ length self.now }

@@ -1,5 +1,5 @@
 //! Arrays of one length, kept one after another without the zeros at their ends. Packets and descriptors are mostly
-//! zeros behind their fields, so that a journal of them takes little memory. Room is taken before it is needed: putting
+//! zeros after their fields, so that a journal of them takes little memory. Room is taken before it is needed: putting
 //! an array last takes no memory and can't fail.
 #![tactic(auto)]
 

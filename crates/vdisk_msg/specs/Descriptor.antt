@@ -23,7 +23,7 @@ disk_desc_with bytes cookies = record {
   cookies = cookies;
 }
 
--- the descriptor of 128 bytes: its fields, and the five cookies behind them
+-- the descriptor of 128 bytes: its fields, and the five cookies after them
 abbrev pub disk_desc_of : List ℕ → DiskDesc
 disk_desc_of bytes = disk_desc_with bytes (cookies_at 48 5 bytes)
 

@@ -4,7 +4,7 @@ use Rattle.vdisk_msg.specs.declared.request.Fill.{Fill}
 use Rattle.vdisk_msg.specs.declared.request.Request.{Request}
 use Rattle.vdisk_msg.specs.declared.request.Request.TheVariants.{Read, Write, Flush}
 
--- 1 to 1,024 bytes, and zeros behind them
+-- 1 to 1,024 bytes, and zeros after them
 pub record IsFill (fill : Fill) : Type 0 where
   pub some : 1 ≤ fill.len
   pub most : fill.len ≤ 1024

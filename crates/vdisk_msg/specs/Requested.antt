@@ -12,7 +12,7 @@ use Rattle.vdisk_msg.specs.Requests.{operation_of}
 abbrev pub ring_pages : ℕ → ℕ
 ring_pages slots = (128 * slots + 8191) / 8192
 
--- behind them each slot has four pages for its data
+-- after them each slot has four pages for its data
 abbrev pub buffer_place : ℕ → ℕ → ℕ
 buffer_place slots slot = 8192 * (ring_pages slots + 4 * slot)
 

@@ -5,7 +5,7 @@ ghost use Rattle.vio_bytes.specs.Layout.{IsLayout};
 
 use vio_bytes::Table;
 
-/// The head of a disk descriptor, behind which its cookies stand: `struct vio_disk_desc` of Linux's
+/// The head of a disk descriptor, after which its cookies stand: `struct vio_disk_desc` of Linux's
 /// vio.h, which begins with `struct vio_dring_hdr`.
 pub(crate) const DISK_DESC: Table<9> = Table {
     fields: [

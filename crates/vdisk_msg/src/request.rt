@@ -1,4 +1,4 @@
-/// The word that a write repeats over its blocks: `len` bytes, 1 to 1,024, and zeros behind them.
+/// The word that a write repeats over its blocks: `len` bytes, 1 to 1,024, and zeros after them.
 #[derive(Clone, Copy, Debug)]
 pub struct Fill {
     pub len: u16,

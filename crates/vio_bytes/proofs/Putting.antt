@@ -25,7 +25,7 @@ length-put_at at piece bytes room =
     let tail = length-drop (at + length piece) bytes in
     omega (arith, front, tail, length-append (take at bytes) (piece ++ drop (at + length piece) bytes), length-append piece (drop (at + length piece) bytes))
 
--- behind the piece the bytes are the old ones
+-- after the piece the bytes are the old ones
 pub drop-put_at : (at p : ℕ) (piece bytes : List ℕ) → at + length piece ≤ p → at + length piece ≤ length bytes
     → drop p (put_at at piece bytes) ≡ drop p bytes
 drop-put_at at p piece bytes behind room =

@@ -13,7 +13,7 @@ length-range_at at n bytes within = length-take-le n (drop at bytes) (omega (ari
 pub get_or-range_at : (at n k d : ℕ) (bytes : List ℕ) → k < n → get_or (range_at at n bytes) k d ≡ get_or bytes (at + k) d
 get_or-range_at at n k d bytes below = get_or-take n (drop at bytes) k d below ∙ get_or-drop at bytes k d
 
--- two ranges one behind the other
+-- two ranges one after the other
 pub range_at-add : (at m n : ℕ) (bytes : List ℕ) → range_at at (m + n) bytes ≡ range_at at m bytes ++ range_at (at + m) n bytes
 range_at-add at m n bytes =
     take-add m n (drop at bytes) ∙ ap (λ (xs : List ℕ). take m (drop at bytes) ++ take n xs) (drop-drop m at bytes)
@@ -108,7 +108,7 @@ put_at-put_at_same at old piece bytes long room =
     ap (λ (xs : List ℕ). xs ++ (piece ++ drop (at + length piece) (put_at at old bytes))) (take-put_at at at old bytes (omega arith) (omega arith))
     ∙ ap (λ (xs : List ℕ). take at bytes ++ (piece ++ xs)) (drop-put_at at (at + length piece) old bytes (omega arith) (omega arith))
 
--- two writes one behind the other are one
+-- two writes one after the other are one
 pub put_at-put_at_next : (at next : ℕ) (a b bytes : List ℕ) → next ≡ at + length a → next + length b ≤ length bytes
     → put_at next b (put_at at a bytes) ≡ put_at at (a ++ b) bytes
 put_at-put_at_next at next a b bytes place room =

@@ -13,6 +13,6 @@ number_at width at bytes = big_number width (drop at bytes)
 abbrev pub put_at : ℕ → List ℕ → List ℕ → List ℕ
 put_at at piece bytes = take at bytes ++ (piece ++ drop (at + length piece) bytes)
 
--- the `w` bytes from place `p` end before the `width` bytes from place `at`, or begin behind them
+-- the `w` bytes from place `p` end before the `width` bytes from place `at`, or begin after them
 abbrev pub IsOutside : ℕ → ℕ → ℕ → ℕ → Type 0
 IsOutside p w at width = (p + w ≤ at) ⊎ (at + width ≤ p)

@@ -205,7 +205,7 @@ said_all n message mine theirs = absurd (cc)
 not_waiting : (message : Message) (rest queue : List Message) → queue ≡ [] → queue ≡ message ∷ rest → ⊥
 not_waiting message rest queue none is = cc
 
--- both ends stand behind the last message
+-- both ends stand after the last message
 pub record Ends (both : Bool) (d : Deal) (s : Pair) : Type 0 where
   pub initiator : s.initiator ≡ shake_at both d Initiator AllSaid
   pub responder : s.responder ≡ shake_at both d Responder AllSaid

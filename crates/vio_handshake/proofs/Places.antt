@@ -86,7 +86,7 @@ minor_of d = min d.asks.minor d.answers.minor
 abbrev pub named_ring : ℕ → Offer → MsgBody
 named_ring sid offer = DringReg sid offer.slots offer.slot_size 1 offer.count offer.cookies
 
--- the next message; there is none behind the last
+-- the next message; there is none after the last
 abbrev pub message_at : Deal → Place → Message
 message_at d VersionSaid = info d.sid (Ver 1 d.asks.minor d.asks.class)
 message_at d VersionAnswered = ack d.sid (Ver 1 (minor_of d) d.answers.class)

@@ -20,7 +20,7 @@ pub data Ahead : Type 0 where
   TheirsOne : Ahead
   TheirsTwo : Ahead
 
--- as this end sees it, from the place of the one that is behind
+-- as this end sees it, from the place of the one that is after
 abbrev pub Scene : Bool → Deal → Role → Place → Ahead → Handshake → Handshake → List Message → List Message → Type 0
 Scene both d r n Level mine theirs to_me to_them =
     (mine ≡ shake_at both d r n) × (theirs ≡ shake_at both d (other r) n) × (to_me ≡ []) × (to_them ≡ [])

@@ -1,5 +1,5 @@
 -- What a handshake owes is well formed, so that it can be encoded: where the offer's ring has at most 14 cookies and none
--- behind them, and so has each message that is taken. An end that stands on a handshake keeps this.
+-- after them, and so has each message that is taken. An end that stands on a handshake keeps this.
 use Rattle.std.proofs.Common.{◌≡◌, ℕ, Bool, true, false, Option, Some, None, List, sym, refl, subst}
 use Rattle.std.specs.Prelude.{◌==◌, ◌&&◌, min, nat_le, if◌then◌else◌, ⊤}
 use Rattle.ldc_link.specs.declared.phase.Role.{Role}

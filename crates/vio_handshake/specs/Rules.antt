@@ -154,7 +154,7 @@ fault_or None rest = rest
 abbrev pub shake_take : Handshake → Message → ShakeTake
 shake_take s message = fault_or (sid_fault s.sid message.sid) (shake_hear s message.subtype message.sid message.body)
 
--- what follows the message that was put: behind the agreement to the peer's ring the own ring, or RDX; behind the
+-- what follows the message that was put: after the agreement to the peer's ring the own ring, or RDX; after the
 -- agreement to the peer's RDX the own RDX, or the session is open
 abbrev pub put_in : Role → Phase → Handshake → Handshake
 put_in Initiator PeerRingTaken s = owes OwnReady (info s.draft.sid Rdx) s

@@ -86,7 +86,7 @@ IsFault Nothing = ⊥
 IsFault Opens = ⊥
 IsFault (Fault cause) = ⊤
 
--- what is owed can be encoded, also what will be: the offer's ring has at most 14 cookies and none behind them
+-- what is owed can be encoded, also what will be: the offer's ring has at most 14 cookies and none after them
 abbrev pub OwedHasForm : Option Message → Type 0
 OwedHasForm None = ⊤
 OwedHasForm (Some message) = IsWellFormed message

@@ -34,7 +34,7 @@ pub fn handshakes_agree()
         → Run PairStep (met initiator responder) acts pair → length acts ≤ 24 }
 {}
 
-/// What a handshake owes can be encoded, where its offer has at most 14 cookies and none behind them, and the messages
+/// What a handshake owes can be encoded, where its offer has at most 14 cookies and none after them, and the messages
 /// that it took were decoded.
 pub fn what_is_owed_is_well_formed()
     ensures begins { (role : Role) (offer : Offer) → AreCookies offer.count offer.cookies → OwesWell (fresh_shake role offer) }
@@ -46,7 +46,7 @@ pub fn what_is_owed_is_well_formed()
     ensures forget { (s : Handshake) → OwesWell s → OwesWell (forgotten_shake s) }
 {}
 
-/// A session opens exactly where `take` answers `Opens` or `sent` answers true, and stays open behind each other answer.
+/// A session opens exactly where `take` answers `Opens` or `sent` answers true, and stays open after each other answer.
 pub fn opens_where_it_is_told()
     ensures sent_opens { (s : Handshake) → opens_by_put s.role s.phase ≡ true → (session_of s ≡ None) × (session_of (shake_sent s) ≡ Some s.draft) }
     ensures sent_stays { (s : Handshake) → opens_by_put s.role s.phase ≡ false → session_of (shake_sent s) ≡ session_of s }

@@ -19,7 +19,7 @@ pub struct Offer {
     pub slot_size: u32,
     /// How many cookies the own ring has, at most 14.
     pub count: u32,
-    /// Those cookies, and none behind them.
+    /// Those cookies, and none after them.
     pub cookies: [Cookie; 14],
     /// Whether both ends register a ring, as a port's do; of a disk only the client does.
     pub both_rings: bool,

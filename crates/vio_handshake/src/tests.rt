@@ -142,7 +142,7 @@ fn turn(initiator: &mut Handshake, responder: &mut Handshake) -> Option<Message>
     }
 }
 
-/// Both ends behind so many messages.
+/// Both ends after so many messages.
 fn after(turns: usize, initiator: &Offer, responder: &Offer) -> (Handshake, Handshake) {
     let (mut initiator, mut responder) = ends(initiator, responder);
     for _ in 0..turns {
@@ -306,8 +306,8 @@ const CLIENT: Role = Role::Initiator;
 
 const SERVER: Role = Role::Responder;
 
-/// A wrong message for each state of a disk's handshake, and its fault: behind so many messages, at the end that waits
-/// there, and behind all of them at either end in session.
+/// A wrong message for each state of a disk's handshake, and its fault: after so many messages, at the end that waits
+/// there, and after all of them at either end in session.
 fn wrong_messages() -> [(usize, Role, Message, Cause); 12] {
     let other = Cause::Sid {
         expected: 1,
@@ -330,7 +330,7 @@ fn wrong_messages() -> [(usize, Role, Message, Cause); 12] {
     ]
 }
 
-/// An end behind so many messages.
+/// An end after so many messages.
 fn end_behind(turns: usize, role: Role, initiator: &Offer, responder: &Offer) -> Handshake {
     let (initiator, responder) = after(turns, initiator, responder);
     match role {

@@ -10,7 +10,7 @@ last_count = 2 ^ 64 - 1
 abbrev pub next_count : ℕ → ℕ
 next_count count = min (count + 1) last_count
 
--- a count behind n more
+-- a count after n more
 abbrev pub count_after : ℕ → ℕ → ℕ
 count_after zero count = count
 count_after (suc n) count = next_count (count_after n count)

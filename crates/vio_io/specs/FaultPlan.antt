@@ -18,15 +18,15 @@ unused failing = record { failing = failing; calls = 0; faults = 0 }
 abbrev pub fails_next : Plan → Bool
 fails_next p = list_any (λ n. n == p.calls) p.failing
 
--- behind a call, which counts a fault where it failed
+-- after a call, which counts a fault where it failed
 abbrev pub noted : Plan → Bool → Plan
 noted p failed = record { failing = p.failing; calls = next_count p.calls; faults = if failed then next_count p.faults else p.faults }
 
--- behind the next call
+-- after the next call
 abbrev pub after_call : Plan → Plan
 after_call p = noted p (fails_next p)
 
--- behind the next n calls
+-- after the next n calls
 abbrev pub after_calls : ℕ → Plan → Plan
 after_calls zero p = p
 after_calls (suc n) p = after_call (after_calls n p)

@@ -1,7 +1,7 @@
 -- How many disks a host gave. Its count goes round at 2^64, so that each disk that it gives changes it.
 use Rattle.std.specs.Prelude.{◌≡◌, ℕ, ◌+◌, ◌^◌, ◌%◌, Option, Some, None}
 
--- the count behind one more
+-- the count after one more
 abbrev pub next_given : ℕ → ℕ
 next_given count = (count + 1) % 2 ^ 64
 

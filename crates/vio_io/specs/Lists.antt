@@ -19,6 +19,6 @@ pub record ListSinkState : Type 0 where
 abbrev pub refuses_next : ListSinkState → Bool
 refuses_next s = fails_next s.plan || (s.room == 0)
 
--- the plan behind the next write, which is a fault also where no room is left
+-- the plan after the next write, which is a fault also where no room is left
 abbrev pub after_write : ListSinkState → Plan
 after_write s = noted s.plan (refuses_next s)

@@ -35,7 +35,7 @@ length-joined (address ∷ addresses) each =
     let rest = length-joined addresses each.1 in
     length-append address (flat_map (λ xs. xs) addresses) ∙ omega (arith, each.0, rest)
 
--- addresses read back, whatever stands before and behind them
+-- addresses read back, whatever stands before and after them
 addresses_at-joined : (addresses : List (List ℕ)) (front rest : List ℕ) → AllByRecursion (λ address. length address ≡ 6) addresses
     → addresses_at (length front) (length addresses) (front ++ (flat_map (λ address. address) addresses ++ rest)) ≡ addresses
 addresses_at-joined [] front rest each = refl
@@ -74,7 +74,7 @@ body_length (Mcast set count addresses) form fits =
     omega (arith, length-append (flat_map (λ xs. xs) addresses) (replicate 4 0), length-joined addresses fits.3, fits.2)
 body_length (Plain envelope) form fits = omega arith
 
--- the cookies of a registration, behind its head
+-- the cookies of a registration, after its head
 cookies_spelled : (front : List ℕ) (count : ℕ) (cookies : List Cookie) → length front ≡ 32 → count ≤ length cookies
     → AllByRecursion IsCookie cookies
     → take count cookies ≡ cookies_at 32 count (front ++ cookies_bytes (take count cookies))
@@ -87,7 +87,7 @@ cookies_spelled front count cookies long within each =
     ∙ ap (cookies_at (length front) (length taken)) (sym same)
     ∙ cookies_at-bytes taken front [] (each_taken count cookies each))
 
--- the addresses of a list of them, behind its head
+-- the addresses of a list of them, after its head
 addresses_spelled : (front rest : List ℕ) (addresses : List (List ℕ)) → length front ≡ 10 → length addresses ≡ 7
     → AllByRecursion (λ address. length address ≡ 6) addresses
     → addresses ≡ addresses_at 10 7 (front ++ (flat_map (λ address. address) addresses ++ rest))
@@ -97,7 +97,7 @@ addresses_spelled front rest addresses long seven each =
     ∙ ap (λ (n : ℕ). addresses_at (length front) n bytes) (sym seven)
     ∙ addresses_at-joined addresses front rest each)
 
--- the fields behind the tag read back
+-- the fields after the tag read back
 body_spelled : (s : Subtype) (n : ℕ) (body : MsgBody) → HasForm body → BodyHasWidths body
     → SpellsBody (canonical (record { subtype = s; sid = n; body = body })) body
 unfolding canonical
@@ -149,7 +149,7 @@ canonical_spells message form fits =
       body = body_spelled message.subtype message.sid message.body form fits.1;
     }
 
--- the bytes behind the tag are 248 at most, 16 for each of 14 cookies behind a registration's head
+-- the bytes after the tag are 248 at most, 16 for each of 14 cookies after a registration's head
 body_within : (body : MsgBody) → HasForm body → BodyHasWidths body → length (body_bytes body) ≤ 248
 body_within (Ver major minor class) form fits = omega arith
 body_within (Attr bytes) form fits = omega (arith, fits)

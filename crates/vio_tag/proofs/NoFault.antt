@@ -46,7 +46,7 @@ registered count len most is =
     let same : (len == 32 + 16 * count) ≡ true = eq-eqb len (32 + 16 * count) is in
     rw (long, few, same) refl
 
--- nothing is wrong behind the subtype
+-- nothing is wrong after the subtype
 body_no_fault : (bytes : List ℕ) (body : MsgBody) (len : ℕ) → HasForm body → HasLength len body → SpellsBody bytes body
     → body_fault (type_code body) (envelope_code body) (count_at bytes) len ≡ None
 body_no_fault bytes (Ver major minor class) len form is fields = ap (λ (n : ℕ). body_fault 1 1 (count_at bytes) n) is

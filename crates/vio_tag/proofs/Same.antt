@@ -19,7 +19,7 @@ same_subtype Ack Ack is = refl
 same_subtype Nack Nack is = refl
 same_subtype _ _ is = absurd (omega arith)
 
--- as many cookies that stand at the same place, and none behind them
+-- as many cookies that stand at the same place, and none after them
 same_cookies : (m n : ℕ) (bytes : List ℕ) (cs ds : List Cookie) → m ≡ n → AreCookies m cs → AreCookies n ds
     → take m cs ≡ cookies_at 32 m bytes → take n ds ≡ cookies_at 32 n bytes → cs ≡ ds
 same_cookies m n bytes cs ds is form other_form read other_read =

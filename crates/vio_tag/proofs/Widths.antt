@@ -1,4 +1,4 @@
--- The cookies of a registration are all of their fields' widths where the first of them are: those behind
+-- The cookies of a registration are all of their fields' widths where the first of them are: those after
 -- are none.
 use Rattle.std.proofs.Common.{◌≡◌, ℕ, ◌-◌, ◌^◌, ◌<◌, List, length, take, replicate, sym, subst, arith}
 use Rattle.std.specs.List.{AllByRecursion}

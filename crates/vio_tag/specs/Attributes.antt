@@ -1,4 +1,4 @@
--- The attributes of devices: the 48 bytes behind the tag of an ATTR_INFO, as Linux's `struct
+-- The attributes of devices: the 48 bytes after the tag of an ATTR_INFO, as Linux's `struct
 -- vio_disk_attr_info` and `struct vio_net_attr_info` have them. Bytes that no field names are free.
 use Rattle.std.specs.Prelude.{ℕ, ◌^◌, ◌<◌, List, ◌++◌, replicate}
 use Rattle.byteorder.specs.Endian.{big_bytes}

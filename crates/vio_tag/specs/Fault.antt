@@ -29,12 +29,12 @@ abbrev pub is_length : ℕ → ℕ → Bool
 is_length envelope len =
     if envelope == 0x0003 then nat_le 32 len else (is_plain envelope || len == 56)
 
--- a registration has at most 14 cookies, and 16 bytes for each behind its head
+-- a registration has at most 14 cookies, and 16 bytes for each after its head
 abbrev pub is_cookies : ℕ → ℕ → ℕ → Bool
 is_cookies envelope count len =
     if envelope == 0x0003 then (nat_le count 14 && len == 32 + 16 * count) else true
 
--- the first thing that is wrong behind the subtype, or none
+-- the first thing that is wrong after the subtype, or none
 abbrev pub body_fault : ℕ → ℕ → ℕ → ℕ → Option TagFault
 body_fault kind envelope count len =
     if not (is_envelope kind envelope) then Some Envelope

@@ -11,7 +11,7 @@ use Rattle.vio_tag.specs.declared.message.MsgBody.TheVariants.{Ver, Attr, DringR
 abbrev pub no_cookie : Cookie
 no_cookie = record { address = 0; size = 0 }
 
--- at most 14 cookies, and none behind them
+-- at most 14 cookies, and none after them
 pub record AreCookies (count : ℕ) (cookies : List Cookie) : Type 0 where
   pub most : count ≤ 14
   pub none : drop count cookies ≡ replicate (14 - count) no_cookie

@@ -1,6 +1,6 @@
 -- What the bytes of a message say, as the VIO chapter of the UltraSPARC Virtual Machine Specification and
 -- Linux's `struct vio_msg_tag` have it, and the structs that begin with it. Bytes that a message's form
--- doesn't name are free; behind the tag of a plain message all are.
+-- doesn't name are free; after the tag of a plain message all are.
 use Rattle.std.specs.Prelude.{◌≡◌, ℕ, zero, suc, ◌+◌, ◌*◌, ◌≤◌, List, [], ◌∷◌, ◌++◌, length, take, drop, replicate, ⊤}
 use Rattle.std.specs.List.{flat_map}
 use Rattle.byteorder.specs.Endian.{big_bytes}
@@ -35,7 +35,7 @@ envelope_code (Mcast set count addresses) = 0x0101
 envelope_code (Plain envelope) = envelope
 
 -- 56 bytes; a registration's head of 32 bytes and 16 for each cookie; a plain message's tag of 8 bytes, and
--- whatever stands behind it
+-- whatever stands after it
 abbrev pub HasLength : ℕ → MsgBody → Type 0
 HasLength len (Ver major minor class) = len ≡ 56
 HasLength len (Attr bytes) = len ≡ 56
@@ -72,7 +72,7 @@ sid_at bytes = number_at 4 4 bytes
 abbrev pub count_at : List ℕ → ℕ
 count_at bytes = number_at 4 28 bytes
 
--- the fields behind the tag
+-- the fields after the tag
 abbrev pub SpellsBody : List ℕ → MsgBody → Type 0
 SpellsBody bytes (Ver major minor class) =
     (major ≡ number_at 2 8 bytes) × (minor ≡ number_at 2 10 bytes) × (class ≡ number_at 1 12 bytes)
@@ -111,7 +111,7 @@ tag_bytes message =
     type_code message.body ∷ subtype_code message.subtype
     ∷ (big_bytes 2 (envelope_code message.body) ++ big_bytes 4 message.sid)
 
--- those behind the tag: the fields, and zeros elsewhere
+-- those after the tag: the fields, and zeros elsewhere
 abbrev pub body_bytes : MsgBody → List ℕ
 body_bytes (Ver major minor class) = big_bytes 2 major ++ big_bytes 2 minor ++ big_bytes 1 class ++ replicate 43 0
 body_bytes (Attr bytes) = bytes

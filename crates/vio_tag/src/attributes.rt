@@ -53,7 +53,7 @@ pub struct NetAttr {
     pub lso: u16,
 }
 
-/// The disk's attributes that the bytes behind the tag spell: all do.
+/// The disk's attributes that the bytes after the tag spell: all do.
 pub fn disk_attr(bytes: &[u8; 48]) -> DiskAttr
     ensures { result ≡ disk_attr_of bytes.now }
 {
@@ -69,7 +69,7 @@ pub fn disk_attr(bytes: &[u8; 48]) -> DiskAttr
     }
 }
 
-/// The canonical bytes of a disk's attributes, behind the tag.
+/// The canonical bytes of a disk's attributes, after the tag.
 pub fn put_disk_attr(attr: &DiskAttr) -> [u8; 48]
     ensures written { result ≡ disk_attr_bytes attr.now }
     ensures reads_back { disk_attr_of result ≡ attr.now }
@@ -112,7 +112,7 @@ fn disk_bytes_of(attr: DiskAttr) -> [u8; 48]
     bytes
 }
 
-/// The network device's attributes that the bytes behind the tag spell: all do.
+/// The network device's attributes that the bytes after the tag spell: all do.
 pub fn net_attr(bytes: &[u8; 48]) -> NetAttr
     ensures { result ≡ net_attr_of bytes.now }
 {
@@ -129,7 +129,7 @@ pub fn net_attr(bytes: &[u8; 48]) -> NetAttr
     }
 }
 
-/// The canonical bytes of a network device's attributes, behind the tag.
+/// The canonical bytes of a network device's attributes, after the tag.
 pub fn put_net_attr(attr: &NetAttr) -> [u8; 48]
     ensures written { result ≡ net_attr_bytes attr.now }
     ensures reads_back { net_attr_of result ≡ attr.now }

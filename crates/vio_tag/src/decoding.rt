@@ -28,7 +28,7 @@ use vio_bytes::{get_field, get_u8, get_u16, get_u32, get_u64};
 
 /// The message that the bytes spell, or their first fault in the order of `TagFault`.
 ///
-/// Bytes that the message's form doesn't name are free, and of a plain message all behind the tag.
+/// Bytes that the message's form doesn't name are free, and of a plain message all after the tag.
 pub fn decode(bytes: &[u8]) -> Result<Message, TagFault>
     ensures decodes { Decodes bytes.now result }
 
@@ -47,7 +47,7 @@ pub fn decode(bytes: &[u8]) -> Result<Message, TagFault>
     }
 }
 
-/// The same, written over a message of the caller's. Behind a fault nothing is said of that.
+/// The same, written over a message of the caller's. After a fault nothing is said of that.
 pub fn decode_into(bytes: &[u8], message: &mut Message) -> Result<(), TagFault>
     ensures decodes { Decodes bytes.now (decoded result message.new) }
     ensures only { (spelled : Message) → IsWellFormed spelled → SpellsMessage bytes.now spelled
@@ -231,7 +231,7 @@ fn address_at(bytes: &[u8], at: usize) -> [u8; 6]
     address
 }
 
-/// A registration: the first `count` cookies stand behind its head.
+/// A registration: the first `count` cookies stand after its head.
 fn dring_reg(bytes: &[u8]) -> Result<MsgBody, TagFault>
     requires { envelope_at bytes.now ≡ 3 }
     ensures body { IfOk result (λ body. HasForm body × SpellsBodyOf 1 bytes.now body) }
@@ -254,7 +254,7 @@ fn dring_reg(bytes: &[u8]) -> Result<MsgBody, TagFault>
     })
 }
 
-/// The cookies of a registration, and none behind them.
+/// The cookies of a registration, and none after them.
 fn ring_cookies(bytes: &[u8], count: usize) -> [Cookie; 14]
     requires most { count ≤ 14 }
     requires long { 32 + 16 * count ≤ length bytes.now }

@@ -23,7 +23,7 @@ use map_table::{Cookie, put_cookies};
 use vio_bytes::{put_field, put_u8, put_u16, put_u32, put_u64};
 
 /// Writes the canonical spelling of a well-formed message to the front of `out`, its fields and zeros
-/// elsewhere, and answers its length. The bytes behind it stay.
+/// elsewhere, and answers its length. The bytes after it stay.
 #[tactic(auto, unfolding(crate::specs::Spelling::canonical))]
 pub fn encode(message: &Message, out: &mut [u8; 256]) -> usize
     requires { IsWellFormed message.now }
@@ -218,7 +218,7 @@ fn first_cookies(cookies: &[Cookie; 14], count: u32) -> &[Cookie]
     &cookies[..count as usize]
 }
 
-/// Writes a registration, with its cookies behind its head, and answers its length.
+/// Writes a registration, with its cookies after its head, and answers its length.
 fn put_dring_reg(head: &[u8; 32], cookies: &[Cookie], out: &mut [u8; 256]) -> usize
     requires { length cookies.now ≤ 14 }
     ensures each { AllByRecursion IsCookie cookies.now }

@@ -1,5 +1,5 @@
 // The layouts of messages, by their places in the message, and of attributes, by their places in the 48
-// bytes behind the tag: the structs of Linux's vio.h.
+// bytes after the tag: the structs of Linux's vio.h.
 
 ghost use Rattle.std.specs.Prelude.{◌∷◌, []};
 ghost use Rattle.vio_bytes.specs.Layout.{IsLayout};
@@ -74,7 +74,7 @@ pub(crate) const MINOR: usize = 1;
 
 pub(crate) const DEV_CLASS: usize = 2;
 
-/// The head of a ring's registration, behind which its cookies stand: `struct vio_dring_register`.
+/// The head of a ring's registration, after which its cookies stand: `struct vio_dring_register`.
 pub(crate) const DRING_REG: Table<5> = Table {
     fields: [
         (8, 8), // dring_ident
@@ -159,7 +159,7 @@ pub(crate) const MCAST_ADDR: usize = 10;
 /// The bytes of an address.
 pub(crate) const ETH_ALEN: usize = 6;
 
-/// The attributes of a disk: `struct vio_disk_attr_info` behind its tag.
+/// The attributes of a disk: `struct vio_disk_attr_info` after its tag.
 pub(crate) const DISK_ATTR: Table<8> = Table {
     fields: [
         (0, 1), // xfer_mode
@@ -174,7 +174,7 @@ pub(crate) const DISK_ATTR: Table<8> = Table {
     length: ATTR_LENGTH,
 };
 
-/// The bytes behind the tag of an ATTR_INFO.
+/// The bytes after the tag of an ATTR_INFO.
 pub(crate) const ATTR_LENGTH: usize = 48;
 
 pub(crate) const DISK_XFER_MODE: usize = 0;
@@ -193,7 +193,7 @@ pub(crate) const MAX_XFER_SIZE: usize = 6;
 
 pub(crate) const PHYS_BLOCK_SIZE: usize = 7;
 
-/// The attributes of a network device: `struct vio_net_attr_info` behind its tag.
+/// The attributes of a network device: `struct vio_net_attr_info` after its tag.
 pub(crate) const NET_ATTR: Table<9> = Table {
     fields: [
         (0, 1), // xfer_mode

@@ -4,7 +4,7 @@ use map_table::Cookie;
 /// A message between the ends of a virtual device (the VIO chapter of the UltraSPARC Virtual Machine
 /// Specification; `struct vio_msg_tag` of Linux's vio.h and the structs that begin with it).
 ///
-/// It is well formed where a ring's registration has at most 14 cookies and no memory behind them,
+/// It is well formed where a ring's registration has at most 14 cookies and no memory after them,
 /// and the envelope of a plain message is that of PKT_DATA, 0x40, or of DESC_DATA, 0x41.
 #[derive(Clone, Copy, Debug, PartialEq, Eq)]
 pub struct Message {
@@ -25,7 +25,7 @@ pub enum MsgBody {
         class: u8,
     },
 
-    /// The attributes of a device, all bytes behind the tag: `DiskAttr` or `NetAttr`.
+    /// The attributes of a device, all bytes after the tag: `DiskAttr` or `NetAttr`.
     Attr {
         bytes: [u8; 48],
     },

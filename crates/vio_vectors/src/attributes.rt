@@ -1,6 +1,6 @@
 use crate::cases::Cases;
 
-/// Attributes of disks, the 48 bytes behind the tag, read and written again: what the guest and the
+/// Attributes of disks, the 48 bytes after the tag, read and written again: what the guest and the
 /// server of a disk of 64 blocks say, and those of a slice of a disk of 4,096 blocks, with bytes that no
 /// field names.
 pub const DISK_ATTRS: Cases<3> = Cases {

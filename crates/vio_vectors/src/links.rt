@@ -1,7 +1,7 @@
 use crate::cases::Cases;
 
 /// The registration of a ring of 256 slots with four cookies, a message of 96 bytes, in two parts of 56 and 40 bytes, and the packets
-/// that an initiator puts for it directly behind the handshake.
+/// that an initiator puts for it directly after the handshake.
 pub const LINK_PARTS: Cases<2> = Cases {
     inputs: [
         "01010003000000010000000000000000\

@@ -4,7 +4,7 @@ use crate::cases::Cases;
 /// of 8 slots, each with its answer: versions, attributes, the ring's registration and RDX. Then the end
 /// of a registration that was refused, an announcement of descriptors, two multicast addresses that are
 /// joined, and registrations with none and with 14 cookies. The last three have bytes that no field names:
-/// a version, a plain message with data behind its tag, and one with none.
+/// a version, a plain message with data after its tag, and one with none.
 pub const MESSAGES: Cases<16> = Cases {
     inputs: [
         "01010001000000010001000103000000\

@@ -1,7 +1,7 @@
 use crate::cases::Cases;
 
 /// Packets, read and written again: those of a link's handshake with version 1.0 in its order, the
-/// acknowledgement of the version behind the offer; a whole message in one part, the first announcement
+/// acknowledgement of the version after the offer; a whole message in one part, the first announcement
 /// of a ring's descriptors; and two with old bytes where no field is named, an RTS and the last 40 bytes
 /// of a message.
 pub const PACKETS: Cases<8> = Cases {

@@ -1,4 +1,4 @@
--- Behind all disks a told image stays along every run of a world.
+-- After all disks a told image stays along every run of a world.
 use Rattle.std.proofs.Common.{◌≡◌, ℕ, ◌+◌, ◌*◌, ◌≤◌, Option, Some, List, [], ◌∷◌, ◌++◌, length, slice_get, refl, sym, ap, ◌∙◌, subst, arith}
 use Rattle.runs.specs.Run.{Run}
 use Rattle.disk_law.specs.ListState.{ImageState}
@@ -40,7 +40,7 @@ module _ (shapes : List Shape) (image : ImageState) (first : List ℕ) (world : 
   stays_behind entries w run =
       along_world (fresh_world shapes image) Behind behind_step (record { now = first; told_is = told; long = refl; behind = refl }) entries w run
 
--- the image behind a run holds all disks
+-- the image after a run holds all disks
 pub still_holds : (shapes : List Shape) (image : ImageState) (first store : List ℕ) (entries : List SettleEntry) (w : WorldState) → IsWorld shapes image → image.told ≡ Some first
     → Run WorldStep (fresh_world shapes image) entries w → w.image.told ≡ Some store → 512 * blocks_in shapes ≤ length store
 still_holds shapes image first store entries w world told run now =

@@ -58,7 +58,7 @@ first_checked blocks desc = by_fault (first_defect desc blocks 0x0e) refl
     by_fault (Some why) is = tt
     by_fault None is = by_read (desc.operation == 1) is
 
--- and next, behind a unit that is copied
+-- and next, after a unit that is copied
 reads_on : (blocks : ℕ) (desc : DiskDesc) (b : Bool) (unit : ℕ) → first_defect desc blocks 0x0e ≡ None → CheckedBy blocks desc (if b then Reads unit else Ends 0)
 reads_on blocks desc true unit none = none
 reads_on blocks desc false unit none = tt
@@ -81,7 +81,7 @@ moved_checked (Writes u bytes) blocks work reach unit why next new none moves = 
 moved_checked Flushes blocks work reach unit why next new none moves = absurd moves
 moved_checked (Ends status) blocks work reach unit why next new none moves = absurd moves
 
--- behind one that is read or written, and a flush
+-- after one that is read or written, and a flush
 gathers_on : (blocks : ℕ) (desc : DiskDesc) (b : Bool) (unit : ℕ) → first_defect desc blocks 0x0e ≡ None → CheckedBy blocks desc (if b then Gathers unit else Ends 0)
 gathers_on blocks desc true unit none = none
 gathers_on blocks desc false unit none = tt

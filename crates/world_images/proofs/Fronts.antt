@@ -19,7 +19,7 @@ use Rattle.world_images.proofs.Contents.{own_completion}
 use Rattle.world_images.proofs.NamedRuns.{forged_before}
 use Rattle.world_images.proofs.ShapePlaces.{shape_at}
 
--- A LANE that is whole behind a run was whole before it
+-- A LANE that is whole after a run was whole before it
 forged_past : (shape : Shape) (events : List DiskEvent) (s : LaneState) (later : List DiskEvent) (t : LaneState) → IsShape shape → Run LaneStep (fresh shape) events s → Run LaneStep s later t
     → t.wire.forged ≡ false → s.wire.forged ≡ false
 forged_past shape events s [] t sound run more unforged = ap (λ (x : LaneState). x.wire.forged) more ∙ unforged

@@ -1,4 +1,4 @@
--- Bytes of an image that stay before a place and behind another.
+-- Bytes of an image that stay before a place and after another.
 use Rattle.std.proofs.Common.{◌≡◌, ◌⊎◌, ℕ, ◌+◌, ◌-◌, ◌*◌, ◌<◌, ◌≤◌, Some, List, drop, take, get_or, slice_index, inl, inr, sym, ap, ◌∙◌, arith}
 use Rattle.std.proofs.lemmas.List.{drop-drop, get_or-drop, get_or-take, take-take}
 use Rattle.vio_bytes.proofs.Ranges.{range_at-take}
@@ -10,7 +10,7 @@ use Rattle.lane_contents.specs.ImageStep.{SameAround, region_of}
 pub some_is : {X : Type 0} (x y : X) → Some x ≡ Some y → x ≡ y
 some_is x y is = cc is
 
--- a shorter front, and what lies further behind
+-- a shorter front, and what lies further after
 pub front_of : (m at : ℕ) (xs ys : List ℕ) → m ≤ at → take at xs ≡ take at ys → take m xs ≡ take m ys
 front_of m at xs ys within same = sym (take-take m at xs within) ∙ ap (λ (zs : List ℕ). take m zs) same ∙ take-take m at ys within
 

@@ -63,7 +63,7 @@ moves_byte place shape events s (Works Misplaced) t i j store sound run unforged
 moves_byte place shape events s (Turns event) t i j store sound run unforged named moves told room = still place i j store told moves.1
 moves_byte place shape events s (Rests event) t i j store sound run unforged named moves told room = still place i j store told moves.1
 
--- the byte stays behind another event
+-- the byte stays after another event
 byte_on : (place : ℕ) (first : List ℕ) (told now : Option (List ℕ)) → (before : StaysAt place first told) → StaysAt place before.now now → StaysAt place first now
 byte_on place first told now before behind = record { now = behind.now; told_is = behind.told_is; long = behind.long ∙ before.long; byte = behind.byte ∙ before.byte }
 

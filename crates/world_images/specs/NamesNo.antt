@@ -6,7 +6,7 @@ use Rattle.disk_steps.specs.DiskEvent.{Accepted, Asks}
 use Rattle.disk_steps.specs.LaneState.{Shape}
 use Rattle.lanes_settle.specs.Settle.{OfLane, SettleEntry}
 
--- it lies before or behind the blocks that the request writes, counted from the disk's first block
+-- it lies before or after the blocks that the request writes, counted from the disk's first block
 abbrev pub IsApart : ℕ → ℕ → Request → Type 0
 IsApart place first (Read block count) = ⊤
 IsApart place first (Write block count fill) = (place < 512 * (first + block)) ⊎ (512 * (first + block + count) ≤ place)

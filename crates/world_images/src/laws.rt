@@ -22,7 +22,7 @@ ghost use Rattle.world_images.specs.Stays.{StaysAround, StaysAt, StaysBehind};
 
 /// A step of a disk's lane changes of a told image only bytes of the disk's region, also where somebody forges packets
 /// and memory, and where the store fails: the image is told still and as long, and the same before the region and
-/// behind it. So it is of any lane that was reached, and of each lane of a world.
+/// after it. So it is of any lane that was reached, and of each lane of a world.
 pub fn stores_stay_within_their_disks()
     ensures lane { (shape : Shape) (events : List DiskEvent) (s : LaneState) (event : DiskEvent) (t : LaneState)
         (image next : ImageState) (store : List ℕ)
@@ -36,7 +36,7 @@ pub fn stores_stay_within_their_disks()
         → StaysAround shape store v.image.told }
 {}
 
-/// Behind all disks of a world a told image is as it was at the start, and it is as long, also where somebody forges
+/// After all disks of a world a told image is as it was at the start, and it is as long, also where somebody forges
 /// packets and memory, and where the store fails.
 pub fn images_outside_all_disks_stay()
     ensures { (shapes : List Shape) (image : ImageState) (first : List ℕ)
@@ -57,7 +57,7 @@ pub fn each_disk_has_its_own_image()
 
 /// Each completion of a disk that nobody forged and whose store didn't fail until then is of the first request that
 /// isn't done, with status 0; that of a read shows for each block the last earlier write of the disk, or the first
-/// image where there is none; or else a write that was issued behind it, where both were disturbed by a reset or a
+/// image where there is none; or else a write that was issued after it, where both were disturbed by a reset or a
 /// stop. So it is whatever happened to the other disks, at each completion of a disk that is so at the end of a run.
 pub fn completions_of_each_disk_show_the_last_write()
     ensures steps { (shapes : List Shape) (image : ImageState) (first : List ℕ) (k : ℕ) (shape : Shape)

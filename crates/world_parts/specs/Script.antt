@@ -16,7 +16,7 @@ abbrev pub BeginBelow : ℕ → List (Event × List Entry) → Type 0
 BeginBelow entries [] = Unit {0}
 BeginBelow entries (line ∷ lines) = (entries < most_entries) × BeginBelow (entries + length line.1) lines
 
--- Behind so many entries the journal is one part for each line, one after another, and the world was led from one state to
+-- After so many entries the journal is one part for each line, one after another, and the world was led from one state to
 -- another.
 pub record FitsScript (entries : ℕ) (s : WorldState) (events : List Event) (journal : List Entry) (t : WorldState) : Type 0 where
   pub lines : List (Event × List Entry)

@@ -46,7 +46,7 @@ entry_before w (OfLane k event) v step none = event_before step.lane w.image eve
 entry_before w Settled v step none = same_world w v step none
 entry_before w (Unsettled k) v step none = same_world w v step none
 
--- entries, and lines, one behind another
+-- entries, and lines, one after another
 pub part_before : (w : WorldState) (part : List SettleEntry) (v : WorldState) → Run WorldStep w part v → v.image.faults ≡ 0 → w.image.faults ≡ 0
 part_before w [] v run none = same_world w v (sym run) none
 part_before w (x ∷ part) v run none = entry_before w x run.0 run.1 (part_before run.0 part v run.2 none)

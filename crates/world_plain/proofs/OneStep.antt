@@ -92,7 +92,7 @@ record OnlyWire (s : LaneState) (event : WireEvent) (t : LaneState) : Type 0 whe
 only_wire : (e : End) (s : LaneState) (event : WireEvent) (t : LaneState) → EndOnWire e s event t → near_on_wire s event ≡ s.near → is_shown (OfLane 0 (OnWire event)) ≡ false → OnlyWire s event t
 only_wire e s event t step near hidden = record { failed = end_failed e s event t step; near = end_near e s event t step ∙ near; hidden = hidden }
 
--- an end resets itself behind a loss alone, and nothing was lost
+-- an end resets itself after a loss alone, and nothing was lost
 never_resets : (shape : Shape) (p : Plain) (s : LaneState) (store : List ℕ) (d : End) (cause : Cause) (packet : Option (List ℕ)) (lost : ℕ) (t : LaneState) → IsFirst shape → Stands shape p s store
     → giver cause ≡ ByStep → LaneStep s (OnWire (Reset d cause packet lost)) t → ⊥
 never_resets shape p s store d cause packet lost t front stands by step =

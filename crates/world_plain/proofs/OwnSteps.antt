@@ -76,7 +76,7 @@ one_round s (r ∷ []) (t ∷ more ∷ between) made = absurd made.1
 one_round s (r ∷ next ∷ steps) (t ∷ []) made = absurd made.1
 one_round s (r ∷ next ∷ steps) (t ∷ more ∷ between) made = absurd made.1
 
--- behind a round in which it was quiet it is finished, and gets no tick
+-- after a round in which it was quiet it is finished, and gets no tick
 no_tick : (finished waits : Bool) → finished ≡ true → ((if finished then false else waits) || false) ≡ true → ⊥
 no_tick true waits is gets = absurd (cc gets)
 no_tick false waits is gets = absurd (cc is)
@@ -85,7 +85,7 @@ never_ticks : (s : LaneState) (r : LaneRound) (t : LaneState) → IsWhole s → 
 never_ticks s r t at made quiet gets =
     no_tick (is_finished t.client) (if t.stopped then false else true) (quiet_finished s r t at.reached at.unforged at.whole at.runs made quiet).finished gets
 
--- A ROUND THAT GOES ON has no ticks behind it
+-- A ROUND THAT GOES ON has no ticks after it
 record Plainly (w : Settling) (steps : List LaneRound) (between : List LaneState) (entries : List SettleEntry) (v : Settling) : Type 0 where
   entries_are : entries ≡ round_entries 0 steps
   lanes : v.lanes ≡ between

@@ -1,4 +1,4 @@
--- Quiet lines one behind another over a world of one lane: what they show, and where they lead, is the plain list's.
+-- Quiet lines one after another over a world of one lane: what they show, and where they lead, is the plain list's.
 use Rattle.std.proofs.Common.{◌≡◌, ℕ, ◌+◌, ◌*◌, ◌≤◌, List, [], ◌∷◌, ◌++◌, length, refl, sym, ap, ◌∙◌, subst, arith}
 use Rattle.runs.specs.Run.{Run}
 use Rattle.vdisk_msg.specs.declared.request.Request.{Request}
@@ -36,7 +36,7 @@ quiet_line shape p w (Steps k e count) part v front rests quiet moves well = abs
 quiet_line shape p w (Rounds count) part v front rests quiet moves well = absurd quiet
 quiet_line shape p w (Calls k call) part v front rests quiet moves well = absurd quiet
 
--- LINES one behind another
+-- LINES one after another
 record LinesArePlain (shape : Shape) (p : Plain) (lines : List (Line × List SettleEntry)) (v : WorldState) : Type 0 where
   shows : shown_of lines ≡ plain_journal shape p (lines_of lines)
   rests : Rests shape (plain_run shape p (lines_of lines)) v

@@ -21,7 +21,7 @@ pub record IsFirst (shape : Shape) : Type 0 where
   pub sound : IsShape shape
   pub place : shape.first ≡ 0
 
--- the byte behind the disk
+-- the byte after the disk
 abbrev pub end_of : Shape → ℕ
 end_of shape = 512 * (shape.first + shape.blocks)
 
@@ -45,7 +45,7 @@ region_room shape bytes sound long =
 pub region_long : (shape : Shape) (bytes : List ℕ) → end_of shape ≤ length bytes → length (region_of shape bytes) ≡ 512 * shape.blocks
 region_long shape bytes room = length-range_at (512 * shape.first) (512 * shape.blocks) bytes (omega (arith, room))
 
--- A REQUEST on the bytes of the image is one on the region, and leaves what lies behind the disk
+-- A REQUEST on the bytes of the image is one on the region, and leaves what lies after the disk
 pub region_after : (shape : Shape) (content : List ℕ) (request : Request) → IsFirst shape → end_of shape ≤ length content → defect shape.blocks request ≡ None
     → region_of shape (after_request content request) ≡ after_request (region_of shape content) request
 region_after shape content (Read block count) front room admitted = refl
@@ -78,7 +78,7 @@ given_same shape content (Read block count) front admitted =
 given_same shape content (Write block count fill) front admitted = refl
 given_same shape content Flush front admitted = refl
 
--- THE SAME BYTES: lists with the same blocks, and with the same region and the same behind it
+-- THE SAME BYTES: lists with the same blocks, and with the same region and the same after it
 fronts_same : (n : ℕ) (one other : List ℕ) → ((b : ℕ) → b < n → block_at b one ≡ block_at b other) → take (512 * n) one ≡ take (512 * n) other
 fronts_same zero one other same = refl
 fronts_same (suc n) one other same =
@@ -106,7 +106,7 @@ same_image shape one other front region behind =
     ∙ ap (λ (xs : List ℕ). take (512 * shape.blocks) other ++ xs) backs
     ∙ take-append-drop (512 * shape.blocks) other
 
--- WHAT A COMPLETION SHOWS where no request behind it was published before: what its request reads from the content
+-- WHAT A COMPLETION SHOWS where no request after it was published before: what its request reads from the content
 shown_block : (content bytes : List ℕ) (behind : List Request) (at b : ℕ) → (bytes ≡ block_at at content) ⊎ PendingPuts behind 0 (0 - 1) b bytes → bytes ≡ block_at at content
 shown_block content bytes behind at b (inl same) = same
 shown_block content bytes behind at b (inr puts) = let below = puts.below in absurd (omega (arith, below))

@@ -27,7 +27,7 @@ pub record Beside (shape : Shape) (p : Plain) (w : WorldState) : Type 0 where
   pub lanes : w.lanes ≡ lane ∷ []
   pub over : Over shape p lane w.image
 
--- behind a line moreover the image has the content
+-- after a line moreover the image has the content
 pub record Rests (shape : Shape) (p : Plain) (w : WorldState) : Type 0 where
   pub beside : Beside shape p w
   pub told : w.image.told ≡ Some p.content
@@ -51,7 +51,7 @@ lane_one s w k event v lanes zeroth one =
       moves = subst (λ (x : LaneState). LaneMoves x w.image event one.after v.image) (only_lane s one.lane there) one.moves;
     }
 
--- STEPS of the ends, one behind another: what they complete, the plain list has to complete
+-- STEPS of the ends, one after another: what they complete, the plain list has to complete
 pub record Reaches (shape : Shape) (p : Plain) (steps : List SettleEntry) (v : WorldState) : Type 0 where
   pub plain : Plain
   pub beside : Beside shape plain v

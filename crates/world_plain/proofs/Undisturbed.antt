@@ -71,7 +71,7 @@ undisturbed_on shape completed n s event t at step keeps well early done = recor
   done = ap (λ (l : DiskLog). l.work.done) (log_append after (nothing_yet shape) at.events (event ∷ [])) ∙ done;
 }
 
--- what is pending behind an event, by the log
+-- what is pending after an event, by the log
 pub pending_on : (shape : Shape) (completed : ℕ) (s : LaneState) (event : DiskEvent) (t : LaneState) → IsShape shape → (at : Undisturbed shape completed s) → LaneStep s event t
     → t.client.pending
     ≡ drop (after (log_of after (nothing_yet shape) at.events) event).work.done (after (log_of after (nothing_yet shape) at.events) event).work.issued
@@ -93,7 +93,7 @@ rested_image shape p s store front stands nothing =
     same_image shape store p.content front
     (run_settled shape at.events s (region_of shape p.content) (region_of shape store) front.sound at.run at.unforged at.well stands.near (stands.waiting ∙ nothing)) stands.behind
 
--- AN EVENT that neither accepts nor completes a request, and leaves what lies behind the disk
+-- AN EVENT that neither accepts nor completes a request, and leaves what lies after the disk
 pub record Silent (shape : Shape) (p : Plain) (s : LaneState) (event : DiskEvent) (t : LaneState) (store new : List ℕ) : Type 0 where
   pub step : LaneStep s event t
   pub keeps : StepKeeps s t

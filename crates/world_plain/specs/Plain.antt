@@ -44,7 +44,7 @@ given content Flush = []
 abbrev pub completion : Plain → Request → SettleEntry
 completion p request = OfLane 0 (Works (Done p.completed (operation_of request) 0 (given p.content request)))
 
--- the first request that waits is completed, and these wait behind it
+-- the first request that waits is completed, and these wait after it
 abbrev pub complete : Plain → Request → List Request → Plain
 complete p request behind = record { content = after_request p.content request; waiting = behind; completed = p.completed + 1 }
 

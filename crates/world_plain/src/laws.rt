@@ -11,8 +11,8 @@ ghost use Rattle.world_plain.specs.Quiet.{IsFront, RunsPlainly, RunsQuietly};
 /// A world of one disk that begins its image, which is told, where the lines of a script only ask the disk, settle or
 /// do nothing, and the image never failed: what the lines show is what a plain list of requests shows. A request is
 /// refused for its defect, finds as many waiting as the ring has slots, or waits; a settle completes all that wait, in
-/// order, each once and with the status 0, each read with the bytes that the image has behind the writes before it; and
-/// nothing else is shown, so that no end was reset. Behind each line the image has exactly the plain list's bytes.
+/// order, each once and with the status 0, each read with the bytes that the image has after the writes before it; and
+/// nothing else is shown, so that no end was reset. After each line the image has exactly the plain list's bytes.
 pub fn a_quiet_world_is_a_plain_list()
     ensures { (shape : Shape) (image : ImageState) (first : List ℕ) (lines : List (Line × List SettleEntry))
         (w : WorldState)

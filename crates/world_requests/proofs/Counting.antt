@@ -48,7 +48,7 @@ next_counts s event t at step =
     next_is at.shape (at.events ++ event ∷ []) t at.sound (run_push LaneStep (fresh at.shape) s t at.events event at.run step)
     ∙ issued_more at.events event ∙ ap (λ (n : ℕ). n + accepts event) (sym (next_is at.shape at.events s at.sound at.run))
 
--- THE SUM behind one lane's event
+-- THE SUM after one lane's event
 sum_set : (lanes : List LaneState) (k : ℕ) (s t : LaneState) (more : ℕ) → slice_get lanes k ≡ Some s → t.client.next_id ≡ s.client.next_id + more → next_ids (slice_set lanes k t) ≡ next_ids lanes + more
 sum_set [] k s t more there is = absurd (cc there)
 sum_set (x ∷ lanes) zero s t more there is =

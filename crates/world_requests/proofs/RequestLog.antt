@@ -18,7 +18,7 @@ use Rattle.vdisk_msg.specs.declared.request.Request.{Request}
 use Rattle.world_requests.proofs.Filtered.{one_more}
 use Rattle.world_requests.specs.Requests.{request_event, requests_of}
 
--- WHAT IS COUNTED, one list behind another
+-- WHAT IS COUNTED, one list after another
 pub issued_both : (before behind : List plain.DiskEvent) → issued (before ++ behind) ≡ issued before ++ issued behind
 issued_both [] behind = refl
 issued_both (plain.Accepted id request ∷ before) behind = ap (λ (l : List Request). request ∷ l) (issued_both before behind)

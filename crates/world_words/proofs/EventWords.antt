@@ -102,7 +102,7 @@ cause_named l turns e _ packet own says = tt
 reset_words : (l : DiskLog) (e : End) (cause : Cause) (packet : Option (List ℕ)) (lost : ℕ) → May l (OnWire (Reset e cause packet lost)) → HasWords (OnWire (Reset e cause packet lost))
 reset_words l e cause packet lost may = (cause_named l (talk_of e l.talk) e cause packet may.own_resets.1 may.reset_says, may.own_resets.0)
 
--- EACH EVENT behind a run of a lane
+-- EACH EVENT after a run of a lane
 may_behind : (shape : Shape) (events : List DiskEvent) (s : LaneState) (event : DiskEvent) (t : LaneState) → IsShape shape → Run LaneStep (fresh shape) events s → LaneStep s event t
     → May (log_of after (nothing_yet shape) events) event
 may_behind shape events s event t sound run step =

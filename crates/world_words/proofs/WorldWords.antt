@@ -49,7 +49,7 @@ lane_in shapes image entries w k s run there =
       run = runs.each k shape.0 s shape.1 there;
     }
 
--- AN ENTRY is a step of its lane, behind what happened to it before
+-- AN ENTRY is a step of its lane, after what happened to it before
 record EntryAt (shapes : List Shape) (before : List SettleEntry) (k : ℕ) (event : DiskEvent) : Type 0 where
   lane : LaneState
   of_world : LaneIn shapes before k lane

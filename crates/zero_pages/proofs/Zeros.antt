@@ -58,7 +58,7 @@ same_pages old new (p ∷ ps) (q ∷ qs) long same =
     ap (λ (l : List ℕ). l ++ pages_at new qs) (same 0 (omega arith))
     ∙ ap (λ (l : List ℕ). page_at old p ++ l) (same_pages old new ps qs (omega arith) (λ i below. same (suc i) (omega arith)))
 
--- the pages before one, that page, and those behind it
+-- the pages before one, that page, and those after it
 split_pages : (kept places : List ℕ) (i : ℕ) → i < length places
     → pages_at kept places ≡ pages_at kept (take i places) ++ (page_at kept (get_or places i 0) ++ pages_at kept (drop (i + 1) places))
 split_pages kept places i below =
@@ -134,7 +134,7 @@ count_more (suc p ∷ places) zero k below zeros = absurd (omega (arith, zeros))
 count_more (zero ∷ places) (suc i) k below zeros = count_more places i k (omega arith) zeros
 count_more (suc p ∷ places) (suc i) k below zeros = ap suc (count_more places i k (omega arith) zeros)
 
--- a page that is kept stays behind others
+-- a page that is kept stays after others
 front_page : (kept more : List ℕ) (place : ℕ) → 4096 * place ≤ length kept → page_at (kept ++ more) place ≡ page_at kept place
 front_page kept more zero within = refl
 front_page kept more (suc k) within =
@@ -231,7 +231,7 @@ room_for_page kept places i capacity are below zeros room =
     let more : kept_count (set places i (suc n)) ≡ suc n = count_more places i n below zeros in
     omega (arith, are.many, more, count_most (set places i (suc n)), length-set places i (suc n), room)
 
--- a page of zeros behind the kept ones
+-- a page of zeros after the kept ones
 pub zeros_added : (kept new : List ℕ) (end : ℕ) → end ≡ length kept + 4096 → new ≡ take end kept ++ replicate (end - length kept) 0 → new ≡ kept ++ replicate 4096 0
 zeros_added kept new end end_is is =
     let more : end - length kept ≡ 4096 = omega arith in

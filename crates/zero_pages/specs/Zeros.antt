@@ -8,7 +8,7 @@ abbrev pub page_at : List ℕ → ℕ → List ℕ
 page_at kept zero = replicate 4096 0
 page_at kept (suc k) = range_at (4096 * k) 4096 kept
 
--- the pages of these places, one behind the other
+-- the pages of these places, one after the other
 abbrev pub pages_at : List ℕ → List ℕ → List ℕ
 pages_at kept places = flat_map (page_at kept) places
 

@@ -11,7 +11,7 @@ use vio_bytes::NoMemory;
 pub const PAGE: usize = 4096;
 
 /// Pages that begin as zeros. Memory is taken for all of them, but only those that a call wrote lie in it, in the order
-/// of their first writes: behind their end nothing is touched. So no call wants memory later.
+/// of their first writes: after their end nothing is touched. So no call wants memory later.
 #[derive(Drop)]
 pub struct ZeroPages {
     /// For each page 0, where it is zeros, or the number of its kept page, counted from 1.
@@ -246,7 +246,7 @@ fn keep(places: &mut [usize], kept: &mut Vec<u8>, page: usize) -> usize
     }
 }
 
-/// Keeps a page that is zeros, behind the others, and answers its place.
+/// Keeps a page that is zeros, after the others, and answers its place.
 #[inline(never)]
 fn keep_zeros(places: &mut [usize], kept: &mut Vec<u8>, page: usize) -> usize
     requires page { page < length places.old }

@@ -9,7 +9,7 @@ use vio_io::ListSink;
 /// What stands in each last line of the journal here, between how many lines were taken up and the status.
 const COUNTS: &[u8] = b" accepted=2 done=1 pending=1 resets=1 frames=0 status=";
 
-/// How many lines were taken up, how the run ended, and what its last line has before the counts and behind them.
+/// How many lines were taken up, how the run ended, and what its last line has before the counts and after them.
 type Row = (u32, Status, &'static [u8], &'static [u8]);
 
 fn limit(line: u32, kind: LimitKind) -> Status {

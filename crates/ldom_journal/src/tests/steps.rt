@@ -9,7 +9,7 @@ use std::alloc::Global;
 use std::test::Fail;
 use vio_io::ListSink;
 
-/// The lines of an entry of the disk in a trace, and behind them those in a run.
+/// The lines of an entry of the disk in a trace, and after them those in a run.
 fn shown_twice(alloc: Global, entry: Entry) -> Result<ListSink, Fail>
     requires { (disks : List DiskDecl) → length disks ≡ 1 → HasWords disks entry }
 {
