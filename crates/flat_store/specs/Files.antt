@@ -21,6 +21,10 @@ pub record FileCalls : Type 0 where
   pub failed : ℕ
   pub interrupted : ℕ
 
+-- no call was made
+abbrev pub no_call : FileCalls
+no_call = record { moved = 0; synced = 0; failed = 0; interrupted = 0 }
+
 abbrev pub one_moved : FileCalls → FileCalls
 one_moved c = record c { moved = next_count c.moved }
 
@@ -59,7 +63,7 @@ pub record SyncedOnce (old new : FileCalls) : Type 0 where
   pub synced : new.synced ≡ next_count old.synced
   pub failed : new.failed ≡ old.failed
 
--- no call did what was asked: one moved less or failed, or 10,000 were interrupted
+-- no call did what was asked: one moved less or failed, or 10,000 or more were interrupted, as far as the count goes
 pub record Lacked (old new : FileCalls) : Type 0 where
   pub moved : new.moved ≡ old.moved
   pub synced : new.synced ≡ old.synced

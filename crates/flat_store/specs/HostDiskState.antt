@@ -1,7 +1,7 @@
 -- An image of the program is a store as its variant is: zeros in memory, or a file, whose bytes are told where it tells them.
 use Rattle.std.specs.Prelude.{◌≡◌, ℕ, List, Option, Some, None, IfSome, length, refl, ⊤}
 use Rattle.vio_io.specs.FaultPlan.{Plan}
-use Rattle.flat_store.specs.Files.{FileCalls}
+use Rattle.flat_store.specs.Files.{FileCalls, no_call}
 use Rattle.flat_store.specs.declared.image_file.ImageFile.{Ghosts}
 use Rattle.flat_store.specs.declared.std_host.HostDisk.{HostDisk}
 use Rattle.flat_store.specs.declared.std_host.HostDisk.TheVariants.{Memory, File}
@@ -34,7 +34,12 @@ abbrev pub plan_of : {F : Type 0} → HostDisk F → Option Plan
 plan_of (Memory store) = Some store.plan
 plan_of (File store) = None
 
--- zeros stay zeros in memory, and a file stays a file, of whose calls before and after this holds
+-- no call of the file below it was made; of an image in memory the store's own counts tell it
+abbrev pub IsUncalled : {F : Type 0} → Ghosts F → HostDisk F → Type 0
+IsUncalled g (Memory store) = ⊤
+IsUncalled g (File store) = g.calls store.file ≡ no_call
+
+-- an image in memory stays one, and a file stays a file, of whose calls before and after this holds
 abbrev pub FileCalled : {F : Type 0} → Ghosts F → (FileCalls → FileCalls → Type 0) → HostDisk F → HostDisk F → Type 0
 FileCalled g Holds (Memory old) (Memory new) = ⊤
 FileCalled g Holds (Memory old) (File new) = ⊥

@@ -1,5 +1,5 @@
 ghost use Rattle.std.specs.Prelude.{◌≡◌, if◌then◌else◌};
-ghost use Rattle.flat_store.specs.Files.{after_fault, one_failed, one_moved, one_synced};
+ghost use Rattle.flat_store.specs.Files.{after_fault, no_call, one_failed, one_moved, one_synced};
 
 use crate::FileFault;
 use std::marker::Model;
@@ -29,7 +29,7 @@ impl Model for CallCounts {
 impl CallCounts {
     /// No call yet.
     pub(crate) fn new() -> Self
-        ensures { result ≡ record { moved = 0; synced = 0; failed = 0; interrupted = 0 } }
+        ensures { result ≡ no_call }
     {
         CallCounts {
             moved: 0,
@@ -57,7 +57,7 @@ impl CallCounts {
         self.synced = self.synced.saturating_add(1);
     }
 
-    /// A call that failed.
+    /// A call that failed or was interrupted.
     pub(crate) fn note_fault(&mut self, fault: FileFault)
         ensures { self.new ≡ after_fault fault self.old }
     {

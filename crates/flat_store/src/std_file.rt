@@ -1,5 +1,5 @@
-ghost use Rattle.std.specs.Prelude.{None};
-ghost use Rattle.flat_store.specs.Files.{after_move, after_sync};
+ghost use Rattle.std.specs.Prelude.{◌≡◌, IfOk, None};
+ghost use Rattle.flat_store.specs.Files.{after_move, after_sync, no_call};
 
 use crate::call_counts::CallCounts;
 use crate::{FileFault, ImageFile};
@@ -20,8 +20,10 @@ pub struct StdFile {
 impl StdFile {
     /// Opens what has this name for reading and writing. It is never made, cut or lengthened. A directory can't be opened so,
     /// and what has no length, as a pipe, is refused. A clone's descriptor is above those of the standard streams: where one
-    /// of them is closed, what is written to it doesn't come into the file.
-    pub fn open<R: Files<File = File>>(files: &R, name: &str) -> io::Result<Self> {
+    /// of them is closed, what is written to it doesn't come into the file. None of the calls of `ImageFile` was made yet.
+    pub fn open<R: Files<File = File>>(files: &R, name: &str) -> io::Result<Self>
+        ensures { IfOk result (λ f. f.calls ≡ no_call) }
+    {
         let opened = OpenOptions::new().read(true).write(true).open(files, name)?;
         let mut file = opened.try_clone()?;
         let len = file.seek(SeekFrom::End(0))?;

@@ -5,7 +5,7 @@ ghost use Rattle.vio_io.specs.Given.{next_given};
 ghost use Rattle.vio_io.specs.FaultPlan.{after_call, fails_next, unused};
 ghost use Rattle.vio_io.specs.Stores.{IsUnitRange, KeepsOutside, ReadsRange, WritesRange};
 ghost use Rattle.flat_store.specs.Files.{Lacked, MovedOnce, SyncedOnce};
-ghost use Rattle.flat_store.specs.HostDiskState.{FileCalled, calls_of, content_of, faults_of, flushes_of, plan_of, size_of};
+ghost use Rattle.flat_store.specs.HostDiskState.{FileCalled, IsUncalled, calls_of, content_of, faults_of, flushes_of, plan_of, size_of};
 ghost use Rattle.flat_store.specs.Hosts.{zeros_alone};
 
 use crate::{FileStore, ImageFile, StdFile, ZeroStore};
@@ -174,6 +174,7 @@ impl<R: Files<File = File> + Drop> Host for StdHost<R> {
         ensures plan { IfOk result (λ disk. plan_of disk ≡ (if bytes_eq name.now (codes "-") then Some (unused []) else None)) }
         ensures calls { IfOk result (λ disk. calls_of disk ≡ 0) }
         ensures flushes { IfOk result (λ disk. flushes_of disk ≡ 0) }
+        ensures uncalled { IfOk result (λ disk. IsUncalled ⟦<StdFile as ImageFile>⟧ disk) }
     {
         if name == "-" {
             let zeros = ZeroStore::new(alloc, least as usize)?;
