@@ -4,8 +4,8 @@ use Rattle.ldom_entries.specs.declared.entry.Entry.{Entry}
 use Rattle.ldom_entries.specs.declared.entry.Entry.TheVariants as entry
 
 -- Whether an entry is kept whole. What comes with a step of an end, or for each disk of a settle, may come millions of
--- times, and what tells of a line of a script at least as often as there are such lines: these are kept in a few bytes.
--- Any other is kept as it is, and needs no header of its own.
+-- times, and what tells of a line of a script about as often as there are such lines: these are kept in a few bytes.
+-- A lost packet, of which a line tells too, is kept as it is, as any other kind would be: it needs no header of its own.
 abbrev pub is_whole : Entry → Bool
 is_whole (entry.Accepted disk id request) = false
 is_whole (entry.Full who) = false

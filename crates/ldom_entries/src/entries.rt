@@ -59,8 +59,8 @@ impl<'a> Entries<'a> {
         }
     }
 
-    /// Passes over entries that no user of the disks sees, until the next one is seen or is kept whole, and makes
-    /// nothing of them.
+    /// Passes over entries that no user of the disks sees, until the next one is seen or is kept whole. None of those
+    /// that it passes over is handed on.
     pub fn pass_unseen(&mut self)
         ensures passed { PassesUnseen self.old self.new }
         ensures stops { BeginsSeen self.new }

@@ -29,7 +29,8 @@ fn push_whole_packet(
 }
 
 /// Puts the line of an entry that is kept whole, but for the line feed. Answers whether the mode shows it: where it
-/// doesn't, nothing is put. Each such kind has its arm; that of one which a run shows would come before the first.
+/// doesn't, nothing is put. Each such kind has its arm; that of one which a run shows comes first, and is met only where
+/// the mode isn't `EndOnly`.
 fn push_whole_head(text: &mut Text, mode: Mode, entry: &Entry, names: &LineNames<'_>) -> bool
     requires whole { is_whole entry.now ≡ true }
     requires words { HasWords names.now.disks entry.now }
