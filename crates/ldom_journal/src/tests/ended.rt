@@ -1,6 +1,6 @@
 // The last line of a report.
 
-use crate::tests::{CLIENT, done, note, reset};
+use crate::tests::{CLIENT, accepted, done, note, reset};
 use crate::*;
 use std::alloc::Global;
 use std::test::Fail;
@@ -52,11 +52,8 @@ fn rows() -> [Row; 7] {
 /// Two requests were taken up, one was completed, and an end was reset.
 fn ended_journal(alloc: Global) -> Result<Journal, NoMemory> {
     let mut journal = Journal::new(alloc);
-    for id in 0..2 {
-        let request = KeptRequest::new(alloc, &Request::Flush)?;
-        let disk = 0;
-        note(&mut journal, Entry::Accepted { disk, id, request })?;
-    }
+    note(&mut journal, accepted(alloc, 0, &Request::Flush)?)?;
+    note(&mut journal, accepted(alloc, 1, &Request::Flush)?)?;
     note(&mut journal, done(alloc, VD_OP_FLUSH, 0))?;
     note(&mut journal, reset(CLIENT, Cause::Asked, 0))?;
     note(&mut journal, Entry::Settled)?;

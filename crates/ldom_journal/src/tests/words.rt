@@ -1,27 +1,30 @@
 // The words of blocks that were read, also where the sink fails.
-ghost use Rattle.std.specs.Prelude.{◌≡◌, ◌%◌, ◌<◌, List, length, IfOk};
+ghost use Rattle.std.specs.Prelude.{◌≡◌, ◌%◌, ◌<◌, All, List, length, IfOk};
 ghost use Rattle.domain_script.specs.declared.event.DiskDecl.{DiskDecl};
 ghost use Rattle.ldom_journal.specs.HasWords.{HasWords};
 
-use crate::tests::{journal_of, one_disk, shown};
+use crate::tests::{note, one_disk, shown};
 use crate::*;
 use std::alloc::Global;
 use std::test::Fail;
 use vio_io::ListSink;
 
-/// A read that gave these bytes.
-fn read_of(alloc: Global, bytes: &[u8]) -> Result<Entry, NoMemory>
+/// A journal of a read that gave these bytes.
+fn read_of(alloc: Global, bytes: &[u8]) -> Result<Journal, NoMemory>
     requires some { 0 < length bytes.now }
     requires blocks { length bytes.now % 512 ≡ 0 }
-    ensures { IfOk result (λ entry. (disks : List DiskDecl) → length disks ≡ 1 → HasWords disks entry) }
+    ensures { IfOk result (λ journal. (disks : List DiskDecl) → length disks ≡ 1 → All (HasWords disks) journal.entries) }
 {
-    Ok(Entry::Done {
+    let read = Entry::Done {
         disk: 0,
         id: 0,
         operation: VD_OP_BREAD,
         status: 0,
         bytes: Bytes::from_slice(alloc, bytes)?,
-    })
+    };
+    let mut journal = Journal::new(alloc);
+    note(&mut journal, read)?;
+    Ok(journal)
 }
 
 /// 128 blocks, none of which repeats a shorter word.
@@ -47,29 +50,41 @@ fn a_block_is_shown_by_its_shortest_word(rt: HostRuntime) -> Result<(), Fail> {
             *byte = word.get(k % word.len().max(1)).copied().unwrap_or(0);
         }
         let read = read_of(alloc, &block)?;
-        assert_eq!(rt; shown(alloc, Mode::Run, read)?.bytes(), line);
+        assert_eq!(rt; shown(alloc, Mode::Run, &read)?.bytes(), line);
     }
     Ok(())
+}
+
+/// Whether a sink that fails at a call gets a front of the journal's lines, of so many bytes at least.
+fn fails_at(
+    alloc: Global,
+    journal: &Journal,
+    lines: &[u8],
+    call: u64,
+    least: usize,
+) -> Result<bool, Fail>
+    requires { (disks : List DiskDecl) → length disks ≡ 1 → All (HasWords disks) journal.now.entries }
+{
+    let mut sink = ListSink::new(alloc, 200_000, &[call])?;
+    let result = write_text(journal, Mode::Run, &one_disk(), &mut sink);
+    let front = sink.bytes();
+    let partly = front.len() >= least && front.len() < lines.len();
+    Ok(result == Err(Failed) && partly && lines.starts_with(front))
 }
 
 #[test]
 fn a_failing_sink_gets_a_front_of_the_lines(rt: HostRuntime) -> Result<(), Fail> {
     let alloc = rt.alloc();
-    let names = one_disk();
-    let journal = journal_of(alloc, read_of(alloc, &without_repetition())?)?;
+    let journal = read_of(alloc, &without_repetition())?;
     let mut whole = ListSink::new(alloc, 200_000, &[])?;
-    write_text(&journal, Mode::Run, &names, &mut whole)?;
+    write_text(&journal, Mode::Run, &one_disk(), &mut whole)?;
+    let lines = whole.bytes();
     // A block without repetition has 1,024 digits.
-    assert_eq!(rt;
-        whole.bytes().len(),
-        b"done d0 0 read 0".len() + 128 * (b" *".len() + 1024) + 1
-    );
-    for (call, least) in [(0, 0), (1, 61_440), (2, 122_880)] {
-        let mut sink = ListSink::new(alloc, 200_000, &[call])?;
-        let result = write_text(&journal, Mode::Run, &names, &mut sink);
-        assert_eq!(rt; result, Err(Failed));
-        assert!(rt; sink.bytes().len() >= least && sink.bytes().len() < whole.bytes().len());
-        assert!(rt; whole.bytes().starts_with(sink.bytes()));
-    }
+    let digits = b"done d0 0 read 0".len() + 128 * (b" *".len() + 1024) + 1;
+    assert_eq!(rt; lines.len(), digits);
+    let fails = fails_at(alloc, &journal, lines, 0, 0)?
+        && fails_at(alloc, &journal, lines, 1, 61_440)?
+        && fails_at(alloc, &journal, lines, 2, 122_880)?;
+    assert!(rt; fails);
     Ok(())
 }
