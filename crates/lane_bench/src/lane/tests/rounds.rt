@@ -102,7 +102,7 @@ pub(crate) fn packet(text: &str) -> Result<[u8; 64], Fail> {
 
 impl Is {
     /// As the client's step.
-    fn client(self) -> Result<ClientOut, Fail> {
+    fn client(&self) -> Result<ClientOut, Fail> {
         Ok(match self {
             Is::Joined => ClientOut::Joined,
             Is::Sent(text) => ClientOut::Sent {
@@ -129,7 +129,7 @@ impl Is {
     }
 
     /// As the server's step.
-    fn server(self) -> Result<ServerOut, Fail> {
+    fn server(&self) -> Result<ServerOut, Fail> {
         match self {
             Is::Joined => Ok(ServerOut::Joined),
             Is::Sent(text) => Ok(ServerOut::Sent {
@@ -143,7 +143,7 @@ impl Is {
         }
     }
 
-    fn work(self) -> Result<ServerOut, Fail> {
+    fn work(&self) -> Result<ServerOut, Fail> {
         Ok(match self {
             Is::Desc => ServerOut::Desc {
                 slot: 0,
@@ -172,67 +172,64 @@ fn took(text: &str, opens: bool) -> Result<ServerOut, Fail> {
 }
 
 /// The rounds of a lane until its first request is done, a write of one block: the client's step, and the server's.
+const ROUNDS: [(Is, Is); 31] = [
+    // The link's handshake.
+    (Is::Joined, Is::Joined),
+    (Is::Sent(VERS), Is::Took(VERS)),
+    (Is::Idle, Is::Sent(VERS_ACK)),
+    (Is::Took(VERS_ACK), Is::Idle),
+    (Is::Sent(RTS), Is::Took(RTS)),
+    (Is::Idle, Is::Sent(RTR)),
+    (Is::Took(RTR), Is::Idle),
+    (Is::Sent(RDX), Is::Took(RDX)),
+    // Versions, attributes and the ring.
+    (Is::Sent(VERSION), Is::Took(VERSION)),
+    (Is::Idle, Is::Sent(VERSION_ACK)),
+    (Is::Took(VERSION_ACK), Is::Idle),
+    (Is::Sent(ATTRIBUTES), Is::Took(ATTRIBUTES)),
+    (Is::Idle, Is::Sent(ATTRIBUTES_ACK)),
+    (Is::Took(ATTRIBUTES_ACK), Is::Idle),
+    (Is::Sent(RING), Is::Took(RING)),
+    (Is::Idle, Is::Sent(RING_ACK)),
+    (Is::Took(RING_ACK), Is::Idle),
+    // Both ends are ready.
+    (Is::Sent(CLIENT_RDX), Is::Took(CLIENT_RDX)),
+    (Is::Idle, Is::Sent(CLIENT_RDX_ACK)),
+    (Is::Took(CLIENT_RDX_ACK), Is::Sent(SERVER_RDX)),
+    (Is::Took(SERVER_RDX), Is::Idle),
+    (
+        Is::SentOpening(SERVER_RDX_ACK),
+        Is::TookOpening(SERVER_RDX_ACK),
+    ),
+    // The write goes from the ring to the store.
+    (Is::Published, Is::Idle),
+    (Is::Sent(DATA), Is::Took(DATA)),
+    (Is::Idle, Is::Desc),
+    (Is::Idle, Is::Moved),
+    (Is::Idle, Is::Stored),
+    (Is::Idle, Is::Finished),
+    (Is::Idle, Is::Sent(DATA_ACK)),
+    (Is::Took(DATA_ACK), Is::Idle),
+    (Is::Done, Is::Idle),
+];
+
+/// So many of them open a session.
+const OPENING: usize = 22;
+
 impl Lane {
-    fn round_is(&mut self, client: Is, server: Is) -> Result<bool, Fail> {
-        Ok(self.step_client() == client.client()? && self.step_server() == server.server()?)
+    /// Whether its next rounds are the first so many of those.
+    pub(crate) fn goes_by_rounds(&mut self, count: usize) -> Result<bool, Fail> {
+        for (client, server) in ROUNDS.iter().take(count) {
+            if self.step_client() != client.client()? || self.step_server() != server.server()? {
+                return Ok(false);
+            }
+        }
+        Ok(true)
     }
 
-    /// The link's handshake.
-    pub(crate) fn link_comes_up(&mut self) -> Result<bool, Fail> {
-        Ok(
-            self.round_is(Is::Joined, Is::Joined)?
-                && self.round_is(Is::Sent(VERS), Is::Took(VERS))?
-                && self.round_is(Is::Idle, Is::Sent(VERS_ACK))?
-                && self.round_is(Is::Took(VERS_ACK), Is::Idle)?
-                && self.round_is(Is::Sent(RTS), Is::Took(RTS))?
-                && self.round_is(Is::Idle, Is::Sent(RTR))?
-                && self.round_is(Is::Took(RTR), Is::Idle)?
-                && self.round_is(Is::Sent(RDX), Is::Took(RDX))?,
-        )
-    }
-
-    /// Versions, attributes and the ring.
-    pub(crate) fn ends_agree(&mut self) -> Result<bool, Fail> {
-        Ok(
-            self.round_is(Is::Sent(VERSION), Is::Took(VERSION))?
-                && self.round_is(Is::Idle, Is::Sent(VERSION_ACK))?
-                && self.round_is(Is::Took(VERSION_ACK), Is::Idle)?
-                && self.round_is(Is::Sent(ATTRIBUTES), Is::Took(ATTRIBUTES))?
-                && self.round_is(Is::Idle, Is::Sent(ATTRIBUTES_ACK))?
-                && self.round_is(Is::Took(ATTRIBUTES_ACK), Is::Idle)?
-                && self.round_is(Is::Sent(RING), Is::Took(RING))?
-                && self.round_is(Is::Idle, Is::Sent(RING_ACK))?
-                && self.round_is(Is::Took(RING_ACK), Is::Idle)?,
-        )
-    }
-
-    /// Both ends are ready.
-    pub(crate) fn session_opens(&mut self) -> Result<bool, Fail> {
-        Ok(
-            self.round_is(Is::Sent(CLIENT_RDX), Is::Took(CLIENT_RDX))?
-                && self.round_is(Is::Idle, Is::Sent(CLIENT_RDX_ACK))?
-                && self.round_is(Is::Took(CLIENT_RDX_ACK), Is::Sent(SERVER_RDX))?
-                && self.round_is(Is::Took(SERVER_RDX), Is::Idle)?
-                && self.round_is(
-                    Is::SentOpening(SERVER_RDX_ACK),
-                    Is::TookOpening(SERVER_RDX_ACK),
-                )?,
-        )
-    }
-
-    /// The write goes from the ring to the store.
-    fn write_is_served(&mut self) -> Result<bool, Fail> {
-        Ok(
-            self.round_is(Is::Published, Is::Idle)?
-                && self.round_is(Is::Sent(DATA), Is::Took(DATA))?
-                && self.round_is(Is::Idle, Is::Desc)?
-                && self.round_is(Is::Idle, Is::Moved)?
-                && self.round_is(Is::Idle, Is::Stored)?
-                && self.round_is(Is::Idle, Is::Finished)?
-                && self.round_is(Is::Idle, Is::Sent(DATA_ACK))?
-                && self.round_is(Is::Took(DATA_ACK), Is::Idle)?
-                && self.round_is(Is::Done, Is::Idle)?,
-        )
+    /// Whether its session opens by those rounds.
+    pub(crate) fn opens_session(&mut self) -> Result<bool, Fail> {
+        self.goes_by_rounds(OPENING)
     }
 }
 
@@ -242,22 +239,15 @@ fn ask_one(lane: &mut Lane)
     lane.ask(&write(0, 1));
 }
 
-/// Whether a write of one block goes as the rounds say.
-fn goes_by_rounds(alloc: Global) -> Result<bool, Fail> {
+/// Whether a write of one block goes as the rounds say, and then nothing is left to do.
+fn writes_by_rounds(alloc: Global) -> Result<bool, Fail> {
     let mut lane = Lane::new(alloc)?;
     ask_one(&mut lane);
-    Ok(
-        lane.link_comes_up()?
-            && lane.ends_agree()?
-            && lane.session_opens()?
-            && lane.write_is_served()?
-            && lane.round().quiet
-            && lane.holds_stored(512),
-    )
+    Ok(lane.goes_by_rounds(ROUNDS.len())? && lane.round().quiet && lane.holds_stored(512))
 }
 
 #[test]
 fn a_lane_opens_and_writes_round_by_round(rt: HostRuntime) -> Result<(), Fail> {
-    assert!(rt; goes_by_rounds(rt.alloc())?);
+    assert!(rt; writes_by_rounds(rt.alloc())?);
     Ok(())
 }

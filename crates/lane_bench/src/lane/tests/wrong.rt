@@ -39,7 +39,7 @@ const RANGE: &'static str =
 /// A lane in whose session nothing is asked.
 fn opened(alloc: Global) -> Result<Lane, Fail> {
     let mut lane = Lane::new(alloc)?;
-    if lane.link_comes_up()? && lane.ends_agree()? && lane.session_opens()? {
+    if lane.opens_session()? {
         Ok(lane)
     } else {
         Err(Fail::new("the session isn't open"))
@@ -71,48 +71,43 @@ fn refuses(alloc: Global, text: &str, cause: Cause) -> Result<bool, Fail> {
     Ok(lane.puts(&packet) && lane.server_resets(cause, Some(packet)))
 }
 
-fn refuses_messages(alloc: Global) -> Result<bool, Fail> {
-    let other_session = Cause::Sid {
-        expected: 1,
-        found: 2,
-    };
-    Ok(
-        refuses(alloc, SUBTYPE, Cause::Tag(TagFault::Subtype))?
-            && refuses(alloc, SESSION, other_session)?
-            && refuses(alloc, ANSWER, Cause::Order)?,
-    )
-}
-
 #[test]
 fn a_message_that_does_not_belong_here_has_its_cause(rt: HostRuntime) -> Result<(), Fail> {
-    assert!(rt; refuses_messages(rt.alloc())?);
-    Ok(())
-}
-
-fn refuses_ranges(alloc: Global) -> Result<bool, Fail> {
-    let other_ring = Cause::Ident {
-        expected: 1,
-        found: 3,
-    };
-    let other_number = Cause::Seq {
-        expected: 1,
-        found: 2,
-    };
-    let other_slot = Cause::Slot {
-        expected: 0,
-        found: 1,
-    };
-    Ok(
-        refuses(alloc, RING, other_ring)?
-            && refuses(alloc, NUMBER, other_number)?
-            && refuses(alloc, SLOT, other_slot)?
-            && refuses(alloc, RANGE, Cause::RangeEnd { found: 64 })?,
-    )
-}
-
-#[test]
-fn a_range_that_is_not_the_next_one_has_its_cause(rt: HostRuntime) -> Result<(), Fail> {
-    assert!(rt; refuses_ranges(rt.alloc())?);
+    for (text, cause) in [
+        (SUBTYPE, Cause::Tag(TagFault::Subtype)),
+        (
+            SESSION,
+            Cause::Sid {
+                expected: 1,
+                found: 2,
+            },
+        ),
+        (ANSWER, Cause::Order),
+        (
+            RING,
+            Cause::Ident {
+                expected: 1,
+                found: 3,
+            },
+        ),
+        (
+            NUMBER,
+            Cause::Seq {
+                expected: 1,
+                found: 2,
+            },
+        ),
+        (
+            SLOT,
+            Cause::Slot {
+                expected: 0,
+                found: 1,
+            },
+        ),
+        (RANGE, Cause::RangeEnd { found: 64 }),
+    ] {
+        assert!(rt; refuses(rt.alloc(), text, cause)?, "{text}");
+    }
     Ok(())
 }
 
