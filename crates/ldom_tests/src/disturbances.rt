@@ -21,34 +21,23 @@ fn script_of(alloc: Global, steps: u32, line: &str) -> Result<String, AllocError
 fn completes(rt: &impl Abort, alloc: Global, steps: u32, line: &str) -> Result<(), Fail> {
     let script = script_of(alloc, steps, line)?;
     let replayed = run_words(alloc, &["run", "-"], script.as_bytes())?;
-    assert_eq!(rt;
-        replayed.outcome.status.number(),
-        0,
-        "{line} behind {steps}"
-    );
+    assert_eq!(rt; replayed.outcome.status.number(), 0, "{line} after {steps}");
     let report = str::from_utf8(replayed.written.as_slice())?;
     let mut told = report
         .split('\n')
         .filter(|line| !line.starts_with("reset "));
     for wanted in ["done d0 0 write 0", "done d0 1 read 0 *ab", "settled"] {
-        assert_eq!(rt; told.next(), Some(wanted), "{line} behind {steps}");
+        assert_eq!(rt; told.next(), Some(wanted), "{line} after {steps}");
     }
     Ok(())
 }
 
 #[test]
-fn a_restart_behind_each_of_the_first_steps(rt: HostRuntime) -> Result<(), Fail> {
-    for steps in 0..72 {
-        completes(&rt, rt.alloc(), steps, "restart d0.s")?;
-    }
-    Ok(())
-}
-
-#[test]
-fn a_packet_lost_behind_each_of_the_first_steps(rt: HostRuntime) -> Result<(), Fail> {
-    for steps in 0..72 {
-        completes(&rt, rt.alloc(), steps, "drop d0.c")?;
-        completes(&rt, rt.alloc(), steps, "drop d0.s")?;
+fn a_restart_or_a_lost_packet_after_each_of_the_first_steps(rt: HostRuntime) -> Result<(), Fail> {
+    for line in ["restart d0.s", "drop d0.c", "drop d0.s"] {
+        for steps in 0..72 {
+            completes(&rt, rt.alloc(), steps, line)?;
+        }
     }
     Ok(())
 }

@@ -34,9 +34,20 @@ pub fn run_on(
     host: &mut ListHost,
     script: &[u8],
 ) -> Result<Replayed, Fail> {
+    run_failing(alloc, words, host, script, [&[], &[]])
+}
+
+/// The same, where the calls of the source and of the sink with these numbers fail.
+pub fn run_failing(
+    alloc: Global,
+    words: &[&str],
+    host: &mut ListHost,
+    script: &[u8],
+    fails: [&[u64]; 2],
+) -> Result<Replayed, Fail> {
     let words = words_of(alloc, words)?;
-    let mut source = ListSource::new(alloc, script, 16, &[])?;
-    let mut sink = ListSink::new(alloc, 65_536, &[])?;
+    let mut source = ListSource::new(alloc, script, 16, fails[0])?;
+    let mut sink = ListSink::new(alloc, 65_536, fails[1])?;
     let outcome = replay(alloc, &words, host, &mut source, &mut sink);
     let mut written = Vec::new(alloc);
     written.extend_from_slice(sink.bytes())?;
@@ -53,6 +64,16 @@ pub fn compare(
     status: u8,
 ) -> Result<Outcome<MemStore>, Fail> {
     let replayed = run_words(alloc, words, script)?;
+    compare_replayed(rt, replayed, report, status)
+}
+
+/// Compares the report and the status of a script that was replayed.
+pub fn compare_replayed(
+    rt: &impl Abort,
+    replayed: Replayed,
+    report: &str,
+    status: u8,
+) -> Result<Outcome<MemStore>, Fail> {
     assert_eq!(rt;
         str::from_utf8(replayed.written.as_slice())?,
         report,

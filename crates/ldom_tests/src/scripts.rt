@@ -1,17 +1,17 @@
-use crate::replaying::{compare, words_of};
+use crate::replaying::{compare, compare_replayed, run_failing, run_on};
 use flat_store::{ListHost, MemStore};
-use ldom_replay::{Outcome, replay};
+use ldom_replay::Outcome;
 use std::alloc::Global;
 use std::process::Abort;
 use std::test::Fail;
-use vio_io::{ListSink, ListSource, Store};
+use vio_io::Store;
 
 // The end line with no counts but its lines.
 const EMPTY: &str = "end lines=0 accepted=0 done=0 pending=0 resets=0 frames=0 status=0\n";
 
-#[test]
-fn scripts_have_their_reports(rt: HostRuntime) -> Result<(), Fail> {
-    for (script, report, status) in [
+/// Scripts with their reports and their statuses.
+fn reports() -> [(&'static str, &'static str, u8); 7] {
+    [
         // One write and one read.
         (
             "disk d0 64 8 16\nwrite d0 3 2 ab\nread d0 2 3\nsettle\n",
@@ -50,7 +50,12 @@ fn scripts_have_their_reports(rt: HostRuntime) -> Result<(), Fail> {
             "done d0 0 flush 0\ndone d0 1 read 0 *00\nsettled\nend lines=5 accepted=2 done=2 pending=0 resets=0 frames=0 status=0\n",
             0,
         ),
-    ] {
+    ]
+}
+
+#[test]
+fn scripts_have_their_reports(rt: HostRuntime) -> Result<(), Fail> {
+    for (script, report, status) in reports() {
         let outcome = compare(
             &rt,
             rt.alloc(),
@@ -65,16 +70,21 @@ fn scripts_have_their_reports(rt: HostRuntime) -> Result<(), Fail> {
     Ok(())
 }
 
-#[test]
-fn other_words_are_answered_by_the_usage_line(rt: HostRuntime) -> Result<(), Fail> {
-    for words in [
+/// Words that are no command.
+fn other_words() -> [&'static [&'static str]; 6] {
+    [
         ["run"].as_slice(),
         ["trace"].as_slice(),
         ["run", ""].as_slice(),
         ["run", "-x"].as_slice(),
         ["run", "img", "img"].as_slice(),
         ["help", "-"].as_slice(),
-    ] {
+    ]
+}
+
+#[test]
+fn other_words_are_answered_by_the_usage_line(rt: HostRuntime) -> Result<(), Fail> {
+    for words in other_words() {
         let outcome = compare(
             &rt,
             rt.alloc(),
@@ -88,10 +98,9 @@ fn other_words_are_answered_by_the_usage_line(rt: HostRuntime) -> Result<(), Fai
     Ok(())
 }
 
-#[test]
-fn the_limits_of_a_script_are_exact(rt: HostRuntime) -> Result<(), Fail> {
-    let alloc = rt.alloc();
-    for (byte, count, report, status) in [
+/// A byte, how often a script has it, its report and its status.
+fn limits() -> [(u8, usize, &'static str, u8); 4] {
+    [
         (
             b'\n',
             20_000usize,
@@ -116,7 +125,13 @@ fn the_limits_of_a_script_are_exact(rt: HostRuntime) -> Result<(), Fail> {
             "end lines=0 accepted=0 done=0 pending=0 resets=0 frames=0 status=8 at=1 limit=bytes\n",
             8,
         ),
-    ] {
+    ]
+}
+
+#[test]
+fn the_limits_of_a_script_are_exact(rt: HostRuntime) -> Result<(), Fail> {
+    let alloc = rt.alloc();
+    for (byte, count, report, status) in limits() {
         let mut script = Vec::new(alloc);
         script.resize(count, byte)?;
         let outcome = compare(&rt, alloc, &["run", "-"], &script, report, status)?;
@@ -128,73 +143,36 @@ fn the_limits_of_a_script_are_exact(rt: HostRuntime) -> Result<(), Fail> {
 #[test]
 fn a_failing_source_and_a_failing_sink_have_their_statuses(rt: HostRuntime) -> Result<(), Fail> {
     let alloc = rt.alloc();
-    let words = words_of(alloc, &["run", "-"])?;
-    let mut host = ListHost::new(alloc, "img", &[], &[], false)?;
-    let mut source = ListSource::new(alloc, b"disk d0 64 8 16\n", 4_096, &[0])?;
-    let mut sink = ListSink::new(alloc, 4_096, &[])?;
-    let outcome = replay(alloc, &words, &mut host, &mut source, &mut sink);
-    assert_eq!(rt; outcome.status.number(), 3);
-    assert_eq!(rt;
-        sink.bytes(),
-        b"end lines=0 accepted=0 done=0 pending=0 resets=0 frames=0 status=3\n".as_slice()
-    );
-
-    let mut script = ListSource::new(alloc, b"disk d0 64 8 16\n", 4_096, &[])?;
-    let mut failing = ListSink::new(alloc, 4_096, &[0])?;
-    let outcome = replay(alloc, &words, &mut host, &mut script, &mut failing);
-    assert_eq!(rt; outcome.status.number(), 4);
-    assert!(rt; failing.bytes().is_empty());
-    Ok(())
-}
-
-#[test]
-fn a_write_stands_in_the_image(rt: HostRuntime) -> Result<(), Fail> {
-    let script = b"disk d0 64 8 16\nwrite d0 3 2 ab\nsettle\n";
-    let report =
-        "done d0 0 write 0\nsettled\nend lines=3 accepted=1 done=1 pending=0 resets=0 frames=0 status=0\n";
-    let outcome = compare(&rt, rt.alloc(), &["run", "-"], script, report, 0)?;
-    let image = outcome.image.ok_or("no image")?;
-    for (at, byte) in image.bytes().iter().enumerate() {
-        let written = at >= 1_536 && at < 2_560;
-        assert_eq!(rt; *byte, if written { 0xab } else { 0 }, "at {at}");
+    for (source, sink, report, status) in [
+        (
+            [0].as_slice(),
+            [].as_slice(),
+            "end lines=0 accepted=0 done=0 pending=0 resets=0 frames=0 status=3\n",
+            3,
+        ),
+        ([].as_slice(), [0].as_slice(), "", 4),
+    ] {
+        let mut host = ListHost::new(alloc, "img", &[], &[], false)?;
+        let script = b"disk d0 64 8 16\n";
+        let fails = [source, sink];
+        let replayed = run_failing(alloc, &["run", "-"], &mut host, script, fails)?;
+        compare_replayed(&rt, replayed, report, status)?;
     }
     Ok(())
 }
 
-#[test]
-fn a_failing_host_has_its_status(rt: HostRuntime) -> Result<(), Fail> {
-    let alloc = rt.alloc();
-    let words = words_of(alloc, &["run", "-"])?;
-    let mut host = ListHost::new(alloc, "img", &[], &[], true)?;
-    let mut source = ListSource::new(alloc, b"disk d0 64 8 16\nsettle\n", 4_096, &[])?;
-    let mut sink = ListSink::new(alloc, 4_096, &[])?;
-    let outcome = replay(alloc, &words, &mut host, &mut source, &mut sink);
-    assert_eq!(rt;
-        sink.bytes(),
-        b"end lines=2 accepted=0 done=0 pending=0 resets=0 frames=0 status=5\n".as_slice()
-    );
-    assert_eq!(rt; outcome.status.number(), 5);
-    assert!(rt; outcome.image.is_none());
-    Ok(())
-}
-
-// Replays a script over the image `img` of a host of this image, whose disk fails the calls with these numbers, and
-// compares its report and its status.
+// Replays a script over the image of this name of a host, and compares its report and its status.
 fn compare_over(
     rt: &impl Abort,
     alloc: Global,
     host: &mut ListHost,
+    name: &str,
     script: &[u8],
     report: &str,
     status: u8,
 ) -> Result<Outcome<MemStore>, Fail> {
-    let words = words_of(alloc, &["run", "img"])?;
-    let mut source = ListSource::new(alloc, script, 4_096, &[])?;
-    let mut sink = ListSink::new(alloc, 4_096, &[])?;
-    let outcome = replay(alloc, &words, host, &mut source, &mut sink);
-    assert_eq!(rt; sink.bytes(), report.as_bytes(), "the report of {status}");
-    assert_eq!(rt; outcome.status.number(), status);
-    Ok(outcome)
+    let replayed = run_on(alloc, &["run", name], host, script)?;
+    compare_replayed(rt, replayed, report, status)
 }
 
 #[test]
@@ -210,6 +188,7 @@ fn an_image_that_is_too_short_is_left_as_it_was(rt: HostRuntime) -> Result<(), F
             &rt,
             alloc,
             &mut host,
+            "img",
             b"disk d0 64 8 16\nsettle\n",
             report.as_str(),
             7,
@@ -231,6 +210,7 @@ fn an_image_of_the_right_length_keeps_what_is_not_written(rt: HostRuntime) -> Re
         &rt,
         alloc,
         &mut host,
+        "img",
         b"disk d0 64 8 16\nread d0 0 1\nwrite d0 63 1 ab\nread d0 62 2\nsettle\n",
         "done d0 0 read 0 *07\ndone d0 1 write 0\ndone d0 2 read 0 *07 *ab\nsettled\nend lines=5 accepted=3 done=3 pending=0 resets=0 frames=0 status=0\n",
         0,
@@ -247,12 +227,17 @@ fn an_image_of_the_right_length_keeps_what_is_not_written(rt: HostRuntime) -> Re
 #[test]
 fn a_host_that_refuses_the_image_has_its_status(rt: HostRuntime) -> Result<(), Fail> {
     let alloc = rt.alloc();
-    for (name, fails) in [("img", true), ("other", false)] {
+    for (asked, name, fails) in [
+        ("-", "img", true),
+        ("img", "img", true),
+        ("img", "other", false),
+    ] {
         let mut host = ListHost::new(alloc, name, &[0; 512], &[], fails)?;
         let outcome = compare_over(
             &rt,
             alloc,
             &mut host,
+            asked,
             b"disk d0 64 8 16\nsettle\n",
             "end lines=2 accepted=0 done=0 pending=0 resets=0 frames=0 status=5\n",
             5,
@@ -262,10 +247,9 @@ fn a_host_that_refuses_the_image_has_its_status(rt: HostRuntime) -> Result<(), F
     Ok(())
 }
 
-#[test]
-fn requests_whose_disk_fails_complete_with_5(rt: HostRuntime) -> Result<(), Fail> {
-    let alloc = rt.alloc();
-    for (script, report) in [
+/// Scripts whose first call of the disk fails, with their reports.
+fn failing_requests() -> [(&'static str, &'static str); 3] {
+    [
         (
             "disk d0 64 8 16\nwrite d0 0 1 ab\nsettle\n",
             "done d0 0 write 5\nsettled\nend lines=3 accepted=1 done=1 pending=0 resets=0 frames=0 status=6\n",
@@ -278,9 +262,15 @@ fn requests_whose_disk_fails_complete_with_5(rt: HostRuntime) -> Result<(), Fail
             "disk d0 64 8 16\nread d0 0 64\nread d0 0 1\nsettle\n",
             "done d0 0 read 5\ndone d0 1 read 0 *00\nsettled\nend lines=4 accepted=2 done=2 pending=0 resets=0 frames=0 status=6\n",
         ),
-    ] {
+    ]
+}
+
+#[test]
+fn requests_whose_disk_fails_complete_with_5(rt: HostRuntime) -> Result<(), Fail> {
+    let alloc = rt.alloc();
+    for (script, report) in failing_requests() {
         let mut host = ListHost::new(alloc, "img", &[0; 32_768], &[0], false)?;
-        let outcome = compare_over(&rt, alloc, &mut host, script.as_bytes(), report, 6)?;
+        let outcome = compare_over(&rt, alloc, &mut host, "img", script.as_bytes(), report, 6)?;
         let image = outcome.image.ok_or("no image")?;
         assert!(rt; image.faulty() && image.bytes() == [0; 32_768].as_slice());
     }
