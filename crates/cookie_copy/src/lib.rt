@@ -17,6 +17,3 @@ mod writing;
 
 pub use copying::{copy_in, copy_out};
 pub use fault::{Access, CopyFault};
-
-#[cfg(test)]
-mod tests;

@@ -7,8 +7,6 @@ mod disk_lane;
 mod granting;
 mod lane_ends;
 mod near;
-#[cfg(test)]
-mod tests;
 
 pub use crate::disk_lane::DiskLane;
 pub use flat_store::Region;

@@ -7,6 +7,3 @@
 mod memory;
 
 pub use memory::{Memory, PAGE};
-
-#[cfg(test)]
-mod tests;

@@ -13,12 +13,8 @@ mod numbers;
 mod parser;
 mod piece;
 mod reading;
-#[cfg(test)]
-mod row_tests;
 mod rows;
 mod spellings;
-#[cfg(test)]
-mod tests;
 mod words;
 
 pub use digits::decode_lower;

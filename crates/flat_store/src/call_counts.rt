@@ -4,9 +4,10 @@ ghost use Rattle.flat_store.specs.Files.{after_fault, no_call, one_failed, one_m
 use crate::FileFault;
 use std::marker::Model;
 
-/// What the calls of a file came to, counted by kind. A count stands still at its type's end.
+/// What the calls of a file came to, counted by kind, for whoever keeps the trait `ImageFile`. A count stands still at its type's
+/// end.
 #[derive(Debug, Drop)]
-pub(crate) struct CallCounts {
+pub struct CallCounts {
     moved: u64,
     synced: u64,
     failed: u64,
@@ -28,7 +29,7 @@ impl Model for CallCounts {
 
 impl CallCounts {
     /// No call yet.
-    pub(crate) fn new() -> Self
+    pub fn new() -> Self
         ensures { result ≡ no_call }
     {
         CallCounts {
@@ -40,7 +41,7 @@ impl CallCounts {
     }
 
     /// A call that moved all that was asked, or less.
-    pub(crate) fn note_move(&mut self, whole: bool)
+    pub fn note_move(&mut self, whole: bool)
         ensures { self.new ≡ (if whole then one_moved self.old else one_failed self.old) }
     {
         if whole {
@@ -51,14 +52,14 @@ impl CallCounts {
     }
 
     /// A call that synced what was written.
-    pub(crate) fn note_sync(&mut self)
+    pub fn note_sync(&mut self)
         ensures { self.new ≡ one_synced self.old }
     {
         self.synced = self.synced.saturating_add(1);
     }
 
     /// A call that failed or was interrupted.
-    pub(crate) fn note_fault(&mut self, fault: FileFault)
+    pub fn note_fault(&mut self, fault: FileFault)
         ensures { self.new ≡ after_fault fault self.old }
     {
         match fault {

@@ -13,6 +13,7 @@ mod std_file;
 mod std_host;
 mod zero_store;
 
+pub use call_counts::CallCounts;
 pub use file_store::FileStore;
 pub use image_file::{FileFault, ImageFile};
 pub use list_host::ListHost;
@@ -21,6 +22,3 @@ pub use region::Region;
 pub use std_file::StdFile;
 pub use std_host::{HostDisk, StdHost};
 pub use zero_store::ZeroStore;
-
-#[cfg(test)]
-mod tests;

@@ -12,6 +12,3 @@ pub use disk::InfallibleDisk;
 pub use host::InfallibleHost;
 pub use sink::GrowingSink;
 pub use source::InfallibleSource;
-
-#[cfg(test)]
-mod tests;

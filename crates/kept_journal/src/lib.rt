@@ -6,7 +6,5 @@ mod journal;
 mod kept_entries;
 mod parts;
 mod reading;
-#[cfg(test)]
-mod tests;
 
 pub use journal::Journal;

@@ -5,8 +5,6 @@
 mod block_words;
 mod bytes;
 mod kept_request;
-#[cfg(test)]
-mod tests;
 
 pub use block_words::shortest_word;
 pub use bytes::Bytes;

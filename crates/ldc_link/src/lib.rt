@@ -22,6 +22,3 @@ pub use laws::{
 pub use ldc_queue::heard_is_a_front_of_said;
 pub use link::Link;
 pub use phase::{LinkPhase, Role};
-
-#[cfg(test)]
-mod tests;

@@ -18,6 +18,3 @@ pub use laws::{bytes_decode_once, spellings_are_unique};
 pub use layout::layouts_are_sound;
 pub use packet::{Body, Packet, PacketFault, Subtype};
 pub use part::{PartHead, encode_part, part_head, part_within};
-
-#[cfg(test)]
-mod tests;

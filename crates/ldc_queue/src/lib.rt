@@ -12,6 +12,3 @@ mod queue;
 pub use channel::Channel;
 pub use end::{ChannelState, End, NotUp, PutFault, QueueState};
 pub use laws::{heard_is_a_front_of_said, messages_are_cut_into_parts};
-
-#[cfg(test)]
-mod tests;

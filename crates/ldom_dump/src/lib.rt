@@ -13,6 +13,3 @@ mod packet_text;
 
 pub use command::dump;
 pub use ldom_journal::{LimitKind, LineFault, Status};
-
-#[cfg(test)]
-mod tests;

@@ -9,8 +9,6 @@ mod request_lines;
 mod status;
 mod step_lines;
 mod stop;
-#[cfg(test)]
-mod tests;
 mod whole_lines;
 
 pub use cookie_copy::CopyFault;

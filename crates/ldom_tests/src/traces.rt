@@ -1,5 +1,7 @@
 use crate::replaying::{compare, report_of, run_on, run_words};
 use flat_store::ListHost;
+use std::alloc::Global;
+use std::process::Abort;
 use std::test::Fail;
 
 /// The trace of one write in a fresh lane, through the first 31 rounds.
@@ -85,7 +87,8 @@ fn the_first_write_of_a_lane(rt: HostRuntime) -> Result<(), Fail> {
 /// A script, and the last lines of its trace.
 type Row = (&'static str, &'static [&'static str]);
 
-fn traces() -> [Row; 6] {
+/// Scripts that nothing disturbs but a restart at their end.
+fn undisturbed() -> [Row; 4] {
     [
         // Four pages are registered by two packets.
         (
@@ -134,6 +137,12 @@ fn traces() -> [Row; 6] {
                 "end lines=3 accepted=1 done=0 pending=1 resets=0 frames=0 status=0",
             ],
         ),
+    ]
+}
+
+/// Scripts that disturb a lane.
+fn disturbed() -> [Row; 2] {
+    [
         // Calls of a lane are told.
         (
             "disk d0 64 8 16\nstop d0\nstop d0\nstart d0\nstart d0\nrestart d0.s\nstop d0\nrestart d0.s\nreset d0.s\nstep d0.s 2\ndrop d0.c\ntick d0\nstep d0.c 2\ndrop d0.s\nreset d0.c\n",
@@ -169,15 +178,20 @@ fn traces() -> [Row; 6] {
     ]
 }
 
-#[test]
-fn traces_have_their_last_lines(rt: HostRuntime) -> Result<(), Fail> {
-    let alloc = rt.alloc();
-    for (script, lines) in traces() {
-        let report = report_of(alloc, lines)?;
+/// Compares the last lines of each script's trace.
+fn compare_last_lines(rt: &impl Abort, alloc: Global, rows: &[Row]) -> Result<(), Fail> {
+    for (script, lines) in rows {
+        let report = report_of(alloc, *lines)?;
         let traced = run_words(alloc, &["trace", "-"], script.as_bytes())?;
         assert!(rt; traced.written.ends_with(report.as_bytes()), "{script}");
     }
     Ok(())
+}
+
+#[test]
+fn traces_have_their_last_lines(rt: HostRuntime) -> Result<(), Fail> {
+    compare_last_lines(&rt, rt.alloc(), &undisturbed())?;
+    compare_last_lines(&rt, rt.alloc(), &disturbed())
 }
 
 /// The last lines of the trace of a write whose call of the store fails.

@@ -6,6 +6,3 @@ mod clap_words;
 mod words;
 
 pub use words::{Asked, read_words};
-
-#[cfg(test)]
-mod tests;

@@ -9,8 +9,6 @@ mod issuing;
 mod lanes;
 mod settling;
 mod stepping;
-#[cfg(test)]
-mod tests;
 mod world;
 
 pub use lanes::Lanes;

@@ -18,6 +18,3 @@ pub use laws::cookies_read_back;
 pub use naming::cookie_of;
 pub use rights::Rights;
 pub use table::{Absent, Entry, LookFault, MapTable, Spot, TableFull};
-
-#[cfg(test)]
-mod tests;

@@ -6,8 +6,6 @@
 mod array;
 mod arrays;
 mod rest;
-#[cfg(test)]
-mod tests;
 mod trim;
 
 pub use array::TrimmedArray;

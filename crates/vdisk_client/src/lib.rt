@@ -17,6 +17,3 @@ mod stepping;
 pub use answers::{ClientOut, IssueFault};
 pub use client::Client;
 pub use laws::steps_are_the_lanes;
-
-#[cfg(test)]
-mod tests;

@@ -23,6 +23,3 @@ pub use layout::{
     BLOCK, MOST_BLOCKS, MOST_BYTES, VD_OP_BREAD, VD_OP_BWRITE, VD_OP_FLUSH, layouts_are_sound,
 };
 pub use request::{Fill, Request};
-
-#[cfg(test)]
-mod tests;

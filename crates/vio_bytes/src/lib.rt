@@ -15,6 +15,3 @@ pub use laws::{fields_lie_apart, put_reads_back, writes_meet_ranges};
 pub use no_memory::NoMemory;
 pub use place::{get_u8, get_u16, get_u32, get_u64, put_u8, put_u16, put_u32, put_u64};
 pub use table::{Table, table_is_sound};
-
-#[cfg(test)]
-mod tests;

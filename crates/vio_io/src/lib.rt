@@ -20,6 +20,3 @@ pub use source::{Failed, ListSource, Source};
 pub use std_streams::{StdSink, StdSource};
 pub use store::Store;
 pub use vio_bytes::NoMemory;
-
-#[cfg(test)]
-mod tests;

@@ -22,6 +22,3 @@ pub use encoding::encode;
 pub use laws::{attributes_read_back, bytes_decode_once, spellings_are_unique};
 pub use layout::layouts_are_sound;
 pub use message::{Message, MsgBody, TagFault};
-
-#[cfg(test)]
-mod tests;

@@ -7,6 +7,3 @@
 mod pages;
 
 pub use pages::{PAGE, ZeroPages};
-
-#[cfg(test)]
-mod tests;

@@ -1,0 +1,105 @@
+ghost use Rattle.std.specs.Prelude.{◌<◌};
+
+use domain_script::{Lines, LinesFault};
+use std::alloc::Global;
+use std::process::Abort;
+use std::test::Fail;
+use vio_io::ListSource;
+
+/// What a call of a reader is to give.
+#[derive(Clone, Copy, Debug, PartialEq)]
+enum Given<'a> {
+    Line(&'a [u8]),
+    End,
+    Fault(LinesFault),
+}
+
+/// Reads a script in pieces, and compares what each call gives.
+fn reads(
+    rt: &impl Abort,
+    alloc: Global,
+    script: &[u8],
+    piece: usize,
+    failing: &[u64],
+    wanted: &[Given],
+) -> Result<(), Fail>
+    requires { 0 < piece }
+{
+    let mut source = ListSource::new(alloc, script, piece, failing)?;
+    let mut lines = Lines::new(alloc)?;
+    for want in wanted {
+        let given = match lines.advance(&mut source) {
+            Ok(true) => Given::Line(lines.line()),
+            Ok(false) => Given::End,
+            Err(fault) => Given::Fault(fault),
+        };
+        assert!(rt; given == *want, "in pieces of {piece}");
+    }
+    Ok(())
+}
+
+#[test]
+fn lines_come_whole_in_any_pieces(rt: HostRuntime) -> Result<(), Fail> {
+    let script = b"disk d0 64 8 16\n\nsettle\nlast";
+    let wanted = [
+        Given::Line(b"disk d0 64 8 16"),
+        Given::Line(b""),
+        Given::Line(b"settle"),
+        Given::Line(b"last"),
+        Given::End,
+        Given::End,
+    ];
+    reads(&rt, rt.alloc(), script, 1, &[], &wanted)?;
+    reads(&rt, rt.alloc(), script, 5, &[], &wanted)?;
+    reads(&rt, rt.alloc(), script, 4096, &[], &wanted)
+}
+
+#[test]
+fn a_source_that_fails_keeps_what_was_taken(rt: HostRuntime) -> Result<(), Fail> {
+    let wanted = [
+        Given::Fault(LinesFault::Source),
+        Given::Fault(LinesFault::Source),
+        Given::Line(b"settle"),
+        Given::End,
+    ];
+    reads(&rt, rt.alloc(), b"settle\n", 4, &[0, 2], &wanted)
+}
+
+#[test]
+fn a_line_has_at_most_3100_bytes(rt: HostRuntime) -> Result<(), Fail> {
+    let mut script = [b'#'; 3103];
+    script[3100] = b'\n';
+    let wanted = [Given::Line(&script[..3100]), Given::Line(b"##"), Given::End];
+    reads(&rt, rt.alloc(), &script, 4096, &[], &wanted)?;
+    script[3100] = b'#';
+    let wanted = [
+        Given::Fault(LinesFault::Long),
+        Given::Fault(LinesFault::Long),
+    ];
+    reads(&rt, rt.alloc(), &script, 1000, &[], &wanted)?;
+    reads(&rt, rt.alloc(), &script[..3101], 4096, &[], &wanted)
+}
+
+/// How many lines a script of so many line feeds gives, and what comes after them.
+fn count_lines(alloc: Global, feeds: usize) -> Result<(u32, Result<bool, LinesFault>), Fail> {
+    let script = vec![in alloc; b'\n'; feeds]?;
+    let mut source = ListSource::new(alloc, &script, 4096, &[])?;
+    let mut lines = Lines::new(alloc)?;
+    for _ in 0..feeds {
+        if lines.advance(&mut source) != Ok(true) {
+            break;
+        }
+    }
+    let last = lines.advance(&mut source);
+    Ok((lines.number(), last))
+}
+
+#[test]
+fn there_are_at_most_20000_lines(rt: HostRuntime) -> Result<(), Fail> {
+    assert_eq!(rt; count_lines(rt.alloc(), 20_000)?, (20_000, Ok(false)));
+    assert_eq!(rt;
+        count_lines(rt.alloc(), 20_001)?,
+        (20_000, Err(LinesFault::Many))
+    );
+    Ok(())
+}
