@@ -5,7 +5,7 @@ use Rattle.domain_script.specs.declared.lines.LinesFault.{LinesFault}
 use Rattle.domain_script.specs.declared.lines.LinesFault.TheVariants.{Source, Long, Many, Memory}
 use Rattle.domain_script.specs.declared.lines.LinesStop.{LinesStop}
 use Rattle.domain_script.specs.declared.lines.LinesStop.TheVariants.{Going, Ended, TooLong, TooMany}
-use Rattle.domain_script.specs.Pieces.{HasNoFeed}
+use Rattle.domain_script.specs.Pieces.{DecidesNothing}
 use Rattle.domain_script.specs.ScriptLines.{TakesLine, BeginsWithLonger}
 use Rattle.domain_script.specs.Limits.{most_line_bytes, most_lines}
 
@@ -39,11 +39,11 @@ pub record GivesNone (rest left : Option (List ℕ)) (before after : LinesState)
   pub stop : after.stop ≡ why
 
 -- An answer of a reader that goes on: `rest` is to come before the call, `left` after it. Where the source failed, no
--- whole line is held.
+-- line is whole in what is held, and no limit is met.
 abbrev pub Reads : Option (List ℕ) → Option (List ℕ) → LinesState → Result Bool LinesFault → LinesState → Type 0
 Reads rest left before (Ok true) after = GivesLine rest left before after
 Reads rest left before (Ok false) after = GivesNone rest left before after Ended × IsAtEnd rest
-Reads rest left before (Err Source) after = GivesNone rest left before after Going × HasNoFeed after.held
+Reads rest left before (Err Source) after = GivesNone rest left before after Going × DecidesNothing before.number after.held
 Reads rest left before (Err Memory) after = GivesNone rest left before after Going
 Reads rest left before (Err Long) after = GivesNone rest left before after TooLong × (before.number < most_lines) × IfSome rest (BeginsWithLonger most_line_bytes)
 Reads rest left before (Err Many) after = GivesNone rest left before after TooMany × (before.number ≡ most_lines) × IfSome rest (λ bytes. bytes ≢ [])

@@ -4,7 +4,7 @@ use Rattle.std.specs.Io.KnownBytes.{Keeps, IsAtEnd, prepend_known}
 use Rattle.domain_script.specs.declared.lines.LinesFault.{LinesFault}
 use Rattle.domain_script.specs.declared.lines.LinesFault.TheVariants.{Source, Long, Many, Memory}
 use Rattle.domain_script.specs.ScriptLines.{TakesLine, BeginsWithLonger}
-use Rattle.domain_script.specs.Limits.{most_line_bytes}
+use Rattle.domain_script.specs.Limits.{most_line_bytes, most_lines}
 
 -- no byte is c
 abbrev pub HasNo : ℕ → List ℕ → Type 0
@@ -14,6 +14,12 @@ HasNo c (b ∷ bs) = (b ≢ c) × HasNo c bs
 -- no byte is a line feed
 abbrev pub HasNoFeed : List ℕ → Type 0
 HasNoFeed bytes = HasNo 10 bytes
+
+-- The bytes that are held after so many lines decide nothing: no line is whole in them, and no limit is met.
+pub record DecidesNothing (count : ℕ) (held : List ℕ) : Type 0 where
+  pub no_feed : HasNoFeed held
+  pub short : length held ≤ most_line_bytes
+  pub none : count ≡ most_lines → held ≡ []
 
 -- more than 3,100 bytes come before any line feed
 pub record IsTooLong (bytes : List ℕ) : Type 0 where
@@ -44,7 +50,7 @@ MovesPart piece line (Err Many) piece_after line_after = ⊥
 abbrev pub ReadsLine : Option (List ℕ) → Result Bool LinesFault → List ℕ → List ℕ → Option (List ℕ) → Type 0
 ReadsLine rest (Ok true) line piece left = TakesLine rest (prepend_known piece left) line
 ReadsLine rest (Ok false) line piece left = Keeps rest (prepend_known (line ++ piece) left) × (line ≡ []) × IsAtEnd rest
-ReadsLine rest (Err Source) line piece left = Keeps rest (prepend_known (line ++ piece) left) × HasNoFeed (line ++ piece)
+ReadsLine rest (Err Source) line piece left = Keeps rest (prepend_known (line ++ piece) left) × HasNoFeed (line ++ piece) × (length (line ++ piece) ≤ most_line_bytes)
 ReadsLine rest (Err Memory) line piece left = Keeps rest (prepend_known (line ++ piece) left)
 ReadsLine rest (Err Long) line piece left = Keeps rest (prepend_known (line ++ piece) left) × IfSome rest (BeginsWithLonger most_line_bytes)
 ReadsLine rest (Err Many) line piece left = ⊥

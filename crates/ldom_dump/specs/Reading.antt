@@ -3,7 +3,7 @@ use Rattle.std.specs.Prelude.{◌≡◌, ℕ, ◌+◌, ◌≤◌, List, length, 
 use Rattle.std.specs.Io.KnownBytes.{IsAtEnd, Keeps, prepend_known}
 use Rattle.domain_script.specs.declared.event.LineFault.{LineFault}
 use Rattle.domain_script.specs.declared.event.LineFault.TheVariants.{Hex}
-use Rattle.domain_script.specs.Pieces.{HasNoFeed}
+use Rattle.domain_script.specs.Pieces.{DecidesNothing}
 use Rattle.domain_script.specs.ScriptLines.{TakesLine}
 use Rattle.ldom_journal.specs.declared.status.Status.{Status}
 use Rattle.ldom_journal.specs.declared.status.Status.TheVariants as status
@@ -27,12 +27,12 @@ pub record IsNoDigits (rest left : Option (List ℕ)) (fault : LineFault) : Type
   pub hex : fault ≡ Hex
 
 -- Why no further line is decoded after so many: `rest` is to come after them, and then `held` and what the source has
--- left. Where the source failed, no whole line is held; where the sink did, one more line was read.
+-- left. Where the source failed, no line is whole in what is held, and no limit is met; where the sink did, one more line was read.
 abbrev pub StopsAt : Status → Option (List ℕ) → List ℕ → Option (List ℕ) → ℕ → Type 0
 StopsAt (status.Script at fault) rest held now count = (at ≡ count + 1) × (at ≤ most_lines) × IsNoDigits rest (prepend_known held now) fault
 StopsAt (status.Limit at kind) rest held now count = (at ≡ count + 1) × IsPast kind rest count × Keeps rest (prepend_known held now)
 StopsAt status.Done rest held now count = IsAtEnd rest × Keeps rest (prepend_known held now)
-StopsAt status.SourceFault rest held now count = HasNoFeed held × Keeps rest (prepend_known held now)
+StopsAt status.SourceFault rest held now count = DecidesNothing count held × Keeps rest (prepend_known held now)
 StopsAt status.SinkFault rest held now count = (line : List ℕ) × TakesLine rest (prepend_known held now) line
 StopsAt status.NoMemory rest held now count = Keeps rest (prepend_known held now)
 StopsAt status.StoreFault rest held now count = ⊥

@@ -3,7 +3,7 @@ use Rattle.std.specs.Prelude.{ℕ, ◌+◌, ◌-◌, List, Option, ⊤}
 use Rattle.std.specs.Io.KnownBytes.{IsAtEnd, Keeps}
 use Rattle.domain_script.specs.declared.lines.LinesFault.{LinesFault}
 use Rattle.domain_script.specs.declared.lines.LinesFault.TheVariants as reader
-use Rattle.domain_script.specs.Pieces.{HasNoFeed}
+use Rattle.domain_script.specs.Pieces.{DecidesNothing}
 use Rattle.ldom_journal.specs.declared.status.LimitKind.TheVariants as limit
 use Rattle.ldom_journal.specs.declared.status.Status.{Status}
 use Rattle.ldom_journal.specs.declared.status.Status.TheVariants as status
@@ -33,10 +33,10 @@ stop_lines Entries lines = lines - 1
 stop_lines other lines = lines
 
 -- Why the reader gave no line after so many: `rest` was to come, which `left` is now, and all that was taken is kept. Where
--- the source failed, no whole line is held.
+-- the source failed, no line is whole in what is held, and no limit is met.
 abbrev pub StopsReading : Stop → Option (List ℕ) → Option (List ℕ) → List ℕ → ℕ → Type 0
 StopsReading End rest left held count = IsAtEnd rest × Keeps rest left
-StopsReading Source rest left held count = HasNoFeed held × Keeps rest left
+StopsReading Source rest left held count = DecidesNothing count held × Keeps rest left
 StopsReading (Limit kind) rest left held count = IsPast kind rest count × Keeps rest left
 StopsReading Memory rest left held count = Keeps rest left
 StopsReading (Faulty fault) rest left held count = ⊥

@@ -63,7 +63,9 @@ pub fn replay<H: Host, S: Source, K: Sink>(
     ensures runs { (mode : Mode) (image : List ℕ) → AsksFor mode (map string_bytes words.now) image
         → RunsScript mode H.Disk.content H.Disk.faults H.Disk.size (S.left script.old) (S.left script.new)
         (H.gives host.old image) result.status result.journal.entries result.image result.lanes
-        (K.written out.old) (K.written out.new) }
+        (K.written out.old) (K.written out.new)
+        (counts (S.faults script.old) (H.faults host.old) (K.faults out.old))
+        (counts (S.faults script.new) (H.faults host.new) (K.faults out.new)) }
 
     // At status 0 the script was run to its end: the journal fits all its events, and the whole report was written.
     ensures whole { (mode : Mode) (image : List ℕ) → AsksFor mode (map string_bytes words.now) image

@@ -128,7 +128,7 @@ fn writes_stand_in_the_image(rt: HostRuntime) -> Result<(), Fail> {
 }
 
 /// Whether these are so many bytes, block by block each its byte.
-fn has_blocks(image: &[u8], length: usize, fills: &[u8]) -> bool {
+pub(crate) fn has_blocks(image: &[u8], length: usize, fills: &[u8]) -> bool {
     let mut all = image.len() == length;
     for (block, bytes) in image.chunks(512).enumerate() {
         let wanted = fills.get(block).copied().unwrap_or(0);

@@ -1,3 +1,4 @@
+use crate::lanes::has_blocks;
 use crate::replaying::{compare, compare_replayed, run_failing, run_on};
 use flat_store::{ListHost, MemStore};
 use ldom_replay::Outcome;
@@ -140,24 +141,65 @@ fn the_limits_of_a_script_are_exact(rt: HostRuntime) -> Result<(), Fail> {
     Ok(())
 }
 
-#[test]
-fn a_failing_source_and_a_failing_sink_have_their_statuses(rt: HostRuntime) -> Result<(), Fail> {
-    let alloc = rt.alloc();
-    for (source, sink, report, status) in [
+/// A byte, how often a script has it, the call of its source that fails, its report and its status. Each call gives 16
+/// bytes, and none is made once a limit is met.
+fn failing_sources() -> [(u8, usize, u64, &'static str, u8); 4] {
+    [
         (
-            [0].as_slice(),
-            [].as_slice(),
+            b'\n',
+            1usize,
+            0u64,
+            "end lines=0 accepted=0 done=0 pending=0 resets=0 frames=0 status=3\n",
+            3u8,
+        ),
+        (
+            b'#',
+            3_100,
+            194,
             "end lines=0 accepted=0 done=0 pending=0 resets=0 frames=0 status=3\n",
             3,
         ),
-        ([].as_slice(), [0].as_slice(), "", 4),
-    ] {
+        (
+            b'#',
+            3_200,
+            194,
+            "end lines=0 accepted=0 done=0 pending=0 resets=0 frames=0 status=8 at=1 limit=bytes\n",
+            8,
+        ),
+        (
+            b'\n',
+            20_032,
+            1_251,
+            "end lines=20000 accepted=0 done=0 pending=0 resets=0 frames=0 status=8 at=20001 limit=lines\n",
+            8,
+        ),
+    ]
+}
+
+#[test]
+fn a_source_that_fails_ends_the_run_where_nothing_else_did(rt: HostRuntime) -> Result<(), Fail> {
+    let alloc = rt.alloc();
+    for (byte, count, call, report, status) in failing_sources() {
         let mut host = ListHost::new(alloc, "img", &[], &[], false)?;
-        let script = b"disk d0 64 8 16\n";
-        let fails = [source, sink];
-        let replayed = run_failing(alloc, &["run", "-"], &mut host, script, fails)?;
+        let mut script = Vec::new(alloc);
+        script.resize(count, byte)?;
+        let failing = [call];
+        let fails: [&[u64]; 2] = [&failing, &[]];
+        let replayed = run_failing(alloc, &["run", "-"], &mut host, &script, fails)?;
         compare_replayed(&rt, replayed, report, status)?;
     }
+    Ok(())
+}
+
+#[test]
+fn a_sink_that_fails_leaves_what_was_run(rt: HostRuntime) -> Result<(), Fail> {
+    let alloc = rt.alloc();
+    let mut host = ListHost::new(alloc, "img", &[], &[], false)?;
+    let script = b"disk d0 64 8 16\nwrite d0 0 1 ab\nsettle\nwrite d0 1 1 cd\nsettle\n";
+    let replayed = run_failing(alloc, &["run", "-"], &mut host, script, [&[], &[0]])?;
+    let outcome = compare_replayed(&rt, replayed, "", 4)?;
+    let image = outcome.image.ok_or("no image")?;
+    assert!(rt; has_blocks(image.bytes(), 32_768, &[0xab, 0xcd]));
     Ok(())
 }
 

@@ -20,6 +20,7 @@ use Rattle.script_laws.specs.PlainRun.{plain_content}
 use Rattle.script_laws.specs.Quiet.{IsQuietScript}
 use Rattle.script_laws.proofs.PlainLaw.{plain_law}
 use Rattle.script_laws.proofs.QuietNames.{quiet_disks}
+use Rattle.script_laws.specs.Counts.{Counts}
 use Rattle.script_laws.specs.Outcomes.{Reports, RunsScript}
 use Rattle.script_laws.specs.Replayed.{Replayed, start_of}
 use Rattle.script_laws.specs.Sized.{SizeIs}
@@ -43,8 +44,8 @@ attached_so : {D : Type 0} (content : D → Option (List ℕ)) (faults : D → �
 attached_so content faults None t is some none = absurd (cc some)
 attached_so content faults (Some d) t is some none = (is.0, is.1 ∙ none)
 
-module _ {D : Type 0} (shown : Mode) (content : D → Option (List ℕ)) (faults size : D → ℕ) (script now : Option (List ℕ)) (gives : ℕ → Option (List ℕ)) (why : Status) (journal : List Entry) (image : Option D) (lanes : Option (List LaneState)) (old new : Option (List ℕ))
-    (runs : RunsScript shown content faults size script now gives why journal image lanes old new) (bytes : List ℕ) (events : List Event) (known : script ≡ Some bytes) (done : why ≡ status.Done)
+module _ {D : Type 0} (shown : Mode) (content : D → Option (List ℕ)) (faults size : D → ℕ) (script now : Option (List ℕ)) (gives : ℕ → Option (List ℕ)) (why : Status) (journal : List Entry) (image : Option D) (lanes : Option (List LaneState)) (old new : Option (List ℕ)) (before after : Counts)
+    (runs : RunsScript shown content faults size script now gives why journal image lanes old new before after) (bytes : List ℕ) (events : List Event) (known : script ≡ Some bytes) (done : why ≡ status.Done)
     (names : NamesState) (spelled : AllSpell (script_lines bytes) no_names events names) where
   told : (runs.ran ≡ status.Done) × Appends old new (report shown runs.names.disks runs.lines journal runs.ran)
   told = ran_done runs.ran why old new (report shown runs.names.disks runs.lines journal runs.ran) done runs.reports
@@ -96,11 +97,11 @@ left_so content faults None t left is same = absurd is
 left_so content faults (Some d) t left is same = is.0 ∙ same
 
 -- a quiet script, over an image that tells its bytes
-module _ {D : Type 0} (content : D → Option (List ℕ)) (faults size : D → ℕ) (script now : Option (List ℕ)) (gives : ℕ → Option (List ℕ)) (why : Status) (journal : List Entry) (image : Option D) (lanes : Option (List LaneState)) (old new : Option (List ℕ))
-    (runs : RunsScript mode.Run content faults size script now gives why journal image lanes old new) (bytes : List ℕ) (events : List Event) (known : script ≡ Some bytes) (done : why ≡ status.Done) (disk : DiskDecl) (given : List ℕ) (quiet : IsQuietScript bytes disk events)
+module _ {D : Type 0} (content : D → Option (List ℕ)) (faults size : D → ℕ) (script now : Option (List ℕ)) (gives : ℕ → Option (List ℕ)) (why : Status) (journal : List Entry) (image : Option D) (lanes : Option (List LaneState)) (old new : Option (List ℕ)) (before after : Counts)
+    (runs : RunsScript mode.Run content faults size script now gives why journal image lanes old new before after) (bytes : List ℕ) (events : List Event) (known : script ≡ Some bytes) (done : why ≡ status.Done) (disk : DiskDecl) (given : List ℕ) (quiet : IsQuietScript bytes disk events)
     (gave : gives (512 * disk.blocks) ≡ Some given) where
   whole : RunsWhole mode.Run content faults gives quiet.names events journal image old new
-  whole = runs_whole mode.Run content faults size script now gives why journal image lanes old new runs bytes events known done quiet.names quiet.spelled
+  whole = runs_whole mode.Run content faults size script now gives why journal image lanes old new before after runs bytes events known done quiet.names quiet.spelled
 
   -- it declares one disk
   declares : quiet.names.disks ≡ disk ∷ []
@@ -118,7 +119,7 @@ module _ {D : Type 0} (content : D → Option (List ℕ)) (faults size : D → �
   long : 512 * disk.blocks ≤ length given
   long =
       let all : bytes_needed quiet.names.disks ≡ 512 * disk.blocks = ap (λ (l : List DiskDecl). bytes_needed l) declares ∙ least in
-      subst (λ (n : ℕ). n ≤ length given) all (enough mode.Run content faults size script now gives why journal image lanes old new runs bytes events known done quiet.names quiet.spelled given (ap gives all ∙ gave))
+      subst (λ (n : ℕ). n ≤ length given) all (enough mode.Run content faults size script now gives why journal image lanes old new before after runs bytes events known done quiet.names quiet.spelled given (ap gives all ∙ gave))
 
   fits : FitsScript 0 (world_of (disk ∷ []) (record { told = Some given; faults = 0 })) events journal whole.final
   fits =

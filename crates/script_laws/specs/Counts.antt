@@ -1,6 +1,7 @@
 -- How often the objects outside of a call failed, before it and after it.
 use Rattle.std.specs.Prelude.{◌≡◌, ◌≢◌, ℕ, ◌≤◌}
 use Rattle.vio_io.specs.Causes.{Rose}
+use Rattle.ldom_journal.specs.Failing.{Fails}
 use Rattle.ldom_journal.specs.declared.status.Status.{Status}
 use Rattle.ldom_journal.specs.declared.status.Status.TheVariants.{HostFault, SinkFault, SourceFault}
 use Rattle.script_laws.specs.Clean.{StandsStill}
@@ -26,6 +27,11 @@ pub record FaultsTold (status : Status) (before now : Counts) : Type 0 where
   pub source_count : before.source ≤ now.source
   pub host_count : before.host ≤ now.host
   pub sink_count : before.sink ≤ now.sink
+
+-- How a run ended before its report: for a fault of the source exactly where that failed, and for one of the host likewise.
+pub record RanTold (ran : Status) (before now : Counts) : Type 0 where
+  pub source : Fails (ran ≡ SourceFault) before.source now.source
+  pub host : Fails (ran ≡ HostFault) before.host now.host
 
 -- none of them failed
 pub record NoneFailed (before now : Counts) : Type 0 where

@@ -8,6 +8,7 @@ use Rattle.ldom_entries.specs.declared.entry.Entry.{Entry}
 use Rattle.ldom_journal.specs.declared.status.Mode.{Mode}
 use Rattle.ldom_journal.specs.declared.status.Status.{Status}
 use Rattle.ldom_journal.specs.declared.status.Status.TheVariants.{SinkFault}
+use Rattle.script_laws.specs.Counts.{Counts, RanTold}
 use Rattle.script_laws.specs.Headline.{Headline}
 use Rattle.script_laws.specs.Admitting.{AdmitsRequests}
 use Rattle.script_laws.specs.Outside.{IsOutsideDisks, KeepsTold}
@@ -21,11 +22,13 @@ use Rattle.disk_steps.specs.LaneState.{LaneState}
 abbrev pub Reports : Status → Status → Option (List ℕ) → Option (List ℕ) → List ℕ → Type 0
 Reports ran status old new text = ((status ≡ ran) × Appends old new text) ⊎ ((status ≡ SinkFault) × WroteFront old new text)
 
--- the script was run, and the report of its journal written as this mode shows it; the source has `now` left
+-- the script was run, and the report of its journal written as this mode shows it; the source has `now` left, and what lies
+-- outside had failed so often before and after
 pub record RunsScript {D : Type 0} (mode : Mode) (content : D → Option (List ℕ)) (faults size : D → ℕ) (script now : Option (List ℕ)) (gives : ℕ → Option (List ℕ))
-    (status : Status) (journal : List Entry) (image : Option D) (lanes : Option (List LaneState)) (old new : Option (List ℕ)) : Type 0 where
+    (status : Status) (journal : List Entry) (image : Option D) (lanes : Option (List LaneState)) (old new : Option (List ℕ)) (before after : Counts) : Type 0 where
   -- how the run ended before its report
   pub ran : Status
+  pub told : RanTold ran before after
   -- how many lines the report counts
   pub lines : ℕ
   pub names : NamesState

@@ -5,7 +5,7 @@ use Rattle.domain_script.specs.declared.event.Event.{Event}
 use Rattle.domain_script.specs.declared.event.LineFault.{LineFault}
 use Rattle.domain_script.specs.declared.event.LineFault.TheVariants.{Word}
 use Rattle.domain_script.specs.NamesState.{NamesState, noted}
-use Rattle.domain_script.specs.Pieces.{HasNoFeed}
+use Rattle.domain_script.specs.Pieces.{DecidesNothing}
 use Rattle.domain_script.specs.ScriptLines.{TakesLine}
 use Rattle.domain_script.specs.Spells.{Spells}
 use Rattle.ldom_journal.specs.LinesEnd.{IsPast, most_entries}
@@ -37,14 +37,14 @@ pub record IsRead (rest left : Option (List ℕ)) : Type 0 where
   pub short : length text ≤ most_line_bytes
 
 -- Why no line is taken up after so many, where the journal has so many entries: `rest` is to come, which is now `held` and
--- what the source has left. Where the source failed, no whole line is held.
+-- what the source has left. Where the source failed, no line is whole in what is held, and no limit is met.
 abbrev pub StopsAt : Status → Option (List ℕ) → List ℕ → Option (List ℕ) → NamesState → ℕ → ℕ → Type 0
 StopsAt (status.Script at fault) rest held now names count entries = (at ≡ count + 1) × (at ≤ most_lines) × (entries < most_entries) × IsFaulty rest (prepend_known held now) names fault
 StopsAt (status.Limit at limit.Entries) rest held now names count entries = (at ≡ count + 1) × (at ≤ most_lines) × (most_entries ≤ entries) × IsRead rest (prepend_known held now)
 StopsAt (status.Limit at kind) rest held now names count entries = (at ≡ count + 1) × IsPast kind rest count × Keeps rest (prepend_known held now)
 StopsAt status.Done rest held now names count entries = IsAtEnd rest × Keeps rest (prepend_known held now)
 StopsAt status.StoreFault rest held now names count entries = IsAtEnd rest × Keeps rest (prepend_known held now)
-StopsAt status.SourceFault rest held now names count entries = HasNoFeed held × Keeps rest (prepend_known held now)
+StopsAt status.SourceFault rest held now names count entries = DecidesNothing count held × Keeps rest (prepend_known held now)
 StopsAt status.HostFault rest held now names count entries = Keeps rest (prepend_known held now)
 StopsAt (status.ImageSize need have) rest held now names count entries = Keeps rest (prepend_known held now)
 StopsAt status.NoMemory rest held now names count entries = Keeps rest (prepend_known held now)

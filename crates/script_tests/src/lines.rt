@@ -4,7 +4,7 @@ use domain_script::{Lines, LinesFault};
 use std::alloc::Global;
 use std::process::Abort;
 use std::test::Fail;
-use vio_io::ListSource;
+use vio_io::{Failed, ListSource, Source};
 
 /// What a call of a reader is to give.
 #[derive(Clone, Copy, Debug, PartialEq)]
@@ -101,5 +101,36 @@ fn there_are_at_most_20000_lines(rt: HostRuntime) -> Result<(), Fail> {
         count_lines(rt.alloc(), 20_001)?,
         (20_000, Err(LinesFault::Many))
     );
+    Ok(())
+}
+
+/// A source of empty lines, which keeps how many bytes a call asked for at most.
+#[derive(Drop)]
+struct AskedSource {
+    most: usize,
+}
+
+impl Source for AskedSource {
+    ghost use Rattle.std.specs.Prelude.{None};
+
+    ghost left = { λ _. None };
+
+    ghost faults = { λ _. 0 };
+
+    fn read(&mut self, buf: &mut [u8]) -> Result<usize, Failed> {
+        self.most = self.most.max(buf.len());
+        buf.fill(b'\n');
+        Ok(buf.len())
+    }
+}
+
+#[test]
+fn a_read_asks_for_at_most_4096_bytes(rt: HostRuntime) -> Result<(), Fail> {
+    let mut source = AskedSource { most: 0 };
+    let mut lines = Lines::new(rt.alloc())?;
+    for _ in 0..5_000 {
+        assert_eq!(rt; lines.advance(&mut source), Ok(true));
+    }
+    assert_eq!(rt; source.most, 4_096);
     Ok(())
 }

@@ -7,6 +7,7 @@ use Rattle.ldom_journal.specs.DiskEvents.{history}
 use Rattle.script_laws.proofs.Completeness.{all_zero, completes, never, still}
 use Rattle.std.proofs.lemmas.List.Elements.{All-nil}
 use Rattle.script_laws.specs.Clean.{EndsClean}
+use Rattle.script_laws.specs.Counts.{counts}
 use Rattle.script_laws.specs.Failures.{SucceedOrFail, SucceedsOrFails, failed_count}
 use Rattle.script_laws.specs.Outcomes.{RunsScript}
 use Rattle.world_parts.specs.Declared.{blocks_of}
@@ -32,13 +33,16 @@ returns-in-Some-Script-clause-runs g c shown image asks =
     let after = g.S.Source.left c.run_script.new.source in
     let old = g.K.Sink.written c.args.out.now in
     let new = g.K.Sink.written c.report_run.new.out in
+    let before = counts (g.S.Source.faults c.args.script.now) (g.H.Host.faults c.args.host.now) (g.K.Sink.faults c.args.out.now) in
+    let now = counts (g.S.Source.faults c.run_script.new.source) (g.H.Host.faults c.run_script.new.host) (g.K.Sink.faults c.report_run.new.out) in
     as_asked (λ (m : Mode) (name : List ℕ). RunsScript m g.H.Disk.Store.content g.H.Disk.Store.faults g.H.Disk.Store.size left after (g.H.Host.gives c.args.host.now name) c.report_run.result.status
-    c.report_run.result.journal.entries c.report_run.result.image c.report_run.result.lanes old new) words c.in-Some-Script.mode shown c.in-Some-Script.image.now image own asks
+    c.report_run.result.journal.entries c.report_run.result.image c.report_run.result.lanes old new before now) words c.in-Some-Script.mode shown c.in-Some-Script.image.now image own asks
     (all_otherwise (λ (j : JournalState) d l. RunsScript c.in-Some-Script.mode g.H.Disk.Store.content g.H.Disk.Store.faults g.H.Disk.Store.size left after (g.H.Host.gives c.args.host.now c.in-Some-Script.image.now) c.report_run.result.status
-    j.entries d l old new) c.run_script.result.journal c.report_run.result.journal c.run_script.result.image c.report_run.result.image c.run_script.result.lanes c.report_run.result.lanes
+    j.entries d l old new before now) c.run_script.result.journal c.report_run.result.journal c.run_script.result.image c.report_run.result.image c.run_script.result.lanes c.report_run.result.lanes
     c.report_run.ensures.journal c.report_run.ensures.image c.report_run.ensures.lanes
     (record {
       ran = c.run_script.result.status;
+      told = record { source = c.run_script.ensures.source; host = c.run_script.ensures.host };
       lines = c.run_script.result.lines;
       names = c.run_script.result.names;
       replayed = c.run_script.ensures.replayed;
@@ -79,11 +83,11 @@ returns-in-Some-Script-clause-failures g c =
 
 pub returns-in-Some-Script-clause-whole : goal.returns-in-Some-Script-clause-whole
 returns-in-Some-Script-clause-whole g c shown image asks bytes events names known spelled done =
-    runs_whole _ _ _ _ _ _ _ _ _ _ _ _ _ (returns-in-Some-Script-clause-runs g c shown image asks) bytes events known done names spelled
+    runs_whole _ _ _ _ _ _ _ _ _ _ _ _ _ _ _ (returns-in-Some-Script-clause-runs g c shown image asks) bytes events known done names spelled
 
 pub returns-in-Some-Script-clause-quiet : goal.returns-in-Some-Script-clause-quiet
 returns-in-Some-Script-clause-quiet g c image asks bytes content disk events known quiet gives done =
-    runs_plainly _ _ _ _ _ _ _ _ _ _ _ _ (returns-in-Some-Script-clause-runs g c mode.Run image asks) bytes events known done disk content quiet gives
+    runs_plainly _ _ _ _ _ _ _ _ _ _ _ _ _ _ (returns-in-Some-Script-clause-runs g c mode.Run image asks) bytes events known done disk content quiet gives
 
 pub returns-in-Some-Script-clause-complete : goal.returns-in-Some-Script-clause-complete
 returns-in-Some-Script-clause-complete g c shown image asks bytes known clean still_all store long =

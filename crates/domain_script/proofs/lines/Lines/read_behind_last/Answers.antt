@@ -1,11 +1,10 @@
-use Rattle.std.proofs.Common.{◌≡◌, ◌≢◌, ℕ, List, [], ◌++◌, Option, IfSome, sym, ap, ◌∙◌, subst}
+use Rattle.std.proofs.Common.{◌≡◌, ◌≢◌, ℕ, List, [], ◌++◌, Option, IfSome, refl, sym, ap, ◌∙◌, subst, arith}
 use Rattle.std.specs.Io.KnownBytes.{Keeps, IsAtEnd, prepend_known}
 use Rattle.std.proofs.lemmas.Result.{err_from_is_err_and}
 use Rattle.domain_script.specs.declared.lines.LinesStop.{LinesStop}
 use Rattle.domain_script.specs.declared.lines.LinesStop.TheVariants.{Going, Ended, TooMany}
 use Rattle.domain_script.specs.LinesState.{LinesState, to_come, GivesNone}
-use Rattle.domain_script.specs.Pieces.{HasNoFeed}
-use Rattle.domain_script.proofs.Feeds.{has_no_append}
+use Rattle.domain_script.specs.Pieces.{DecidesNothing}
 use Rattle.domain_script.proofs.ToCome.{keeps_behind, none_there}
 use Rattle.domain_script.proofs.Readers.{is_to_come, gives_none, no_line, some_to_come, none_to_come}
 use Rattle.domain_script.proofs.lines.Lines.read_behind_last.Goals as goal
@@ -21,11 +20,14 @@ returns-in_err-fill-clause-reads g c =
     gives_none c.self.inside c.args.self.now held left after Going c.self.view_is c.requires.forgotten
     (keeps_behind left after c.self.inside.line.items c.self.inside.piece c.fill.new.self c.fill.ensures.told) in
     let going : Going ≡ c.self.inside.stop = sym (ap (λ (s : LinesState). s.stop) c.self.view_is ∙ c.requires.going) in
-    let drained : HasNoFeed c.fill.new.self = subst (λ (l : List ℕ). HasNoFeed l) (sym c.in_err-fill.ensures.same) tt in
+    let empty : c.self.inside.line.items ≡ [] =
+    no_line c.self.inside c.args.self.now c.self.view_is c.requires.forgotten
+    (c.self.invariant.all (ap (λ (s : LinesState). s.number) c.self.view_is ∙ c.requires.all)) in
+    let none_held : held ≡ [] = ap (λ (l : List ℕ). l ++ c.fill.new.self) empty ∙ c.in_err-fill.ensures.same in
     rw (p.1, p.2) (
       subst (λ (stop : LinesStop). GivesNone (to_come c.args.self.now left) (prepend_known held after) c.args.self.now
           (record { held = held; line = []; number = c.self.inside.number; stop = stop }) Going) going none,
-      has_no_append 10 c.self.inside.line.items c.fill.new.self c.self.invariant.no_feed drained,
+      subst (λ (l : List ℕ). DecidesNothing c.args.self.now.number l) (sym none_held) (record { no_feed = tt; short = omega arith; none = λ all. refl }),
     )
 
 pub returns-then-branch-clause-reads : goal.returns-then-branch-clause-reads
