@@ -30,6 +30,7 @@ impl Model for Descriptor {
 }
 
 impl Descriptor {
+    /// The descriptor that these bytes are.
     pub fn new(bytes: &[u8; 128]) -> Descriptor
         ensures { result ≡ bytes.now }
     {
@@ -39,6 +40,7 @@ impl Descriptor {
         }
     }
 
+    /// Its bytes, as they were fetched.
     pub fn bytes(&self) -> &[u8; 128]
         ensures { result.now ≡ self.now }
     {
@@ -52,6 +54,7 @@ impl Descriptor {
         header_of(state, &self.bytes)
     }
 
+    /// Its fields.
     pub fn desc(&self) -> &DiskDesc
         ensures { result.now ≡ disk_desc_of self.now }
     {

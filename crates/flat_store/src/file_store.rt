@@ -10,7 +10,7 @@ use vio_io::{Failed, Store};
 const MOST_TRIES: u32 = 10_000;
 
 /// A file as a store: a range is moved by one call of the file, and a call that moves less is a fault. A call that the
-/// system interrupted is tried again, until it was tried 10,000 times in a row.
+/// system interrupted is tried again, and isn't a fault before 10,000 times in a row.
 #[derive(Drop)]
 pub struct FileStore<F: ImageFile> {
     file: F,

@@ -63,7 +63,7 @@ pub enum Entry {
         who: Who,
     },
 
-    /// Nothing is left to do.
+    /// A settle is through.
     Settled,
 
     /// A settle ended though something is left to do here.

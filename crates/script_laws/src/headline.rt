@@ -16,9 +16,9 @@ ghost use Rattle.world_parts.specs.Endings.{Ending, JournalEnds};
 /// said; after each settle both its ends are still and, where its server runs, all its accepted requests have
 /// completed. Each settle, also one that want of memory cut off, has at most one tick of a lane, where its server runs,
 /// a packet was lost and both ends are still. Over an image that tells its bytes, where no call of the store failed for
-/// the disk, as where the image counts no fault: each completed read shows the last earlier write, and the disk holds
-/// its completed writes, or, where all are completed, exactly the accepted ones applied once in order. Outside of all
-/// disks the image stays.
+/// the disk, as where the image counts no fault: each completed read shows the last earlier write, and each block of the
+/// disk is that of its completed writes or of one that isn't completed; where all are completed, the disk holds exactly
+/// the accepted ones applied once in order. Outside of all disks the image stays.
 pub fn the_headline_holds()
     ensures { (ending : Ending) (disks : List DiskDecl) (image : ImageState) (events : List Event)
         (journal : List Entry) (v : WorldState)

@@ -32,7 +32,7 @@ pub enum Cause {
     Sid { expected: u32, found: u32 },
     /// A message that isn't one of the handshake's state.
     Order,
-    /// Attributes or a ring that this end doesn't take.
+    /// A refusal, or an answer of a handshake that this end doesn't accept.
     Refused,
     /// Another ring.
     Ident { expected: u64, found: u64 },
@@ -40,13 +40,13 @@ pub enum Cause {
     Seq { expected: u64, found: u64 },
     /// Another descriptor than the next one.
     Slot { expected: u32, found: u32 },
-    /// An end that isn't in the ring, or isn't the start.
+    /// An end that isn't in the ring, or lies past what was announced.
     RangeEnd { found: u32 },
     /// An announced descriptor that isn't READY.
     NotReady { slot: u32, state: u8 },
     /// An acknowledged descriptor that isn't DONE.
     NotDone { slot: u32, state: u8 },
-    /// A frame that is too short or too long, or isn't in one piece.
+    /// A frame that is too short or too long, or has no cookie or too many.
     Frame { size: u32, count: u32 },
     /// A copy that was refused, by the number of its fault: 1 `Channel`, 2 `BadAlign`, 3 `Short`,
     /// 4 `BadPage`, 5 `NoMap`, 6 `NoAccess`.
