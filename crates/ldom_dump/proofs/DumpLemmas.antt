@@ -9,6 +9,7 @@ use Rattle.domain_script.proofs.ScriptLemmas.{taken_more, taken_none}
 use Rattle.ldom_journal.specs.declared.status.Status.{Status}
 use Rattle.ldom_journal.specs.declared.status.Status.TheVariants as the_status
 use Rattle.gathered_text.specs.Gathered.{Gathers, WroteFront}
+use Rattle.ldom_journal.specs.Failing.{Fails}
 use Rattle.ldom_journal.specs.LinesEnd.{counted_lines}
 use Rattle.gathered_text.proofs.GatheredText.{appends_last, gathers_all, gathers_more, gathers_then, wrote_front_last}
 use Rattle.ldom_dump.specs.Decoded.{AreOfLines, Decoded, IsOfLine, decoded_lines, decoded_text, is_fault, is_ok, is_packet}
@@ -179,8 +180,9 @@ written the_status.NoMemory status old mid new gathered last all is g f = ends t
 
 -- the lines were read and the dump ended
 pub dumps : (start now old mid new : Option (List ℕ)) (why status : Status) (gathered : List ℕ) (lines packets faults : ℕ)
-    → DumpsLines start now why old mid gathered lines packets faults → Finishes why status mid new gathered (end_line lines packets faults why) → Dumps start now status old new
-dumps start now old mid new why status gathered lines packets faults read finishes =
+    → DumpsLines start now why old mid gathered lines packets faults → Finishes why status mid new gathered (end_line lines packets faults why)
+    → (before after : ℕ) → Fails (why ≡ the_status.SourceFault) before after → Dumps start now status old new before after
+dumps start now old mid new why status gathered lines packets faults read finishes before after told =
     let last : why ≢ the_status.SinkFault → dump_text read.all why ≡ decoded_lines read.all ++ end_line lines packets faults why =
     λ other. ap (λ (l : List ℕ). decoded_lines read.all ++ l)
     (ap (λ (n : ℕ). end_line n (count_by is_packet read.all) (count_by is_fault read.all) why) (sym (read.lines_are other))
@@ -193,6 +195,7 @@ dumps start now old mid new why status gathered lines packets faults read finish
       are = read.are;
       held = read.held;
       why = why;
+      told = told;
       stop = read.stop;
       written = written why status old mid new gathered (end_line lines packets faults why) read.all last read.gathers finishes;
     }

@@ -4,8 +4,9 @@ use Rattle.std.specs.Io.KnownBytes.{Appends}
 use Rattle.std.specs.List.{count_by}
 use Rattle.domain_script.specs.ScriptLines.{LinesTaken}
 use Rattle.ldom_journal.specs.declared.status.Status.{Status}
-use Rattle.ldom_journal.specs.declared.status.Status.TheVariants.{SinkFault}
+use Rattle.ldom_journal.specs.declared.status.Status.TheVariants.{SinkFault, SourceFault}
 use Rattle.gathered_text.specs.Gathered.{WroteFront}
+use Rattle.ldom_journal.specs.Failing.{Fails}
 use Rattle.ldom_journal.specs.LinesEnd.{counted_lines}
 use Rattle.ldom_journal.specs.Report.{cause_text}
 use Rattle.ldom_journal.specs.Status.{status_number}
@@ -31,8 +32,9 @@ abbrev pub Written : Status → Status → Option (List ℕ) → Option (List �
 Written SinkFault status old new all = (status ≡ SinkFault) × WroteFront old new (decoded_lines all)
 Written why status old new all = ((status ≡ why) × Appends old new (dump_text all why)) ⊎ ((status ≡ SinkFault) × WroteFront old new (dump_text all why))
 
--- These lines were read and decoded from the front of what a source had, and then no further one. It has `now` left.
-pub record Dumps (start now : Option (List ℕ)) (status : Status) (old new : Option (List ℕ)) : Type 0 where
+-- These lines were read and decoded from the front of what a source had, and then no further one. It has `now` left, and had
+-- failed so often before and after.
+pub record Dumps (start now : Option (List ℕ)) (status : Status) (old new : Option (List ℕ)) (before after : ℕ) : Type 0 where
   pub all : List Decoded
   -- what was to come after these lines
   pub left : Option (List ℕ)
@@ -40,7 +42,8 @@ pub record Dumps (start now : Option (List ℕ)) (status : Status) (old new : Op
   pub are : AreOfLines all
   -- bytes that were taken from the source and are in no line
   pub held : List ℕ
-  -- why reading ended
+  -- why reading ended: for a fault of the source exactly where that failed
   pub why : Status
+  pub told : Fails (why ≡ SourceFault) before after
   pub stop : StopsAt why left held now (length all)
   pub written : Written why status old new all

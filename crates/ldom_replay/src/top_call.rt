@@ -112,7 +112,8 @@ pub fn replay<H: Host, S: Source, K: Sink>(
 
     // Packets are dumped up to where the lines end.
     ensures dumps { AsksDump (map string_bytes words.now)
-        → Dumps (S.left script.old) (S.left script.new) result.status (K.written out.old) (K.written out.new) }
+        → Dumps (S.left script.old) (S.left script.new) result.status (K.written out.old) (K.written out.new)
+        (S.faults script.old) (S.faults script.new) }
 
     // A script of packets alone is dumped to its end, where no count rose and memory suffices.
     ensures dumps_whole { AsksDump (map string_bytes words.now)
@@ -120,9 +121,11 @@ pub fn replay<H: Host, S: Source, K: Sink>(
         → StandsStill (S.faults script.old) (S.faults script.new) → StandsStill (K.faults out.old) (K.faults out.new)
         → (result.status ≡ Status.Done) ⊎ (result.status ≡ Status.NoMemory) }
 
-    // Other words are no command.
+    // Other words are no command, and leave the script unread.
     ensures usage { AsksNoRun (map string_bytes words.now) → (AsksDump (map string_bytes words.now) → ⊥)
         → Reports Status.Usage result.status (K.written out.old) (K.written out.new) usage_line }
+    ensures unread { AsksNoRun (map string_bytes words.now) → (AsksDump (map string_bytes words.now) → ⊥)
+        → script.new ≡ script.old }
 
     // What isn't a run has no journal, no image and no lanes.
     ensures nothing { AsksNoRun (map string_bytes words.now)
@@ -151,7 +154,7 @@ fn report_dump<D: Store, S: Source, K: Sink>(
     out: &mut K,
 ) -> Outcome<D>
     ensures dumps { Dumps (S.left script.old) (S.left script.new) result.status
-        (K.written out.old) (K.written out.new) }
+        (K.written out.old) (K.written out.new) (S.faults script.old) (S.faults script.new) }
     ensures whole { (bytes : List ℕ) → S.left script.old ≡ Some bytes → IsWhole bytes
         → ¬ Rose (S.faults script.old) (S.faults script.new) → ¬ Rose (K.faults out.old) (K.faults out.new)
         → (result.status ≡ Status.Done) ⊎ (result.status ≡ Status.NoMemory) }
