@@ -9,8 +9,8 @@ use Rattle.cookie_copy.specs.Moved.{moved_in, moved_out}
 use Rattle.vdisk_msg.specs.Pieces.{unit_count}
 use Rattle.map_table.specs.declared.cookie.Cookie.{Cookie}
 use Rattle.vio_io.specs.Stores.{IsUnitRange, KeepsOutside, ReadsRange, WritesRange}
-use Rattle.disk_steps.specs.ServerState.{Ends, Flushes, Gathers, Gives, Progress, Reads, Work, Writes}
-use Rattle.disk_steps.specs.ServerWork.{MovesIn, Reach, data_cookies, desc_of, gathers_next, length_of, reads_next, unit_block}
+use Rattle.disk_model.specs.ServerState.{Ends, Flushes, Gathers, Gives, Progress, Reads, Work, Writes}
+use Rattle.disk_model.specs.ServerWork.{MovesIn, Reach, data_cookies, desc_of, gathers_next, length_of, reads_next, unit_block}
 use Rattle.descriptor_work.specs.declared.answers.ServerOut.TheVariants as out
 use Rattle.descriptor_work.specs.Pieces.{PieceIn, PieceOn, StoredFor}
 

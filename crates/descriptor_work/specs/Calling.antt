@@ -4,7 +4,7 @@ use Rattle.cookie_copy.specs.Faults.{both_up}
 use Rattle.ldc_queue.specs.ChannelView.{ChannelView}
 use Rattle.map_table.specs.declared.table.Entry.{Entry}
 use Rattle.vio_io.specs.Causes.{Rose, next_count}
-use Rattle.disk_steps.specs.ServerWork.{Reach}
+use Rattle.disk_model.specs.ServerWork.{Reach}
 use Rattle.descriptor_work.specs.declared.answers.ServerOut.{ServerOut}
 use Rattle.descriptor_work.specs.declared.answers.ServerOut.TheVariants as out
 

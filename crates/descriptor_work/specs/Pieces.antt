@@ -1,8 +1,8 @@
 -- The pieces of a descriptor, by the work alone.
 use Rattle.std.specs.Prelude.{◌≡◌, ℕ, List, Option}
-use Rattle.disk_steps.specs.Served.{StoreDoesIn}
-use Rattle.disk_steps.specs.ServerState.{Progress, ServerState, Work, fresh_server}
-use Rattle.disk_steps.specs.ServerWork.{MovesIn, Reach, StoresIn}
+use Rattle.disk_model.specs.Served.{StoreDoesIn}
+use Rattle.disk_model.specs.ServerState.{Progress, ServerState, Work, fresh_server}
+use Rattle.disk_model.specs.ServerWork.{MovesIn, Reach, StoresIn}
 use Rattle.descriptor_work.specs.declared.answers.ServerOut.{ServerOut}
 use Rattle.descriptor_work.specs.declared.answers.ServerOut.TheVariants as out
 

@@ -3,17 +3,17 @@ use Rattle.std.proofs.Common.{◌≡◌, ◌≢◌, ℕ, Bool, false, List, Opti
 use Rattle.ldc_queue.specs.declared.end.ChannelState.{ChannelState}
 use Rattle.ldc_queue.specs.declared.end.ChannelState.TheVariants.{Down, Up, Resetting}
 use Rattle.vio_tag.specs.declared.cause.Cause.{Cause}
-use Rattle.lane_law.specs.WireLog.{lossy_behind}
-use Rattle.disk_steps.specs.ClientRule as client
-use Rattle.disk_steps.specs.ClientState.{ClientState}
-use Rattle.disk_steps.specs.ClientStep.{ClientFails}
-use Rattle.disk_steps.specs.Seeing.{Seen}
-use Rattle.disk_steps.specs.ServerRule as server
-use Rattle.disk_steps.specs.ServerState.{ServerState}
-use Rattle.disk_steps.specs.ServerStep.{ServerFails}
-use Rattle.disk_steps.specs.ServerWork.{Reach}
-use Rattle.lane_invariant.proofs.Ruling.{client_may, server_may}
-use Rattle.lane_invariant.specs.RuleFacts.{ClientMay, ServerMay}
+use Rattle.disk_model.specs.WireLog.{lossy_behind}
+use Rattle.disk_model.specs.ClientRule as client
+use Rattle.disk_model.specs.ClientState.{ClientState}
+use Rattle.disk_model.specs.ClientStep.{ClientFails}
+use Rattle.disk_model.specs.Seeing.{Seen}
+use Rattle.disk_model.specs.ServerRule as server
+use Rattle.disk_model.specs.ServerState.{ServerState}
+use Rattle.disk_model.specs.ServerStep.{ServerFails}
+use Rattle.disk_model.specs.ServerWork.{Reach}
+use Rattle.lane_laws.proofs.Ruling.{client_may, server_may}
+use Rattle.lane_laws.specs.RuleFacts.{ClientMay, ServerMay}
 
 pub behind_up : (was : ChannelState) (lossy : Bool) → was ≡ Up → lossy_behind was lossy ≡ false
 behind_up Up lossy up = refl

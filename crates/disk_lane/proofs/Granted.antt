@@ -7,8 +7,8 @@ use Rattle.std.specs.List.{position_or_len, range_with_len}
 use Rattle.std.specs.Prelude.{is_none}
 use Rattle.cookie_copy.specs.Faults.{PagesWithin}
 use Rattle.cookie_copy.specs.Identity.{own_entry}
-use Rattle.disk_steps.specs.LaneState.{own_table}
-use Rattle.lane_invariant.proofs.RingPages.{own_is_identity}
+use Rattle.disk_model.specs.LaneState.{own_table}
+use Rattle.lane_laws.proofs.RingPages.{own_is_identity}
 use Rattle.map_table.specs.Table.{first_free}
 use Rattle.map_table.specs.declared.table.Entry.{Entry}
 use Rattle.disk_lane.specs.Granting.{granted_front}

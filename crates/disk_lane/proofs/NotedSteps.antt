@@ -5,15 +5,15 @@ use Rattle.ldc_queue.specs.declared.end.ChannelState.TheVariants.{Up}
 use Rattle.ldc_queue.specs.declared.end.End.TheVariants.{A, B}
 use Rattle.ldc_queue.specs.Wire.{Wire, state_of}
 use Rattle.disk_lane.specs.Events.{ResetsOwn}
-use Rattle.disk_steps.proofs.OwnSteps.{client_resets_own}
-use Rattle.disk_steps.specs.ClientRule.{client_rule}
-use Rattle.disk_steps.specs.ClientState.{ClientState}
-use Rattle.disk_steps.specs.DiskEvent.{DiskEvent}
-use Rattle.disk_steps.specs.LaneState.{LaneState, NearCounts, near_disturbed, near_finished}
-use Rattle.disk_steps.specs.LaneStep.{LaneStep}
-use Rattle.disk_steps.specs.OnChannel.{IsChannelOf}
-use Rattle.disk_steps.specs.Served.{Served}
-use Rattle.disk_steps.specs.ServerState.{ServerState}
+use Rattle.disk_model.proofs.OwnSteps.{client_resets_own}
+use Rattle.disk_model.specs.ClientRule.{client_rule}
+use Rattle.disk_model.specs.ClientState.{ClientState}
+use Rattle.disk_model.specs.DiskEvent.{DiskEvent}
+use Rattle.disk_model.specs.LaneState.{LaneState, NearCounts, near_disturbed, near_finished}
+use Rattle.disk_model.specs.LaneStep.{LaneStep}
+use Rattle.disk_model.specs.OnChannel.{IsChannelOf}
+use Rattle.disk_model.specs.Served.{Served}
+use Rattle.disk_model.specs.ServerState.{ServerState}
 use Rattle.vdisk_client.proofs.LaneSteps.{lane_steps}
 use Rattle.vdisk_client.specs.Calls.{Steps, channel_after, client_event, sees}
 use Rattle.vdisk_client.specs.OnLane.{client_moved}

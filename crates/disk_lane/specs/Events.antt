@@ -3,9 +3,9 @@ use Rattle.std.specs.Prelude.{◌≡◌, Bool, true, false, List, ℕ, Option, S
 use Rattle.ldc_queue.specs.declared.end.End.{End}
 use Rattle.ldc_queue.specs.declared.end.End.TheVariants.{A, B}
 use Rattle.vio_tag.specs.declared.cause.Cause.TheVariants as the_cause
-use Rattle.lane_law.specs.WireEvent as wire
-use Rattle.lane_law.specs.WireEvent.{ByStep, giver}
-use Rattle.disk_steps.specs.DiskEvent.{CalmReset, CalmRestart, CalmStart, CalmStop, CalmTick, DiskEvent, Off, OnWire, Rests, Started, Stopped, Turns}
+use Rattle.disk_model.specs.WireEvent as wire
+use Rattle.disk_model.specs.WireEvent.{ByStep, giver}
+use Rattle.disk_model.specs.DiskEvent.{CalmReset, CalmRestart, CalmStart, CalmStop, CalmTick, DiskEvent, Off, OnWire, Rests, Started, Stopped, Turns}
 use Rattle.vdisk_client.specs.declared.answers.ClientOut.{ClientOut}
 use Rattle.vdisk_client.specs.declared.answers.ClientOut.TheVariants as client_out
 use Rattle.descriptor_work.specs.Calling.{Calls, Flushes}

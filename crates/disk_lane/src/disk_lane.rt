@@ -1,11 +1,11 @@
 ghost use Rattle.std.specs.Prelude.{◌≡◌, ◌+◌, ◌*◌, ◌<◌, ◌≤◌, ◌^◌, ◌-◌, IfOk, length, not};
 ghost use Rattle.ldc_queue.specs.declared.end.End.TheVariants.{B};
 ghost use Rattle.vdisk_msg.specs.Fills.{IsRequest};
-ghost use Rattle.disk_steps.specs.ClientState.{is_finished};
-ghost use Rattle.disk_steps.specs.DiskEvent.{Asks};
-ghost use Rattle.disk_steps.specs.LaneState.{fresh, IsShape};
-ghost use Rattle.disk_steps.specs.LaneStep.{LaneStep};
-ghost use Rattle.disk_steps.specs.Served.{Served};
+ghost use Rattle.disk_model.specs.ClientState.{is_finished};
+ghost use Rattle.disk_model.specs.DiskEvent.{Asks};
+ghost use Rattle.disk_model.specs.LaneState.{fresh, IsShape};
+ghost use Rattle.disk_model.specs.LaneStep.{LaneStep};
+ghost use Rattle.disk_model.specs.Served.{Served};
 ghost use Rattle.vdisk_client.specs.Calls.{TellsLength, admitted, client_event, front_count};
 ghost use Rattle.disk_lane.specs.Events.{CallsOf, FlushesOf, KeepsStoreOf, ResetsOwn, answered, lost_event};
 ghost use Rattle.disk_lane.specs.Events.{reset_event, restart_event, served_event, start_event, stop_event, tick_event};
@@ -23,15 +23,15 @@ use vio_io::Store;
 
 /// A virtual disk with both its ends: a guest's client and a service domain's server on one channel, the client's memory, and
 /// the table that grants each of its pages to the server. What always holds of a lane is that some calls led there from a
-/// fresh one; the laws of such lanes stand in `lane_invariant`.
+/// fresh one; the laws of such lanes stand in `lane_laws`.
 #[derive(Drop)]
 pub struct DiskLane {
     ends: LaneEnds,
 }
 
 impl Model for DiskLane {
-    ghost use Rattle.disk_steps.specs.LaneState.{LaneState};
-    ghost use Rattle.disk_steps.specs.Reached.{IsReached};
+    ghost use Rattle.disk_model.specs.LaneState.{LaneState};
+    ghost use Rattle.disk_model.specs.Reached.{IsReached};
 
     ghost Value = { LaneState };
 

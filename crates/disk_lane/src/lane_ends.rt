@@ -3,11 +3,11 @@
 ghost use Rattle.std.specs.Prelude.{◌≡◌, ◌+◌, ◌*◌, ◌<◌, ◌≤◌, ◌^◌, ◌-◌, ◌||◌, IfOk, length, not, true, false};
 ghost use Rattle.ldc_queue.specs.declared.end.End.TheVariants.{A, B};
 ghost use Rattle.vdisk_msg.specs.Fills.{IsRequest};
-ghost use Rattle.disk_steps.specs.ClientState.{is_finished};
-ghost use Rattle.disk_steps.specs.DiskEvent.{Asks};
-ghost use Rattle.disk_steps.specs.LaneState.{fresh, IsShape};
-ghost use Rattle.disk_steps.specs.LaneStep.{LaneStep, stored_blocks};
-ghost use Rattle.disk_steps.specs.Served.{Served};
+ghost use Rattle.disk_model.specs.ClientState.{is_finished};
+ghost use Rattle.disk_model.specs.DiskEvent.{Asks};
+ghost use Rattle.disk_model.specs.LaneState.{fresh, IsShape};
+ghost use Rattle.disk_model.specs.LaneStep.{LaneStep, stored_blocks};
+ghost use Rattle.disk_model.specs.Served.{Served};
 ghost use Rattle.vdisk_client.specs.Calls.{TellsLength, admitted, client_event, front_count};
 ghost use Rattle.descriptor_work.specs.Calling.{Calls, Flushes};
 ghost use Rattle.vdisk_server.specs.Answering.{KeepsStore, server_event};
@@ -46,7 +46,7 @@ pub struct LaneEnds {
 }
 
 impl Model for LaneEnds {
-    ghost use Rattle.disk_steps.specs.LaneState.{LaneState};
+    ghost use Rattle.disk_model.specs.LaneState.{LaneState};
     ghost use Rattle.disk_lane.specs.Fields.{FitsShape, state_of};
 
     ghost Value = { LaneState };
@@ -227,8 +227,8 @@ impl LaneEnds {
 }
 
 impl LaneEnds {
-    ghost use Rattle.disk_steps.specs.LaneState.{near_disturbed};
-    ghost use Rattle.lane_law.specs.WireLog.{lossy_behind};
+    ghost use Rattle.disk_model.specs.LaneState.{near_disturbed};
+    ghost use Rattle.disk_model.specs.WireLog.{lossy_behind};
 
     // An end that was in this state began anew.
     fn disturbed(&mut self, was: ChannelState)

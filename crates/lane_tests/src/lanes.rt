@@ -1,5 +1,5 @@
 ghost use Rattle.std.specs.Prelude.{◌≡◌, ◌+◌, ◌*◌, ◌≤◌, IfOk, length};
-ghost use Rattle.disk_steps.specs.LaneState.{fresh};
+ghost use Rattle.disk_model.specs.LaneState.{fresh};
 
 use disk_lane::{ClientOut, DiskLane, End, Region, ServerOut};
 use flat_store::MemStore;

@@ -3,13 +3,13 @@
 use Rattle.std.specs.Prelude.{ℕ, Bool, true, false, ◌==◌, ◌&&◌, Option, Some, None}
 use Rattle.ldc_queue.specs.declared.end.End.{End}
 use Rattle.ldc_queue.specs.declared.end.End.TheVariants.{A, B}
-use Rattle.lane_law.specs.WireEvent.{WireEvent, Declines, NothingLost}
-use Rattle.lane_law.specs.WireEvent as wire
-use Rattle.disk_steps.specs.DiskEvent.{DiskEvent, OnWire, Asks, Works, Turns, Rests, CalmTick, CalmStop, CalmStart, CalmReset, CalmRestart}
-use Rattle.disk_steps.specs.DiskEvent as disk
-use Rattle.lanes_settle.specs.Settle.{SettleEntry, OfLane}
-use Rattle.lanes_world.specs.Lines.{Asked, Call, Calls, Line, Loses, Resets, Restarts, Starts, Stops, Ticks}
-use Rattle.lanes_settle.specs.Settle as settle
+use Rattle.world_laws.specs.WireEvent.{WireEvent, Declines, NothingLost}
+use Rattle.world_laws.specs.WireEvent as wire
+use Rattle.world_laws.specs.DiskEvent.{DiskEvent, OnWire, Asks, Works, Turns, Rests, CalmTick, CalmStop, CalmStart, CalmReset, CalmRestart}
+use Rattle.world_laws.specs.DiskEvent as disk
+use Rattle.world_laws.specs.Settle.{SettleEntry, OfLane}
+use Rattle.world_laws.specs.Lines.{Asked, Call, Calls, Line, Loses, Resets, Restarts, Starts, Stops, Ticks}
+use Rattle.world_laws.specs.Settle as settle
 use Rattle.domain_script.specs.declared.event.EndName.{EndName}
 use Rattle.domain_script.specs.declared.event.Lane.{Lane}
 use Rattle.domain_script.specs.declared.event.Lane.TheVariants.{Disk}

@@ -1,8 +1,8 @@
 -- The lanes of a script's disks before anything was asked.
 use Rattle.std.proofs.Common.{◌≡◌, ℕ, ◌+◌, List, [], ◌∷◌, length, map, refl, arith}
-use Rattle.disk_steps.specs.LaneState.{Shape, fresh}
+use Rattle.world_laws.specs.LaneState.{Shape, fresh}
 use Rattle.domain_script.specs.declared.event.DiskDecl.{DiskDecl}
-use Rattle.settle_loop.specs.Issued.{issued_on}
+use Rattle.world_laws.specs.Issued.{issued_on}
 use Rattle.world_parts.specs.Declared.{shapes_of}
 
 -- one for each disk

@@ -13,7 +13,7 @@ ghost use Rattle.script_laws.specs.Attached.{AreOpening};
 ghost use Rattle.script_laws.specs.Opening.{Opened, Opens, OpensAndStops};
 ghost use Rattle.script_laws.specs.Replayed.{Replayed, attach_status, ended_status, start_of};
 ghost use Rattle.script_laws.specs.Sized.{SizeIs};
-ghost use Rattle.settle_loop.specs.Issued.{issued_on};
+ghost use Rattle.world_laws.specs.Issued.{issued_on};
 ghost use Rattle.world_parts.specs.Declared.{bytes_needed};
 ghost use Rattle.domain_script.specs.ScriptEvents.{no_names};
 ghost use Rattle.domain_script.specs.Limits.{most_lines};

@@ -1,10 +1,10 @@
 -- A journal with the entries that were added to it: none, one, and some after others.
 use Rattle.std.proofs.Common.{◌≡◌, Option, Some, List, [], ◌∷◌, ◌++◌, refl, sym, ap, ap₂, ◌∙◌, append_assoc, append-nil}
-use Rattle.lanes_settle.specs.Settle.{SettleEntry}
-use Rattle.lanes_world.specs.Lines.{Line}
+use Rattle.world_laws.specs.Settle.{SettleEntry}
+use Rattle.world_laws.specs.Lines.{Line}
 use Rattle.ldom_journal.specs.LaneEvents.{world_event}
 use Rattle.ldom_entries.specs.declared.entry.Entry.{Entry}
-use Rattle.settle_loop.proofs.Places.{map_both}
+use Rattle.world_laws.proofs.Places.{map_both}
 use Rattle.world_parts.specs.Parts.{Adds}
 
 pub none_adds : (line : Line) (old new : List Entry) → new ≡ old → Adds line old new []

@@ -4,17 +4,17 @@ use Rattle.std.proofs.lemmas.Bool.{eq-eqb}
 use Rattle.std.specs.Prelude.{◌==◌, ◌&&◌}
 use Rattle.disk_lane.specs.Events.{lost_event, reset_event, restart_event, start_event, stop_event, tick_event}
 use Rattle.disk_law.specs.ListState.{ImageState}
-use Rattle.disk_steps.specs.DiskEvent.{Asks, CalmReset, CalmRestart, CalmStart, CalmStop, CalmTick, OnWire, Rests}
-use Rattle.disk_steps.specs.DiskEvent as disk
-use Rattle.disk_steps.specs.LaneState.{LaneState}
-use Rattle.disk_steps.specs.LaneStep.{LaneStep}
+use Rattle.disk_model.specs.DiskEvent.{Asks, CalmReset, CalmRestart, CalmStart, CalmStop, CalmTick, OnWire, Rests}
+use Rattle.disk_model.specs.DiskEvent as disk
+use Rattle.disk_model.specs.LaneState.{LaneState}
+use Rattle.disk_model.specs.LaneStep.{LaneStep}
 use Rattle.domain_script.specs.declared.event.Lane.TheVariants.{Disk}
 use Rattle.domain_script.specs.declared.event.Side.{Side}
 use Rattle.domain_script.specs.declared.event.Side.TheVariants.{Client, Server}
-use Rattle.lane_law.specs.WireEvent.{Declines, NothingLost}
-use Rattle.lane_law.specs.WireEvent as wire
-use Rattle.lanes_settle.specs.Settle.{OfLane, SettleEntry}
-use Rattle.lanes_world.specs.Lines.{AnswersCall, AnswersRequest, Asked, Calls, Loses, Resets, Restarts, Starts, Stops, Ticks}
+use Rattle.disk_model.specs.WireEvent.{Declines, NothingLost}
+use Rattle.disk_model.specs.WireEvent as wire
+use Rattle.world_laws.specs.Settle.{OfLane, SettleEntry}
+use Rattle.world_laws.specs.Lines.{AnswersCall, AnswersRequest, Asked, Calls, Loses, Resets, Restarts, Starts, Stops, Ticks}
 use Rattle.ldc_queue.specs.declared.end.End.TheVariants.{B}
 use Rattle.ldom_journal.specs.LaneEvents.{end_of, if_so, is_end, is_same, world_event}
 use Rattle.ldom_entries.specs.Decoded.{end_at}

@@ -3,17 +3,17 @@ use Rattle.std.proofs.Common.{◌≡◌, ℕ, ◌≤◌, Bool, true, false, List
 use Rattle.std.proofs.lemmas.List.{length-take}
 use Rattle.disk_law.specs.ListState.{ImageState}
 use Rattle.disk_lane.specs.Events.{CallsOf, KeepsStoreOf, ResetsOwn, served_event}
-use Rattle.disk_steps.proofs.OwnSteps.{server_resets_own}
-use Rattle.disk_steps.specs.ClientStep.{completed_slot}
-use Rattle.disk_steps.specs.LaneState.{LaneState}
-use Rattle.disk_steps.specs.LaneStep.{LaneStep, ResetBy, ServerOnWire, reach}
-use Rattle.disk_steps.specs.Seeing.{seen}
-use Rattle.disk_steps.specs.Served.{Served}
-use Rattle.disk_steps.specs.ServerRule.{server_rule}
-use Rattle.lane_law.specs.WireEvent as wire
-use Rattle.lane_law.specs.WireEvent.{ByStep, Giver, giver}
-use Rattle.lane_lawful.specs.CalmEnds.{IsStep}
-use Rattle.lanes_world.specs.World.{FaultsAfter, LaneMoves}
+use Rattle.disk_model.proofs.OwnSteps.{server_resets_own}
+use Rattle.disk_model.specs.ClientStep.{completed_slot}
+use Rattle.disk_model.specs.LaneState.{LaneState}
+use Rattle.disk_model.specs.LaneStep.{LaneStep, ResetBy, ServerOnWire, reach}
+use Rattle.disk_model.specs.Seeing.{seen}
+use Rattle.disk_model.specs.Served.{Served}
+use Rattle.disk_model.specs.ServerRule.{server_rule}
+use Rattle.disk_model.specs.WireEvent as wire
+use Rattle.disk_model.specs.WireEvent.{ByStep, Giver, giver}
+use Rattle.world_laws.specs.CalmEnds.{IsStep}
+use Rattle.world_laws.specs.World.{FaultsAfter, LaneMoves}
 use Rattle.ldc_queue.specs.declared.end.End.TheVariants.{A, B}
 use Rattle.ldom_entries.specs.JournalState.{JournalState}
 use Rattle.ldom_world.specs.Fitting.{HasRoomFor}

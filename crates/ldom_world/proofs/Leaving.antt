@@ -1,21 +1,21 @@
 -- What a step leaves in the journal, by its answer: the entry of its event, or none in a settle where it rests.
 use Rattle.std.proofs.Common.{◌≡◌, ℕ, Bool, true, false, ◌||◌, Some, List, [], ◌∷◌, refl, sym, ap, subst, ◌∙◌}
 use Rattle.std.specs.Prelude.{◌&&◌}
-use Rattle.disk_steps.specs.DiskEvent.{Asks, DiskEvent, Off, OnWire, Turns}
-use Rattle.lane_law.specs.WireEvent as wire
-use Rattle.lanes_settle.specs.Rounds.{is_calm}
-use Rattle.lanes_settle.specs.Settle.{OfLane, SettleEntry, entry_of}
-use Rattle.lanes_world.specs.Lines.{Line}
+use Rattle.disk_model.specs.DiskEvent.{Asks, DiskEvent, Off, OnWire, Turns}
+use Rattle.disk_model.specs.WireEvent as wire
+use Rattle.world_laws.specs.Rounds.{is_calm}
+use Rattle.world_laws.specs.Settle.{OfLane, SettleEntry, entry_of}
+use Rattle.world_laws.specs.Lines.{Line}
 use Rattle.ldom_entries.specs.JournalState.{JournalState, Puts}
 use Rattle.ldom_journal.specs.LaneEvents.{world_event}
 use Rattle.ldom_entries.specs.declared.entry.Entry.{Entry}
 use Rattle.ldom_world.specs.OneLane.{Leaves, RecordedBut, Records}
 use Rattle.ldom_world.specs.Resting.{client_blocked, client_rests, left_out, server_blocked, server_rests}
-use Rattle.settle_loop.specs.Issued.{next_behind}
+use Rattle.world_laws.specs.Issued.{next_behind}
 use Rattle.vdisk_client.specs.Calls.{client_event}
 use Rattle.vdisk_client.specs.declared.answers.ClientOut.{ClientOut}
 use Rattle.vdisk_client.specs.declared.answers.ClientOut.TheVariants as client_out
-use Rattle.vdisk_server.specs.Answering.{server_event}
+use Rattle.disk_lane.specs.Answering.{server_event}
 use Rattle.descriptor_work.specs.declared.answers.ServerOut.{ServerOut}
 use Rattle.descriptor_work.specs.declared.answers.ServerOut.TheVariants as server_out
 

@@ -5,13 +5,13 @@ use Rattle.std.specs.Prelude.{OnErr, OnOk}
 use Rattle.std.proofs.lemmas.List.Sums.{count_by-le-length, sum_by_push}
 use Rattle.runs.specs.Run.{Run}
 use Rattle.disk_law.specs.ListState.{ImageState}
-use Rattle.disk_steps.specs.DiskEvent.{DiskEvent}
-use Rattle.disk_steps.specs.LaneState.{LaneState}
+use Rattle.disk_model.specs.DiskEvent.{DiskEvent}
+use Rattle.disk_model.specs.LaneState.{LaneState}
 use Rattle.ldc_queue.specs.declared.end.End.{End}
-use Rattle.lanes_settle.specs.Settle.{OfLane, SettleEntry, Settled, Unsettled}
-use Rattle.lanes_world.proofs.Along.{lane_step}
-use Rattle.lanes_world.specs.Lines.{Line, Nothing}
-use Rattle.lanes_world.specs.World.{LaneMoves, OneMoves, WorldState, WorldStep}
+use Rattle.world_laws.specs.Settle.{OfLane, SettleEntry, Settled, Unsettled}
+use Rattle.world_laws.proofs.Along.{lane_step}
+use Rattle.world_laws.specs.Lines.{Line, Nothing}
+use Rattle.world_laws.specs.World.{LaneMoves, OneMoves, WorldState, WorldStep}
 use Rattle.ldom_entries.specs.JournalState.{JournalState}
 use Rattle.ldom_journal.specs.LaneEvents.{world_event}
 use Rattle.ldom_journal.specs.Report.{accepted_count, is_accepted}
@@ -21,8 +21,8 @@ use Rattle.ldom_world.proofs.Leaving.{entry_left, left_of, none_accepted}
 use Rattle.ldom_world.proofs.Telling.{entry_tells, none_more}
 use Rattle.ldom_world.specs.OneLane.{EndSteps, LaneSteps, RecordedBut, Records}
 use Rattle.ldom_world.specs.Resting.{left_out}
-use Rattle.settle_loop.proofs.Keeping.{issued_set, next_is}
-use Rattle.settle_loop.specs.Issued.{issued_on, next_behind}
+use Rattle.world_laws.proofs.LoopKeeping.{issued_set, next_is}
+use Rattle.world_laws.specs.Issued.{issued_on, next_behind}
 use Rattle.world_parts.specs.Parts.{Adds, Fits, FitsSoFar, MakesQuietStep, MakesStep}
 
 -- A LANE BY ITS NUMBER

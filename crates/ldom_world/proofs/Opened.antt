@@ -1,17 +1,17 @@
 -- A world by its parts: lanes over an image, and one lane of them set; and what a line asked of that lane.
 use Rattle.std.proofs.Common.{◌≡◌, ℕ, ◌<◌, List, [], ◌∷◌, ◌++◌, length, slice_get, slice_set, get_or, Some, refl, sym, ap, subst, ◌∙◌}
 use Rattle.disk_law.specs.ListState.{ImageState}
-use Rattle.disk_steps.specs.DiskEvent.{DiskEvent}
-use Rattle.disk_steps.specs.LaneState.{LaneState}
-use Rattle.lanes_settle.specs.Settle.{OfLane, SettleEntry}
-use Rattle.lanes_world.specs.Lines.{AnswersCall, AnswersRequest, Asked, Call, Calls, Line, OneEntry, PartOf}
-use Rattle.lanes_world.specs.World.{OneMoves, WorldState}
+use Rattle.disk_model.specs.DiskEvent.{DiskEvent}
+use Rattle.disk_model.specs.LaneState.{LaneState}
+use Rattle.world_laws.specs.Settle.{OfLane, SettleEntry}
+use Rattle.world_laws.specs.Lines.{AnswersCall, AnswersRequest, Asked, Call, Calls, Line, OneEntry, PartOf}
+use Rattle.world_laws.specs.World.{OneMoves, WorldState}
 use Rattle.ldom_entries.specs.declared.entry.Entry.{Entry}
 use Rattle.ldom_journal.specs.Report.{accepted_count}
 use Rattle.ldom_world.proofs.Adding.{one_adds}
 use Rattle.ldom_world.proofs.Lifting.{agrees_after, one_moves, there_at}
 use Rattle.ldom_world.specs.OneLane.{LaneAnswers}
-use Rattle.settle_loop.specs.Issued.{issued_on}
+use Rattle.world_laws.specs.Issued.{issued_on}
 use Rattle.vdisk_msg.specs.declared.request.Request.{Request}
 use Rattle.world_parts.specs.Parts.{Fits}
 

@@ -3,22 +3,22 @@ use Rattle.std.proofs.Common.{◌≡◌, ℕ, ◌+◌, ◌<◌, ◌≤◌, Bool,
 use Rattle.std.specs.Prelude.{◌&&◌, ◌||◌, OnErr}
 use Rattle.ldc_queue.specs.declared.end.End.{End}
 use Rattle.ldc_queue.specs.declared.end.End.TheVariants.{A, B}
-use Rattle.disk_steps.specs.LaneState.{LaneState}
-use Rattle.lanes_settle.specs.Settle.{SettleEntry, Settled, entry_of, most_rounds}
-use Rattle.lanes_settle.specs.Ticks.{no_marks}
-use Rattle.lanes_world.specs.Lines.{LineBegins, LineMoves}
-use Rattle.lanes_world.specs.Lines as script
-use Rattle.lanes_world.specs.World.{WorldState}
+use Rattle.disk_model.specs.LaneState.{LaneState}
+use Rattle.world_laws.specs.Settle.{SettleEntry, Settled, entry_of, most_rounds}
+use Rattle.world_laws.specs.Ticks.{no_marks}
+use Rattle.world_laws.specs.Lines.{LineBegins, LineMoves}
+use Rattle.world_laws.specs.Lines as script
+use Rattle.world_laws.specs.World.{WorldState}
 use Rattle.ldom_entries.specs.declared.entry.Entry.{Entry}
 use Rattle.ldom_entries.specs.declared.entry.Entry.TheVariants as entry
-use Rattle.settle_loop.proofs.GoingOn.{fresh_marks, nothing_gone, one_round, one_round_ticked, run_out, settled, wants_in_names, wants_in_round, wants_in_ticks}
-use Rattle.settle_loop.proofs.NamesOn.{names_begin, names_go_on}
-use Rattle.settle_loop.proofs.RoundsOn.{round_begins, round_goes_on, round_wants, round_wants_server}
-use Rattle.settle_loop.proofs.TicksOn.{ticks_begin, ticks_go_on, ticks_want}
-use Rattle.settle_loop.specs.Going.{GoneOn}
-use Rattle.settle_loop.specs.Names.{NamesUpTo, name_of}
-use Rattle.settle_loop.specs.RoundMade.{LaneMade, RoundBegun, RoundUpTo, all_true}
-use Rattle.settle_loop.specs.TicksMade.{LaneTicked, TicksBegun, TicksUpTo}
+use Rattle.world_laws.proofs.GoingOn.{fresh_marks, nothing_gone, one_round, one_round_ticked, run_out, settled, wants_in_names, wants_in_round, wants_in_ticks}
+use Rattle.world_laws.proofs.NamesOn.{names_begin, names_go_on}
+use Rattle.world_laws.proofs.RoundsOn.{round_begins, round_goes_on, round_wants, round_wants_server}
+use Rattle.world_laws.proofs.TicksOn.{ticks_begin, ticks_go_on, ticks_want}
+use Rattle.world_laws.specs.Going.{GoneOn}
+use Rattle.world_laws.specs.Names.{NamesUpTo, name_of}
+use Rattle.world_laws.specs.RoundMade.{LaneMade, RoundBegun, RoundUpTo, all_true}
+use Rattle.world_laws.specs.TicksMade.{LaneTicked, TicksBegun, TicksUpTo}
 use Rattle.ldom_world.proofs.Adding.{both_add, none_adds, one_adds}
 use Rattle.world_parts.specs.Parts.{Adds, Fits, FitsSoFar, MakesQuietStep}
 use Rattle.ldom_world.specs.SettleParts.{Grew, NamesAdd, NamesAddFront, NamesGoOn, RoundAdds, RoundAddsFront, RoundBreaks, RoundGoesOn, RoundsAdd, TicksAdd, TicksAddFront, TicksGoOn, TurnBreaks, TurnGoesOn}

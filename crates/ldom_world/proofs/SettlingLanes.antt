@@ -2,24 +2,24 @@
 use Rattle.std.proofs.Common.{◌≡◌, ℕ, ◌+◌, ◌<◌, Bool, true, false, Option, Some, List, [], ◌∷◌, ◌++◌, length, map, take, slice_get, slice_set, refl, sym, ap, ◌∙◌, subst, arith, append-nil}
 use Rattle.std.specs.Prelude.{◌&&◌, ◌||◌, ◌==◌, cond, if◌then◌else◌, not}
 use Rattle.runs.specs.Run.{Run}
-use Rattle.disk_steps.specs.DiskEvent.{CalmTick, Rests}
-use Rattle.disk_steps.specs.LaneState.{LaneState}
+use Rattle.disk_model.specs.DiskEvent.{CalmTick, Rests}
+use Rattle.disk_model.specs.LaneState.{LaneState}
 use Rattle.domain_script.specs.declared.event.Lane.TheVariants.{Disk}
-use Rattle.lanes_settle.specs.Settle.{OfLane, SettleEntry, Unsettled}
-use Rattle.lanes_settle.specs.Ticks.{gets_tick, tick, waits_on}
-use Rattle.lanes_world.specs.Lines.{AnswersCall, Calls, Line, OneEntry, Settles, Ticks}
-use Rattle.lanes_world.specs.World.{OneMoves, WorldState, WorldStep}
+use Rattle.world_laws.specs.Settle.{OfLane, SettleEntry, Unsettled}
+use Rattle.world_laws.specs.Ticks.{gets_tick, tick, waits_on}
+use Rattle.world_laws.specs.Lines.{AnswersCall, Calls, Line, OneEntry, Settles, Ticks}
+use Rattle.world_laws.specs.World.{OneMoves, WorldState, WorldStep}
 use Rattle.ldom_journal.specs.LaneEvents.{ChangesNothing, Meaning, NoRoomFor, Refuses, calm_event, if_so, meaning, meant, world_event}
 use Rattle.ldom_journal.specs.Report.{accepted_count, is_accepted}
 use Rattle.ldom_entries.specs.declared.entry.Entry.{Entry}
 use Rattle.ldom_entries.specs.declared.entry.Entry.TheVariants as entry
 use Rattle.ldom_entries.specs.declared.entry.Who.{Who}
 use Rattle.ldom_entries.specs.declared.entry.Who.TheVariants.{Lane as OfWhole, End as OfEnd}
-use Rattle.settle_loop.proofs.Places.{after_one, set_same, take_set_one}
-use Rattle.settle_loop.proofs.TicksOn.{lane_gets_none, lane_gets_tick}
-use Rattle.settle_loop.specs.Names.{name_of}
-use Rattle.settle_loop.specs.RoundMade.{all_true}
-use Rattle.settle_loop.specs.TicksMade.{LaneTicked}
+use Rattle.world_laws.proofs.Places.{after_one, set_same, take_set_one}
+use Rattle.world_laws.proofs.TicksOn.{lane_gets_none, lane_gets_tick}
+use Rattle.world_laws.specs.Names.{name_of}
+use Rattle.world_laws.specs.RoundMade.{all_true}
+use Rattle.world_laws.specs.TicksMade.{LaneTicked}
 use Rattle.world_parts.specs.Parts.{Adds, Fits, FitsSoFar, Says}
 use Rattle.ldom_world.proofs.Adding.{none_adds, one_adds}
 use Rattle.ldom_world.proofs.Lifting.{count_push}

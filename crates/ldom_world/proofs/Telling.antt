@@ -1,17 +1,17 @@
 -- Whether an entry of one lane's event tells that a request was accepted: by what it means.
 use Rattle.std.proofs.Common.{◌≡◌, ℕ, ◌+◌, Bool, true, false, cond, Some, refl, sym, subst, arith}
 use Rattle.std.specs.Prelude.{⊤}
-use Rattle.disk_steps.specs.DiskEvent.{Asks, DiskEvent}
-use Rattle.disk_steps.specs.DiskEvent as disk
+use Rattle.disk_model.specs.DiskEvent.{Asks, DiskEvent}
+use Rattle.disk_model.specs.DiskEvent as disk
 use Rattle.domain_script.specs.declared.event.Lane.TheVariants.{Disk}
-use Rattle.lanes_settle.specs.Settle.{OfLane, SettleEntry}
-use Rattle.lanes_world.specs.Lines.{Line}
+use Rattle.world_laws.specs.Settle.{OfLane, SettleEntry}
+use Rattle.world_laws.specs.Lines.{Line}
 use Rattle.ldom_journal.specs.LaneEvents.{AtClient, AtLane, AtServer, AtWire, ChangesNothing, LeavesOver, Meaning, NoRoomFor, Refuses, meaning, world_event}
 use Rattle.ldom_journal.specs.Report.{is_accepted}
 use Rattle.ldom_entries.specs.declared.entry.Entry.{Entry}
 use Rattle.ldom_entries.specs.declared.entry.Entry.TheVariants as entry
 use Rattle.ldom_entries.specs.declared.entry.Who.TheVariants.{Lane as OfWhole}
-use Rattle.settle_loop.specs.Issued.{next_behind}
+use Rattle.world_laws.specs.Issued.{next_behind}
 use Rattle.world_parts.proofs.Meanings.{Holds, entry_has}
 
 -- WHETHER AN EVENT ACCEPTS a request, and what an entry means does; an entry of an accepted request is one of those

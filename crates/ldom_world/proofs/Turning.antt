@@ -3,9 +3,9 @@
 use Rattle.std.proofs.Common.{◌≡◌, ℕ, zero, suc, ◌+◌, ◌-◌, ◌<◌, Result, Ok, Err, List, [], ◌∷◌, ◌++◌, length, replicate, refl, sym, ap, subst, ◌∙◌, arith, append_assoc, append-nil}
 use Rattle.std.specs.Prelude.{OnErr}
 use Rattle.runs.specs.Run.{run_append}
-use Rattle.lanes_settle.specs.Settle.{OfLane, SettleEntry, Settled, Unsettled}
-use Rattle.lanes_world.specs.Lines.{AreSteps, Rounds, Steps, Turn, round_turns, turn, turns_of}
-use Rattle.lanes_world.specs.World.{WorldState, WorldStep}
+use Rattle.world_laws.specs.Settle.{OfLane, SettleEntry, Settled, Unsettled}
+use Rattle.world_laws.specs.Lines.{AreSteps, Rounds, Steps, Turn, round_turns, turn, turns_of}
+use Rattle.world_laws.specs.World.{WorldState, WorldStep}
 use Rattle.ldc_queue.specs.declared.end.End.{End}
 use Rattle.ldc_queue.specs.declared.end.End.TheVariants.{A, B}
 use Rattle.ldom_entries.specs.declared.entry.Entry.{Entry}

@@ -1,8 +1,8 @@
 -- The calls of a lane as a script has them, and the entries of requests that weren't taken up.
 use Rattle.std.specs.Prelude.{ℕ}
 use Rattle.domain_script.specs.declared.event.Lane.TheVariants.{Disk}
-use Rattle.lanes_world.specs.Lines.{Call}
-use Rattle.lanes_world.specs.Lines as script
+use Rattle.world_laws.specs.Lines.{Call}
+use Rattle.world_laws.specs.Lines as script
 use Rattle.ldom_journal.specs.LaneEvents.{end_of}
 use Rattle.ldom_entries.specs.declared.entry.Entry.{Entry}
 use Rattle.ldom_entries.specs.declared.entry.Entry.TheVariants as entry

@@ -2,13 +2,13 @@
 use Rattle.std.specs.Prelude.{◌≡◌, ℕ, Bool, true, false, ◌&&◌, Some}
 use Rattle.ldc_queue.specs.declared.end.End.{End}
 use Rattle.disk_law.specs.ListState.{ImageState}
-use Rattle.disk_steps.specs.DiskEvent.{DiskEvent}
-use Rattle.disk_steps.specs.LaneState.{LaneState}
-use Rattle.lane_lawful.specs.CalmEnds.{IsStep}
-use Rattle.lanes_settle.specs.Rounds.{is_calm}
-use Rattle.lanes_settle.specs.Settle.{OfLane}
-use Rattle.lanes_world.specs.Lines.{Line}
-use Rattle.lanes_world.specs.World.{LaneMoves, OneMoves, WorldState}
+use Rattle.disk_model.specs.DiskEvent.{DiskEvent}
+use Rattle.disk_model.specs.LaneState.{LaneState}
+use Rattle.world_laws.specs.CalmEnds.{IsStep}
+use Rattle.world_laws.specs.Rounds.{is_calm}
+use Rattle.world_laws.specs.Settle.{OfLane}
+use Rattle.world_laws.specs.Lines.{Line}
+use Rattle.world_laws.specs.World.{LaneMoves, OneMoves, WorldState}
 use Rattle.ldom_entries.specs.JournalState.{JournalState, Puts}
 use Rattle.ldom_journal.specs.LaneEvents.{world_event}
 use Rattle.ldom_entries.specs.declared.entry.Entry.{Entry}

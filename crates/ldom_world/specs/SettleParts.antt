@@ -1,13 +1,13 @@
 -- What a settle added to a journal as far as it has come, and how each turn of it goes on.
 use Rattle.std.specs.Prelude.{◌≡◌, ℕ, ◌+◌, ◌<◌, ◌≤◌, Bool, true, false, ◌||◌, List, Some, slice_get}
-use Rattle.lanes_settle.specs.Settle.{SettleEntry, most_rounds}
-use Rattle.lanes_world.specs.Lines as script
-use Rattle.lanes_world.specs.World.{WorldState}
+use Rattle.world_laws.specs.Settle.{SettleEntry, most_rounds}
+use Rattle.world_laws.specs.Lines as script
+use Rattle.world_laws.specs.World.{WorldState}
 use Rattle.ldom_entries.specs.declared.entry.Entry.{Entry}
-use Rattle.settle_loop.specs.Going.{GoneOn}
-use Rattle.settle_loop.specs.Names.{NamesUpTo}
-use Rattle.settle_loop.specs.RoundMade.{RoundBegun, RoundUpTo}
-use Rattle.settle_loop.specs.TicksMade.{TicksBegun, TicksUpTo}
+use Rattle.world_laws.specs.Going.{GoneOn}
+use Rattle.world_laws.specs.Names.{NamesUpTo}
+use Rattle.world_laws.specs.RoundMade.{RoundBegun, RoundUpTo}
+use Rattle.world_laws.specs.TicksMade.{TicksBegun, TicksUpTo}
 use Rattle.world_parts.specs.Parts.{Adds, Fits, FitsSoFar}
 
 -- A JOURNAL GREW in a settle by entries of which this holds

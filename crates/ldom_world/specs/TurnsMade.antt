@@ -2,9 +2,9 @@
 use Rattle.std.specs.Prelude.{◌≡◌, List, ◌++◌}
 use Rattle.runs.specs.Run.{Run}
 use Rattle.ldom_entries.specs.declared.entry.Entry.{Entry}
-use Rattle.lanes_settle.specs.Settle.{SettleEntry}
-use Rattle.lanes_world.specs.Lines.{AreSteps, Line, Turn}
-use Rattle.lanes_world.specs.World.{WorldState, WorldStep}
+use Rattle.world_laws.specs.Settle.{SettleEntry}
+use Rattle.world_laws.specs.Lines.{AreSteps, Line, Turn}
+use Rattle.world_laws.specs.World.{WorldState, WorldStep}
 use Rattle.world_parts.specs.Parts.{Adds}
 
 -- THESE TURNS were made, each with its entry, whatever line they are in

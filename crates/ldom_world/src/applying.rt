@@ -3,7 +3,7 @@
 ghost use Rattle.std.specs.Prelude.{◌≡◌, length, OnErr, OnOk};
 ghost use Rattle.ldom_journal.specs.LaneEvents.{lane_number};
 ghost use Rattle.ldom_journal.specs.Report.{accepted_count};
-ghost use Rattle.settle_loop.specs.Issued.{issued_on};
+ghost use Rattle.world_laws.specs.Issued.{issued_on};
 ghost use Rattle.world_parts.specs.Lines.{IsForDisks, line_of};
 ghost use Rattle.world_parts.specs.Parts.{Fits, FitsSoFar};
 

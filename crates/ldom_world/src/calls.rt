@@ -8,8 +8,8 @@ ghost use Rattle.ldom_entries.specs.declared.entry.Entry.TheVariants as the_entr
 ghost use Rattle.ldom_entries.specs.declared.entry.Who.TheVariants as the_who;
 ghost use Rattle.ldom_world.specs.Called.{call_of};
 ghost use Rattle.ldom_world.specs.OneLane.{LaneAnswers};
-ghost use Rattle.lanes_world.specs.Lines.{AnswersCall, Calls, Loses, Resets, Restarts, Starts, Stops, Ticks};
-ghost use Rattle.settle_loop.specs.Issued.{issued_on};
+ghost use Rattle.world_laws.specs.Lines.{AnswersCall, Calls, Loses, Resets, Restarts, Starts, Stops, Ticks};
+ghost use Rattle.world_laws.specs.Issued.{issued_on};
 ghost use Rattle.world_parts.specs.Parts.{Fits, FitsSoFar};
 
 use crate::entries::{client_of, end_of, server_of};

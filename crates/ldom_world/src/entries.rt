@@ -2,7 +2,7 @@
 
 ghost use Rattle.std.specs.Prelude.{◌≡◌, ◌≤◌, ◌<◌, ◌||◌, [], length, true};
 ghost use Rattle.disk_lane.specs.Events.{answered, served_event};
-ghost use Rattle.disk_steps.specs.DiskEvent.{Off, Turns};
+ghost use Rattle.disk_model.specs.DiskEvent.{Off, Turns};
 ghost use Rattle.domain_script.specs.declared.event.Lane.TheVariants.{Disk};
 ghost use Rattle.domain_script.specs.declared.event.Side.TheVariants.{Client, Server};
 ghost use Rattle.ldom_journal.specs.LaneEvents.{end_of};
@@ -10,7 +10,7 @@ ghost use Rattle.ldom_world.specs.Fitting.{HasRoomFor};
 ghost use Rattle.ldom_world.specs.OneLane.{Leaves, Records};
 ghost use Rattle.ldom_world.specs.Resting.{client_blocked, client_rests, server_blocked, server_rests};
 ghost use Rattle.vdisk_client.specs.Calls.{client_event};
-ghost use Rattle.vdisk_server.specs.Answering.{server_event};
+ghost use Rattle.disk_lane.specs.Answering.{server_event};
 
 use disk_lane::{ClientOut, DiskLane, End, ServerOut};
 use domain_script::{EndName, Side};

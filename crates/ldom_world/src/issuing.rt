@@ -1,11 +1,11 @@
 // Requests of guests.
 
 ghost use Rattle.std.specs.Prelude.{◌≡◌, ◌<◌, ◌-◌, ◌^◌, length, OnErr, OnOk};
-ghost use Rattle.lanes_world.specs.Lines.{AnswersRequest, Asked};
+ghost use Rattle.world_laws.specs.Lines.{AnswersRequest, Asked};
 ghost use Rattle.ldom_journal.specs.Report.{accepted_count};
 ghost use Rattle.ldom_world.specs.Called.{refused_entry};
 ghost use Rattle.ldom_world.specs.OneLane.{LaneAnswers};
-ghost use Rattle.settle_loop.specs.Issued.{issued_on};
+ghost use Rattle.world_laws.specs.Issued.{issued_on};
 ghost use Rattle.vdisk_msg.specs.Fills.{IsRequest};
 ghost use Rattle.world_parts.specs.Parts.{Fits, FitsSoFar};
 

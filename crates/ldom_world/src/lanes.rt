@@ -11,7 +11,7 @@ pub struct Lanes {
 
 impl Model for Lanes {
     ghost use Rattle.std.specs.Prelude.{List};
-    ghost use Rattle.disk_steps.specs.LaneState.{LaneState};
+    ghost use Rattle.disk_model.specs.LaneState.{LaneState};
 
     ghost Value = { List LaneState };
 

@@ -1,16 +1,16 @@
 // A settle: rounds, until one in which all lanes are quiet and after which none gets a tick.
 
 ghost use Rattle.std.specs.Prelude.{◌≡◌, ◌&&◌, ◌*◌, ◌<◌, ◌≤◌, ◌^◌, length, not, slice_get, slice_set, take, Some, IfOk, OnErr, OnOk};
-ghost use Rattle.disk_steps.specs.LaneState.{LaneState};
-ghost use Rattle.lanes_settle.specs.Settle.{most_rounds, pending_on};
-ghost use Rattle.lanes_settle.specs.Ticks.{gets_tick, waits_on};
-ghost use Rattle.lanes_world.specs.Lines.{Settles};
+ghost use Rattle.disk_model.specs.LaneState.{LaneState};
+ghost use Rattle.world_laws.specs.Settle.{most_rounds, pending_on};
+ghost use Rattle.world_laws.specs.Ticks.{gets_tick, waits_on};
+ghost use Rattle.world_laws.specs.Lines.{Settles};
 ghost use Rattle.ldom_journal.specs.Report.{accepted_count};
 ghost use Rattle.ldom_world.specs.SettleParts.{NamesAdd, NamesAddFront, NamesGoOn, RoundAdds, RoundAddsFront};
 ghost use Rattle.ldom_world.specs.SettleParts.{RoundBreaks, RoundGoesOn, TicksAdd, TicksAddFront, TicksGoOn};
 ghost use Rattle.ldom_world.specs.SettleParts.{TurnBreaks, TurnGoesOn};
-ghost use Rattle.settle_loop.specs.Issued.{issued_on};
-ghost use Rattle.settle_loop.specs.RoundMade.{all_true};
+ghost use Rattle.world_laws.specs.Issued.{issued_on};
+ghost use Rattle.world_laws.specs.RoundMade.{all_true};
 ghost use Rattle.world_parts.specs.Parts.{Fits, FitsSoFar};
 
 use crate::calls::LaneCall;

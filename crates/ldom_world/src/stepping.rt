@@ -2,14 +2,14 @@
 
 ghost use Rattle.std.specs.Prelude.{◌≡◌, ◌*◌, ◌+◌, ◌<◌, ◌≤◌, [], ◌∷◌, length, replicate, IfOk, OnErr, OnOk};
 ghost use Rattle.disk_law.specs.ListState.{ImageState};
-ghost use Rattle.lanes_world.specs.Lines.{Rounds, Steps, round_turns, turn};
+ghost use Rattle.world_laws.specs.Lines.{Rounds, Steps, round_turns, turn};
 ghost use Rattle.ldc_queue.specs.declared.end.End.TheVariants.{A, B};
 ghost use Rattle.ldom_journal.specs.LaneEvents.{end_of};
 ghost use Rattle.ldom_journal.specs.Report.{accepted_count};
 ghost use Rattle.world_parts.specs.Declared.{LiesWithin};
 ghost use Rattle.ldom_world.specs.OneLane.{EndSteps, LaneSteps};
 ghost use Rattle.ldom_world.specs.TurnsMade.{TurnsBegun, TurnsMade};
-ghost use Rattle.settle_loop.specs.Issued.{issued_on};
+ghost use Rattle.world_laws.specs.Issued.{issued_on};
 ghost use Rattle.vdisk_client.specs.Calls.{front_count};
 ghost use Rattle.world_parts.specs.Declared.{image_of};
 ghost use Rattle.world_parts.specs.Parts.{Fits, FitsSoFar, MakesQuietStep, MakesStep};

@@ -1,7 +1,7 @@
 ghost use Rattle.std.specs.Prelude.{◌≡◌, ◌≤◌, ◌<◌, ◌↔◌, IfErr, IfOk, IsTrue, length, map};
-ghost use Rattle.disk_steps.specs.LaneState.{fresh};
+ghost use Rattle.disk_model.specs.LaneState.{fresh};
 ghost use Rattle.domain_script.specs.Declarations.{IsDisk};
-ghost use Rattle.lanes_settle.specs.Rounds.{Each};
+ghost use Rattle.world_laws.specs.Rounds.{Each};
 ghost use Rattle.world_parts.specs.Declared.{LiesWithin, bytes_needed, image_of, shape_of, shapes_of, world_of};
 
 use crate::lanes::Lanes;
@@ -27,8 +27,8 @@ pub struct World<D: Store> {
 
 impl<D: Store> Model for World<D> {
     ghost use Rattle.std.specs.Prelude.{[], ◌≡◌, ◌≤◌, length};
-    ghost use Rattle.lanes_settle.specs.Rounds.{Each};
-    ghost use Rattle.lanes_world.specs.World.{WorldState};
+    ghost use Rattle.world_laws.specs.Rounds.{Each};
+    ghost use Rattle.world_laws.specs.World.{WorldState};
     ghost use Rattle.world_parts.specs.Declared.{LiesWithin};
     ghost use Rattle.world_parts.specs.Declared.{image_of};
 

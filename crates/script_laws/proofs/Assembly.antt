@@ -34,8 +34,8 @@ use Rattle.script_laws.specs.Replayed.{FaultsAre, Replayed, Stopped, attach_stat
 use Rattle.script_laws.specs.LanesStand.{LanesStand}
 use Rattle.domain_script.specs.ScriptEvents.{AllSpell, no_names}
 use Rattle.world_parts.specs.Script.{BeginBelow, FitsScript, FitsCutOff}
-use Rattle.disk_steps.specs.LaneState.{LaneState}
-use Rattle.lanes_world.specs.World.{WorldState}
+use Rattle.disk_model.specs.LaneState.{LaneState}
+use Rattle.world_laws.specs.World.{WorldState}
 use Rattle.script_laws.proofs.LineCases.{none_begun, noted_disks, silent, stays_ended}
 use Rattle.script_laws.proofs.ReadLemmas.{opening_halves, other_line, read_none}
 use Rattle.script_laws.proofs.RunLemmas.{below_append, fits_more, fits_none, keeps_same, line_step}

@@ -3,15 +3,15 @@
 use Rattle.std.proofs.Common.{◌≤◌, List, length, arith}
 use Rattle.runs.specs.Run.{Run}
 use Rattle.disk_law.specs.ListState.{ImageState}
-use Rattle.disk_steps.specs.LaneState.{LaneState, Shape}
-use Rattle.disk_steps.specs.Reached.{IsReached}
-use Rattle.lanes_settle.specs.Rounds.{Each}
-use Rattle.lanes_settle.specs.Settle.{SettleEntry}
-use Rattle.lanes_settle.specs.Sums.{IsUnforged}
-use Rattle.lanes_world.proofs.Along.{lanes_run, lines_run, world_reached}
-use Rattle.lanes_world.specs.Lines.{Line, LineStep, entries_of}
-use Rattle.lanes_world.specs.World.{AreShapes, WorldState, fresh_world}
-use Rattle.world_requests.proofs.ByLines.{unforged_behind}
+use Rattle.disk_model.specs.LaneState.{LaneState, Shape}
+use Rattle.disk_model.specs.Reached.{IsReached}
+use Rattle.world_laws.specs.Rounds.{Each}
+use Rattle.world_laws.specs.Settle.{SettleEntry}
+use Rattle.world_laws.specs.Sums.{IsUnforged}
+use Rattle.world_laws.proofs.Along.{lanes_run, lines_run, world_reached}
+use Rattle.world_laws.specs.Lines.{Line, LineStep, entries_of}
+use Rattle.world_laws.specs.World.{AreShapes, WorldState, fresh_world}
+use Rattle.world_laws.proofs.ByLines.{unforged_behind}
 
 pub record AreClean (lanes : List LaneState) : Type 0 where
   pub reached : Each IsReached lanes

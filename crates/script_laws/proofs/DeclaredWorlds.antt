@@ -6,9 +6,9 @@ use Rattle.disk_law.specs.ListState.{ImageState}
 use Rattle.domain_script.specs.Declarations.{AreDisks}
 use Rattle.domain_script.specs.declared.event.DiskDecl.{DiskDecl}
 use Rattle.domain_script.specs.declared.event.Event.{Event}
-use Rattle.lanes_settle.specs.Settle.{SettleEntry}
-use Rattle.lanes_world.specs.Lines as world
-use Rattle.lanes_world.specs.World.{IsWorld, WorldState}
+use Rattle.world_laws.specs.Settle.{SettleEntry}
+use Rattle.world_laws.specs.Lines as world
+use Rattle.world_laws.specs.World.{IsWorld, WorldState}
 use Rattle.ldom_journal.specs.LaneEvents.{world_event}
 use Rattle.ldom_entries.specs.declared.entry.Entry.{Entry}
 use Rattle.script_laws.specs.Told.{told, told_by}

@@ -1,9 +1,9 @@
 -- The shapes of declared disks.
 use Rattle.std.proofs.Common.{◌≡◌, ℕ, zero, suc, ◌+◌, ◌≤◌, Some, List, [], ◌∷◌, length, map, slice_get, refl, ap, arith}
-use Rattle.disk_steps.specs.LaneState.{IsShape, LaneState, Shape, fresh}
+use Rattle.disk_model.specs.LaneState.{IsShape, LaneState, Shape, fresh}
 use Rattle.domain_script.specs.declared.event.DiskDecl.{DiskDecl}
 use Rattle.domain_script.specs.Declarations.{AreDisks, IsDisk}
-use Rattle.lanes_world.specs.World.{AreShapes, IsWorld, blocks_in}
+use Rattle.world_laws.specs.World.{AreShapes, IsWorld, blocks_in}
 use Rattle.world_parts.specs.Declared.{blocks_of, bytes_needed, shape_of, shapes_of}
 
 is_shape : (first : ℕ) (disk : DiskDecl) → IsDisk disk → IsShape (shape_of first disk)

@@ -4,28 +4,28 @@ use Rattle.std.specs.Prelude.{◌&&◌, is_some}
 use Rattle.runs.specs.Lawful.{log_of, run_lawful}
 use Rattle.runs.specs.Run.{Run}
 use Rattle.disk_law.specs.ListState.{ImageState}
-use Rattle.disk_log.specs.DiskLog.{after, nothing_yet}
-use Rattle.disk_log.specs.RequestLaws.{CarriesAt}
-use Rattle.disk_log.specs.WorkLog.{WorkLog}
-use Rattle.disk_steps.specs.ClientState.{ClientState, is_finished, is_nothing}
-use Rattle.disk_steps.specs.DiskEvent.{DiskEvent, Done, Works}
-use Rattle.disk_steps.specs.LaneState.{IsShape, LaneState, Shape, fresh}
-use Rattle.disk_steps.specs.LaneStep.{LaneStep}
+use Rattle.disk_model.specs.DiskLog.{after, nothing_yet}
+use Rattle.disk_model.specs.RequestLaws.{CarriesAt}
+use Rattle.disk_model.specs.WorkLog.{WorkLog}
+use Rattle.disk_model.specs.ClientState.{ClientState, is_finished, is_nothing}
+use Rattle.disk_model.specs.DiskEvent.{DiskEvent, Done, Works}
+use Rattle.disk_model.specs.LaneState.{IsShape, LaneState, Shape, fresh}
+use Rattle.disk_model.specs.LaneStep.{LaneStep}
 use Rattle.domain_script.specs.Declarations.{AreDisks}
 use Rattle.domain_script.specs.declared.event.DiskDecl.{DiskDecl}
-use Rattle.lane_invariant.proofs.CarriedRuns.{AllStand, all_step, fresh_all}
-use Rattle.lane_invariant.proofs.StandingRuns.{pending_is}
-use Rattle.lane_invariant.specs.Standing.{RequestsStand}
-use Rattle.lanes_settle.specs.Along.{happened}
-use Rattle.lane_law.specs.WireAt.{IsUp}
+use Rattle.lane_laws.proofs.CarriedRuns.{AllStand, all_step, fresh_all}
+use Rattle.lane_laws.proofs.StandingRuns.{pending_is}
+use Rattle.lane_laws.specs.Standing.{RequestsStand}
+use Rattle.world_laws.specs.Along.{happened}
+use Rattle.disk_model.specs.WireAt.{IsUp}
 use Rattle.ldc_queue.specs.declared.end.End.{End}
-use Rattle.lane_contents.specs.Headline.{CompletionShows}
-use Rattle.lane_contents.specs.ImageStep.{region_of}
-use Rattle.lanes_settle.specs.Settle.{OfLane, SettleEntry}
-use Rattle.lanes_settle.specs.Sums.{IsUnforged}
-use Rattle.lanes_world.proofs.Along.{lane_at, lanes_run, shape_at}
-use Rattle.lanes_world.proofs.LaneLists.{each_there}
-use Rattle.lanes_world.specs.World.{IsWorld, WorldState, WorldStep}
+use Rattle.lane_laws.specs.Headline.{CompletionShows}
+use Rattle.lane_laws.specs.ImageStep.{region_of}
+use Rattle.world_laws.specs.Settle.{OfLane, SettleEntry}
+use Rattle.world_laws.specs.Sums.{IsUnforged}
+use Rattle.world_laws.proofs.Along.{lane_at, lanes_run, shape_at}
+use Rattle.world_laws.proofs.LaneLists.{each_there}
+use Rattle.world_laws.specs.World.{IsWorld, WorldState, WorldStep}
 use Rattle.script_laws.proofs.Failing.{fails_by_events}
 use Rattle.script_laws.proofs.Hearing.{hears_a_front}
 use Rattle.script_laws.proofs.Leading.{Leads}
@@ -38,12 +38,12 @@ use Rattle.script_laws.specs.Lanes.{HearsAFront, IsOneSession, LaneStands}
 use Rattle.script_laws.specs.Told.{log_at}
 use Rattle.script_laws.proofs.DiskShapes.{are_shapes}
 use Rattle.vdisk_msg.specs.declared.request.Request.{Request}
-use Rattle.world_faults.proofs.WorldLaws.{lanes_well}
-use Rattle.world_faults.specs.Failures.{NeverFailed}
-use Rattle.world_images.proofs.Contents.{own_all, own_holds}
-use Rattle.world_images.proofs.Fronts.{front_completion}
+use Rattle.world_laws.proofs.WorldLaws.{lanes_well}
+use Rattle.world_laws.specs.Failures.{NeverFailed}
+use Rattle.world_laws.proofs.Contents.{own_all, own_holds}
+use Rattle.world_laws.proofs.Fronts.{front_completion}
 use Rattle.world_parts.specs.Declared.{bytes_needed, shapes_of, world_of}
-use Rattle.world_words.proofs.WorldWords.{lane_agrees, lane_lawful, lane_one, lane_up}
+use Rattle.world_laws.proofs.WorldWords.{lane_agrees, lane_lawful, lane_one, lane_up}
 
 -- A FINISHED CLIENT's requests are all done
 requests_stand : (shape : Shape) (events : List DiskEvent) (s : LaneState) → IsShape shape

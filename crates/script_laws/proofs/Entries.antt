@@ -1,7 +1,7 @@
 -- A condition on each entry of a part, and two such conditions: entries of lanes, and those that leave no disk over.
 use Rattle.std.proofs.Common.{◌≡◌, List, [], ◌∷◌, ◌++◌, sym, subst}
 use Rattle.std.specs.Prelude.{⊤}
-use Rattle.lanes_settle.specs.Settle.{OfLane, SettleEntry, Settled, Unsettled}
+use Rattle.world_laws.specs.Settle.{OfLane, SettleEntry, Settled, Unsettled}
 
 abbrev pub EachEntry : (SettleEntry → Type 0) → List SettleEntry → Type 0
 EachEntry P [] = ⊤

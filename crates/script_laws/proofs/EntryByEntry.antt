@@ -2,15 +2,15 @@
 -- says nothing.
 use Rattle.std.proofs.Common.{◌≡◌, ℕ, Bool, true, false, Option, Some, List, [], ◌∷◌, map, refl}
 use Rattle.vio_tag.specs.declared.cause.Cause.{Cause}
-use Rattle.lane_law.specs.WireEvent.{Declines, Reset}
-use Rattle.disk_steps.specs.DiskEvent.{Asks, DiskEvent, Done, OnWire, Rests, Works}
+use Rattle.disk_model.specs.WireEvent.{Declines, Reset}
+use Rattle.disk_model.specs.DiskEvent.{Asks, DiskEvent, Done, OnWire, Rests, Works}
 use Rattle.domain_script.specs.declared.event.DiskDecl.{DiskDecl}
 use Rattle.domain_script.specs.declared.event.Lane.{Lane}
 use Rattle.domain_script.specs.declared.event.Lane.TheVariants.{Disk}
 use Rattle.domain_script.specs.declared.event.Side.{Side}
 use Rattle.domain_script.specs.declared.event.Side.TheVariants.{Client, Server}
-use Rattle.lanes_settle.specs.Settle.{OfLane, SettleEntry}
-use Rattle.lanes_world.specs.Lines.{Line}
+use Rattle.world_laws.specs.Settle.{OfLane, SettleEntry}
+use Rattle.world_laws.specs.Lines.{Line}
 use Rattle.ldom_journal.specs.LaneEvents.{AtClient, AtLane, AtServer, AtWire, ChangesNothing, Meaning, end_of, lane_number, meaning, world_event}
 use Rattle.ldom_entries.specs.declared.entry.Entry.{Entry}
 use Rattle.ldom_entries.specs.declared.entry.Entry.TheVariants as entry

@@ -4,8 +4,8 @@ use Rattle.std.proofs.Common.{◌≡◌, ◌⊎◌, inl, inr, ℕ, ◌==◌, Boo
 use Rattle.std.specs.Prelude.{⊤}
 use Rattle.vdisk_msg.specs.declared.request.Request.{Request}
 use Rattle.disk_law.specs.ListStep as plain
-use Rattle.disk_steps.specs.DiskEvent.{Accepted, Asks, DiskEvent, Done, Full, Refused, Works}
-use Rattle.lanes_settle.specs.Settle.{OfLane, SettleEntry, Settled, Unsettled}
+use Rattle.disk_model.specs.DiskEvent.{Accepted, Asks, DiskEvent, Done, Full, Refused, Works}
+use Rattle.world_laws.specs.Settle.{OfLane, SettleEntry, Settled, Unsettled}
 use Rattle.domain_script.specs.declared.event.Event.{Event}
 use Rattle.domain_script.specs.declared.event.Event.TheVariants as line
 use Rattle.domain_script.specs.declared.event.Lane.TheVariants.{Disk}
@@ -17,10 +17,10 @@ use Rattle.ldom_entries.specs.declared.entry.Who.TheVariants.{Lane as OfWhole, E
 use Rattle.ldom_entries.specs.declared.entry.Why.{Why}
 use Rattle.ldom_journal.specs.DiskEvents.{Defective, NoRoom, NotTaken, Nothing, OfDisk, Refusal, defect_of, refused, request_asked, said}
 use Rattle.ldom_journal.specs.LaneEvents.{AtClient, AtLane, AtServer, AtWire, ChangesNothing, LeavesNothing, LeavesOver, Meaning, NoRoomFor, Refuses, full_event, if_so, meaning, refused_event, world_event}
-use Rattle.world_faults.specs.Failures.{is_failed_done}
-use Rattle.world_faults.specs.Statuses.{TellsStore}
+use Rattle.world_laws.specs.Failures.{is_failed_done}
+use Rattle.world_laws.specs.Statuses.{TellsStore}
 use Rattle.world_parts.specs.Lines.{line_of}
-use Rattle.world_requests.specs.Requests.{request_event}
+use Rattle.world_laws.specs.Requests.{request_event}
 use Rattle.script_laws.specs.Failures.{SucceedsOrFails, has_failed}
 use Rattle.world_parts.proofs.Meanings.{Holds, entry_has}
 

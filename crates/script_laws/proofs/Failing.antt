@@ -1,13 +1,13 @@
 -- A disk's state says whether a call of its store failed, and so do its events.
 use Rattle.std.proofs.Common.{◌≡◌, ◌↔◌, false, List, [], ◌∷◌, refl, sym, ap, ◌∙◌}
 use Rattle.runs.specs.Run.{Run}
-use Rattle.disk_steps.specs.DiskEvent.{Asks, DiskEvent, OnWire, Rests, Stored, Turns, Works}
-use Rattle.disk_steps.specs.LaneState.{LaneState, Shape, fresh}
-use Rattle.disk_steps.specs.LaneStep.{LaneStep}
-use Rattle.lane_contents.proofs.LaneRuns.{failed_before, stored_well}
+use Rattle.disk_model.specs.DiskEvent.{Asks, DiskEvent, OnWire, Rests, Stored, Turns, Works}
+use Rattle.disk_model.specs.LaneState.{LaneState, Shape, fresh}
+use Rattle.disk_model.specs.LaneStep.{LaneStep}
+use Rattle.lane_laws.proofs.LaneRuns.{failed_before, stored_well}
 use Rattle.script_laws.specs.Contents.{NoneFailed}
-use Rattle.world_faults.proofs.FailedStays.{failed_stays}
-use Rattle.world_faults.specs.Failures.{is_failed_store}
+use Rattle.world_laws.proofs.FailedStays.{failed_stays}
+use Rattle.world_laws.specs.Failures.{is_failed_store}
 
 -- ONE EVENT
 event_well : (s : LaneState) (event : DiskEvent) (t : LaneState) → LaneStep s event t → t.failed ≡ false

@@ -3,22 +3,22 @@ use Rattle.std.proofs.Common.{◌≡◌, ◌⊎◌, inl, inr, ℕ, ◌+◌, ◌<
 use Rattle.std.proofs.lemmas.Bool.{eqb-true}
 use Rattle.std.specs.Prelude.{◌&&◌, ◌==◌}
 use Rattle.runs.specs.Run.{Run}
-use Rattle.disk_steps.specs.DiskEvent.{DiskEvent, Off, OnWire, Turns}
-use Rattle.disk_steps.specs.LaneState.{LaneState}
-use Rattle.lane_law.specs.WireEvent.{Blocked, Idle}
-use Rattle.lane_lawful.specs.CalmEnds.{IsStep}
-use Rattle.lanes_settle.proofs.Counts.{blocked_both, blocked_in, moves_both, never_both, never_where, stuck_after}
-use Rattle.lanes_settle.proofs.Counts.{stuck_behind, stuck_both}
-use Rattle.lanes_settle.proofs.RoundCounts.{once, round_blocked, round_moves, ticks_free, ticks_move}
-use Rattle.lanes_settle.specs.Begun.{NamesFront, NoMore, QuietFront, RoundFront, SettleFront, TickFront}
-use Rattle.lanes_settle.specs.Moves.{NeverThree, is_end, moves_in}
-use Rattle.lanes_settle.specs.Rounds.{LaneRound, MakeRound, are_quiet}
-use Rattle.lanes_settle.specs.Settle.{GoesOn, SettleEntry, SettleRound, Settling, TicksBehind, begin, entries_of}
-use Rattle.lanes_settle.specs.Settle.{entry_of, most_rounds, round_entries, tick_entries}
-use Rattle.lanes_settle.specs.Ticks.{gets_tick}
+use Rattle.disk_model.specs.DiskEvent.{DiskEvent, Off, OnWire, Turns}
+use Rattle.disk_model.specs.LaneState.{LaneState}
+use Rattle.disk_model.specs.WireEvent.{Blocked, Idle}
+use Rattle.lane_laws.specs.CalmEnds.{IsStep}
+use Rattle.world_laws.proofs.Counts.{blocked_both, blocked_in, moves_both, never_both, never_where, stuck_after}
+use Rattle.world_laws.proofs.Counts.{stuck_behind, stuck_both}
+use Rattle.world_laws.proofs.RoundCounts.{once, round_blocked, round_moves, ticks_free, ticks_move}
+use Rattle.world_laws.specs.Begun.{NamesFront, NoMore, QuietFront, RoundFront, SettleFront, TickFront}
+use Rattle.world_laws.specs.Moves.{NeverThree, is_end, moves_in}
+use Rattle.world_laws.specs.Rounds.{LaneRound, MakeRound, are_quiet}
+use Rattle.world_laws.specs.Settle.{GoesOn, SettleEntry, SettleRound, Settling, TicksBehind, begin, entries_of}
+use Rattle.world_laws.specs.Settle.{entry_of, most_rounds, round_entries, tick_entries}
+use Rattle.world_laws.specs.Ticks.{gets_tick}
 use Rattle.ldc_queue.specs.declared.end.End.{End}
 use Rattle.ldc_queue.specs.declared.end.End.TheVariants.{A, B}
-use Rattle.lanes_settle.proofs.RoundCounts.{tick_entry}
+use Rattle.world_laws.proofs.RoundCounts.{tick_entry}
 use Rattle.script_laws.proofs.SettleTicks.{Few}
 
 -- A ROUND THAT GOES ON

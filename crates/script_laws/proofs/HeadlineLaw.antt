@@ -6,9 +6,9 @@ use Rattle.domain_script.specs.Declarations.{AreDisks}
 use Rattle.domain_script.specs.declared.event.DiskDecl.{DiskDecl}
 use Rattle.domain_script.specs.declared.event.Event.{Event}
 use Rattle.domain_script.specs.declared.event.Event.TheVariants.{Settle}
-use Rattle.lanes_settle.specs.Settle.{SettleEntry}
-use Rattle.lanes_world.proofs.Along.{lanes_run}
-use Rattle.lanes_world.specs.World.{WorldState}
+use Rattle.world_laws.specs.Settle.{SettleEntry}
+use Rattle.world_laws.proofs.Along.{lanes_run}
+use Rattle.world_laws.specs.World.{WorldState}
 use Rattle.ldom_entries.specs.declared.entry.Entry.{Entry}
 use Rattle.script_laws.proofs.Disks.{of_disk}
 use Rattle.script_laws.proofs.Leading.{Leads, cut_off_lead, lines_lead}
@@ -19,8 +19,8 @@ use Rattle.script_laws.proofs.DeclaredWorlds.{declared_world}
 use Rattle.script_laws.specs.Headline.{Headline, OfCutOff, OfLines, OfScript}
 use Rattle.script_laws.specs.Told.{told, told_by}
 use Rattle.script_laws.proofs.DiskShapes.{many_shapes}
-use Rattle.world_images.proofs.BehindDisks.{stays_behind}
-use Rattle.world_images.specs.Stays.{StaysBehind}
+use Rattle.world_laws.proofs.BehindDisks.{stays_behind}
+use Rattle.world_laws.specs.Stays.{StaysBehind}
 use Rattle.world_parts.specs.Declared.{bytes_needed, shapes_of, world_of}
 use Rattle.world_parts.specs.Endings.{Ending, JournalEnds, MayBeCut, NotBegun, Whole}
 use Rattle.world_parts.specs.Lines.{LineStep}

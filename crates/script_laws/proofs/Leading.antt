@@ -6,12 +6,12 @@ use Rattle.disk_law.specs.ListState.{ImageState}
 use Rattle.domain_script.specs.Declarations.{AreDisks}
 use Rattle.domain_script.specs.declared.event.DiskDecl.{DiskDecl}
 use Rattle.domain_script.specs.declared.event.Event.{Event}
-use Rattle.lanes_settle.specs.Rounds.{Each}
-use Rattle.lanes_settle.specs.Settle.{SettleEntry, Settled, Unsettled}
-use Rattle.lanes_settle.specs.Sums.{IsUnforged}
-use Rattle.lanes_world.proofs.Along.{lines_run}
-use Rattle.lanes_world.specs.Lines as world
-use Rattle.lanes_world.specs.World.{WorldState, WorldStep}
+use Rattle.world_laws.specs.Rounds.{Each}
+use Rattle.world_laws.specs.Settle.{SettleEntry, Settled, Unsettled}
+use Rattle.world_laws.specs.Sums.{IsUnforged}
+use Rattle.world_laws.proofs.Along.{lines_run}
+use Rattle.world_laws.specs.Lines as world
+use Rattle.world_laws.specs.World.{WorldState, WorldStep}
 use Rattle.ldom_entries.specs.declared.entry.Entry.{Entry}
 use Rattle.script_laws.proofs.Entries.{IsOfLane, each_in}
 use Rattle.script_laws.proofs.LineEntries.{begins_lanes}
@@ -23,7 +23,7 @@ use Rattle.script_laws.specs.Told.{told, told_by}
 use Rattle.world_parts.specs.Declared.{shapes_of, world_of}
 use Rattle.world_parts.specs.Lines.{LineStep, line_of}
 use Rattle.world_parts.specs.Script.{FitsCutOff, cut_lines}
-use Rattle.world_requests.proofs.ByLines.{unforged_begun, unforged_behind}
+use Rattle.world_laws.proofs.ByLines.{unforged_begun, unforged_behind}
 
 pub record Leads (disks : List DiskDecl) (image : ImageState) (entries : List SettleEntry)
     (v : WorldState) : Type 0 where

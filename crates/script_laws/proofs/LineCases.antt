@@ -7,11 +7,11 @@ use Rattle.domain_script.specs.declared.event.Lane.{Lane}
 use Rattle.domain_script.specs.declared.event.Lane.TheVariants as the_lane
 use Rattle.domain_script.specs.NamesState.{IsLane, NamesState, noted}
 use Rattle.domain_script.specs.Spells.{IsDeclared}
-use Rattle.disk_steps.specs.LaneState.{LaneState}
-use Rattle.lanes_settle.specs.Begun.{RoundFront, SettleFront}
-use Rattle.lanes_settle.specs.Settle.{begin}
-use Rattle.lanes_world.specs.Lines.{AreFirstSteps, BeginsPart, Turn}
-use Rattle.lanes_world.specs.World.{WorldState}
+use Rattle.disk_model.specs.LaneState.{LaneState}
+use Rattle.world_laws.specs.Begun.{RoundFront, SettleFront}
+use Rattle.world_laws.specs.Settle.{begin}
+use Rattle.world_laws.specs.Lines.{AreFirstSteps, BeginsPart, Turn}
+use Rattle.world_laws.specs.World.{WorldState}
 use Rattle.ldom_journal.specs.LaneEvents.{lane_number}
 use Rattle.script_laws.specs.Attached.{is_opening}
 use Rattle.world_parts.specs.Lines.{IsForDisks, LineStep, line_of}

@@ -1,15 +1,15 @@
 -- The part of a line over clean lanes: where it isn't a settle's, events of lanes alone; and a settle ends settled.
 use Rattle.std.proofs.Common.{◌≡◌, ◌⊎◌, inl, inr, ℕ, List, [], ◌∷◌, ◌++◌, length, replicate}
-use Rattle.disk_steps.specs.DiskEvent.{DiskEvent}
-use Rattle.disk_steps.specs.LaneState.{LaneState}
-use Rattle.lanes_settle.proofs.Falling.{ends_settled, rounds_few}
-use Rattle.lanes_settle.proofs.Stuck.{part_never}
-use Rattle.lanes_settle.proofs.TicksOnce.{part_ticks}
-use Rattle.lanes_settle.specs.Begun.{SettleFront}
-use Rattle.lanes_settle.specs.Settle.{OfLane, SettleEntry, SettlePart, Settled, Settles, Unsettled}
-use Rattle.lanes_world.specs.Lines.{AnswersCall, AnswersRequest, AreFirstSteps, AreSteps, Asked, BeginsPart, Calls, Line}
-use Rattle.lanes_world.specs.Lines.{Nothing, OneEntry, PartOf, Rounds, Steps, Turn, turn, turns_of}
-use Rattle.lanes_world.specs.Lines as world
+use Rattle.disk_model.specs.DiskEvent.{DiskEvent}
+use Rattle.disk_model.specs.LaneState.{LaneState}
+use Rattle.world_laws.proofs.Falling.{ends_settled, rounds_few}
+use Rattle.world_laws.proofs.Stuck.{part_never}
+use Rattle.world_laws.proofs.TicksOnce.{part_ticks}
+use Rattle.world_laws.specs.Begun.{SettleFront}
+use Rattle.world_laws.specs.Settle.{OfLane, SettleEntry, SettlePart, Settled, Settles, Unsettled}
+use Rattle.world_laws.specs.Lines.{AnswersCall, AnswersRequest, AreFirstSteps, AreSteps, Asked, BeginsPart, Calls, Line}
+use Rattle.world_laws.specs.Lines.{Nothing, OneEntry, PartOf, Rounds, Steps, Turn, turn, turns_of}
+use Rattle.world_laws.specs.Lines as world
 use Rattle.script_laws.proofs.CleanLanes.{AreClean}
 use Rattle.script_laws.proofs.Entries.{EachEntry, IsOfLane, LeavesNone, each_as, each_both, each_in, lanes_leave}
 use Rattle.script_laws.proofs.FrontStuck.{front_never}

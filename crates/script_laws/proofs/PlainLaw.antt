@@ -6,10 +6,10 @@ use Rattle.disk_law.specs.ListState.{ImageState}
 use Rattle.domain_script.specs.Declarations.{IsDisk}
 use Rattle.domain_script.specs.declared.event.DiskDecl.{DiskDecl}
 use Rattle.domain_script.specs.declared.event.Event.{Event}
-use Rattle.lanes_settle.specs.Settle.{SettleEntry}
-use Rattle.lanes_world.proofs.Along.{lines_run}
-use Rattle.lanes_world.specs.Lines.{Line, LineStep, entries_of}
-use Rattle.lanes_world.specs.World.{WorldState, fresh_world}
+use Rattle.world_laws.specs.Settle.{SettleEntry}
+use Rattle.world_laws.proofs.Along.{lines_run}
+use Rattle.world_laws.specs.Lines.{Line, LineStep, entries_of}
+use Rattle.world_laws.specs.World.{WorldState, fresh_world}
 use Rattle.ldom_journal.specs.EntryText.{report_entries}
 use Rattle.ldom_journal.specs.Report.{accepted_count, done_count, end_line, report, reset_count}
 use Rattle.ldom_entries.specs.declared.entry.Entry.{Entry}
@@ -26,12 +26,12 @@ use Rattle.script_laws.specs.Completed.{completed_ids}
 use Rattle.world_parts.specs.Declared.{shape_of, world_of}
 use Rattle.world_parts.specs.Lines.{line_of}
 use Rattle.world_parts.specs.Script.{FitsScript}
-use Rattle.world_plain.proofs.QuietLines.{quiet_lines}
-use Rattle.world_plain.specs.Plain as lanes
-use Rattle.world_plain.specs.Quiet as quiet_world
-use Rattle.world_plain.specs.Quiet.{IsPlain, RunsPlainly, RunsQuietly, lines_of, shown_of}
-use Rattle.world_requests.proofs.Counting.{world_counts}
-use Rattle.world_requests.specs.Accepted.{accepted_in, next_ids}
+use Rattle.world_laws.proofs.QuietLines.{quiet_lines}
+use Rattle.world_laws.specs.Plain as lanes
+use Rattle.world_laws.specs.Quiet as quiet_world
+use Rattle.world_laws.specs.Quiet.{IsPlain, RunsPlainly, RunsQuietly, lines_of, shown_of}
+use Rattle.world_laws.proofs.Counting.{world_counts}
+use Rattle.world_laws.specs.Accepted.{accepted_in, next_ids}
 
 -- WHAT A QUIET SCRIPT COMES TO: the report's text, the image's bytes and the completed ids are those of the plain run
 pub record PlainLaw (disk : DiskDecl) (content : List ℕ) (events : List Event) (journal : List Entry) (v : WorldState)

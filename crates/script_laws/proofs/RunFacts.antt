@@ -4,11 +4,11 @@ use Rattle.std.specs.List.{All}
 use Rattle.std.proofs.lemmas.List.Elements.{All-nil}
 use Rattle.disk_law.specs.Issued.{CompletesOnceInOrder}
 use Rattle.disk_law.specs.ListStep.{Done}
-use Rattle.disk_steps.specs.LaneState.{LaneState}
+use Rattle.disk_model.specs.LaneState.{LaneState}
 use Rattle.domain_script.specs.Declarations.{AreDisks}
 use Rattle.domain_script.specs.NamesState.{NamesState}
 use Rattle.domain_script.specs.declared.event.Event.{Event}
-use Rattle.lanes_world.specs.World.{WorldState}
+use Rattle.world_laws.specs.World.{WorldState}
 use Rattle.ldom_journal.specs.DiskEvents.{history}
 use Rattle.ldom_journal.specs.HasWords.{HasWords}
 use Rattle.ldom_entries.specs.declared.entry.Entry.{Entry}

@@ -16,7 +16,7 @@ use Rattle.world_parts.specs.Lines.{LineStep, line_of}
 use Rattle.world_parts.specs.Parts.{Fits, FitsSoFar}
 use Rattle.ldom_journal.specs.LinesEnd.{counted_lines}
 use Rattle.script_laws.specs.Reading.{ReadsEvent, StopsAt}
-use Rattle.lanes_world.specs.World.{WorldState}
+use Rattle.world_laws.specs.World.{WorldState}
 use Rattle.world_parts.specs.Script.{BeginBelow, FitsScript}
 use Rattle.domain_script.proofs.ScriptLemmas.{short-append, takes-append, takes_none}
 use Rattle.script_laws.proofs.ReadLemmas.{spell_more}

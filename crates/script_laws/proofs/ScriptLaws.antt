@@ -8,25 +8,25 @@ use Rattle.vdisk_msg.specs.declared.request.Request.{Request}
 use Rattle.disk_law.specs.Issued.{Admission, CompletesOnceInOrder, issued}
 use Rattle.disk_law.specs.ListState.{ImageState}
 use Rattle.disk_law.specs.ListStep as plain
-use Rattle.disk_steps.specs.LaneState.{fresh}
+use Rattle.disk_model.specs.LaneState.{fresh}
 use Rattle.domain_script.specs.Declarations.{AreDisks}
 use Rattle.domain_script.specs.declared.event.DiskDecl.{DiskDecl}
 use Rattle.domain_script.specs.declared.event.Event.{Event}
-use Rattle.lanes_settle.specs.Along.{happened}
-use Rattle.lanes_world.proofs.Along.{fresh_reached}
-use Rattle.lanes_world.proofs.LaneLists.{is_there}
-use Rattle.lanes_world.specs.World.{IsWorld, WorldState}
+use Rattle.world_laws.specs.Along.{happened}
+use Rattle.world_laws.proofs.Along.{fresh_reached}
+use Rattle.world_laws.proofs.LaneLists.{is_there}
+use Rattle.world_laws.specs.World.{IsWorld, WorldState}
 use Rattle.ldom_journal.specs.DiskEvents.{history}
 use Rattle.ldom_journal.specs.HasWords.{HasWords}
 use Rattle.ldom_entries.specs.declared.entry.Entry.{Entry}
-use Rattle.world_faults.proofs.WorldLaws.{world_counted}
-use Rattle.world_images.proofs.BehindDisks.{stays_behind}
-use Rattle.world_images.proofs.NamedRuns.{stays_at}
+use Rattle.world_laws.proofs.WorldLaws.{world_counted}
+use Rattle.world_laws.proofs.BehindDisks.{stays_behind}
+use Rattle.world_laws.proofs.NamedRuns.{stays_at}
 use Rattle.world_parts.specs.Declared.{bytes_needed, shape_of, shapes_of, world_of}
 use Rattle.world_parts.specs.Lines.{all_happened}
 use Rattle.world_parts.specs.Script.{FitsCutOff, FitsScript, cut_lines}
-use Rattle.world_requests.proofs.RequestLaws.{disk_admits, disk_completes}
-use Rattle.world_requests.specs.Requests.{requests_of}
+use Rattle.world_laws.proofs.RequestLaws.{disk_admits, disk_completes}
+use Rattle.world_laws.specs.Requests.{requests_of}
 use Rattle.script_laws.specs.Admitting.{AdmitsAll}
 use Rattle.script_laws.specs.Failures.{SucceedOrFail, failed_count}
 use Rattle.script_laws.specs.Outside.{IsOutsideAll, IsOutsideDisks, KeepsOthers}

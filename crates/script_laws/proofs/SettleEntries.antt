@@ -3,14 +3,14 @@
 use Rattle.std.proofs.Common.{◌≡◌, ◌⊎◌, inl, inr, ℕ, ◌+◌, ◌<◌, Bool, true, false, List, [], ◌∷◌, ◌++◌, length, sym, ◌∙◌, arith}
 use Rattle.std.specs.Prelude.{if◌then◌else◌}
 use Rattle.runs.specs.Run.{Run}
-use Rattle.lane_law.specs.WireEvent.{Idle}
-use Rattle.disk_steps.specs.DiskEvent.{DiskEvent, Off, OnWire, Turns}
-use Rattle.disk_steps.specs.LaneState.{LaneState}
-use Rattle.lanes_settle.specs.Begun.{NamesFront, NoMore, QuietFront, RoundFront, SettleFront, TickFront}
-use Rattle.lanes_settle.specs.Rounds.{LaneRound, are_quiet}
-use Rattle.lanes_settle.specs.Settle.{GoesOn, OfLane, SettleEntry, SettleRound, Settled, Settles, Settling}
-use Rattle.lanes_settle.specs.Settle.{TicksBehind, begin, entries_of, entry_of, most_rounds, round_entries, tick_entries}
-use Rattle.lanes_settle.specs.Ticks.{gets_tick, tick}
+use Rattle.disk_model.specs.WireEvent.{Idle}
+use Rattle.disk_model.specs.DiskEvent.{DiskEvent, Off, OnWire, Turns}
+use Rattle.disk_model.specs.LaneState.{LaneState}
+use Rattle.world_laws.specs.Begun.{NamesFront, NoMore, QuietFront, RoundFront, SettleFront, TickFront}
+use Rattle.world_laws.specs.Rounds.{LaneRound, are_quiet}
+use Rattle.world_laws.specs.Settle.{GoesOn, OfLane, SettleEntry, SettleRound, Settled, Settles, Settling}
+use Rattle.world_laws.specs.Settle.{TicksBehind, begin, entries_of, entry_of, most_rounds, round_entries, tick_entries}
+use Rattle.world_laws.specs.Ticks.{gets_tick, tick}
 use Rattle.script_laws.proofs.Entries.{EachEntry, IsOfLane, each_as, each_both, each_in}
 use Rattle.script_laws.proofs.Places.{InEither, no_place, place_in}
 

@@ -2,15 +2,15 @@
 use Rattle.std.proofs.Common.{◌≡◌, ◌⊎◌, inl, inr, ◌≤◌, List, [], ◌∷◌, ◌++◌, length, map, refl, sym, ap, ◌∙◌, subst, append-nil}
 use Rattle.runs.specs.Run.{Run, run_split}
 use Rattle.disk_law.specs.ListState.{ImageState}
-use Rattle.disk_steps.specs.LaneState.{LaneState}
+use Rattle.disk_model.specs.LaneState.{LaneState}
 use Rattle.domain_script.specs.Declarations.{AreDisks}
 use Rattle.domain_script.specs.declared.event.DiskDecl.{DiskDecl}
 use Rattle.domain_script.specs.declared.event.Event.{Event}
 use Rattle.domain_script.specs.declared.event.Event.TheVariants.{Settle}
-use Rattle.lanes_settle.specs.Begun.{SettleFront}
-use Rattle.lanes_settle.specs.Settle.{SettleEntry, SettlePart}
-use Rattle.lanes_world.specs.Lines as world
-use Rattle.lanes_world.specs.World.{WorldState}
+use Rattle.world_laws.specs.Begun.{SettleFront}
+use Rattle.world_laws.specs.Settle.{SettleEntry, SettlePart}
+use Rattle.world_laws.specs.Lines as world
+use Rattle.world_laws.specs.World.{WorldState}
 use Rattle.ldom_entries.specs.declared.entry.Entry.{Entry}
 use Rattle.script_laws.proofs.LineEntries.{settle_rules}
 use Rattle.script_laws.proofs.Places.{InEither, no_place, place_in}

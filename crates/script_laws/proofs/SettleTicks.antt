@@ -3,19 +3,19 @@ use Rattle.std.proofs.Common.{◌≡◌, ◌⊎◌, inl, inr, ℕ, ◌+◌, ◌<
 use Rattle.std.proofs.lemmas.Bool.{eqb-true}
 use Rattle.std.specs.Prelude.{◌&&◌, ◌||◌, ◌==◌, if◌then◌else◌, ⊤}
 use Rattle.runs.specs.Run.{Run}
-use Rattle.disk_steps.specs.DiskEvent.{DiskEvent, Off, OnWire, Turns}
-use Rattle.disk_steps.specs.LaneState.{LaneState}
-use Rattle.lane_law.specs.WireEvent.{Idle, Reset}
-use Rattle.lane_lawful.specs.CalmEnds.{IsStep}
-use Rattle.lanes_settle.proofs.Counts.{ticks_both}
-use Rattle.lanes_settle.proofs.RoundCounts.{once, tick_entry}
-use Rattle.lanes_settle.proofs.TicksOnce.{mark_at}
-use Rattle.lanes_settle.specs.Begun.{NamesFront, NoMore, QuietFront, RoundFront, SettleFront, TickFront}
-use Rattle.lanes_settle.specs.Moves.{is_tick, ticks, ticks_in}
-use Rattle.lanes_settle.specs.Rounds.{LaneRound, MakeRound, are_quiet}
-use Rattle.lanes_settle.specs.Settle.{GoesOn, OfLane, SettleEntry, SettleRound, Settled, Settling, TicksBehind, Unsettled}
-use Rattle.lanes_settle.specs.Settle.{begin, entries_of, entry_of, most_rounds, round_entries, tick_entries}
-use Rattle.lanes_settle.specs.Ticks.{TickLanes, gets_tick, marked, no_marks, waits_on}
+use Rattle.disk_model.specs.DiskEvent.{DiskEvent, Off, OnWire, Turns}
+use Rattle.disk_model.specs.LaneState.{LaneState}
+use Rattle.disk_model.specs.WireEvent.{Idle, Reset}
+use Rattle.lane_laws.specs.CalmEnds.{IsStep}
+use Rattle.world_laws.proofs.Counts.{ticks_both}
+use Rattle.world_laws.proofs.RoundCounts.{once, tick_entry}
+use Rattle.world_laws.proofs.TicksOnce.{mark_at}
+use Rattle.world_laws.specs.Begun.{NamesFront, NoMore, QuietFront, RoundFront, SettleFront, TickFront}
+use Rattle.world_laws.specs.Moves.{is_tick, ticks, ticks_in}
+use Rattle.world_laws.specs.Rounds.{LaneRound, MakeRound, are_quiet}
+use Rattle.world_laws.specs.Settle.{GoesOn, OfLane, SettleEntry, SettleRound, Settled, Settling, TicksBehind, Unsettled}
+use Rattle.world_laws.specs.Settle.{begin, entries_of, entry_of, most_rounds, round_entries, tick_entries}
+use Rattle.world_laws.specs.Ticks.{TickLanes, gets_tick, marked, no_marks, waits_on}
 use Rattle.ldc_queue.specs.declared.end.End.{End}
 use Rattle.ldc_queue.specs.declared.end.End.TheVariants.{A, B}
 use Rattle.script_laws.proofs.Entries.{EachEntry, each_as, each_both}

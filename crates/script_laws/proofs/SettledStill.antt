@@ -2,14 +2,14 @@
 use Rattle.std.proofs.Common.{◌≡◌, ℕ, ◌+◌, List, [], ◌∷◌, ◌++◌, slice_get, Some, sym, ap, ◌∙◌, subst, arith, append_assoc, append-nil}
 use Rattle.runs.specs.Lawful.{log_of}
 use Rattle.runs.specs.Run.{Run, run_append}
-use Rattle.disk_log.specs.DiskLog.{after, nothing_yet}
-use Rattle.disk_steps.specs.DiskEvent.{DiskEvent}
-use Rattle.disk_steps.specs.LaneState.{IsShape, LaneState, Shape, fresh}
-use Rattle.disk_steps.specs.LaneStep.{LaneStep}
-use Rattle.lanes_settle.proofs.Moving.{happened_both, round_moves_lanes, rounds_move_lanes}
-use Rattle.lanes_settle.specs.Along.{happened}
-use Rattle.lanes_settle.specs.Settle.{SettleEntry, Settled, Settles, begin, entries_of, round_entries}
-use Rattle.lanes_world.proofs.LaneLists.{lane_moved}
+use Rattle.disk_model.specs.DiskLog.{after, nothing_yet}
+use Rattle.disk_model.specs.DiskEvent.{DiskEvent}
+use Rattle.disk_model.specs.LaneState.{IsShape, LaneState, Shape, fresh}
+use Rattle.disk_model.specs.LaneStep.{LaneStep}
+use Rattle.world_laws.proofs.Moving.{happened_both, round_moves_lanes, rounds_move_lanes}
+use Rattle.world_laws.specs.Along.{happened}
+use Rattle.world_laws.specs.Settle.{SettleEntry, Settled, Settles, begin, entries_of, round_entries}
+use Rattle.world_laws.proofs.LaneLists.{lane_moved}
 use Rattle.script_laws.proofs.Stillness.{calm_round, still_by}
 use Rattle.script_laws.proofs.TicksStand.{MovedTo, QuietAt, moved_to, quiet_at}
 use Rattle.script_laws.specs.Still.{AreStillBy}

@@ -4,25 +4,25 @@ use Rattle.std.proofs.Common.{◌≡◌, ℕ, zero, suc, ◌+◌, ◌≤◌, tru
 use Rattle.runs.specs.Lawful.{log_of}
 use Rattle.runs.specs.Run.{Run, run_append, run_push, run_split}
 use Rattle.disk_law.specs.ListState.{ImageState}
-use Rattle.disk_steps.specs.ClientState.{is_finished}
-use Rattle.disk_log.specs.DiskLog.{after, nothing_yet}
-use Rattle.disk_steps.specs.DiskEvent.{DiskEvent}
-use Rattle.disk_steps.specs.LaneState.{LaneState, Shape, fresh}
-use Rattle.disk_steps.specs.LaneStep.{LaneStep}
+use Rattle.disk_model.specs.ClientState.{is_finished}
+use Rattle.disk_model.specs.DiskLog.{after, nothing_yet}
+use Rattle.disk_model.specs.DiskEvent.{DiskEvent}
+use Rattle.disk_model.specs.LaneState.{LaneState, Shape, fresh}
+use Rattle.disk_model.specs.LaneStep.{LaneStep}
 use Rattle.domain_script.specs.Declarations.{AreDisks}
 use Rattle.domain_script.specs.declared.event.DiskDecl.{DiskDecl}
 use Rattle.domain_script.specs.declared.event.Event.{Event}
 use Rattle.domain_script.specs.declared.event.Event.TheVariants.{Settle}
-use Rattle.lanes_settle.proofs.Moving.{happened_both}
-use Rattle.lanes_settle.specs.Along.{happened}
-use Rattle.lanes_settle.proofs.SettledLanes.{settled_lanes}
-use Rattle.lanes_settle.specs.Ended.{LanesEnd}
-use Rattle.lanes_settle.specs.Settle.{SettleEntry, Settled, Settles, Unsettled}
-use Rattle.lanes_settle.specs.Sums.{IsUnforged}
-use Rattle.lanes_world.proofs.Along.{lane_at, lanes_run, lines_run, shape_at}
-use Rattle.lanes_world.proofs.LaneLists.{each_there}
-use Rattle.lanes_world.specs.Lines as world
-use Rattle.lanes_world.specs.World.{WorldState, WorldStep}
+use Rattle.world_laws.proofs.Moving.{happened_both}
+use Rattle.world_laws.specs.Along.{happened}
+use Rattle.world_laws.proofs.SettledLanes.{settled_lanes}
+use Rattle.world_laws.specs.Ended.{LanesEnd}
+use Rattle.world_laws.specs.Settle.{SettleEntry, Settled, Settles, Unsettled}
+use Rattle.world_laws.specs.Sums.{IsUnforged}
+use Rattle.world_laws.proofs.Along.{lane_at, lanes_run, lines_run, shape_at}
+use Rattle.world_laws.proofs.LaneLists.{each_there}
+use Rattle.world_laws.specs.Lines as world
+use Rattle.world_laws.specs.World.{WorldState, WorldStep}
 use Rattle.ldom_entries.specs.declared.entry.Entry.{Entry}
 use Rattle.script_laws.proofs.CleanLanes.{AreClean, clean_behind}
 use Rattle.script_laws.proofs.Entries.{LeavesNone, each_in}

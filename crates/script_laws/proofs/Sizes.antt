@@ -1,13 +1,13 @@
 -- How long the image of a run is, and that its disks lie within it.
 use Rattle.std.proofs.Common.{◌≡◌, inl, inr, ◌⊎◌, ℕ, ◌+◌, ◌*◌, ◌<◌, ◌≤◌, Bool, List, [], ◌∷◌, ◌++◌, length, map, refl, sym, ap, subst, arith, Option, Some, None, IfSome, replicate}
 use Rattle.std.proofs.Math.ListN.{length-replicate}
-use Rattle.disk_steps.specs.LaneState.{LaneState, Shape}
+use Rattle.disk_model.specs.LaneState.{LaneState, Shape}
 use Rattle.domain_script.specs.declared.event.DiskDecl.{DiskDecl}
 use Rattle.domain_script.specs.declared.event.Event.{Event}
 use Rattle.domain_script.specs.NamesState.{NamesState, noted}
 use Rattle.domain_script.specs.ScriptEvents.{AllSpell}
-use Rattle.lanes_settle.specs.Rounds.{Each}
-use Rattle.lanes_world.specs.World.{WorldState}
+use Rattle.world_laws.specs.Rounds.{Each}
+use Rattle.world_laws.specs.World.{WorldState}
 use Rattle.ldom_entries.specs.declared.entry.Entry.{Entry}
 use Rattle.ldom_journal.specs.declared.status.Status.{Status}
 use Rattle.ldom_journal.specs.declared.status.Status.TheVariants as status

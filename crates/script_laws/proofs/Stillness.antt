@@ -3,23 +3,23 @@ use Rattle.std.proofs.Common.{◌≡◌, ◌⊎◌, inl, inr, ℕ, ◌+◌, ◌�
 use Rattle.std.specs.Prelude.{◌==◌, if◌then◌else◌, ⊤}
 use Rattle.runs.specs.Lawful.{log_append, log_of}
 use Rattle.runs.specs.Run.{Run, run_append}
-use Rattle.disk_log.specs.Agreement.{AgreesWithLog}
-use Rattle.disk_log.specs.DiskLog.{DiskLog, after, nothing_yet}
-use Rattle.disk_log.specs.QuietLaws.{ClientIsIdle, EndIsIdle, ServerIsIdle}
-use Rattle.disk_log.specs.WorkLaws.{IfClient, IfServer}
-use Rattle.disk_log.specs.WorkLog.{ClientCounts, WorkLog}
-use Rattle.disk_steps.specs.DiskEvent.{DiskEvent, Off, OnWire, Turns}
-use Rattle.disk_steps.specs.LaneState.{IsShape, LaneState, Shape, fresh}
-use Rattle.disk_steps.specs.LaneStep.{LaneStep}
-use Rattle.lane_law.specs.WireAt.{IsUp}
-use Rattle.lane_law.specs.WireEvent.{Blocked, Idle}
-use Rattle.lane_law.specs.WireLog.{WireLog}
-use Rattle.lane_lawful.proofs.AgreementRuns.{run_agrees}
-use Rattle.lane_lawful.specs.CalmEnds.{AreStill, HasNoRoom, IsStill}
-use Rattle.lanes_settle.proofs.LaneRounds.{and_left, and_right, quiet_still}
-use Rattle.lanes_settle.specs.Along.{event_at, happened}
-use Rattle.lanes_settle.specs.Rounds.{LaneRound, MakesRound, are_quiet, is_calm, is_quiet}
-use Rattle.lanes_settle.specs.Settle.{OfLane, SettleEntry, Settled, Unsettled, entry_of, round_entries}
+use Rattle.disk_model.specs.Agreement.{AgreesWithLog}
+use Rattle.disk_model.specs.DiskLog.{DiskLog, after, nothing_yet}
+use Rattle.disk_model.specs.QuietLaws.{ClientIsIdle, EndIsIdle, ServerIsIdle}
+use Rattle.disk_model.specs.WorkLaws.{IfClient, IfServer}
+use Rattle.disk_model.specs.WorkLog.{ClientCounts, WorkLog}
+use Rattle.disk_model.specs.DiskEvent.{DiskEvent, Off, OnWire, Turns}
+use Rattle.disk_model.specs.LaneState.{IsShape, LaneState, Shape, fresh}
+use Rattle.disk_model.specs.LaneStep.{LaneStep}
+use Rattle.disk_model.specs.WireAt.{IsUp}
+use Rattle.disk_model.specs.WireEvent.{Blocked, Idle}
+use Rattle.disk_model.specs.WireLog.{WireLog}
+use Rattle.lane_laws.proofs.AgreementRuns.{run_agrees}
+use Rattle.lane_laws.specs.CalmEnds.{AreStill, HasNoRoom, IsStill}
+use Rattle.world_laws.proofs.LaneRounds.{and_left, and_right, quiet_still}
+use Rattle.world_laws.specs.Along.{event_at, happened}
+use Rattle.world_laws.specs.Rounds.{LaneRound, MakesRound, are_quiet, is_calm, is_quiet}
+use Rattle.world_laws.specs.Settle.{OfLane, SettleEntry, Settled, Unsettled, entry_of, round_entries}
 use Rattle.ldc_queue.specs.Wire.{peer_of, waiting_for}
 use Rattle.ldc_queue.specs.declared.end.End.{End}
 use Rattle.ldc_queue.specs.declared.end.End.TheVariants.{A, B}

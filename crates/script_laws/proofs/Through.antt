@@ -5,23 +5,23 @@ use Rattle.std.specs.List.{flat_map}
 use Rattle.std.proofs.lemmas.List.{length-map}
 use Rattle.runs.specs.Run.{Run, run_append}
 use Rattle.disk_law.specs.ListState.{ImageState}
-use Rattle.disk_steps.specs.LaneState.{LaneState, Shape, fresh}
+use Rattle.disk_model.specs.LaneState.{LaneState, Shape, fresh}
 use Rattle.domain_script.specs.declared.event.DiskDecl.{DiskDecl}
 use Rattle.domain_script.specs.declared.event.Event.{Event}
-use Rattle.lane_invariant.proofs.RingPages.{same_pages}
-use Rattle.lanes_settle.specs.Rounds.{Each}
-use Rattle.lanes_settle.specs.Settle.{OfLane, SettleEntry, Settled, Unsettled}
-use Rattle.lanes_settle.specs.Sums.{IsUnforged}
-use Rattle.lanes_world.proofs.Along.{lane_step, lines_run}
-use Rattle.lanes_world.specs.Lines.{Line, LineBegins, entries_of}
-use Rattle.lanes_world.specs.Lines as script
-use Rattle.lanes_world.specs.World.{WorldState, WorldStep}
+use Rattle.lane_laws.proofs.RingPages.{same_pages}
+use Rattle.world_laws.specs.Rounds.{Each}
+use Rattle.world_laws.specs.Settle.{OfLane, SettleEntry, Settled, Unsettled}
+use Rattle.world_laws.specs.Sums.{IsUnforged}
+use Rattle.world_laws.proofs.Along.{lane_step, lines_run}
+use Rattle.world_laws.specs.Lines.{Line, LineBegins, entries_of}
+use Rattle.world_laws.specs.Lines as script
+use Rattle.world_laws.specs.World.{WorldState, WorldStep}
 use Rattle.ldom_entries.specs.declared.entry.Entry.{Entry}
 use Rattle.world_parts.specs.Declared.{shapes_of, world_of}
 use Rattle.world_parts.specs.Lines.{LineStep, all_happened, line_of}
 use Rattle.world_parts.specs.Script.{FitsCutOff, FitsScript, cut_lines}
-use Rattle.world_requests.proofs.ByLines.{unforged_begun, unforged_behind}
-use Rattle.world_words.proofs.LeftOver.{NamesBelow, cut_below, lines_below}
+use Rattle.world_laws.proofs.ByLines.{unforged_begun, unforged_behind}
+use Rattle.world_laws.proofs.LeftOver.{NamesBelow, cut_below, lines_below}
 use Rattle.script_laws.proofs.DiskShapes.{fresh_shapes, many_shapes}
 use Rattle.script_laws.proofs.Tellings.{LinesTell, Telling, entries_told, flat_push, line_first, line_last, means_of, no_lines, part_tells, seen_at}
 

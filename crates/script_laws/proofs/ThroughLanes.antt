@@ -2,20 +2,20 @@
 use Rattle.std.proofs.Common.{◌≡◌, List, [], ◌∷◌, map, refl, ap}
 use Rattle.std.specs.List.{flat_map}
 use Rattle.runs.specs.Run.{Run}
-use Rattle.lane_law.specs.WireEvent.{Reset}
-use Rattle.disk_steps.specs.DiskEvent.{Asks, Done, Full, OnWire, Refused, Works}
+use Rattle.disk_model.specs.WireEvent.{Reset}
+use Rattle.disk_model.specs.DiskEvent.{Asks, Done, Full, OnWire, Refused, Works}
 use Rattle.domain_script.specs.declared.event.DiskDecl.{DiskDecl}
 use Rattle.domain_script.specs.declared.event.Event.{Event}
-use Rattle.lanes_settle.specs.Settle.{OfLane, SettleEntry, Settled, Unsettled}
-use Rattle.lanes_world.specs.Lines.{Line, entries_of}
-use Rattle.lanes_world.specs.Lines as lane_lines
-use Rattle.lanes_world.specs.World.{WorldState}
+use Rattle.world_laws.specs.Settle.{OfLane, SettleEntry, Settled, Unsettled}
+use Rattle.world_laws.specs.Lines.{Line, entries_of}
+use Rattle.world_laws.specs.Lines as lane_lines
+use Rattle.world_laws.specs.World.{WorldState}
 use Rattle.ldom_entries.specs.declared.entry.Entry.{Entry}
 use Rattle.script_laws.proofs.EntryByEntry.{part_same}
 use Rattle.script_laws.proofs.LaneReport.{SaysSame, says_append, told_append, told_lanes}
 use Rattle.world_parts.specs.Lines.{LineStep, line_of}
-use Rattle.world_plain.specs.Quiet.{lines_of, shown_of}
-use Rattle.world_plain.specs.Shown.{is_shown, shown, shown_if}
+use Rattle.world_laws.specs.Quiet.{lines_of, shown_of}
+use Rattle.world_laws.specs.Shown.{is_shown, shown, shown_if}
 
 -- LINES OF LANES by which the world was led as by these lines, and which say the same in a report
 pub record ThroughLanes (w : WorldState) (lines : List (Event × List Entry)) (v : WorldState) : Type 0 where

@@ -3,25 +3,25 @@ use Rattle.std.proofs.Common.{◌≡◌, ◌⊎◌, inl, inr, ℕ, ◌≤◌, tr
 use Rattle.runs.specs.Lawful.{log_of}
 use Rattle.runs.specs.Run.{Run, run_append}
 use Rattle.disk_law.specs.ListState.{ImageState}
-use Rattle.disk_log.specs.Agreement.{AgreesWithLog}
-use Rattle.disk_log.specs.DiskLog.{after, nothing_yet}
-use Rattle.disk_steps.specs.DiskEvent.{DiskEvent}
-use Rattle.disk_steps.specs.LaneState.{LaneState, Shape, fresh}
-use Rattle.disk_steps.specs.LaneStep.{LaneStep}
+use Rattle.disk_model.specs.Agreement.{AgreesWithLog}
+use Rattle.disk_model.specs.DiskLog.{after, nothing_yet}
+use Rattle.disk_model.specs.DiskEvent.{DiskEvent}
+use Rattle.disk_model.specs.LaneState.{LaneState, Shape, fresh}
+use Rattle.disk_model.specs.LaneStep.{LaneStep}
 use Rattle.domain_script.specs.Declarations.{AreDisks}
 use Rattle.domain_script.specs.declared.event.DiskDecl.{DiskDecl}
 use Rattle.domain_script.specs.declared.event.Event.{Event}
 use Rattle.domain_script.specs.declared.event.Event.TheVariants.{Settle}
-use Rattle.lane_lawful.proofs.AgreementRuns.{run_agrees}
-use Rattle.lane_law.specs.WireLog.{WireLog}
-use Rattle.lanes_settle.proofs.Falling.{rounds_few}
-use Rattle.lanes_settle.proofs.Moving.{happened_both}
-use Rattle.lanes_settle.specs.Along.{happened}
-use Rattle.lanes_settle.specs.Begun.{SettleFront}
-use Rattle.lanes_settle.specs.Moves.{is_tick}
-use Rattle.lanes_settle.specs.Settle.{OfLane, SettleEntry, SettlePart}
-use Rattle.lanes_world.proofs.Along.{lane_at, lanes_run, lines_run, shape_at}
-use Rattle.lanes_world.specs.World.{WorldState, WorldStep}
+use Rattle.lane_laws.proofs.AgreementRuns.{run_agrees}
+use Rattle.disk_model.specs.WireLog.{WireLog}
+use Rattle.world_laws.proofs.Falling.{rounds_few}
+use Rattle.world_laws.proofs.Moving.{happened_both}
+use Rattle.world_laws.specs.Along.{happened}
+use Rattle.world_laws.specs.Begun.{SettleFront}
+use Rattle.world_laws.specs.Moves.{is_tick}
+use Rattle.world_laws.specs.Settle.{OfLane, SettleEntry, SettlePart}
+use Rattle.world_laws.proofs.Along.{lane_at, lanes_run, lines_run, shape_at}
+use Rattle.world_laws.specs.World.{WorldState, WorldStep}
 use Rattle.ldom_entries.specs.declared.entry.Entry.{Entry}
 use Rattle.script_laws.proofs.CleanLanes.{AreClean}
 use Rattle.script_laws.proofs.LineEntries.{clean_settles}

@@ -4,27 +4,27 @@ use Rattle.std.proofs.Common.{◌≡◌, ◌⊎◌, inl, inr, ℕ, zero, suc, �
 use Rattle.std.proofs.lemmas.Option.{slice_get_within}
 use Rattle.runs.specs.Lawful.{log_of}
 use Rattle.runs.specs.Run.{Run, run_append}
-use Rattle.disk_log.specs.DiskLog.{after, nothing_yet}
-use Rattle.disk_steps.specs.ClientState.{is_finished}
-use Rattle.disk_steps.specs.DiskEvent.{DiskEvent}
-use Rattle.disk_steps.specs.LaneState.{IsShape, LaneState, Shape, fresh}
-use Rattle.disk_steps.specs.LaneStep.{LaneStep}
-use Rattle.disk_steps.specs.Reached.{IsReached}
-use Rattle.lanes_settle.proofs.Falling.{AreClean, rounds_fell}
-use Rattle.lanes_settle.proofs.LaneRounds.{and_left, and_right, quiet_finished, quiet_same, round_keeps}
-use Rattle.lanes_settle.proofs.LaneTicks.{either, waits_where}
-use Rattle.lanes_settle.proofs.Moving.{both_none, happened_both, moves_on, round_moves_lanes, rounds_move_lanes, tick_below}
-use Rattle.lanes_settle.proofs.RoundCounts.{tick_entry}
-use Rattle.lanes_settle.proofs.Together.{gets_where}
-use Rattle.lanes_settle.specs.Along.{LanesMove, happened}
-use Rattle.lanes_settle.specs.Begun.{NamesFront, NoMore, QuietFront, RoundFront, SettleFront, TickFront}
-use Rattle.lanes_settle.specs.Moves.{is_tick}
-use Rattle.lanes_settle.specs.Rounds.{Each, LaneRound, MakeRound, MakesRound, are_quiet, is_quiet}
-use Rattle.lanes_settle.specs.Settle.{GoesOn, OfLane, SettleEntry, SettleRound, Settled, Settles, Settling, TicksBehind}
-use Rattle.lanes_settle.specs.Settle.{begin, entries_of, most_rounds, round_entries, tick_entries}
-use Rattle.lanes_settle.specs.Sums.{IsUnforged}
-use Rattle.lanes_settle.specs.Ticks.{TickLanes, gets_tick, tick, waits_on}
-use Rattle.lanes_world.proofs.LaneLists.{each_there, is_there, lane_moved, many_moved}
+use Rattle.disk_model.specs.DiskLog.{after, nothing_yet}
+use Rattle.disk_model.specs.ClientState.{is_finished}
+use Rattle.disk_model.specs.DiskEvent.{DiskEvent}
+use Rattle.disk_model.specs.LaneState.{IsShape, LaneState, Shape, fresh}
+use Rattle.disk_model.specs.LaneStep.{LaneStep}
+use Rattle.disk_model.specs.Reached.{IsReached}
+use Rattle.world_laws.proofs.Falling.{AreClean, rounds_fell}
+use Rattle.world_laws.proofs.LaneRounds.{and_left, and_right, quiet_finished, quiet_same, round_keeps}
+use Rattle.world_laws.proofs.LaneTicks.{either, waits_where}
+use Rattle.world_laws.proofs.Moving.{both_none, happened_both, moves_on, round_moves_lanes, rounds_move_lanes, tick_below}
+use Rattle.world_laws.proofs.RoundCounts.{tick_entry}
+use Rattle.world_laws.proofs.Together.{gets_where}
+use Rattle.world_laws.specs.Along.{LanesMove, happened}
+use Rattle.world_laws.specs.Begun.{NamesFront, NoMore, QuietFront, RoundFront, SettleFront, TickFront}
+use Rattle.world_laws.specs.Moves.{is_tick}
+use Rattle.world_laws.specs.Rounds.{Each, LaneRound, MakeRound, MakesRound, are_quiet, is_quiet}
+use Rattle.world_laws.specs.Settle.{GoesOn, OfLane, SettleEntry, SettleRound, Settled, Settles, Settling, TicksBehind}
+use Rattle.world_laws.specs.Settle.{begin, entries_of, most_rounds, round_entries, tick_entries}
+use Rattle.world_laws.specs.Sums.{IsUnforged}
+use Rattle.world_laws.specs.Ticks.{TickLanes, gets_tick, tick, waits_on}
+use Rattle.world_laws.proofs.LaneLists.{each_there, is_there, lane_moved, many_moved}
 use Rattle.script_laws.proofs.Entries.{EachEntry, each_in}
 use Rattle.script_laws.proofs.Places.{InEither, no_place, place_in}
 use Rattle.script_laws.proofs.SettleTicks.{NoTick, front_none, round_none}

@@ -7,23 +7,23 @@ use Rattle.std.proofs.lemmas.Option.{slice_get_within}
 use Rattle.runs.specs.Run.{Run}
 use Rattle.vdisk_msg.specs.declared.request.Request.{Request}
 use Rattle.disk_law.specs.ListStep.{Carries}
-use Rattle.disk_steps.specs.DiskEvent.{DiskEvent, Done, Works}
-use Rattle.disk_steps.specs.LaneState.{LaneState}
-use Rattle.disk_steps.specs.LaneStep.{LaneStep}
-use Rattle.disk_steps.specs.Reached.{IsReached}
-use Rattle.lanes_settle.specs.Along.{happened}
-use Rattle.lanes_settle.specs.Rounds.{Each}
-use Rattle.lanes_settle.specs.Settle.{OfLane, SettleEntry, Settled, Unsettled}
-use Rattle.lanes_settle.specs.Sums.{IsUnforged}
-use Rattle.lanes_world.proofs.Along.{lane_step, many_stay, stay_reached}
-use Rattle.lanes_world.proofs.LaneLists.{each_there}
-use Rattle.lanes_world.specs.World.{OneMoves, WorldState, WorldStep}
-use Rattle.world_faults.proofs.StatusLaws.{done_tells}
-use Rattle.world_faults.specs.Statuses.{TellsStore}
-use Rattle.world_images.proofs.NamedRuns.{forged_before}
-use Rattle.world_words.proofs.EventWords.{event_words}
-use Rattle.world_words.proofs.LeftOver.{NamesBelow}
-use Rattle.world_words.specs.Words.{HasWords}
+use Rattle.disk_model.specs.DiskEvent.{DiskEvent, Done, Works}
+use Rattle.disk_model.specs.LaneState.{LaneState}
+use Rattle.disk_model.specs.LaneStep.{LaneStep}
+use Rattle.disk_model.specs.Reached.{IsReached}
+use Rattle.world_laws.specs.Along.{happened}
+use Rattle.world_laws.specs.Rounds.{Each}
+use Rattle.world_laws.specs.Settle.{OfLane, SettleEntry, Settled, Unsettled}
+use Rattle.world_laws.specs.Sums.{IsUnforged}
+use Rattle.world_laws.proofs.Along.{lane_step, many_stay, stay_reached}
+use Rattle.world_laws.proofs.LaneLists.{each_there}
+use Rattle.world_laws.specs.World.{OneMoves, WorldState, WorldStep}
+use Rattle.world_laws.proofs.StatusLaws.{done_tells}
+use Rattle.world_laws.specs.Statuses.{TellsStore}
+use Rattle.world_laws.proofs.NamedRuns.{forged_before}
+use Rattle.world_laws.proofs.EventWords.{event_words}
+use Rattle.world_laws.proofs.LeftOver.{NamesBelow}
+use Rattle.world_laws.specs.Words.{HasWords}
 use Rattle.script_laws.proofs.EntryKinds.{IsWell}
 
 -- AN ENTRY of one of so many disks

@@ -4,11 +4,11 @@ use Rattle.std.specs.List.{All, cons_option, count_by}
 use Rattle.std.proofs.lemmas.List.Elements.{All-cons, All-nil}
 use Rattle.disk_law.specs.ListStep as plain
 use Rattle.domain_script.specs.declared.event.Event.{Event}
-use Rattle.lanes_settle.specs.Settle.{OfLane, SettleEntry, Settled, Unsettled}
+use Rattle.world_laws.specs.Settle.{OfLane, SettleEntry, Settled, Unsettled}
 use Rattle.ldom_journal.specs.DiskEvents.{Said, said, said_of_any, whole_history}
 use Rattle.ldom_entries.specs.declared.entry.Entry.{Entry}
-use Rattle.world_faults.proofs.Counted.{count_more}
-use Rattle.world_faults.specs.Failures.{in_entry, is_failed_done}
+use Rattle.world_laws.proofs.Counted.{count_more}
+use Rattle.world_laws.specs.Failures.{in_entry, is_failed_done}
 use Rattle.script_laws.specs.Failures.{SucceedsOrFails, has_failed}
 use Rattle.script_laws.proofs.EntryKinds.{Kind, SaysNothing, kind_of}
 use Rattle.script_laws.proofs.Tellings.{Telling, entries_told, means_of}

@@ -2,14 +2,14 @@
 use Rattle.std.proofs.Common.{◌≡◌, inl, inr, ℕ, ◌*◌, ◌≤◌, arith, List, [], ◌∷◌, length, sym, ◌∙◌, ap, subst, Option, Some, None, IfSome}
 use Rattle.std.specs.Prelude.{IsSome, IsSomeAnd}
 use Rattle.std.specs.Io.KnownBytes.{Appends}
-use Rattle.disk_steps.specs.LaneState.{LaneState}
+use Rattle.disk_model.specs.LaneState.{LaneState}
 use Rattle.domain_script.specs.Declarations.{AreDisks}
 use Rattle.domain_script.specs.ScriptEvents.{AllSpell, no_names}
 use Rattle.domain_script.specs.ScriptLines.{script_lines}
 use Rattle.domain_script.specs.NamesState.{NamesState}
 use Rattle.domain_script.specs.declared.event.DiskDecl.{DiskDecl}
 use Rattle.domain_script.specs.declared.event.Event.{Event}
-use Rattle.lanes_world.specs.World.{WorldState}
+use Rattle.world_laws.specs.World.{WorldState}
 use Rattle.ldom_journal.specs.Report.{report}
 use Rattle.ldom_entries.specs.declared.entry.Entry.{Entry}
 use Rattle.ldom_journal.specs.declared.status.Mode.{Mode}

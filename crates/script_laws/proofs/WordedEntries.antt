@@ -2,8 +2,8 @@
 use Rattle.std.proofs.Common.{◌≡◌, ℕ, ◌<◌, Some, List, [], ◌∷◌, length}
 use Rattle.std.specs.List.{All}
 use Rattle.std.proofs.lemmas.List.Elements.{All-cons, All-nil}
-use Rattle.lanes_settle.specs.Settle.{SettleEntry}
-use Rattle.lanes_world.specs.Lines.{Line}
+use Rattle.world_laws.specs.Settle.{SettleEntry}
+use Rattle.world_laws.specs.Lines.{Line}
 use Rattle.vio_tag.specs.declared.cause.Cause.{Cause}
 use Rattle.vio_tag.specs.declared.cause.Cause.TheVariants as the_cause
 use Rattle.domain_script.specs.declared.event.DiskDecl.{DiskDecl}
@@ -16,7 +16,7 @@ use Rattle.ldom_entries.specs.declared.entry.Who.TheVariants.{Lane as OfWhole, E
 use Rattle.ldom_journal.specs.HasWords.{HasFault, HasValues, HasWords, IsCompletion, IsDeclared, IsLane, IsNamed}
 use Rattle.ldom_journal.specs.LaneEvents.{AtClient, AtLane, AtServer, AtWire, ChangesNothing, LeavesNothing, LeavesOver, Meaning, NoRoomFor, Refuses, lane_number, meaning, world_event}
 use Rattle.world_parts.specs.Lines.{line_of}
-use Rattle.world_words.specs.Words.{IsOperation, NamesFault, ReadsBlocks}
+use Rattle.world_laws.specs.Words.{IsOperation, NamesFault, ReadsBlocks}
 use Rattle.script_laws.proofs.Tellings.{Telling, entries_told, means_of}
 use Rattle.script_laws.proofs.ToldEntries.{AreTold, IsTold}
 use Rattle.world_parts.proofs.Meanings.{Holds, entry_has, number_of}

@@ -4,14 +4,14 @@ use Rattle.std.proofs.lemmas.Bool.{eq-eqb}
 use Rattle.vdisk_msg.specs.declared.request.Request.{Request}
 use Rattle.vdisk_msg.specs.declared.request.Request.TheVariants.{Flush, Read, Write}
 use Rattle.disk_law.specs.Issued.{issued}
-use Rattle.disk_steps.specs.DiskEvent.{Accepted, Asks, DiskEvent, Full, OnWire, Refused, Rests, Turns, Works}
-use Rattle.disk_steps.specs.LaneState.{Shape}
-use Rattle.lanes_settle.specs.Along.{event_at, happened}
-use Rattle.lanes_settle.specs.Settle.{OfLane, SettleEntry, Settled, Unsettled}
-use Rattle.world_images.specs.NamesNo.{IsApart, NamesNo, NamesNot}
-use Rattle.world_requests.proofs.Filtered.{filter_both}
-use Rattle.world_requests.proofs.RequestLog.{issued_both}
-use Rattle.world_requests.specs.Requests.{request_event, requests_of}
+use Rattle.disk_model.specs.DiskEvent.{Accepted, Asks, DiskEvent, Full, OnWire, Refused, Rests, Turns, Works}
+use Rattle.disk_model.specs.LaneState.{Shape}
+use Rattle.world_laws.specs.Along.{event_at, happened}
+use Rattle.world_laws.specs.Settle.{OfLane, SettleEntry, Settled, Unsettled}
+use Rattle.world_laws.specs.NamesNo.{IsApart, NamesNo, NamesNot}
+use Rattle.world_laws.proofs.Filtered.{filter_both}
+use Rattle.world_laws.proofs.RequestLog.{issued_both}
+use Rattle.world_laws.specs.Requests.{request_event, requests_of}
 use Rattle.script_laws.specs.Outside.{IsOutside, IsOutsideAll}
 
 apart : (first place : ℕ) (request : Request) → IsOutside first place request → IsApart place first request

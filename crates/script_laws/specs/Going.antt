@@ -13,7 +13,7 @@ use Rattle.script_laws.specs.Replayed.{Stopped}
 use Rattle.domain_script.specs.ScriptLines.{AreShort, TakesLines}
 use Rattle.domain_script.specs.ScriptEvents.{AllSpell}
 use Rattle.world_parts.specs.Script.{FitsScript, FitsCutOff}
-use Rattle.lanes_world.specs.World.{WorldState}
+use Rattle.world_laws.specs.World.{WorldState}
 use Rattle.domain_script.specs.Limits.{most_lines}
 
 -- what the journal got after so many entries, by how it ended: after want of memory the last line's part may be cut off

@@ -1,14 +1,14 @@
 -- THE HEADLINE: what holds of the disks of every script, whatever it resets, stops, restarts and loses.
 use Rattle.std.specs.Prelude.{◌≡◌, ◌⊎◌, ◌↔◌, ℕ, false, List, [], length, Some, IfSome, slice_get}
 use Rattle.disk_law.specs.ListState.{ImageState}
-use Rattle.disk_steps.specs.LaneState.{LaneState, Shape}
+use Rattle.disk_model.specs.LaneState.{LaneState, Shape}
 use Rattle.domain_script.specs.declared.event.DiskDecl.{DiskDecl}
 use Rattle.domain_script.specs.declared.event.Event.{Event}
-use Rattle.lanes_world.specs.World.{WorldState}
+use Rattle.world_laws.specs.World.{WorldState}
 use Rattle.ldom_entries.specs.declared.entry.Entry.{Entry}
-use Rattle.lanes_settle.specs.Along.{happened}
-use Rattle.lanes_settle.specs.Settle.{SettleEntry}
-use Rattle.world_images.specs.Stays.{StaysBehind}
+use Rattle.world_laws.specs.Along.{happened}
+use Rattle.world_laws.specs.Settle.{SettleEntry}
+use Rattle.world_laws.specs.Stays.{StaysBehind}
 use Rattle.world_parts.specs.Declared.{shapes_of}
 use Rattle.world_parts.specs.Endings.{Ending, MayBeCut, NotBegun, Whole}
 use Rattle.world_parts.specs.Script.{FitsCutOff, FitsScript, cut_lines}

@@ -1,14 +1,14 @@
 -- What holds of the lane of each disk at the end of a script's lines.
 use Rattle.std.specs.Prelude.{◌≡◌, ℕ, true, false, List, is_some}
-use Rattle.disk_log.specs.Agreement.{AgreesWithLog}
-use Rattle.disk_log.specs.May.{IsLawful}
-use Rattle.disk_steps.specs.LaneState.{LaneState, Shape}
-use Rattle.lane_invariant.specs.OneSession.{AreOneSession}
-use Rattle.lane_law.specs.Sayings.{heard, said}
-use Rattle.lane_law.specs.TalkLog.{TalkLog, talk_of}
-use Rattle.lane_law.specs.WireAt.{IsUp}
-use Rattle.lanes_settle.specs.Along.{happened}
-use Rattle.lanes_settle.specs.Settle.{SettleEntry}
+use Rattle.disk_model.specs.Agreement.{AgreesWithLog}
+use Rattle.disk_model.specs.May.{IsLawful}
+use Rattle.disk_model.specs.LaneState.{LaneState, Shape}
+use Rattle.lane_laws.specs.OneSession.{AreOneSession}
+use Rattle.disk_model.specs.Sayings.{heard, said}
+use Rattle.disk_model.specs.TalkLog.{TalkLog, talk_of}
+use Rattle.disk_model.specs.WireAt.{IsUp}
+use Rattle.world_laws.specs.Along.{happened}
+use Rattle.world_laws.specs.Settle.{SettleEntry}
 use Rattle.ldc_queue.specs.OneStream.{IsFront}
 use Rattle.ldc_queue.specs.Talk.{numbered_heard, numbered_said}
 use Rattle.ldc_queue.specs.Wire.{peer_of}

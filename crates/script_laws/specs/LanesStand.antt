@@ -1,7 +1,7 @@
 -- The lanes that a run gives back with its image.
 use Rattle.std.specs.Prelude.{◌≡◌, List, [], Option, Some, None, IsSome}
-use Rattle.disk_steps.specs.LaneState.{LaneState}
-use Rattle.lanes_world.specs.World.{WorldState}
+use Rattle.disk_model.specs.LaneState.{LaneState}
+use Rattle.world_laws.specs.World.{WorldState}
 use Rattle.ldom_entries.specs.declared.entry.Entry.{Entry}
 use Rattle.ldom_journal.specs.declared.status.Status.{Status}
 use Rattle.ldom_journal.specs.declared.status.Status.TheVariants as status

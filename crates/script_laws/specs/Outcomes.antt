@@ -16,7 +16,7 @@ use Rattle.script_laws.specs.Replayed.{Replayed, start_of}
 use Rattle.script_laws.specs.Sized.{SizeIs}
 use Rattle.world_parts.specs.Declared.{bytes_needed}
 use Rattle.world_parts.specs.Endings.{ending}
-use Rattle.disk_steps.specs.LaneState.{LaneState}
+use Rattle.disk_model.specs.LaneState.{LaneState}
 
 -- The whole text was written and the status is the run's, or the sink failed after some front of the text.
 abbrev pub Reports : Status → Status → Option (List ℕ) → Option (List ℕ) → List ℕ → Type 0

@@ -10,8 +10,8 @@ use Rattle.vio_io.specs.declared.host.AttachFault.TheVariants.{Failed, Memory}
 use Rattle.ldom_journal.specs.LinesEnd.{counted_lines}
 use Rattle.script_laws.specs.Attached.{ImageStands}
 use Rattle.world_parts.specs.Endings.{JournalIs}
-use Rattle.disk_steps.specs.LaneState.{LaneState}
-use Rattle.lanes_world.specs.World.{WorldState}
+use Rattle.disk_model.specs.LaneState.{LaneState}
+use Rattle.world_laws.specs.World.{WorldState}
 use Rattle.script_laws.specs.Reading.{StopsAt}
 use Rattle.script_laws.specs.LanesStand.{LanesStand}
 use Rattle.script_laws.specs.Script.{ReadSoFar}

@@ -1,12 +1,12 @@
 -- What a settle comes to in a script.
 use Rattle.std.specs.Prelude.{◌≡◌, ℕ, ◌≤◌, true, false, List, [], ◌∷◌, ◌++◌, length}
-use Rattle.disk_log.specs.DiskLog.{DiskLog}
-use Rattle.disk_steps.specs.DiskEvent.{DiskEvent}
-use Rattle.disk_steps.specs.LaneState.{Shape}
+use Rattle.disk_model.specs.DiskLog.{DiskLog}
+use Rattle.disk_model.specs.DiskEvent.{DiskEvent}
+use Rattle.disk_model.specs.LaneState.{Shape}
 use Rattle.domain_script.specs.declared.event.Event.{Event}
 use Rattle.domain_script.specs.declared.event.Event.TheVariants.{Settle}
-use Rattle.lanes_settle.specs.Moves.{NeverThree, is_tick, ticks_in}
-use Rattle.lanes_settle.specs.Settle.{OfLane, SettleEntry, Settled, Unsettled}
+use Rattle.world_laws.specs.Moves.{NeverThree, is_tick, ticks_in}
+use Rattle.world_laws.specs.Settle.{OfLane, SettleEntry, Settled, Unsettled}
 use Rattle.ldc_queue.specs.declared.end.End.{End}
 use Rattle.ldom_entries.specs.declared.entry.Entry.{Entry}
 use Rattle.script_laws.specs.Still.{AreStillBy}

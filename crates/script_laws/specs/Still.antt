@@ -1,8 +1,8 @@
 -- Where both ends of a disk's lane are still, by its log.
 use Rattle.std.specs.Prelude.{◌≡◌, ◌⊎◌, ◌+◌, ◌≤◌, true, [], length}
-use Rattle.disk_log.specs.DiskLog.{DiskLog}
-use Rattle.disk_log.specs.QuietLaws.{EndIsIdle}
-use Rattle.lane_law.specs.WireAt.{IsUp}
+use Rattle.disk_model.specs.DiskLog.{DiskLog}
+use Rattle.disk_model.specs.QuietLaws.{EndIsIdle}
+use Rattle.disk_model.specs.WireAt.{IsUp}
 use Rattle.ldc_queue.specs.Wire.{peer_of, waiting_for}
 use Rattle.ldc_queue.specs.declared.end.End.{End}
 use Rattle.ldc_queue.specs.declared.end.End.TheVariants.{A, B}

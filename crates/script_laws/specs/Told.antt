@@ -1,11 +1,11 @@
 -- What lines with their parts of a journal tell of the lanes of the disks.
 use Rattle.std.specs.List.{filter_map, flat_map}
 use Rattle.std.specs.Prelude.{ℕ, List}
-use Rattle.disk_log.specs.DiskLog.{DiskLog, after, nothing_yet}
-use Rattle.disk_steps.specs.LaneState.{Shape}
+use Rattle.disk_model.specs.DiskLog.{DiskLog, after, nothing_yet}
+use Rattle.disk_model.specs.LaneState.{Shape}
 use Rattle.domain_script.specs.declared.event.Event.{Event}
-use Rattle.lanes_settle.specs.Along.{happened}
-use Rattle.lanes_settle.specs.Settle.{SettleEntry}
+use Rattle.world_laws.specs.Along.{happened}
+use Rattle.world_laws.specs.Settle.{SettleEntry}
 use Rattle.ldom_journal.specs.LaneEvents.{world_event}
 use Rattle.ldom_entries.specs.declared.entry.Entry.{Entry}
 use Rattle.runs.specs.Lawful.{log_of}

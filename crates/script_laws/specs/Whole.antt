@@ -12,7 +12,7 @@ use Rattle.script_laws.specs.Completed.{completed_ids}
 use Rattle.script_laws.specs.PlainRun.{plain_text, plain_content, plain_ids}
 use Rattle.script_laws.specs.Replayed.{start_of}
 use Rattle.world_parts.specs.Script.{FitsScript}
-use Rattle.lanes_world.specs.World.{WorldState}
+use Rattle.world_laws.specs.World.{WorldState}
 
 -- the journal fits all events, no call of the image failed, and the whole report was written
 pub record RunsWhole {D : Type 0} (mode : Mode) (content : D → Option (List ℕ)) (faults : D → ℕ) (gives : ℕ → Option (List ℕ)) (names : NamesState) (events : List Event)

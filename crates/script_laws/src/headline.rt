@@ -5,7 +5,7 @@ ghost use Rattle.disk_law.specs.ListState.{ImageState};
 ghost use Rattle.domain_script.specs.Declarations.{AreDisks};
 ghost use Rattle.domain_script.specs.declared.event.DiskDecl.{DiskDecl};
 ghost use Rattle.domain_script.specs.declared.event.Event.{Event};
-ghost use Rattle.lanes_world.specs.World.{WorldState};
+ghost use Rattle.world_laws.specs.World.{WorldState};
 ghost use Rattle.ldom_entries.specs.declared.entry.Entry.{Entry};
 ghost use Rattle.script_laws.specs.Headline.{Headline};
 ghost use Rattle.world_parts.specs.Declared.{bytes_needed, world_of};

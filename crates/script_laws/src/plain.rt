@@ -4,7 +4,7 @@ ghost use Rattle.std.specs.Prelude.{◌≡◌, ℕ, ◌*◌, ◌≤◌, List, []
 ghost use Rattle.domain_script.specs.Declarations.{IsDisk};
 ghost use Rattle.domain_script.specs.declared.event.DiskDecl.{DiskDecl};
 ghost use Rattle.domain_script.specs.declared.event.Event.{Event};
-ghost use Rattle.lanes_world.specs.World.{WorldState};
+ghost use Rattle.world_laws.specs.World.{WorldState};
 ghost use Rattle.ldom_journal.specs.Report.{report};
 ghost use Rattle.ldom_entries.specs.declared.entry.Entry.{Entry};
 ghost use Rattle.ldom_journal.specs.declared.status.Mode.TheVariants as mode;

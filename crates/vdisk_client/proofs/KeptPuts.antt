@@ -16,11 +16,11 @@ use Rattle.vio_handshake.specs.declared.handshake.Phase.TheVariants.{Open, PeerR
 use Rattle.vio_handshake.specs.Rules.{opens_by_put, put_in, shake_sent}
 use Rattle.vio_handshake.specs.State.{shake_up}
 use Rattle.vio_tag.specs.declared.message.Message.{Message}
-use Rattle.disk_steps.specs.ClientPutting.{announced, announcement, announcing, client_holds, client_put, holding, is_announcing, opened_if, session_behind}
-use Rattle.disk_steps.specs.ClientRule.{Announces, ClientRule, Completes, Joins, Publishes, Puts, Rests, Says, Takes, client_rule}
-use Rattle.disk_steps.specs.ClientState.{ClientSession, ClientState}
-use Rattle.disk_steps.specs.EndPuts.{ending, kind_in, shake_behind}
-use Rattle.disk_steps.specs.Seeing.{Seen}
+use Rattle.disk_model.specs.ClientPutting.{announced, announcement, announcing, client_holds, client_put, holding, is_announcing, opened_if, session_behind}
+use Rattle.disk_model.specs.ClientRule.{Announces, ClientRule, Completes, Joins, Publishes, Puts, Rests, Says, Takes, client_rule}
+use Rattle.disk_model.specs.ClientState.{ClientSession, ClientState}
+use Rattle.disk_model.specs.EndPuts.{ending, kind_in, shake_behind}
+use Rattle.disk_model.specs.Seeing.{Seen}
 use Rattle.vdisk_client.proofs.Rules.{Known, Unannounced, rule_known}
 use Rattle.vdisk_client.proofs.Shaking.{ShakeKeeps, begun_keeps, sent_keeps, up_begins}
 use Rattle.vdisk_client.proofs.Standing.{not_true}

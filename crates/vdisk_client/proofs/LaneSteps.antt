@@ -4,17 +4,17 @@ use Rattle.ldc_queue.specs.ChannelView.{ChannelView}
 use Rattle.ldc_queue.specs.declared.end.End.TheVariants.{A, B}
 use Rattle.ldc_queue.specs.Wire.{Wire, configured, put_for, taken_for}
 use Rattle.vio_tag.specs.declared.cause.Cause.{Cause}
-use Rattle.lane_law.specs.WireEvent as wire
-use Rattle.lane_law.specs.WireEvent.{ByStep, Giver, giver}
-use Rattle.disk_steps.proofs.OwnSteps.{client_resets_own}
-use Rattle.disk_steps.specs.ClientRule.{client_rule}
-use Rattle.disk_steps.specs.ClientState.{ClientState}
-use Rattle.disk_steps.specs.ClientStep.{ClientStep}
-use Rattle.disk_steps.specs.DiskEvent.{DiskEvent, Done, OnWire, Published, Works}
-use Rattle.disk_steps.specs.LaneState.{LaneState}
-use Rattle.disk_steps.specs.OnChannel.{IsChannelOf}
-use Rattle.disk_steps.specs.LaneStep.{ClientOnWire, LaneStep, ResetBy}
-use Rattle.disk_steps.specs.Seeing.{Seen, seen}
+use Rattle.disk_model.specs.WireEvent as wire
+use Rattle.disk_model.specs.WireEvent.{ByStep, Giver, giver}
+use Rattle.disk_model.proofs.OwnSteps.{client_resets_own}
+use Rattle.disk_model.specs.ClientRule.{client_rule}
+use Rattle.disk_model.specs.ClientState.{ClientState}
+use Rattle.disk_model.specs.ClientStep.{ClientStep}
+use Rattle.disk_model.specs.DiskEvent.{DiskEvent, Done, OnWire, Published, Works}
+use Rattle.disk_model.specs.LaneState.{LaneState}
+use Rattle.disk_model.specs.OnChannel.{IsChannelOf}
+use Rattle.disk_model.specs.LaneStep.{ClientOnWire, LaneStep, ResetBy}
+use Rattle.disk_model.specs.Seeing.{Seen, seen}
 use Rattle.vdisk_client.specs.Calls.{Steps, channel_after, client_event, sees}
 use Rattle.vdisk_client.specs.OnLane.{client_moved}
 use Rattle.vdisk_client.specs.declared.answers.ClientOut.{ClientOut}

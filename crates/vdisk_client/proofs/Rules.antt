@@ -6,9 +6,9 @@ use Rattle.cookie_copy.specs.Faults.{is_up}
 use Rattle.ldc_link.specs.Putting.{owes}
 use Rattle.vdisk_msg.specs.declared.request.Request.{Request}
 use Rattle.vio_tag.specs.declared.message.Message.{Message}
-use Rattle.disk_steps.specs.ClientRule.{Announces, ClientRule, Completes, Joins, Publishes, Puts, Rests, Says, Takes, client_rule, completes_first, in_session, is_urgent, publishes, puts_first, puts_or_takes, says, takes_first}
-use Rattle.disk_steps.specs.ClientState.{ClientSession, ClientState}
-use Rattle.disk_steps.specs.Seeing.{Seen}
+use Rattle.disk_model.specs.ClientRule.{Announces, ClientRule, Completes, Joins, Publishes, Puts, Rests, Says, Takes, client_rule, completes_first, in_session, is_urgent, publishes, puts_first, puts_or_takes, says, takes_first}
+use Rattle.disk_model.specs.ClientState.{ClientSession, ClientState}
+use Rattle.disk_model.specs.Seeing.{Seen}
 
 pub record Unannounced (s : ClientState) (session : ClientSession) : Type 0 where
   pub is_open : s.session ≡ Some session

@@ -10,8 +10,8 @@ use Rattle.vdisk_msg.specs.Requests.{AreSound}
 use Rattle.vio_handshake.specs.declared.handshake.Handshake.{Handshake}
 use Rattle.vio_handshake.specs.declared.handshake.Phase.TheVariants.{Down, Open}
 use Rattle.vio_handshake.specs.State.{OwesWell}
-use Rattle.disk_steps.specs.ClientPutting.{is_announcing}
-use Rattle.disk_steps.specs.ClientState.{ClientSession, ClientState}
+use Rattle.disk_model.specs.ClientPutting.{is_announcing}
+use Rattle.disk_model.specs.ClientState.{ClientSession, ClientState}
 
 -- the phases of the end that begins the link's handshake
 abbrev pub IsInitiators : LinkPhase → Type 0

@@ -42,7 +42,7 @@ pub(crate) struct ClientEnd {
 
 impl Model for ClientEnd {
     ghost use Rattle.std.specs.Prelude.{◌≡◌, ◌≤◌, length, take};
-    ghost use Rattle.disk_steps.specs.ClientState.{ClientState};
+    ghost use Rattle.disk_model.specs.ClientState.{ClientState};
 
     ghost Value = { ClientState };
 
@@ -67,8 +67,8 @@ impl Model for ClientEnd {
 }
 
 impl ClientEnd {
-    ghost use Rattle.disk_steps.specs.ClientState.{ever_published_count, first_id, fresh_client, is_finished, joined_client};
-    ghost use Rattle.disk_steps.specs.ClientStep.{ClientAdmits};
+    ghost use Rattle.disk_model.specs.ClientState.{ever_published_count, first_id, fresh_client, is_finished, joined_client};
+    ghost use Rattle.disk_model.specs.ClientStep.{ClientAdmits};
     ghost use Rattle.vdisk_client.specs.Calls.{admitted, front_count};
 
     /// A client that isn't configured.

@@ -4,7 +4,7 @@ ghost use Rattle.std.specs.Prelude.{◌≡◌, ◌≢◌, ◌<◌, ◌≤◌, �
 ghost use Rattle.ldc_queue.specs.declared.end.ChannelState.TheVariants.{Up};
 ghost use Rattle.vio_handshake.specs.Rules.{shake_take};
 ghost use Rattle.vio_handshake.specs.declared.handshake.Phase.TheVariants.{Down};
-ghost use Rattle.disk_steps.specs.Ranges.{range_length};
+ghost use Rattle.disk_model.specs.Ranges.{range_length};
 
 use crate::answers::ClientOut;
 use crate::end::ClientEnd;
@@ -16,9 +16,9 @@ use vio_handshake::HsOut;
 use vio_tag::{Cause, Message, MsgBody, decode};
 
 impl ClientEnd {
-    ghost use Rattle.disk_steps.specs.ClientRule.{is_urgent, puts_first, takes_first};
-    ghost use Rattle.disk_steps.specs.ClientState.{joined_client};
-    ghost use Rattle.disk_steps.specs.ClientTaking.{HearsWhole, by_handshake, hears_message, takes_ack};
+    ghost use Rattle.disk_model.specs.ClientRule.{is_urgent, puts_first, takes_first};
+    ghost use Rattle.disk_model.specs.ClientState.{joined_client};
+    ghost use Rattle.disk_model.specs.ClientTaking.{HearsWhole, by_handshake, hears_message, takes_ack};
     ghost use Rattle.vdisk_client.specs.Calls.{Steps, rule_of, sees};
     ghost use Rattle.vdisk_client.specs.Hearing.{IsAgreed, MayHear, take_of};
     ghost use Rattle.vdisk_client.specs.Standing.{CountsStand, RequestsStand, Stands};

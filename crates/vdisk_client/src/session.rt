@@ -1,7 +1,7 @@
 // The counts of an open session.
 
 ghost use Rattle.std.specs.Prelude.{◌≡◌, ◌≢◌, ◌+◌, ◌-◌, ◌%◌, ◌^◌, ◌<◌, ◌≤◌, nat_le, nat_lt, true, false};
-ghost use Rattle.disk_steps.specs.ClientState.{opened_session};
+ghost use Rattle.disk_model.specs.ClientState.{opened_session};
 
 use std::marker::Model;
 
@@ -23,7 +23,7 @@ pub(crate) struct OpenSession {
 }
 
 impl Model for OpenSession {
-    ghost use Rattle.disk_steps.specs.ClientState.{ClientSession};
+    ghost use Rattle.disk_model.specs.ClientState.{ClientSession};
 
     ghost Value = { ClientSession };
 

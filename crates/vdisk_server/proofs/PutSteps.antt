@@ -16,10 +16,10 @@ use Rattle.ldc_queue.specs.ChannelView.{ChannelView}
 use Rattle.vio_handshake.specs.declared.handshake.Handshake.{Handshake}
 use Rattle.vio_handshake.specs.Rules.{opens_by_put}
 use Rattle.vio_tag.specs.declared.message.Message.{Message}
-use Rattle.disk_steps.specs.EndPuts.{ComesUp, EndsOwn, EndsShake, Goes, PutKind, ending, kind_in, put_opens, shake_behind}
-use Rattle.disk_steps.specs.ServerPutting.{server_holds, server_kind, server_opens, server_put, session_behind}
-use Rattle.disk_steps.specs.ServerRule.{server_rule}
-use Rattle.disk_steps.specs.ServerState.{ServerState}
+use Rattle.disk_model.specs.EndPuts.{ComesUp, EndsOwn, EndsShake, Goes, PutKind, ending, kind_in, put_opens, shake_behind}
+use Rattle.disk_model.specs.ServerPutting.{server_holds, server_kind, server_opens, server_put, session_behind}
+use Rattle.disk_model.specs.ServerRule.{server_rule}
+use Rattle.disk_model.specs.ServerState.{ServerState}
 use Rattle.descriptor_work.specs.declared.answers.ServerOut.{ServerOut}
 use Rattle.descriptor_work.specs.declared.answers.ServerOut.TheVariants as out
 use Rattle.vdisk_server.specs.Answering.{StepsAlone, sees}

@@ -20,10 +20,10 @@ use Rattle.vio_tag.specs.declared.message.MsgBody.TheVariants.{DringData}
 use Rattle.vio_tag.specs.declared.message.TagFault.{TagFault}
 use Rattle.vio_tag.specs.Decoding.{Decodes}
 use Rattle.vio_tag.specs.Form.{IsWellFormed}
-use Rattle.disk_steps.specs.EndPuts.{shake_risen}
-use Rattle.disk_steps.specs.Ranges.{is_other}
-use Rattle.disk_steps.specs.ServerState.{ServerSession, ServerState, SlotRange, Work, joined_server, opened_server}
-use Rattle.disk_steps.specs.ServerTaking.{GoesOn, HearsLink, HearsWhole, Resets, ServerTake, ServerTakes, asked, by_handshake, hears_message, in_session, place_of, reads, sid_first, takes_info}
+use Rattle.disk_model.specs.EndPuts.{shake_risen}
+use Rattle.disk_model.specs.Ranges.{is_other}
+use Rattle.disk_model.specs.ServerState.{ServerSession, ServerState, SlotRange, Work, joined_server, opened_server}
+use Rattle.disk_model.specs.ServerTaking.{GoesOn, HearsLink, HearsWhole, Resets, ServerTake, ServerTakes, asked, by_handshake, hears_message, in_session, place_of, reads, sid_first, takes_info}
 use Rattle.vdisk_server.specs.Standing.{Answers, Began, IsDisk, IsOpen, IsQuiet, ShakeStands, Stands, WorkIn}
 use Rattle.vdisk_server.proofs.LinkSteps.{LinkTook, link_took}
 use Rattle.vdisk_server.proofs.ShakeSteps.{ShakeWent, goes_open, goes_stands, opens_open, opens_stands, shake_joined, shake_rises, up_is}

@@ -11,10 +11,10 @@ use Rattle.vio_handshake.specs.declared.handshake.Handshake.{Handshake}
 use Rattle.vio_handshake.specs.declared.handshake.Phase.{Phase}
 use Rattle.vio_handshake.specs.Rules.{shake_sent}
 use Rattle.vio_tag.specs.declared.message.Message.{Message}
-use Rattle.disk_steps.specs.EndPuts.{EndsOwn, EndsShake, Goes, PutKind, ending, shake_behind}
-use Rattle.disk_steps.specs.ServerPutting.{answered, server_put, session_behind}
-use Rattle.disk_steps.specs.ServerRule.{answer}
-use Rattle.disk_steps.specs.ServerState.{ServerSession, ServerState, SlotRange, Work}
+use Rattle.disk_model.specs.EndPuts.{EndsOwn, EndsShake, Goes, PutKind, ending, shake_behind}
+use Rattle.disk_model.specs.ServerPutting.{answered, server_put, session_behind}
+use Rattle.disk_model.specs.ServerRule.{answer}
+use Rattle.disk_model.specs.ServerState.{ServerSession, ServerState, SlotRange, Work}
 use Rattle.vdisk_server.specs.Rules.{answer_owed, first_owed, owed_message, session_owes}
 use Rattle.vdisk_server.specs.Standing.{Answers, HasRange, IsOpen, IsQuiet, IsUnfinished, Stands, WorkIn}
 use Rattle.vdisk_server.proofs.ShakeSteps.{sent_keeps, sent_open, shake_sends}

@@ -2,11 +2,11 @@
 use Rattle.std.proofs.Common.{◌≡◌, ℕ, Bool, List, [], Option, Some, refl, sym, subst}
 use Rattle.ldc_queue.specs.ChannelView.{ChannelView}
 use Rattle.map_table.specs.declared.table.Entry.{Entry}
-use Rattle.disk_steps.specs.Served.{StoreDoes, StoreDoesIn}
-use Rattle.disk_steps.specs.ServerRule.{Serves as ServesWork, answer, server_rule}
-use Rattle.disk_steps.specs.ServerState.{Ends, Flushes, Gathers, Gives, Progress, Reads, ServerSession, ServerState, Work, Writes}
-use Rattle.disk_steps.specs.ServerStep.{ServerStep, with_progress}
-use Rattle.disk_steps.specs.ServerWork.{Reach}
+use Rattle.disk_model.specs.Served.{StoreDoes, StoreDoesIn}
+use Rattle.disk_model.specs.ServerRule.{Serves as ServesWork, answer, server_rule}
+use Rattle.disk_model.specs.ServerState.{Ends, Flushes, Gathers, Gives, Progress, Reads, ServerSession, ServerState, Work, Writes}
+use Rattle.disk_model.specs.ServerStep.{ServerStep, with_progress}
+use Rattle.disk_model.specs.ServerWork.{Reach}
 use Rattle.descriptor_work.specs.declared.answers.ServerOut.{ServerOut}
 use Rattle.descriptor_work.specs.declared.answers.ServerOut.TheVariants as out
 use Rattle.descriptor_work.specs.Calling as calling

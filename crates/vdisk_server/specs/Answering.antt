@@ -3,13 +3,13 @@ use Rattle.std.specs.Prelude.{◌≡◌, ℕ, List, [], Option, ⊤}
 use Rattle.ldc_queue.specs.ChannelView.{ChannelView, channel_with, channel_without_first, configured_channel}
 use Rattle.ldc_queue.specs.declared.end.End.TheVariants.{A, B}
 use Rattle.map_table.specs.declared.table.Entry.{Entry}
-use Rattle.lane_law.specs.WireEvent as wire
-use Rattle.disk_steps.specs.DiskEvent.{Desc, DiskEvent, Finished, Moved, OnWire, Stored, Works}
-use Rattle.disk_steps.specs.Seeing.{Seen, seen}
-use Rattle.disk_steps.specs.Served.{StoreDoes}
-use Rattle.disk_steps.specs.ServerState.{ServerState}
-use Rattle.disk_steps.specs.ServerStep.{ServerStep}
-use Rattle.disk_steps.specs.ServerWork.{Reach}
+use Rattle.disk_model.specs.WireEvent as wire
+use Rattle.disk_model.specs.DiskEvent.{Desc, DiskEvent, Finished, Moved, OnWire, Stored, Works}
+use Rattle.disk_model.specs.Seeing.{Seen, seen}
+use Rattle.disk_model.specs.Served.{StoreDoes}
+use Rattle.disk_model.specs.ServerState.{ServerState}
+use Rattle.disk_model.specs.ServerStep.{ServerStep}
+use Rattle.disk_model.specs.ServerWork.{Reach}
 use Rattle.descriptor_work.specs.Calling.{reach_over}
 use Rattle.descriptor_work.specs.declared.answers.ServerOut.{ServerOut}
 use Rattle.descriptor_work.specs.declared.answers.ServerOut.TheVariants as out

@@ -5,7 +5,7 @@ use Rattle.vdisk_server.specs.declared.session.RingSession.{RingSession}
 use Rattle.vdisk_server.specs.declared.session.SlotRange.{SlotRange as KeptRange}
 use Rattle.descriptor_work.specs.declared.work.Work.{Work as KeptWork}
 use Rattle.descriptor_work.specs.Fields.{work_with}
-use Rattle.disk_steps.specs.ServerState.{ServerSession, ServerState, SlotRange, Work}
+use Rattle.disk_model.specs.ServerState.{ServerSession, ServerState, SlotRange, Work}
 
 abbrev pub slot_range : KeptRange → SlotRange
 slot_range range = record { seq = range.seq; start = range.start; end = range.end; state = range.state }

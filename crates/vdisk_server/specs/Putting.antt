@@ -6,8 +6,8 @@ use Rattle.ldc_queue.specs.declared.end.End.TheVariants.{A}
 use Rattle.ldc_link.specs.declared.phase.Role.TheVariants.{Responder}
 use Rattle.ldc_link.specs.Putting.{owes}
 use Rattle.vio_handshake.specs.Rules.{shake_sent}
-use Rattle.disk_steps.specs.ServerPutting.{answered, server_opens, server_put}
-use Rattle.disk_steps.specs.ServerState.{ServerState}
+use Rattle.disk_model.specs.ServerPutting.{answered, server_opens, server_put}
+use Rattle.disk_model.specs.ServerState.{ServerState}
 use Rattle.descriptor_work.specs.declared.answers.ServerOut.{ServerOut}
 use Rattle.descriptor_work.specs.declared.answers.ServerOut.TheVariants as out
 use Rattle.vdisk_server.specs.Standing.{Answers}

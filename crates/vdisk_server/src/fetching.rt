@@ -3,8 +3,8 @@
 ghost use Rattle.std.specs.Prelude.{◌≡◌, ◌≤◌, ◌%◌, ◌<◌, length, None, Some};
 ghost use Rattle.cookie_copy.specs.Faults.{PagesWithin};
 ghost use Rattle.vio_handshake.specs.declared.handshake.Phase.TheVariants.{Open};
-ghost use Rattle.disk_steps.specs.ServerRule.{Fetches, server_rule};
-ghost use Rattle.disk_steps.specs.ServerWork.{cause_of, copy_number, slot_at};
+ghost use Rattle.disk_model.specs.ServerRule.{Fetches, server_rule};
+ghost use Rattle.disk_model.specs.ServerWork.{cause_of, copy_number, slot_at};
 ghost use Rattle.descriptor_work.specs.Calling.{reach_over};
 ghost use Rattle.vdisk_server.specs.Answering.{SameDisk, StepsIn, channel_after, sees};
 ghost use Rattle.vdisk_server.specs.Fields.{ring_session, state_of};

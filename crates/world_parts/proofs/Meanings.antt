@@ -3,12 +3,12 @@ use Rattle.std.proofs.Common.{◌≡◌, ℕ, ◌==◌, ◌&&◌, Bool, true, fa
 use Rattle.std.specs.Prelude.{⊤}
 use Rattle.std.proofs.lemmas.Bool.{eqb-true}
 use Rattle.vdisk_msg.specs.declared.request.Request.{Request}
-use Rattle.lane_law.specs.WireEvent.{Declined, Declines, NothingLost}
-use Rattle.disk_steps.specs.DiskEvent.{Asks, Calm, CalmReset, CalmRestart, CalmStart, CalmStop, CalmTick, DiskEvent, Full, OnWire, Refused, Rests}
+use Rattle.world_laws.specs.WireEvent.{Declined, Declines, NothingLost}
+use Rattle.world_laws.specs.DiskEvent.{Asks, Calm, CalmReset, CalmRestart, CalmStart, CalmStop, CalmTick, DiskEvent, Full, OnWire, Refused, Rests}
 use Rattle.ldc_queue.specs.declared.end.End.{End}
 use Rattle.ldc_queue.specs.declared.end.End.TheVariants.{B}
-use Rattle.lanes_settle.specs.Settle.{OfLane, SettleEntry, Settled, Unsettled}
-use Rattle.lanes_world.specs.Lines.{Asked, Call, Calls, Line, Loses, Resets, Restarts, Starts, Stops, Ticks}
+use Rattle.world_laws.specs.Settle.{OfLane, SettleEntry, Settled, Unsettled}
+use Rattle.world_laws.specs.Lines.{Asked, Call, Calls, Line, Loses, Resets, Restarts, Starts, Stops, Ticks}
 use Rattle.domain_script.specs.declared.event.EndName.{EndName}
 use Rattle.domain_script.specs.declared.event.Lane.TheVariants.{Disk}
 use Rattle.domain_script.specs.declared.event.Side.{Side}

@@ -2,8 +2,8 @@
 use Rattle.std.specs.Prelude.{ℕ, ◌+◌, ◌*◌, ◌≤◌, List, [], ◌∷◌, Option}
 use Rattle.domain_script.specs.declared.event.DiskDecl.{DiskDecl}
 use Rattle.disk_law.specs.ListState.{ImageState}
-use Rattle.disk_steps.specs.LaneState.{LaneState, Shape}
-use Rattle.lanes_world.specs.World.{WorldState, fresh_world}
+use Rattle.world_laws.specs.LaneState.{LaneState, Shape}
+use Rattle.world_laws.specs.World.{WorldState, fresh_world}
 
 -- a disk from this block of the image on
 abbrev pub shape_of : ℕ → DiskDecl → Shape

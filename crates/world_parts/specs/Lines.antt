@@ -5,9 +5,9 @@ use Rattle.vdisk_msg.specs.Fills.{IsRequest}
 use Rattle.disk_law.specs.ListStep.{DiskEvent}
 use Rattle.domain_script.specs.declared.event.Event.{Event}
 use Rattle.domain_script.specs.declared.event.Event.TheVariants as event
-use Rattle.lanes_settle.specs.Settle.{SettleEntry}
-use Rattle.lanes_world.specs.Lines.{Asked, Calls, Line, LineMoves, Loses, Nothing, Resets, Restarts, Rounds, Settles, Starts, Steps, Stops, Ticks}
-use Rattle.lanes_world.specs.World.{WorldState}
+use Rattle.world_laws.specs.Settle.{SettleEntry}
+use Rattle.world_laws.specs.Lines.{Asked, Calls, Line, LineMoves, Loses, Nothing, Resets, Restarts, Rounds, Settles, Starts, Steps, Stops, Ticks}
+use Rattle.world_laws.specs.World.{WorldState}
 use Rattle.ldom_journal.specs.DiskEvents.{happened}
 use Rattle.ldom_journal.specs.LaneEvents.{end_of, lane_number}
 use Rattle.ldom_entries.specs.declared.entry.Entry.{Entry}

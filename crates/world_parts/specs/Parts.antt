@@ -1,14 +1,14 @@
 -- Which entries a line of a script gives, and what they do: the part of the journal that it adds.
 use Rattle.std.specs.Prelude.{◌≡◌, ℕ, Bool, List, [], ◌∷◌, ◌++◌, map, Some}
 use Rattle.ldc_queue.specs.declared.end.End.{End}
-use Rattle.disk_steps.specs.DiskEvent.{DiskEvent}
+use Rattle.world_laws.specs.DiskEvent.{DiskEvent}
 use Rattle.ldom_journal.specs.LaneEvents.{world_event}
 use Rattle.ldom_entries.specs.declared.entry.Entry.{Entry}
-use Rattle.lane_lawful.specs.CalmEnds.{IsStep}
-use Rattle.lanes_settle.specs.Rounds.{is_calm}
-use Rattle.lanes_settle.specs.Settle.{OfLane, SettleEntry, entry_of}
-use Rattle.lanes_world.specs.Lines.{Line, LineBegins, LineMoves}
-use Rattle.lanes_world.specs.World.{OneMoves, WorldState}
+use Rattle.world_laws.specs.CalmEnds.{IsStep}
+use Rattle.world_laws.specs.Rounds.{is_calm}
+use Rattle.world_laws.specs.Settle.{OfLane, SettleEntry, entry_of}
+use Rattle.world_laws.specs.Lines.{Line, LineBegins, LineMoves}
+use Rattle.world_laws.specs.World.{OneMoves, WorldState}
 
 -- these entries of a journal, in the part of this line, are these of the lanes
 abbrev pub Says : Line → List Entry → List SettleEntry → Type 0

@@ -3,9 +3,9 @@ use Rattle.std.specs.Prelude.{◌≡◌, ℕ, ◌+◌, ◌<◌, List, [], ◌∷
 use Rattle.std.specs.List.{flat_map}
 use Rattle.runs.specs.Run.{Run}
 use Rattle.domain_script.specs.declared.event.Event.{Event}
-use Rattle.lanes_settle.specs.Settle.{SettleEntry}
-use Rattle.lanes_world.specs.Lines.{LineBegins}
-use Rattle.lanes_world.specs.World.{WorldState}
+use Rattle.world_laws.specs.Settle.{SettleEntry}
+use Rattle.world_laws.specs.Lines.{LineBegins}
+use Rattle.world_laws.specs.World.{WorldState}
 use Rattle.ldom_journal.specs.LinesEnd.{most_entries}
 use Rattle.ldom_entries.specs.declared.entry.Entry.{Entry}
 use Rattle.world_parts.specs.Lines.{LineStep, line_of}

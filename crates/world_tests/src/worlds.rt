@@ -1,6 +1,6 @@
 ghost use Rattle.std.specs.Prelude.{◌≡◌, [], ◌∷◌, length, IfOk};
 ghost use Rattle.ldom_journal.specs.Report.{accepted_count};
-ghost use Rattle.settle_loop.specs.Issued.{issued_on};
+ghost use Rattle.world_laws.specs.Issued.{issued_on};
 ghost use Rattle.world_parts.specs.Lines.{IsForDisks};
 
 use domain_script::{DiskDecl, EndName, Event, Lane, Name, Names, Request, Side};

@@ -3,8 +3,8 @@ use Rattle.vio_io.specs.declared.host.AttachFault.TheVariants.{Memory}
 use Rattle.ldom_entries.specs.JournalState.{JournalState}
 use Rattle.ldom_journal.specs.declared.status.Status.TheVariants as status
 use Rattle.script_laws.specs.Replayed.{attach_status, start_of}
-use Rattle.lanes_world.specs.World.{WorldState}
-use Rattle.settle_loop.specs.Issued.{issued_on}
+use Rattle.world_laws.specs.World.{WorldState}
+use Rattle.world_laws.specs.Issued.{issued_on}
 use Rattle.world_parts.specs.Declared.{blocks_of, image_of, shapes_of, world_of}
 use Rattle.ldom_replay.proofs.Beginning.{as_many, none_issued}
 use Rattle.script_laws.proofs.Assembly.{replayed_as, replayed_refused, replayed_short}

@@ -1,5 +1,5 @@
 use Rattle.std.proofs.Common.{ℕ, List, true, ap, sym, subst}
-use Rattle.disk_steps.specs.ServerState.{Work}
+use Rattle.disk_model.specs.ServerState.{Work}
 use Rattle.descriptor_work.specs.declared.answers.ServerOut.TheVariants as out
 use Rattle.descriptor_work.specs.Pieces.{PieceOn}
 use Rattle.descriptor_work.specs.declared.work.Progress.{Progress as KeptProgress}

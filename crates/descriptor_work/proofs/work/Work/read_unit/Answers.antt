@@ -1,7 +1,7 @@
 use Rattle.std.proofs.Common.{◌≡◌, ℕ, ◌+◌, ◌*◌, ◌^◌, ◌<◌, ◌≤◌, [], true, ap, ◌∙◌, sym, subst, arith}
 use Rattle.vdisk_msg.specs.Descriptor.{disk_desc_of}
 use Rattle.descriptor_work.specs.declared.work.Progress.{Progress as KeptProgress}
-use Rattle.disk_steps.specs.ServerState.{Work}
+use Rattle.disk_model.specs.ServerState.{Work}
 use Rattle.descriptor_work.specs.declared.answers.ServerOut.TheVariants as out
 use Rattle.descriptor_work.specs.Pieces.{PieceOn}
 use Rattle.descriptor_work.specs.Fields.{progress_of, work_with}

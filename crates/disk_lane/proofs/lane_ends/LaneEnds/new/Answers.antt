@@ -4,8 +4,8 @@ use Rattle.cookie_copy.specs.Faults.{PagesWithin}
 use Rattle.map_table.specs.declared.table.Entry.{Entry}
 use Rattle.vdisk_msg.specs.Requested.{ring_pages}
 use Rattle.disk_requests.specs.Room.{HoldsRing}
-use Rattle.disk_steps.specs.ClientState.{ClientState}
-use Rattle.disk_steps.specs.ServerState.{ServerState}
+use Rattle.disk_model.specs.ClientState.{ClientState}
+use Rattle.disk_model.specs.ServerState.{ServerState}
 use Rattle.disk_lane.proofs.Granted.{own_within}
 use Rattle.disk_lane.proofs.lane_ends.LaneEnds.new.Goals as goal
 

@@ -1,8 +1,8 @@
 use Rattle.std.proofs.Common.{◌≡◌, length}
-use Rattle.lanes_world.specs.Lines.{turns_of}
+use Rattle.world_laws.specs.Lines.{turns_of}
 use Rattle.ldom_journal.specs.Report.{accepted_count}
 use Rattle.ldom_world.specs.TurnsMade.{TurnsMade}
-use Rattle.settle_loop.specs.Issued.{issued_on}
+use Rattle.world_laws.specs.Issued.{issued_on}
 use Rattle.ldom_world.proofs.world.World.rounds.Given as goal
 
 abbrev pub invariant-loop : goal.invariant-loop

@@ -1,7 +1,7 @@
 use Rattle.std.proofs.Common.{◌≡◌}
 use Rattle.ldom_journal.specs.Report.{accepted_count}
 use Rattle.ldom_world.specs.SettleParts.{RoundsAdd}
-use Rattle.settle_loop.specs.Issued.{issued_on}
+use Rattle.world_laws.specs.Issued.{issued_on}
 use Rattle.ldom_world.proofs.world.World.settle.Given as goal
 
 abbrev pub invariant-loop : goal.invariant-loop

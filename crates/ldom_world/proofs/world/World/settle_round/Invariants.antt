@@ -1,8 +1,8 @@
 use Rattle.std.proofs.Common.{◌≡◌, length, take}
 use Rattle.ldom_journal.specs.Report.{accepted_count}
 use Rattle.ldom_world.specs.SettleParts.{RoundAdds}
-use Rattle.settle_loop.specs.Issued.{issued_on}
-use Rattle.settle_loop.specs.RoundMade.{all_true}
+use Rattle.world_laws.specs.Issued.{issued_on}
+use Rattle.world_laws.specs.RoundMade.{all_true}
 use Rattle.ldom_world.proofs.world.World.settle_round.Given as goal
 
 abbrev pub invariant-loop-disk : goal.invariant-loop-disk

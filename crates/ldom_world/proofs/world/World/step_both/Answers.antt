@@ -1,5 +1,5 @@
 use Rattle.std.proofs.Common.{[], ◌∷◌}
-use Rattle.lanes_world.specs.Lines.{turn}
+use Rattle.world_laws.specs.Lines.{turn}
 use Rattle.ldc_queue.specs.declared.end.End.TheVariants.{A, B}
 use Rattle.ldom_world.proofs.Turning.{at_error, both_ends, client_alone, none_begun}
 use Rattle.ldom_world.proofs.world.World.step_both.Goals as goal

@@ -1,9 +1,9 @@
 use Rattle.std.proofs.Common.{◌≡◌, length, replicate}
-use Rattle.lanes_world.specs.Lines.{turn}
+use Rattle.world_laws.specs.Lines.{turn}
 use Rattle.ldom_journal.specs.LaneEvents.{end_of}
 use Rattle.ldom_journal.specs.Report.{accepted_count}
 use Rattle.ldom_world.specs.TurnsMade.{TurnsMade}
-use Rattle.settle_loop.specs.Issued.{issued_on}
+use Rattle.world_laws.specs.Issued.{issued_on}
 use Rattle.ldom_world.proofs.world.World.steps.Given as goal
 
 abbrev pub invariant-loop : goal.invariant-loop

@@ -1,5 +1,5 @@
 use Rattle.std.proofs.Common.{Some, ap, ◌∙◌}
-use Rattle.disk_steps.specs.ServerState.{Work}
+use Rattle.disk_model.specs.ServerState.{Work}
 use Rattle.vdisk_server.specs.Fields.{state_of}
 use Rattle.vdisk_server.specs.Rules.{one_fetched}
 use Rattle.vdisk_server.proofs.end.ServerEnd.begin_work.Goals as goal

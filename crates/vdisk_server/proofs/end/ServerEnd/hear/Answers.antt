@@ -1,7 +1,7 @@
 use Rattle.std.proofs.Common.{◌≡◌, List, ℕ, Option, Some, ap, sym, subst, ◌∙◌}
 use Rattle.ldc_link.specs.LinkState.{LinkState, cleared}
-use Rattle.disk_steps.specs.ServerState.{ServerState, joined_server}
-use Rattle.disk_steps.specs.ServerTaking.{reads}
+use Rattle.disk_model.specs.ServerState.{ServerState, joined_server}
+use Rattle.disk_model.specs.ServerTaking.{reads}
 use Rattle.vdisk_server.specs.Fields.{state_of}
 use Rattle.vdisk_server.specs.Hearing.{CanHear, DecodesWhole, risen, took}
 use Rattle.vdisk_server.proofs.HearSteps.{can_cleared, can_of, hears_of, on_err_then, risen_joined, risen_link}

@@ -1,7 +1,7 @@
 use Rattle.std.proofs.Common.{◌≡◌, Bool, ap, sym, subst, ◌∙◌}
 use Rattle.ldc_link.specs.Calls.{Puts as PutsPacket}
 use Rattle.ldc_link.specs.LinkState.{LinkState}
-use Rattle.disk_steps.specs.ServerState.{ServerState}
+use Rattle.disk_model.specs.ServerState.{ServerState}
 use Rattle.vdisk_server.specs.Fields.{state_of}
 use Rattle.vdisk_server.specs.Putting.{noted}
 use Rattle.vdisk_server.proofs.PutSteps.{noted_link, opens_not, put_is}

@@ -1,6 +1,6 @@
 use Rattle.std.proofs.Common.{◌≡◌, [], Option, Some, ap, ◌∙◌}
-use Rattle.disk_steps.specs.ServerRule.{serves}
-use Rattle.disk_steps.specs.ServerState.{Work}
+use Rattle.disk_model.specs.ServerRule.{serves}
+use Rattle.disk_model.specs.ServerState.{Work}
 use Rattle.descriptor_work.specs.declared.work.Work.{Work as KeptWork}
 use Rattle.descriptor_work.specs.Calling.{reach_over}
 use Rattle.descriptor_work.specs.Fields.{work_with}

@@ -1,7 +1,7 @@
 use Rattle.std.proofs.Common.{ap, sym, ◌∙◌}
-use Rattle.disk_steps.specs.ServerPutting.{server_holds}
-use Rattle.disk_steps.specs.ServerRule.{ServerRule}
-use Rattle.disk_steps.specs.ServerState.{ServerState}
+use Rattle.disk_model.specs.ServerPutting.{server_holds}
+use Rattle.disk_model.specs.ServerRule.{ServerRule}
+use Rattle.disk_model.specs.ServerState.{ServerState}
 use Rattle.vdisk_server.specs.Answering.{sees}
 use Rattle.vdisk_server.specs.Fields.{state_of}
 use Rattle.vdisk_server.proofs.PutSteps.{puts_step}

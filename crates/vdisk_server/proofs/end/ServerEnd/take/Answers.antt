@@ -1,5 +1,5 @@
 use Rattle.std.proofs.Common.{◌∙◌}
-use Rattle.disk_steps.specs.ServerState.{ServerState}
+use Rattle.disk_model.specs.ServerState.{ServerState}
 use Rattle.vdisk_server.specs.Fields.{state_of}
 use Rattle.vdisk_server.proofs.HearSteps.{heard_resets, link_joined, takes_on}
 use Rattle.vdisk_server.proofs.LinkSteps.{link_took}

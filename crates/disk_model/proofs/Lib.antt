@@ -1,0 +1,11 @@
+pub mod SameSayings
+pub mod Stepping
+pub mod RoundStates
+pub mod LaterStates
+pub mod RoundMessages
+pub mod RoundsOpening
+pub mod RoundsSession
+pub mod FirstRun
+pub mod OwnCauses
+pub mod OwnMessages
+pub mod OwnSteps

@@ -1,0 +1,130 @@
+-- How a lane's log and its state agree: what is a part of both is equal, and what one has less of is told by the other.
+use Rattle.std.specs.Prelude.{◌≡◌, ℕ, ◌+◌, ◌-◌, ◌%◌, ◌^◌, false, not, List, [], ◌∷◌, ◌++◌, drop, length, replicate, Option, Some, None, slice_get, slice_index, ⊤}
+use Rattle.dring.specs.Slots.{free_state, slot_bytes}
+use Rattle.ldc_link.specs.Following.{OffersLittle}
+use Rattle.ldc_link.specs.LinkState.{LinkState, is_up}
+use Rattle.ldc_queue.specs.declared.end.End.{End}
+use Rattle.ldc_queue.specs.declared.end.End.TheVariants.{A, B}
+use Rattle.ldc_queue.specs.Messages.{is_empty}
+use Rattle.ldc_queue.specs.Talk.{Turn}
+use Rattle.vdisk_msg.specs.declared.desc.DiskDesc.{DiskDesc}
+use Rattle.vdisk_msg.specs.declared.request.Request.{Request}
+use Rattle.vdisk_msg.specs.Descriptor as slot_says
+use Rattle.vdisk_msg.specs.Pieces.{Finishes, Moves, Piece, Stores, read_pieces, unit_count, write_pieces}
+use Rattle.vdisk_msg.specs.Requested as asks_for
+use Rattle.disk_model.specs.Sayings.{count_heard, count_said, half_heard, half_said}
+use Rattle.disk_model.specs.WireAt.{counts_next}
+use Rattle.disk_model.specs.ClientRule as client_rules
+use Rattle.disk_model.specs.ClientState.{ClientSession, ClientState, ever_published_count}
+use Rattle.disk_model.specs.LaneState.{LaneState}
+use Rattle.disk_model.specs.Ranges.{wrapped}
+use Rattle.disk_model.specs.Seeing.{seen}
+use Rattle.disk_model.specs.ServerRule as server_rules
+use Rattle.disk_model.specs.ServerState.{Ends, Flushes, Gathers, Gives, Progress, Reads, ServerSession, Work, Writes}
+use Rattle.disk_model.specs.DiskLog.{DiskLog}
+use Rattle.disk_model.specs.NearLog.{NearLog}
+use Rattle.disk_model.specs.RingLog.{Accepted, Done, Free, Ready, SlotLog, Zeros}
+use Rattle.disk_model.specs.WorkLog.{ClientCounts, ServerCounts, WorkLog}
+
+-- A LINK counts what was said and heard, and holds what came of a message that isn't whole; part of its own message is put where part of
+-- one was said; before it is up it has heard nothing and holds nothing; the version that it offers in place of a refused one is 1.0 or 0.0.
+pub record LinkAgrees (k : LinkState) (turns : List Turn) : Type 0 where
+  pub put : k.put_next ≡ counts_next (count_said turns)
+  pub take : k.take_next ≡ counts_next (count_heard turns)
+  pub heard : k.half_heard ≡ half_heard turns
+  pub seen : k.whole ≡ None
+  pub begun : k.begun ≡ not (is_empty (half_said turns))
+  pub nothing_below : is_up k ≡ false → k.to_send ≡ []
+  pub offers : OffersLittle k.phase
+
+-- THE REQUESTS that are pending are those that were accepted and aren't done
+pub record RequestsAgree (c : ClientState) (w : WorkLog) : Type 0 where
+  pub pending : c.pending ≡ drop w.done w.issued
+  pub next : c.next_id ≡ length w.issued
+
+-- THE CLIENT'S SESSION has the log's counts, and counts what is done from its base on
+pub record ClientCountsAgree (s : ClientSession) (done : ℕ) (c : ClientCounts) : Type 0 where
+  pub base : s.base ≡ c.base
+  pub published : s.published ≡ c.published
+  pub announced : s.announced ≡ c.announced
+  pub infos : s.infos ≡ c.infos
+  pub acked : s.acked ≡ c.acked
+  pub completed : done ≡ c.base + s.completed
+
+abbrev pub ClientAgrees : Option ClientSession → ℕ → Option ClientCounts → Type 0
+ClientAgrees None done None = ⊤
+ClientAgrees (Some s) done (Some c) = ClientCountsAgree s done c
+ClientAgrees None done (Some c) = ⊥
+ClientAgrees (Some s) done None = ⊥
+
+-- THE SERVER'S SESSION counts modulo 2^64
+pub record ServerCountsAgree (s : ServerSession) (c : ServerCounts) : Type 0 where
+  pub asked : s.asked ≡ wrapped c.asked
+  pub descs : s.descs ≡ wrapped c.descs
+  pub finished : s.finished ≡ wrapped c.finished
+  pub answered : s.answered ≡ wrapped c.answered
+
+-- what a descriptor in work owes yet
+abbrev pub owed_of : DiskDesc → Progress → List Piece
+owed_of desc (Reads unit) = read_pieces unit (unit_count desc.size - unit) ++ Finishes 0 ∷ []
+owed_of desc (Gives unit bytes) = Moves unit ∷ (read_pieces (unit + 1) (unit_count desc.size - (unit + 1)) ++ Finishes 0 ∷ [])
+owed_of desc (Gathers unit) = write_pieces unit (unit_count desc.size - unit) ++ Finishes 0 ∷ []
+owed_of desc (Writes unit bytes) = Stores unit ∷ (write_pieces (unit + 1) (unit_count desc.size - (unit + 1)) ++ Finishes 0 ∷ [])
+owed_of desc Flushes = Stores 0 ∷ Finishes 0 ∷ []
+owed_of desc (Ends status) = Finishes status ∷ []
+
+abbrev pub WorkAgrees : Option Work → ServerCounts → Type 0
+WorkAgrees None c = (c.owed ≡ []) × (c.descs ≡ c.finished)
+WorkAgrees (Some work) c =
+    (c.desc ≡ work.bytes) × (c.owed ≡ owed_of (slot_says.disk_desc_of work.bytes) work.progress) × (c.descs ≡ c.finished + 1)
+
+abbrev pub ServerAgrees : Option ServerSession → Option Work → Option ServerCounts → Type 0
+ServerAgrees None work None = work ≡ None
+ServerAgrees (Some s) work (Some c) = ServerCountsAgree s c × WorkAgrees work c
+ServerAgrees None work (Some c) = ⊥
+ServerAgrees (Some s) work None = ⊥
+
+-- HOW NEAR the image is, where nobody meddles
+pub record NearAgrees (s : LaneState) (n : NearLog) : Type 0 where
+  pub k : s.near.k ≡ n.k
+  pub m : s.near.m ≡ n.m
+  pub u : s.near.u ≡ n.u
+  pub p : ever_published_count s.client ≡ n.p
+
+-- A SLOT of the ring, where nobody meddles: the bytes of a request's descriptor with the state and the status that it has; of a free one
+-- its state alone
+pub record HoldsRequest (issued : List Request) (id slot slots state status : ℕ) (bytes : List ℕ) : Type 0 where
+  pub request : Request
+  pub accepted : slice_get issued id ≡ Some request
+  pub bytes_are : bytes ≡ slot_says.canonical (record (asks_for.descriptor_of id request slot slots) { state = state; status = status })
+
+abbrev pub SlotAgrees : List Request → ℕ → ℕ → SlotLog → List ℕ → Type 0
+SlotAgrees issued slots slot Zeros bytes = bytes ≡ replicate 128 0
+SlotAgrees issued slots slot Free bytes = slice_index bytes 0 ≡ free_state
+SlotAgrees issued slots slot (Ready id) bytes = HoldsRequest issued id slot slots 2 0 bytes
+SlotAgrees issued slots slot (Accepted id) bytes = HoldsRequest issued id slot slots 3 0 bytes
+SlotAgrees issued slots slot (Done id status) bytes = HoldsRequest issued id slot slots 4 status bytes
+
+pub record RingAgrees (memory : List ℕ) (slots : ℕ) (issued : List Request) (ring : List SlotLog) : Type 0 where
+  pub long : length ring ≡ slots
+  pub each : (slot : ℕ) (is : SlotLog) → slice_get ring slot ≡ Some is → SlotAgrees issued slots slot is (slot_bytes 128 slot memory)
+
+-- AN END THAT WAS IDLE in the last event has nothing to do yet
+abbrev pub IdleAgrees : LaneState → Option End → Type 0
+IdleAgrees s None = ⊤
+IdleAgrees s (Some A) = client_rules.client_rule s.client (seen A s.shape.entries s.wire.wire) ≡ client_rules.Rests
+IdleAgrees s (Some B) = (s.stopped ≡ false) × (server_rules.server_rule s.server (seen B s.shape.entries s.wire.wire) ≡ server_rules.Rests)
+
+pub record AgreesWithLog (s : LaneState) (l : DiskLog) : Type 0 where
+  pub shape : s.shape ≡ l.shape
+  pub wire : s.wire ≡ l.wire
+  pub stopped : s.stopped ≡ l.work.stopped
+  pub client_link : LinkAgrees s.client.link l.talk.client
+  pub server_link : LinkAgrees s.server.link l.talk.server
+  pub sids : s.client.shake.last_sid ≡ l.talk.links % 2 ^ 32
+  pub requests : RequestsAgree s.client l.work
+  pub client : ClientAgrees s.client.session l.work.done l.work.client
+  pub server : ServerAgrees s.server.session s.server.work l.work.server
+  pub near : l.wire.forged ≡ false → NearAgrees s l.near
+  pub idle : IdleAgrees s l.last_idle
+  pub ring : l.wire.forged ≡ false → RingAgrees s.memory l.shape.slots l.work.issued l.ring

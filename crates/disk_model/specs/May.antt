@@ -1,0 +1,50 @@
+-- Where an event may stand in the log of those before it: one field for each law, so that each can be cited by itself.
+use Rattle.std.specs.Prelude.{◌*◌, List, ⊤}
+use Rattle.runs.specs.Lawful.{Lawful}
+use Rattle.disk_model.specs.ResetSays.{WireResetAt}
+use Rattle.disk_model.specs.WireAt.{Sizes, WireAnswersAt, WireGapAt, WireHeardAt, WireSaidAt, WireTableAt, WireUnforgedAt}
+use Rattle.disk_model.specs.WireEvent.{WireEvent}
+use Rattle.disk_model.specs.DiskEvent.{DiskEvent, OnWire}
+use Rattle.disk_model.specs.LaneState.{Shape, pages_of}
+use Rattle.disk_model.specs.DiskLog.{DiskLog, after, nothing_yet}
+use Rattle.disk_model.specs.QuietLaws.{IdleAt, TickAt, TwoIdleAt}
+use Rattle.disk_model.specs.RequestLaws.{AdmissionAt, CarriesAt, OnceAt, TurnsAt}
+use Rattle.disk_model.specs.WorkLaws.{OpeningsAt, PiecesAt, RangesAt, WorkNumbersAt, WorkResetAt, WorkUnforgedAt}
+
+abbrev pub sizes_in : DiskLog → Sizes
+sizes_in l = record { entries = l.shape.entries; memory = 8192 * pages_of l.shape }
+
+-- the laws of the wire speak of its events alone
+abbrev pub OfWire : (WireEvent → Type 0) → DiskEvent → Type 0
+OfWire holds (OnWire event) = holds event
+OfWire holds _ = ⊤
+
+pub record May (l : DiskLog) (event : DiskEvent) : Type 0 where
+  -- the wire
+  pub table : OfWire (WireTableAt (sizes_in l) l.wire) event
+  pub answers : OfWire (WireAnswersAt (sizes_in l) l.wire) event
+  pub said : OfWire (WireSaidAt l.talk) event
+  pub heard : OfWire (WireHeardAt l.talk) event
+  pub gap : OfWire (WireGapAt l.talk) event
+  pub reset_says : OfWire (WireResetAt l.talk) event
+  pub unforged_wire : OfWire (WireUnforgedAt l.wire) event
+  -- requests
+  pub admission : AdmissionAt l event
+  pub once : OnceAt l event
+  pub carries : CarriesAt l event
+  pub turns : TurnsAt l event
+  -- work
+  pub numbers : WorkNumbersAt l event
+  pub ranges : RangesAt l event
+  pub pieces : PiecesAt l event
+  pub openings : OpeningsAt l event
+  pub own_resets : WorkResetAt l event
+  pub unforged_work : WorkUnforgedAt l event
+  -- quiet
+  pub idle : IdleAt l event
+  pub two_idle : TwoIdleAt l event
+  pub tick : TickAt l event
+
+-- the events of a lane, each of which may stand after those before it
+abbrev pub IsLawful : Shape → List DiskEvent → Type 0
+IsLawful shape events = Lawful May after (nothing_yet shape) events

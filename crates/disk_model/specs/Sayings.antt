@@ -1,0 +1,54 @@
+-- What a talk comes to, counted from its turns: numbered packets, whole messages, and the bytes of a message whose last part hasn't
+-- come. The newest turn stands first, so that one more turn is one more step of each count.
+use Rattle.std.specs.Prelude.{ℕ, Bool, true, false, List, [], ◌∷◌, ◌++◌}
+use Rattle.ldc_queue.specs.Fragments.{Fragment, fragment_at, is_part}
+use Rattle.ldc_queue.specs.Messages.{half_with}
+use Rattle.ldc_queue.specs.Numbered.{is_numbered}
+use Rattle.ldc_queue.specs.Talk.{Heard, Said, Turn}
+use Rattle.disk_model.specs.TalkLog.{more_if}
+
+-- how many packets with numbers of their own, RDX and parts of messages, the end put, and how many it took
+abbrev pub count_said : List Turn → ℕ
+count_said [] = 0
+count_said (Said packet ∷ turns) = more_if (is_numbered packet) (count_said turns)
+count_said (Heard packet ∷ turns) = count_said turns
+
+abbrev pub count_heard : List Turn → ℕ
+count_heard [] = 0
+count_heard (Said packet ∷ turns) = count_heard turns
+count_heard (Heard packet ∷ turns) = more_if (is_numbered packet) (count_heard turns)
+
+-- what has come of a message after one more packet, where this had come before
+abbrev pub half_past : Bool → Fragment → List ℕ → List ℕ
+half_past true part half = half_with part.stop (half ++ part.bytes)
+half_past false part half = half
+
+abbrev pub half_said : List Turn → List ℕ
+half_said [] = []
+half_said (Said packet ∷ turns) = half_past (is_part packet) (fragment_at packet) (half_said turns)
+half_said (Heard packet ∷ turns) = half_said turns
+
+abbrev pub half_heard : List Turn → List ℕ
+half_heard [] = []
+half_heard (Said packet ∷ turns) = half_heard turns
+half_heard (Heard packet ∷ turns) = half_past (is_part packet) (fragment_at packet) (half_heard turns)
+
+-- the messages after one more packet, where these were whole before and this had come of the next
+abbrev pub whole_by : Bool → List ℕ → List (List ℕ) → List (List ℕ)
+whole_by true message messages = messages ++ message ∷ []
+whole_by false message messages = messages
+
+abbrev pub whole_past : Bool → Fragment → List ℕ → List (List ℕ) → List (List ℕ)
+whole_past true part half messages = whole_by part.stop (half ++ part.bytes) messages
+whole_past false part half messages = messages
+
+-- the whole messages that the end said, and those that it heard, oldest first
+abbrev pub said : List Turn → List (List ℕ)
+said [] = []
+said (Said packet ∷ turns) = whole_past (is_part packet) (fragment_at packet) (half_said turns) (said turns)
+said (Heard packet ∷ turns) = said turns
+
+abbrev pub heard : List Turn → List (List ℕ)
+heard [] = []
+heard (Said packet ∷ turns) = heard turns
+heard (Heard packet ∷ turns) = whole_past (is_part packet) (fragment_at packet) (half_heard turns) (heard turns)

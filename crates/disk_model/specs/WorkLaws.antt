@@ -1,0 +1,197 @@
+-- Where the events of the work may stand, also where somebody forges packets and memory.
+use Rattle.std.specs.Prelude.{◌≡◌, ◌≢◌, ℕ, ◌+◌, ◌-◌, ◌*◌, ◌/◌, ◌%◌, ◌<◌, ◌≤◌, min, ◌==◌, if◌then◌else◌, Bool, true, false, List, [], ◌∷◌, length, take, Option, Some, None, slice_get, ⊤}
+use Rattle.cookie_copy.specs.declared.fault.Access.{Access}
+use Rattle.cookie_copy.specs.declared.fault.Access.TheVariants.{Read, Write}
+use Rattle.cookie_copy.specs.declared.fault.CopyFault.{CopyFault}
+use Rattle.cookie_copy.specs.Faults.{both_up, first_copy_fault}
+use Rattle.ldc_link.specs.declared.phase.Role.TheVariants.{Initiator, Responder}
+use Rattle.ldc_queue.specs.declared.end.End.{End}
+use Rattle.ldc_queue.specs.declared.end.End.TheVariants.{A, B}
+use Rattle.vdisk_msg.specs.declared.desc.DiskDesc.{DiskDesc}
+use Rattle.vdisk_msg.specs.declared.request.Request.{Request}
+use Rattle.vdisk_msg.specs.Descriptor as slot_says
+use Rattle.vdisk_msg.specs.Pieces.{Finishes, Moves, Piece, Stores}
+use Rattle.vdisk_msg.specs.Requested as asks_for
+use Rattle.vio_tag.specs.declared.cause.Cause.{Cause}
+use Rattle.vio_tag.specs.declared.cause.Cause.TheVariants as the_cause
+use Rattle.disk_model.specs.HandshakeOrder.{HandshakeOrder}
+use Rattle.disk_model.specs.Sayings.{half_heard, half_said}
+use Rattle.disk_model.specs.TalkLog.{TalkLog, hears, says}
+use Rattle.disk_model.specs.WireEvent.{Reset, Sent, Took}
+use Rattle.disk_model.specs.DiskEvent.{Desc, DiskEvent, Done, Finished, Misplaced, Moved, OnWire, Published, Stored, Works}
+use Rattle.disk_model.specs.LaneState.{own_table, pages_of}
+use Rattle.disk_model.specs.Ranges.{range_length, wrapped}
+use Rattle.disk_model.specs.DiskLog.{DiskLog}
+use Rattle.disk_model.specs.Messages.{end_of, range_ended, seq_of, start_of}
+use Rattle.disk_model.specs.WorkLog.{ClientCounts, Opened, ServerCounts}
+
+-- a session that is open, with its counts
+abbrev pub InClient : Option ClientCounts → (ClientCounts → Type 0) → Type 0
+InClient None holds = ⊥
+InClient (Some c) holds = holds c
+
+abbrev pub InServer : Option ServerCounts → (ServerCounts → Type 0) → Type 0
+InServer None holds = ⊥
+InServer (Some c) holds = holds c
+
+-- THE NUMBERS: ids that are published count up from the base and are accepted, a completion was acknowledged, a descriptor is the next of
+-- those asked for
+pub record MayPublish (l : DiskLog) (id : ℕ) (c : ClientCounts) : Type 0 where
+  pub next : id ≡ c.base + c.published
+  pub accepted : id < length l.work.issued
+  pub pending : l.work.done ≤ id
+
+pub record MayComplete (id : ℕ) (c : ClientCounts) : Type 0 where
+  pub since : c.base ≤ id
+  pub acked : id < c.base + c.acked
+
+pub record MayFetch (l : DiskLog) (slot : ℕ) (c : ServerCounts) : Type 0 where
+  pub nothing_owed : c.owed ≡ []
+  pub next : slot ≡ c.descs % l.shape.slots
+  pub asked : c.descs < c.asked
+
+abbrev pub WorkNumbersAt : DiskLog → DiskEvent → Type 0
+WorkNumbersAt l (Works (Published id)) = InClient l.work.client (MayPublish l id)
+WorkNumbersAt l (Works (Done id operation status bytes)) = InClient l.work.client (MayComplete id)
+WorkNumbersAt l (Works (Desc slot bytes)) = InServer l.work.server (MayFetch l slot)
+WorkNumbersAt l (Works Misplaced) = ⊥
+WorkNumbersAt l _ = ⊤
+
+-- THE RANGES: an INFO has the next number, begins after the range before and names published ones alone; an ACK that is heard names
+-- announced ones alone, and one that is said finished ones alone
+abbrev pub IfRange : Option (List ℕ) → (List ℕ → Type 0) → Type 0
+IfRange None holds = ⊤
+IfRange (Some message) holds = holds message
+
+pub record Announces (slots : ℕ) (c : ClientCounts) (message : List ℕ) : Type 0 where
+  pub next : seq_of message ≡ wrapped (c.infos + 1)
+  pub begins : start_of message ≡ c.announced % slots
+  pub published : c.announced + range_length slots (start_of message) (end_of message) ≤ c.published
+
+abbrev pub Acknowledges : ℕ → ClientCounts → List ℕ → Type 0
+Acknowledges slots c message = c.acked + range_length slots (start_of message) (end_of message) ≤ c.announced
+
+abbrev pub Answers : ℕ → ServerCounts → List ℕ → Type 0
+Answers slots c message = c.answered + range_length slots (start_of message) (end_of message) ≤ c.finished
+
+abbrev pub IfClient : Option ClientCounts → (ClientCounts → Type 0) → Type 0
+IfClient None holds = ⊤
+IfClient (Some c) holds = holds c
+
+abbrev pub IfServer : Option ServerCounts → (ServerCounts → Type 0) → Type 0
+IfServer None holds = ⊤
+IfServer (Some c) holds = holds c
+
+abbrev pub RangesAt : DiskLog → DiskEvent → Type 0
+RangesAt l (OnWire (Sent A packet opens)) =
+    IfClient l.work.client (λ (c : ClientCounts). IfRange (range_ended 1 (half_said l.talk.client) packet) (Announces l.shape.slots c))
+RangesAt l (OnWire (Took A packet opens)) =
+    IfClient l.work.client (λ (c : ClientCounts). IfRange (range_ended 2 (half_heard l.talk.client) packet) (Acknowledges l.shape.slots c))
+RangesAt l (OnWire (Sent B packet opens)) =
+    IfServer l.work.server (λ (c : ServerCounts). IfRange (range_ended 2 (half_said l.talk.server) packet) (Answers l.shape.slots c))
+RangesAt l _ = ⊤
+
+-- THE PIECES: what is done is what the last descriptor owes next
+abbrev pub Owes : List Piece → Piece → Type 0
+Owes [] piece = ⊥
+Owes (first ∷ rest) piece = first ≡ piece
+
+abbrev pub desc_in : ServerCounts → DiskDesc
+desc_in c = slot_says.disk_desc_of c.desc
+
+-- why the unit can't be copied: a write is copied in, a read out, over a table that grants each page
+abbrev pub access_of : ℕ → Access
+access_of operation = if operation == 2 then Read else Write
+
+abbrev pub unit_fault : DiskLog → DiskDesc → ℕ → Option CopyFault
+unit_fault l desc unit =
+    first_copy_fault (both_up l.wire.wire) (access_of desc.operation) (own_table (pages_of l.shape)) (take desc.count desc.cookies)
+    (8192 * unit) (min 8192 (desc.size - 8192 * unit))
+
+pub record MovesPiece (l : DiskLog) (unit : ℕ) (fault : Option CopyFault) (c : ServerCounts) : Type 0 where
+  pub owed : Owes c.owed (Moves unit)
+  pub fault_is : fault ≡ unit_fault l (desc_in c) unit
+
+abbrev pub block_in : DiskDesc → ℕ → ℕ
+block_in desc unit = if desc.operation == 3 then 0 else desc.offset + 16 * unit
+
+abbrev pub count_in : DiskDesc → ℕ → ℕ
+count_in desc unit = if desc.operation == 3 then 0 else min 8192 (desc.size - 8192 * unit) / 512
+
+pub record StoresPiece (operation block count : ℕ) (c : ServerCounts) : Type 0 where
+  pub unit : ℕ
+  pub owed : Owes c.owed (Stores unit)
+  pub operation_is : operation ≡ (desc_in c).operation
+  pub block_is : block ≡ block_in (desc_in c) unit
+  pub count_is : count ≡ count_in (desc_in c) unit
+
+pub record FinishesPiece (l : DiskLog) (slot status : ℕ) (c : ServerCounts) : Type 0 where
+  pub owed : Owes c.owed (Finishes status)
+  pub slot_is : slot ≡ c.finished % l.shape.slots
+
+abbrev pub PiecesAt : DiskLog → DiskEvent → Type 0
+PiecesAt l (Works (Moved unit fault)) = InServer l.work.server (MovesPiece l unit fault)
+PiecesAt l (Works (Stored operation block count failed)) = InServer l.work.server (StoresPiece operation block count)
+PiecesAt l (Works (Finished slot status)) = InServer l.work.server (FinishesPiece l slot status)
+PiecesAt l _ = ⊤
+
+-- THE OPENINGS: a session opens in the handshake's order
+abbrev pub OpensRightly : Bool → End → TalkLog → Type 0
+OpensRightly false e t = ⊤
+OpensRightly true A t = HandshakeOrder false Initiator t.client
+OpensRightly true B t = HandshakeOrder false Responder t.server
+
+abbrev pub OpeningsAt : DiskLog → DiskEvent → Type 0
+OpeningsAt l (OnWire (Sent e packet opens)) = OpensRightly opens e (says e packet l.talk)
+OpeningsAt l (OnWire (Took e packet opens)) = OpensRightly opens e (hears e packet l.talk)
+OpeningsAt l _ = ⊤
+
+-- THE RESETS without a packet: a client's for an acknowledged slot that isn't DONE; a server's in a range, for a slot that isn't READY
+-- or a copy that was refused
+pub record ClientFailed (l : DiskLog) (slot state : ℕ) (c : ClientCounts) : Type 0 where
+  pub slot_is : slot ≡ (l.work.done - c.base) % l.shape.slots
+  pub state_is : state ≢ 4
+  pub acked : l.work.done < c.base + c.acked
+
+abbrev pub InRange : ServerCounts → Type 0
+InRange c = c.finished < c.asked
+
+abbrev pub OwnReset : DiskLog → End → Cause → Type 0
+OwnReset l A (the_cause.NotDone slot state) = InClient l.work.client (ClientFailed l slot state)
+OwnReset l B (the_cause.NotReady slot state) = (state ≢ 2) × InServer l.work.server InRange
+OwnReset l B (the_cause.Copy fault) = (1 ≤ fault) × (fault ≤ 6) × InServer l.work.server InRange
+OwnReset l e the_cause.Asked = ⊤
+OwnReset l e the_cause.Restart = ⊤
+OwnReset l e the_cause.Tick = ⊤
+OwnReset l e _ = ⊥
+
+abbrev pub ResetOf : DiskLog → End → Cause → Option (List ℕ) → Type 0
+ResetOf l e cause None = OwnReset l e cause
+ResetOf l e (the_cause.NotDone slot state) (Some packet) = ⊥
+ResetOf l e _ (Some packet) = ⊤
+
+abbrev pub WorkResetAt : DiskLog → DiskEvent → Type 0
+WorkResetAt l (OnWire (Reset e cause packet lost)) = (lost ≡ 0) × ResetOf l e cause packet
+WorkResetAt l _ = ⊤
+
+-- UNFORGED: a descriptor is that of its request, no copy is refused, and the status of a completion is that which the server gave it in
+-- the last session of the client's sid
+abbrev pub last_of : ℕ → List Opened → List ℕ
+last_of sid [] = []
+last_of sid (session ∷ before) = if session.sid == sid then session.statuses else last_of sid before
+
+pub record FetchesRequest (l : DiskLog) (slot : ℕ) (bytes : List ℕ) (base number : ℕ) : Type 0 where
+  pub request : Request
+  pub accepted : slice_get l.work.issued (base + number) ≡ Some request
+  pub bytes_are : slot_says.disk_desc_of bytes ≡ asks_for.descriptor_of (base + number) request slot l.shape.slots
+
+abbrev pub Unforged : DiskLog → DiskEvent → Type 0
+Unforged l (Works (Desc slot bytes)) =
+    InClient l.work.client (λ (c : ClientCounts). InServer l.work.server (λ (d : ServerCounts). FetchesRequest l slot bytes c.base d.descs))
+Unforged l (Works (Moved unit fault)) = fault ≡ None
+Unforged l (Works (Done id operation status bytes)) =
+    InClient l.work.client (λ (c : ClientCounts). slice_get (last_of c.sid l.work.opened) (id - c.base) ≡ Some status)
+Unforged l _ = ⊤
+
+abbrev pub WorkUnforgedAt : DiskLog → DiskEvent → Type 0
+WorkUnforgedAt l event = l.wire.forged ≡ false → Unforged l event

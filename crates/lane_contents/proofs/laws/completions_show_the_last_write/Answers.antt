@@ -1,5 +1,0 @@
-use Rattle.lane_contents.proofs.HeadlineRuns.{run_completion}
-use Rattle.lane_contents.proofs.laws.completions_show_the_last_write.Goals as goal
-
-pub returns : goal.returns
-returns c = run_completion

@@ -1,5 +1,0 @@
-use Rattle.lane_contents.proofs.Completions.{run_shows}
-use Rattle.lane_contents.proofs.laws.completions_show_their_content.Goals as goal
-
-pub returns : goal.returns
-returns c = run_shows

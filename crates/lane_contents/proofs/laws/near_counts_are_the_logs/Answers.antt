@@ -1,5 +1,0 @@
-use Rattle.lane_contents.proofs.NearAgreeing.{run_agrees}
-use Rattle.lane_contents.proofs.laws.near_counts_are_the_logs.Goals as goal
-
-pub returns : goal.returns
-returns c = run_agrees

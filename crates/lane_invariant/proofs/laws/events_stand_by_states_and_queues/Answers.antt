@@ -1,8 +1,0 @@
-use Rattle.lane_invariant.proofs.TableRuns.{answers_lawful, table_lawful}
-use Rattle.lane_invariant.proofs.laws.events_stand_by_states_and_queues.Goals as goal
-
-pub returns-clause-table : goal.returns-clause-table
-returns-clause-table c = table_lawful
-
-pub returns-clause-answers : goal.returns-clause-answers
-returns-clause-answers c = answers_lawful

@@ -1,5 +1,0 @@
-use Rattle.lane_invariant.proofs.RingPages.{pages_stay}
-use Rattle.lane_invariant.proofs.laws.pages_of_a_lane_stay_granted.Goals as goal
-
-pub returns : goal.returns
-returns c = pages_stay

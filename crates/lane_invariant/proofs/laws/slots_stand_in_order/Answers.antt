@@ -1,5 +1,0 @@
-use Rattle.lane_invariant.proofs.SlotsAlong.{run_order}
-use Rattle.lane_invariant.proofs.laws.slots_stand_in_order.Goals as goal
-
-pub returns : goal.returns
-returns c = run_order

@@ -1,5 +1,0 @@
-use Rattle.lane_invariant.proofs.RingAlong.{run_ring}
-use Rattle.lane_invariant.proofs.laws.the_ring_is_as_its_log_says.Goals as goal
-
-pub returns : goal.returns
-returns c = run_ring

@@ -1,5 +1,0 @@
-use Rattle.lane_invariant.proofs.OpenRuns.{tick_lawful}
-use Rattle.lane_invariant.proofs.laws.ticks_are_calm_where_all_is_done.Goals as goal
-
-pub returns : goal.returns
-returns c = tick_lawful

@@ -1,8 +1,0 @@
--- Where a packet may be heard: it spells a packet, has the next number where it has one, and a part comes only where it may.
-use Rattle.disk_log.specs.DiskLog.{DiskLog}
-use Rattle.disk_log.specs.May.{OfWire}
-use Rattle.disk_steps.specs.DiskEvent.{DiskEvent}
-use Rattle.lane_law.specs.WireAt.{WireHeardAt}
-
-abbrev pub HeardAt : DiskLog → DiskEvent → Type 0
-HeardAt l event = OfWire (WireHeardAt l.talk) event

@@ -1,5 +1,0 @@
-use Rattle.lane_lawful.proofs.AgreementRuns.{run_agrees}
-use Rattle.lane_lawful.proofs.laws.a_lane_agrees_with_its_log.Goals as goal
-
-pub returns : goal.returns
-returns c = run_agrees

@@ -1,5 +1,0 @@
-use Rattle.lane_lawful.proofs.WorkRuns.{numbers_lawful}
-use Rattle.lane_lawful.proofs.laws.work_has_its_numbers.Goals as goal
-
-pub returns : goal.returns
-returns c = numbers_lawful

@@ -1,5 +1,0 @@
-use Rattle.lane_lawful.proofs.StatusRuns.{unforged_lawful}
-use Rattle.lane_lawful.proofs.laws.work_is_done_as_it_was_asked.Goals as goal
-
-pub returns : goal.returns
-returns c = unforged_lawful

@@ -1,6 +1,0 @@
-pub mod Laws
-pub mod Cuts
-pub mod Units
-pub mod Statuses
-pub mod Opens
-pub mod CalmEnds

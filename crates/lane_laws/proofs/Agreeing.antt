@@ -1,0 +1,250 @@
+-- The sessions of a lane that nobody forged agree after every run: they are of one ring, and their counts stand in their order.
+use Rattle.std.proofs.Common.{◌≡◌, ℕ, ◌+◌, ◌^◌, ◌<◌, ◌≤◌, true, false, Option, Some, None, List, [], ◌∷◌, length, take, refl, sym, ap, ◌∙◌, subst, arith, length-drop}
+use Rattle.std.specs.Prelude.{is_some, ⊤}
+use Rattle.runs.specs.Lawful.{log_of, run_lawful}
+use Rattle.runs.specs.Run.{Run}
+use Rattle.ldc_queue.specs.declared.end.ChannelState.{ChannelState}
+use Rattle.ldc_queue.specs.declared.end.ChannelState.TheVariants.{Down, Resetting, Up}
+use Rattle.ldc_queue.specs.declared.end.End.TheVariants.{A, B}
+use Rattle.ldc_queue.specs.OneStream.{IsFront}
+use Rattle.vio_handshake.specs.declared.session.Offer.{Offer}
+use Rattle.disk_model.specs.Sayings.{heard, said}
+use Rattle.disk_model.specs.TalkLog.{TalkLog}
+use Rattle.disk_model.specs.WireAt.{IsUp}
+use Rattle.disk_model.specs.WireLog.{WireLog}
+use Rattle.disk_model.specs.Agreement.{ClientAgrees, ClientCountsAgree, ServerAgrees}
+use Rattle.disk_model.specs.DiskLog.{DiskLog, after, after_talk, nothing_yet}
+use Rattle.disk_model.specs.WorkLaws.{IfServer}
+use Rattle.disk_model.specs.WorkLog.{ClientCounts, ServerCounts}
+use Rattle.disk_model.specs.ClientState.{ClientSession}
+use Rattle.disk_model.specs.DiskEvent.{DiskEvent}
+use Rattle.disk_model.specs.LaneState.{IsShape, LaneState, Shape, fresh}
+use Rattle.disk_model.specs.LaneStep.{LaneStep}
+use Rattle.disk_model.specs.Offering.{client_offer, own_cookies}
+use Rattle.disk_model.specs.ServerState.{ServerSession, SlotRange, Work}
+use Rattle.lane_laws.proofs.CarriedRuns.{AllStand, all_step, fresh_all}
+use Rattle.lane_laws.proofs.HeardFront.{heard_messages}
+use Rattle.lane_laws.proofs.LaneCounting.{Knows, run_knows}
+use Rattle.lane_laws.proofs.OfferedRing.{few_cookies, filled_front}
+use Rattle.lane_laws.proofs.OneSession.{one_session}
+use Rattle.lane_laws.proofs.RangeSums.{ready_front, sum_front}
+use Rattle.lane_laws.proofs.RingRuns.{issued_behind}
+use Rattle.lane_laws.proofs.UpRuns.{unheard_server}
+use Rattle.lane_laws.specs.Counted.{InServerOrder, RangeStands, ServerOrder, acked_of, announced_of, range_sum, ready_count}
+use Rattle.lane_laws.specs.LaneTalks.{talk_behind}
+use Rattle.lane_laws.specs.OneSession.{AreOneSession}
+use Rattle.disk_model.specs.Ranges.{wrapped}
+use Rattle.lane_laws.specs.Remaining.{total}
+use Rattle.lane_laws.specs.RingAgreed.{AlwaysAgree, OneRing}
+use Rattle.lane_laws.specs.Sound.{CountsInOrder, InOrder}
+
+-- the talk in the log of a run
+pub talk_is : (l : DiskLog) (events : List DiskEvent) → (log_of after l events).talk ≡ log_of after_talk l.talk events
+talk_is l [] = refl
+talk_is l (event ∷ events) = talk_is (after l event) events
+
+-- THE IDS are below 2^64
+record Issued (s : LaneState) (l : DiskLog) : Type 0 where
+  all : AllStand s l
+  few : length l.work.issued < 2 ^ 64
+
+issued_step : (s : LaneState) (l : DiskLog) (event : DiskEvent) (t : LaneState) → Issued s l → LaneStep s event t → ⊤ × Issued t (after l event)
+issued_step s l event t issued step =
+    (tt, record { all = (all_step s l event t issued.all step).1; few = issued_behind s l event t issued.all.stands issued.few step })
+
+pub issued_few : (shape : Shape) (events : List DiskEvent) (s : LaneState) → IsShape shape → Run LaneStep (fresh shape) events s → length (log_of after (nothing_yet shape) events).work.issued < 2 ^ 64
+issued_few shape events s sound run =
+    (run_lawful LaneStep (λ (l : DiskLog) (e : DiskEvent). ⊤) after Issued issued_step (fresh shape) s (nothing_yet shape) events
+    (record { all = fresh_all shape sound; few = omega arith }) run).1.few
+
+-- WHERE THE SERVER'S SESSION IS OPEN and its end is up, so is the client's
+pub server_open : (o : Option ServerSession) (w : Option Work) (q : Option ServerCounts) (d : ServerCounts) → q ≡ Some d → ServerAgrees o w q → is_some o ≡ true
+server_open None w None d is agrees = absurd (cc is)
+server_open None w (Some c) d is agrees = absurd agrees
+server_open (Some s) w q d is agrees = refl
+
+order_of : (slots : ℕ) (o : Option ServerSession) (q : Option ServerCounts) (d : ServerCounts) (talk : TalkLog) → q ≡ Some d → is_some o ≡ true → ServerOrder slots o q talk.server
+    → (session : ServerSession) × InServerOrder slots session d talk.server
+order_of slots None q d talk is now order = absurd (cc)
+order_of slots (Some s) None d talk is now order = absurd order
+order_of slots (Some s) (Some c) d talk is now order = let same : c ≡ d = cc is in (s, subst (λ (x : ServerCounts). InServerOrder slots s x talk.server) same order)
+
+client_open : (o : Option ClientSession) (count : ℕ) → (o ≡ None → count ≡ 0) → 1 ≤ count → is_some o ≡ true
+client_open None count none some = absurd (omega (arith, none refl, some))
+client_open (Some s) count none some = refl
+
+record ClientOpen (o : Option ClientSession) (done : ℕ) (q : Option ClientCounts) : Type 0 where
+  session : ClientSession
+  counts : ClientCounts
+  session_is : o ≡ Some session
+  counts_are : q ≡ Some counts
+  agree : ClientCountsAgree session done counts
+
+counts_of : (o : Option ClientSession) (done : ℕ) (q : Option ClientCounts) → is_some o ≡ true → ClientAgrees o done q → ClientOpen o done q
+counts_of None done q now agrees = absurd (cc)
+counts_of (Some s) done None now agrees = absurd agrees
+counts_of (Some s) done (Some c) now agrees = record { session = s; counts = c; session_is = refl; counts_are = refl; agree = agrees }
+
+pub front_sum : (slots subtype : ℕ) (xs ys : List (List ℕ)) → IsFront xs ys → range_sum slots subtype xs ≤ range_sum slots subtype ys
+front_sum slots subtype xs ys front = subst (λ (zs : List (List ℕ)). range_sum slots subtype xs ≤ range_sum slots subtype zs) (sym front.1) (sum_front slots subtype xs front.0)
+
+front_ready : (xs ys : List (List ℕ)) → IsFront xs ys → ready_count xs ≤ ready_count ys
+front_ready xs ys front = subst (λ (zs : List (List ℕ)). ready_count xs ≤ ready_count zs) (sym front.1) (ready_front xs front.0)
+
+-- an end whose agreement was heard is up
+heard_up : (x : ChannelState) (s : LaneState) (messages : List (List ℕ)) → s.wire.wire.end_a ≡ x → ((s.wire.wire.end_a ≡ Up → ⊥) → messages ≡ []) → 1 ≤ ready_count messages → s.wire.wire.end_a ≡ Up
+heard_up Up s messages is none some = is
+heard_up Down s messages is none some =
+    absurd (omega (arith, some, ap ready_count (none (λ up. let never : Up ≡ Down = sym up ∙ is in absurd (cc)))))
+heard_up Resetting s messages is none some =
+    absurd (omega (arith, some, ap ready_count (none (λ up. let never : Up ≡ Resetting = sym up ∙ is in absurd (cc)))))
+
+in_order : (pending : ℕ) (o : Option ClientSession) (session : ClientSession) → o ≡ Some session → CountsInOrder pending o → InOrder pending session
+in_order pending o session is order = subst (CountsInOrder pending) is order
+
+pub server_alive : (shape : Shape) (events : List DiskEvent) (s : LaneState) → IsShape shape → Run LaneStep (fresh shape) events s → s.wire.forged ≡ false → IsUp B s.wire.wire
+    → (d : ServerCounts) → (log_of after (nothing_yet shape) events).work.server ≡ Some d → s.wire.wire.end_a ≡ Up
+server_alive shape events s sound run clean up d is =
+    let l = log_of after (nothing_yet shape) events in
+    let server = (run_knows shape events s sound run).counted.server in
+    let talk : l.talk ≡ talk_behind events = talk_is (nothing_yet shape) events in
+    heard_up s.wire.wire.end_a s (heard l.talk.server) refl (λ not. ap (λ (t : TalkLog). heard t.server) talk ∙ unheard_server shape events s sound run clean up not)
+    (server.ready (server_open s.server.session s.server.work l.work.server d is server.agrees))
+
+pub one_ring : (shape : Shape) (events : List DiskEvent) (s : LaneState) → IsShape shape → Run LaneStep (fresh shape) events s → s.wire.forged ≡ false → IsUp B s.wire.wire
+    → (d : ServerCounts) → (log_of after (nothing_yet shape) events).work.server ≡ Some d → OneRing s (log_of after (nothing_yet shape) events).work d
+one_ring shape events s sound run clean up d is =
+    let l = log_of after (nothing_yet shape) events in
+    let knows : Knows s l = run_knows shape events s sound run in
+    let talk : l.talk ≡ talk_behind events = talk_is (nothing_yet shape) events in
+    let client = knows.counted.client in
+    let server = knows.counted.server in
+    let v_open : is_some s.server.session ≡ true = server_open s.server.session s.server.work l.work.server d is server.agrees in
+    let heard_v = heard l.talk.server in
+    let said_v = said l.talk.server in
+    let heard_c = heard l.talk.client in
+    let said_c = said l.talk.client in
+    let ready : 1 ≤ ready_count heard_v = server.ready v_open in
+    let up_a : s.wire.wire.end_a ≡ Up = server_alive shape events s sound run clean up d is in
+    let front_b : IsFront heard_v said_c = subst (λ (t : TalkLog). IsFront (heard t.server) (said t.client)) (sym talk) (heard_messages shape events s B sound run clean up) in
+    let front_a : IsFront heard_c said_v = subst (λ (t : TalkLog). IsFront (heard t.client) (said t.server)) (sym talk) (heard_messages shape events s A sound run clean up_a) in
+    let c_open : is_some s.client.session ≡ true =
+    client_open s.client.session (ready_count said_c) client.ready (omega (arith, ready, front_ready heard_v said_c front_b)) in
+    let k = counts_of s.client.session l.work.done l.work.client c_open client.agrees in
+    let order = in_order (length s.client.pending) s.client.session k.session k.session_is knows.all.talks.client.counts in
+    let v_order = (order_of l.shape.slots s.server.session l.work.server d l.talk is v_open server.order).1 in
+    let announced : k.session.announced ≡ range_sum l.shape.slots 1 said_c = ap announced_of (sym k.session_is) ∙ client.announced in
+    let acked : k.session.acked ≡ range_sum l.shape.slots 2 heard_c = ap acked_of (sym k.session_is) ∙ client.acked in
+    let asked_said = front_sum l.shape.slots 1 heard_v said_c front_b in
+    let acked_said = front_sum l.shape.slots 2 heard_c said_v front_a in
+    let asked : d.asked ≤ k.counts.published = omega (arith, v_order.asked, asked_said, announced, order.announced, k.agree.published) in
+    let one : AreOneSession s.client.shake s.server.shake = one_session shape events s sound run clean c_open v_open in
+    let offer = client.shake.offer_is in
+    let few : l.shape.slots ≤ 256 = omega (arith, client.slots, knows.all.talks.client.slots) in
+    let all : length s.client.pending + l.work.done ≡ length l.work.issued =
+    omega (arith, ap length knows.all.stands.requests.pending, length-drop l.work.done l.work.issued, knows.all.stands.requests.done) in
+    record {
+      client = k.counts;
+      open_is = k.counts_are;
+      slots = one.slots ∙ ap (λ (o : Offer). o.slots) offer ∙ sym client.slots;
+      cookies = ap (λ (n : ℕ). take n s.server.shake.draft.peer_cookies) (one.count ∙ ap (λ (o : Offer). o.count) offer)
+          ∙ ap (take (length (own_cookies l.shape.slots))) (one.cookies ∙ ap (λ (o : Offer). o.cookies) offer)
+          ∙ filled_front 14 (own_cookies l.shape.slots) (few_cookies l.shape.slots few) ∙ ap own_cookies (sym client.slots);
+      done = omega (arith, k.agree.completed, order.completed, acked, acked_said, v_order.answered, v_order.finished);
+      descs = v_order.descs;
+      asked = asked;
+      small = omega (arith, asked, k.agree.published, order.published, k.agree.completed, all, issued_few shape events s sound run);
+    }
+
+ring_if : (q : Option ServerCounts) (s : LaneState) (l : DiskLog) → ((d : ServerCounts) → q ≡ Some d → OneRing s l.work d) → IfServer q (OneRing s l.work)
+ring_if None s l ring = tt
+ring_if (Some d) s l ring = ring d refl
+
+-- THE SESSIONS AGREE
+pub always_agree : (shape : Shape) → IsShape shape → AlwaysAgree shape
+always_agree shape sound events s run clean =
+    let l = log_of after (nothing_yet shape) events in
+    let knows : Knows s l = run_knows shape events s sound run in
+    record {
+      client = knows.counted.client.agrees;
+      server = knows.counted.server.agrees;
+      ring = λ up. ring_if l.work.server s l (λ d is. one_ring shape events s sound run (ap (λ (w : WireLog). w.forged) knows.all.stands.wire ∙ clean)
+          (ap (λ (w : WireLog). w.wire.end_b) knows.all.stands.wire ∙ up) d is);
+    }
+
+-- what both ends count, also where somebody forges
+pub client_counts : (shape : Shape) (events : List DiskEvent) (s : LaneState) → IsShape shape → Run LaneStep (fresh shape) events s
+    → ClientAgrees s.client.session (log_of after (nothing_yet shape) events).work.done (log_of after (nothing_yet shape) events).work.client
+client_counts shape events s sound run = (run_knows shape events s sound run).counted.client.agrees
+
+pub server_counts : (shape : Shape) (events : List DiskEvent) (s : LaneState) → IsShape shape → Run LaneStep (fresh shape) events s
+    → ServerAgrees s.server.session s.server.work (log_of after (nothing_yet shape) events).work.server
+server_counts shape events s sound run = (run_knows shape events s sound run).counted.server.agrees
+
+-- and what the client offers
+pub client_offers : (shape : Shape) (events : List DiskEvent) (s : LaneState) → IsShape shape → Run LaneStep (fresh shape) events s
+    → s.client.shake.offer ≡ client_offer s.client.blocks s.client.slots
+client_offers shape events s sound run =
+    let knows = run_knows shape events s sound run in
+    let l = log_of after (nothing_yet shape) events in
+    knows.counted.client.shake.offer_is
+    ∙ ap (λ (n : ℕ). client_offer n l.shape.slots) (ap (λ (x : Shape). x.blocks) (sym knows.all.stands.shape) ∙ sym knows.all.stands.blocks)
+    ∙ ap (client_offer s.client.blocks) (sym knows.counted.client.slots)
+
+-- what a server whose end is up has answered
+pub range_answered : (slots : ℕ) (range : Option SlotRange) (d : ServerCounts) → RangeStands slots range d → d.answered ≤ d.asked
+range_answered slots None d stands = omega (arith, stands)
+range_answered slots (Some range) d stands = omega (arith, stands.0)
+
+pub answered_small : (shape : Shape) (events : List DiskEvent) (s : LaneState) → IsShape shape → Run LaneStep (fresh shape) events s → s.wire.forged ≡ false → IsUp B s.wire.wire
+    → (d : ServerCounts) → (log_of after (nothing_yet shape) events).work.server ≡ Some d → d.answered < 2 ^ 64
+answered_small shape events s sound run clean up d is =
+    let l = log_of after (nothing_yet shape) events in
+    let server = (run_knows shape events s sound run).counted.server in
+    let v_open : is_some s.server.session ≡ true = server_open s.server.session s.server.work l.work.server d is server.agrees in
+    let one = order_of l.shape.slots s.server.session l.work.server d l.talk is v_open server.order in
+    omega (arith, (one_ring shape events s sound run clean up d is).small, range_answered l.shape.slots one.0.range d one.1.range)
+
+-- WHAT A SERVER WAS ASKED FOR, where its end is up
+pub record AskedWithin (s : LaneState) (l : DiskLog) (session : ServerSession) : Type 0 where
+  pub asked : session.asked ≡ range_sum l.shape.slots 1 (heard l.talk.server)
+  pub small : session.asked < 2 ^ 64
+  pub within : session.asked ≤ total (length s.client.pending) s.client.session
+  pub up : s.wire.wire.end_a ≡ Up
+  pub slots : s.server.shake.draft.peer_slots ≤ 256
+
+server_counts_of : (o : Option ServerSession) (w : Option Work) (q : Option ServerCounts) (session : ServerSession) → o ≡ Some session → ServerAgrees o w q
+    → (d : ServerCounts) × (q ≡ Some d) × (session.asked ≡ wrapped d.asked)
+server_counts_of None w q session is agrees = absurd (cc is)
+server_counts_of (Some s) w None session is agrees = absurd agrees
+server_counts_of (Some s) w (Some c) session is agrees = let same : session ≡ s = cc is in (c, refl, ap (λ (x : ServerSession). x.asked) same ∙ agrees.0.asked)
+
+pub client_some : (o : Option ClientSession) (done : ℕ) (q : Option ClientCounts) (k : ClientCounts) → q ≡ Some k → ClientAgrees o done q → is_some o ≡ true
+client_some None done None k is agrees = absurd (cc is)
+client_some None done (Some c) k is agrees = absurd agrees
+client_some (Some s) done q k is agrees = refl
+
+pub asked_within : (shape : Shape) (events : List DiskEvent) (s : LaneState) (session : ServerSession) → IsShape shape → Run LaneStep (fresh shape) events s → s.wire.forged ≡ false → IsUp B s.wire.wire
+    → s.server.session ≡ Some session → AskedWithin s (log_of after (nothing_yet shape) events) session
+asked_within shape events s session sound run clean up is =
+    let l = log_of after (nothing_yet shape) events in
+    let knows : Knows s l = run_knows shape events s sound run in
+    let server = knows.counted.server in
+    let client = knows.counted.client in
+    let counts = server_counts_of s.server.session s.server.work l.work.server session is server.agrees in
+    let d : ServerCounts = counts.0 in
+    let ring = one_ring shape events s sound run clean up d counts.1 in
+    let order = (order_of l.shape.slots s.server.session l.work.server d l.talk counts.1 (ap is_some is) server.order).1 in
+    let k = counts_of s.client.session l.work.done l.work.client (client_some s.client.session l.work.done l.work.client ring.client ring.open_is client.agrees) client.agrees in
+    let same : Some k.counts ≡ Some ring.client = sym k.counts_are ∙ ring.open_is in
+    let pair : k.counts ≡ ring.client = cc same in
+    let one : k.counts.published ≡ ring.client.published = ap (λ (c : ClientCounts). c.published) pair in
+    let in_turn = in_order (length s.client.pending) s.client.session k.session k.session_is knows.all.talks.client.counts in
+    let whole : session.asked ≡ d.asked = omega (arith, counts.2, ring.small) in
+    record {
+      asked = whole ∙ order.asked;
+      small = omega (arith, whole, ring.small);
+      within = subst (λ (o : Option ClientSession). session.asked ≤ total (length s.client.pending) o) (sym k.session_is) (omega (arith, whole, ring.asked, one, k.agree.published, in_turn.published));
+      up = server_alive shape events s sound run clean up d counts.1;
+      slots = omega (arith, ring.slots, knows.all.talks.client.slots);
+    }

@@ -1,0 +1,33 @@
+-- What may be said of an event after each run of a lane is a law along every run.
+use Rattle.std.proofs.Common.{◌≡◌, List, [], ◌∷◌, ◌++◌, refl, sym, ap, ◌∙◌, subst}
+use Rattle.runs.specs.Lawful.{Lawful, log_append, log_of, run_lawful}
+use Rattle.runs.specs.Run.{Run, run_push}
+use Rattle.disk_model.specs.DiskLog.{DiskLog, after, nothing_yet}
+use Rattle.disk_model.specs.DiskEvent.{DiskEvent}
+use Rattle.disk_model.specs.LaneState.{LaneState, Shape, fresh}
+use Rattle.disk_model.specs.LaneStep.{LaneStep}
+
+record Reached (shape : Shape) (s : LaneState) (l : DiskLog) : Type 0 where
+  events : List DiskEvent
+  run : Run LaneStep (fresh shape) events s
+  log : l ≡ log_of after (nothing_yet shape) events
+
+abbrev pub OfEachRun : (DiskLog → DiskEvent → Type 0) → Shape → Type 0
+OfEachRun May shape = (events : List DiskEvent) (s : LaneState) (event : DiskEvent) (t : LaneState) → Run LaneStep (fresh shape) events s → LaneStep s event t
+    → May (log_of after (nothing_yet shape) events) event
+
+reached_step : (May : DiskLog → DiskEvent → Type 0) (shape : Shape) → OfEachRun May shape → (s : LaneState) (l : DiskLog) (event : DiskEvent) (t : LaneState) → Reached shape s l
+    → LaneStep s event t → May l event × Reached shape t (after l event)
+reached_step May shape may s l event t reached step = (
+  subst (λ (x : DiskLog). May x event) (sym reached.log) (may reached.events s event t reached.run step),
+  record {
+    events = reached.events ++ event ∷ [];
+    run = run_push LaneStep (fresh shape) s t reached.events event reached.run step;
+    log = ap (λ (x : DiskLog). after x event) reached.log ∙ sym (log_append after (nothing_yet shape) reached.events (event ∷ []));
+  },
+)
+
+pub reached_lawful : (May : DiskLog → DiskEvent → Type 0) (shape : Shape) → OfEachRun May shape → (events : List DiskEvent) (s : LaneState) → Run LaneStep (fresh shape) events s
+    → Lawful May after (nothing_yet shape) events
+reached_lawful May shape may events s run =
+    (run_lawful LaneStep May after (Reached shape) (reached_step May shape may) (fresh shape) s (nothing_yet shape) events (record { events = []; run = refl; log = refl }) run).0

@@ -1,0 +1,195 @@
+-- Each step of a client leaves its session counting what it said and heard.
+use Rattle.std.proofs.Common.{◌≡◌, ℕ, ◌+◌, ◌≤◌, inl, inr, Bool, true, false, Option, Some, None, List, [], ◌∷◌, ◌++◌, length, refl, sym, ap, ◌∙◌, subst, arith}
+use Rattle.std.specs.Prelude.{is_some, ⊤}
+use Rattle.ldc_link.specs.declared.phase.Role.TheVariants.{Initiator}
+use Rattle.ldc_packet.specs.Spelling.{subtype_code}
+use Rattle.ldc_queue.specs.Talk.{Heard as Heard_, Turn}
+use Rattle.vio_tag.specs.declared.message.Message.{Message}
+use Rattle.vio_tag.specs.Spelling.{canonical}
+use Rattle.vio_handshake.specs.declared.handshake.Handshake.{Handshake}
+use Rattle.vio_handshake.specs.declared.session.Session.{Session}
+use Rattle.vio_handshake.specs.Rules.{ShakeTake, shake_take}
+use Rattle.disk_model.specs.Sayings.{half_heard, half_said, heard}
+use Rattle.disk_model.specs.Agreement.{ClientAgrees}
+use Rattle.disk_model.specs.Messages.{range_ended, range_in}
+use Rattle.disk_model.specs.WorkLog.{ClientCounts, change_client, length_in}
+use Rattle.disk_model.specs.ClientPutting.{announcement, is_announcing}
+use Rattle.disk_model.specs.ClientState.{ClientSession, ClientState, joined_client}
+use Rattle.disk_model.specs.ClientTaking.{acknowledged}
+use Rattle.disk_model.specs.LaneState.{Shape}
+use Rattle.disk_model.specs.Offering.{client_offer}
+use Rattle.disk_model.specs.Ranges.{range_length}
+use Rattle.lane_laws.proofs.ClientTaken.{ClientAcked, ClientHearsPart, ClientShakes, ClientTook, ShakesTo}
+use Rattle.lane_laws.proofs.Fitting.{TakesFit, joined_fits, take_fits}
+use Rattle.lane_laws.proofs.RangeSums.{sum_heard, sum_more}
+use Rattle.lane_laws.proofs.RangesSaid.{IsNoData, heard_no_range, heard_range}
+use Rattle.lane_laws.proofs.ShakingOpen.{no_data, still_open}
+use Rattle.lane_laws.specs.Counted.{ClientCounted, HoldsOwed, acked_of, announced_of, infos_of, range_sum}
+use Rattle.lane_laws.specs.LaneRests.{ClientRests}
+use Rattle.lane_laws.specs.ShakeFits.{Fits}
+
+-- IT BEGINS
+pub client_begins_counting : (shape : Shape) (c : ClientState) (turns : List Turn) (done : ℕ) (k : Option ClientCounts) → ClientCounted shape c turns done k
+    → ClientCounted shape (joined_client c) [] done None
+client_begins_counting shape c turns done k counted = record {
+  slots = counted.slots;
+  shake = joined_fits Initiator (client_offer shape.blocks shape.slots) c.shake counted.shake;
+  holds = record { owed = λ quiet some. absurd (omega (arith, some)); own = λ session is on. absurd (cc) };
+  announced = refl;
+  infos = refl;
+  acked = refl;
+  ready = λ none. refl;
+  agrees = tt;
+}
+
+-- THE LOG counts what is heard
+abbrev SameButAcked : Option ClientSession → Option ClientSession → Type 0
+SameButAcked None None = ⊤
+SameButAcked None (Some t) = ⊥
+SameButAcked (Some s) None = ⊥
+SameButAcked (Some s) (Some t) =
+    (t.base ≡ s.base) × (t.published ≡ s.published) × (t.announced ≡ s.announced) × (t.infos ≡ s.infos) × (t.completed ≡ s.completed)
+
+same_acked : (o : Option ClientSession) → SameButAcked o o
+same_acked None = tt
+same_acked (Some s) = (refl, refl, refl, refl, refl)
+
+heard_agrees : (o p : Option ClientSession) (done n : ℕ) (k : Option ClientCounts) → SameButAcked o p → acked_of p ≡ acked_of o + n → ClientAgrees o done k
+    → ClientAgrees p done (change_client (λ (c : ClientCounts). record c { acked = c.acked + n }) k)
+heard_agrees None None done n None same more agrees = tt
+heard_agrees None None done n (Some c) same more agrees = absurd agrees
+heard_agrees (Some s) None done n k same more agrees = absurd same
+heard_agrees None (Some t) done n k same more agrees = absurd same
+heard_agrees (Some s) (Some t) done n None same more agrees = absurd agrees
+heard_agrees (Some s) (Some t) done n (Some c) same more agrees = record {
+  base = same.0 ∙ agrees.base;
+  published = same.1 ∙ agrees.published;
+  announced = same.2 ∙ agrees.announced;
+  infos = same.3 ∙ agrees.infos;
+  acked = more ∙ ap (λ (x : ℕ). x + n) agrees.acked;
+  completed = agrees.completed ∙ ap (λ (x : ℕ). c.base + x) (sym same.4);
+}
+
+-- what is heard after one more packet
+record HeardOf (shape : Shape) (c t : ClientState) (turns : List Turn) (packet : List ℕ) : Type 0 where
+  same : SameButAcked c.session t.session
+  acked : acked_of t.session ≡ range_sum shape.slots 2 (heard (Heard_ packet ∷ turns))
+
+hears_agrees : (shape : Shape) (c t : ClientState) (turns : List Turn) (packet : List ℕ) (done : ℕ) (k : Option ClientCounts) → ClientCounted shape c turns done k → HeardOf shape c t turns packet
+    → ClientAgrees t.session done (change_client (λ (x : ClientCounts). record x { acked = x.acked + length_in shape.slots (range_ended 2 (half_heard turns) packet) }) k)
+hears_agrees shape c t turns packet done k counted heard_of =
+    heard_agrees c.session t.session done (length_in shape.slots (range_ended 2 (half_heard turns) packet)) k heard_of.same
+    (omega (arith, heard_of.acked, sum_heard shape.slots 2 packet turns, counted.acked)) counted.agrees
+
+abbrev pub acks_more : Shape → List Turn → List ℕ → Option ClientCounts → Option ClientCounts
+acks_more shape turns packet k = change_client (λ (x : ClientCounts). record x { acked = x.acked + length_in shape.slots (range_ended 2 (half_heard turns) packet) }) k
+
+abbrev Behind : Shape → List Turn → List ℕ → ℕ → Option ClientCounts → ClientState → Type 0
+Behind shape turns packet done k t =
+    ClientCounted shape t (Heard_ packet ∷ turns) done (change_client (λ (x : ClientCounts). record x { acked = x.acked + length_in shape.slots (range_ended 2 (half_heard turns) packet) }) k)
+
+-- IT TAKES a packet: a part of a message
+same_left : (c : ClientState) (turns : List Turn) (left : List ℕ) → left ≡ c.link.to_send → 1 ≤ length left → HoldsOwed c.shake.owed (half_said turns ++ c.link.to_send)
+    → HoldsOwed c.shake.owed (half_said turns ++ left)
+same_left c turns left is some holds = subst (λ (xs : List ℕ). HoldsOwed c.shake.owed (half_said turns ++ xs)) (sym is) holds
+
+takes_part : (shape : Shape) (c t : ClientState) (turns : List Turn) (packet : List ℕ) (done : ℕ) (k : Option ClientCounts) → ClientCounted shape c turns done k
+    → ClientHearsPart c turns packet t → Behind shape turns packet done k t
+takes_part shape c t turns packet done k counted part =
+    let acked : acked_of c.session ≡ range_sum shape.slots 2 (heard (Heard_ packet ∷ turns)) = counted.acked ∙ ap (range_sum shape.slots 2) (sym part.messages) in
+    subst (Behind shape turns packet done k) (sym part.is) (record {
+      slots = counted.slots;
+      shake = counted.shake;
+      holds = record {
+        owed = λ quiet some. same_left c turns part.link.to_send part.left some (counted.holds.owed quiet (omega (arith, some, ap length part.left)));
+        own = λ session is on. ap (λ (xs : List ℕ). half_said turns ++ xs) part.left ∙ counted.holds.own session is on;
+      };
+      announced = counted.announced;
+      infos = counted.infos;
+      acked = acked;
+      ready = counted.ready;
+      agrees = hears_agrees shape c (record c { link = part.link }) turns packet done k counted (record { same = same_acked c.session; acked = acked });
+    })
+
+-- a message of the handshake
+none_held : (c : ClientState) (bytes : List ℕ) (owed : Option Message) → c.shake.owed ≡ None → HoldsOwed c.shake.owed bytes → HoldsOwed owed bytes
+none_held c bytes owed none holds = let never : None ≡ Some holds.message = sym none ∙ holds.owed_is in absurd (cc)
+
+fits_to : (shape : Shape) (h g : Handshake) (answer : ShakeTake) (opens : Bool) → ShakesTo h answer opens g → TakesFit Initiator (client_offer shape.blocks shape.slots) answer
+    → Fits Initiator (client_offer shape.blocks shape.slots) g
+fits_to shape h g answer false is fits = subst (TakesFit Initiator (client_offer shape.blocks shape.slots)) is fits
+fits_to shape h g answer true is fits = subst (TakesFit Initiator (client_offer shape.blocks shape.slots)) is fits
+
+takes_shake : (shape : Shape) (c t : ClientState) (turns : List Turn) (packet : List ℕ) (done : ℕ) (k : Option ClientCounts) → ClientRests c turns → c.shake.owed ≡ None
+    → ClientCounted shape c turns done k → ClientShakes c turns packet t → Behind shape turns packet done k t
+takes_shake shape c t turns packet done k rests none counted shakes =
+    let bytes = shakes.hears.bytes in
+    let apart : IsNoData shakes.message.body = no_data c.shake shakes.message shakes.opens shakes.shake shakes.takes in
+    let acked : acked_of c.session ≡ range_sum shape.slots 2 (heard (Heard_ packet ∷ turns)) =
+    omega (
+      arith,
+      counted.acked,
+      ap (range_sum shape.slots 2) shakes.hears.messages,
+      sum_more shape.slots 2 (heard turns) bytes,
+      ap (length_in shape.slots) (heard_no_range 2 bytes shakes.message shakes.hears.spells shakes.hears.form apart),
+    ) in
+    subst (Behind shape turns packet done k) (sym shakes.is) (record {
+      slots = counted.slots;
+      shake = fits_to shape c.shake shakes.shake (shake_take c.shake shakes.message) shakes.opens shakes.takes
+          (take_fits Initiator (client_offer shape.blocks shape.slots) c.shake shakes.message none counted.shake);
+      holds = record {
+        owed = λ quiet some. none_held c (half_said turns ++ shakes.link.to_send) shakes.shake.owed none
+            (same_left c turns shakes.link.to_send shakes.left some (counted.holds.owed quiet (omega (arith, some, ap length shakes.left))));
+        own = λ session is on.
+            let draft : shakes.shake.draft ≡ c.shake.draft = still_open c.shake shakes.message shakes.opens shakes.shake (rests.opened (ap is_some is)) shakes.takes in
+            ap (λ (xs : List ℕ). half_said turns ++ xs) shakes.left ∙ counted.holds.own session is on
+            ∙ ap (λ (d : Session). canonical (announcement (record c { shake = record c.shake { draft = d } }) session)) (sym draft);
+      };
+      announced = counted.announced;
+      infos = counted.infos;
+      acked = acked;
+      ready = counted.ready;
+      agrees = hears_agrees shape c (record c { link = shakes.link; shake = shakes.shake }) turns packet done k counted (record { same = same_acked c.session; acked = acked });
+    })
+
+-- an acknowledgement
+acked_session : (o : Option ClientSession) (session : ClientSession) (n : ℕ) → o ≡ Some session → SameButAcked o (Some (record session { acked = session.acked + n }))
+acked_session o session n is = subst (λ (x : Option ClientSession). SameButAcked x (Some (record session { acked = session.acked + n }))) (sym is) (refl, refl, refl, refl, refl)
+
+takes_ack : (shape : Shape) (c t : ClientState) (turns : List Turn) (packet : List ℕ) (done : ℕ) (k : Option ClientCounts) → ClientCounted shape c turns done k
+    → ClientAcked c turns packet t → Behind shape turns packet done k t
+takes_ack shape c t turns packet done k counted acks =
+    let bytes = acks.hears.bytes in
+    let n = range_length c.slots acks.start acks.end in
+    let session = acks.session in
+    let before : session.acked ≡ range_sum shape.slots 2 (heard turns) = ap acked_of (sym acks.session_is) ∙ counted.acked in
+    let adds : length_in shape.slots (range_in 2 (Some bytes)) ≡ n =
+    heard_range shape.slots 2 bytes acks.message acks.seq acks.ident acks.start acks.end acks.state acks.hears.spells (ap subtype_code acks.subtype_is) acks.body_is
+    ∙ ap (λ (x : ℕ). range_length x acks.start acks.end) (sym counted.slots) in
+    let acked : session.acked + n ≡ range_sum shape.slots 2 (heard (Heard_ packet ∷ turns)) =
+    omega (arith, before, ap (range_sum shape.slots 2) acks.hears.messages, sum_more shape.slots 2 (heard turns) bytes, adds) in
+    subst (Behind shape turns packet done k) (sym acks.is) (record {
+      slots = counted.slots;
+      shake = counted.shake;
+      holds = record {
+        owed = λ quiet some. same_left c turns acks.link.to_send acks.left some
+            (counted.holds.owed (ap is_announcing acks.session_is ∙ quiet) (omega (arith, some, ap length acks.left)));
+        own = λ other is on.
+            let same : record session { acked = session.acked + n } ≡ other = cc is in
+            ap (λ (xs : List ℕ). half_said turns ++ xs) acks.left
+            ∙ counted.holds.own session acks.session_is (ap (λ (x : ClientSession). x.announcing) same ∙ on)
+            ∙ ap (λ (x : ClientSession). canonical (announcement c x)) same;
+      };
+      announced = ap announced_of (sym acks.session_is) ∙ counted.announced;
+      infos = ap infos_of (sym acks.session_is) ∙ counted.infos;
+      acked = acked;
+      ready = λ none. absurd (cc);
+      agrees = hears_agrees shape c (acknowledged (record c { link = acks.link }) session n) turns packet done k counted
+          (record { same = acked_session c.session session n acks.session_is; acked = acked });
+    })
+
+pub client_takes_counting : (shape : Shape) (c t : ClientState) (turns : List Turn) (packet : List ℕ) (done : ℕ) (k : Option ClientCounts) → ClientRests c turns → c.shake.owed ≡ None
+    → ClientCounted shape c turns done k → ClientTook c turns packet t → Behind shape turns packet done k t
+client_takes_counting shape c t turns packet done k rests none counted (inl part) = takes_part shape c t turns packet done k counted part
+client_takes_counting shape c t turns packet done k rests none counted (inr (inl shakes)) = takes_shake shape c t turns packet done k rests none counted shakes
+client_takes_counting shape c t turns packet done k rests none counted (inr (inr acks)) = takes_ack shape c t turns packet done k counted acks

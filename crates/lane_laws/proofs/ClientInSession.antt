@@ -1,0 +1,188 @@
+-- A client in session, on a lane that nobody forged, hears the answer to the first of its ranges that has none, and goes on.
+use Rattle.std.proofs.Common.{◌≡◌, ℕ, ◌+◌, ◌%◌, ◌^◌, ◌<◌, ◌≤◌, inr, Bool, true, false, Option, Some, None, List, [], ◌∷◌, ◌++◌, length, refl, sym, ap, ◌∙◌, subst, arith, nat_le, nat_lt}
+use Rattle.std.specs.Prelude.{◌&&◌, is_some, if◌then◌else◌, Ok}
+use Rattle.std.proofs.lemmas.Bool.{and_from, le-leb, lt-ltb}
+use Rattle.std.proofs.lemmas.Nat.{mod_below}
+use Rattle.runs.specs.Lawful.{log_of}
+use Rattle.runs.specs.Run.{Run}
+use Rattle.ldc_link.specs.declared.phase.Role.TheVariants.{Initiator, Responder}
+use Rattle.ldc_link.specs.LinkState.{LinkState, cleared}
+use Rattle.ldc_packet.specs.declared.packet.Subtype.TheVariants.{Ack}
+use Rattle.ldc_queue.specs.declared.end.ChannelState.TheVariants.{Up}
+use Rattle.ldc_queue.specs.declared.end.End.TheVariants.{B}
+use Rattle.ldc_queue.specs.OneStream.{IsFront}
+use Rattle.ldc_queue.specs.Talk.{Turn}
+use Rattle.vio_tag.specs.declared.cause.Cause.{Cause}
+use Rattle.vio_tag.specs.declared.cause.Cause.TheVariants as the_cause
+use Rattle.vio_tag.specs.declared.message.Message.{Message}
+use Rattle.vio_tag.specs.Spelling.{SpellsMessage}
+use Rattle.vio_handshake.proofs.Agreeable.{same_number}
+use Rattle.vio_handshake.proofs.Places.{AllSaid, Place, shake_at}
+use Rattle.vio_handshake.specs.declared.handshake.Handshake.{Handshake}
+use Rattle.vio_handshake.specs.Rules.{sid_fault}
+use Rattle.disk_model.specs.Sayings.{heard, said}
+use Rattle.disk_model.specs.TalkLog.{TalkLog}
+use Rattle.disk_model.specs.WireLog.{WireLog}
+use Rattle.disk_model.specs.DiskLog.{DiskLog, after, nothing_yet}
+use Rattle.disk_model.specs.Messages.{range_in}
+use Rattle.disk_model.specs.WorkLog.{ServerCounts, length_in}
+use Rattle.disk_model.specs.ClientState.{ClientSession, ClientState, slot_in}
+use Rattle.disk_model.specs.ClientTaking.{ClientTake, GoesOn, HearsWhole, Resets, acknowledged, hears_message, reads, sid_first, takes_ack}
+use Rattle.disk_model.specs.DiskEvent.{DiskEvent}
+use Rattle.disk_model.specs.LaneState.{IsShape, LaneState, Shape, fresh}
+use Rattle.disk_model.specs.LaneStep.{LaneStep}
+use Rattle.disk_model.specs.Ranges.{is_other, range_length}
+use Rattle.disk_model.specs.ServerState.{ServerSession}
+use Rattle.lane_laws.proofs.Agreeing.{front_sum, range_answered, talk_is}
+use Rattle.lane_laws.proofs.DataHeard.{data_spells, decodes_to, read_data}
+use Rattle.lane_laws.proofs.EndHearing.{hears_data}
+use Rattle.lane_laws.proofs.EndUttering.{is_open_up}
+use Rattle.lane_laws.proofs.EndPlaced.{AtPlace, IsData, sum_of}
+use Rattle.lane_laws.proofs.HeardFront.{heard_messages}
+use Rattle.lane_laws.proofs.LaneCounting.{Knows, run_knows}
+use Rattle.lane_laws.proofs.LanePlaces.{counted_client, counted_server}
+use Rattle.lane_laws.proofs.LanePlacing.{LanePlaced, server_said}
+use Rattle.lane_laws.proofs.OpeningDeal.{deal}
+use Rattle.lane_laws.proofs.PlacedSums.{placed_sum}
+use Rattle.lane_laws.proofs.PlacesAlong.{run_placed}
+use Rattle.lane_laws.proofs.RangeSums.{sum_more}
+use Rattle.lane_laws.proofs.RangesSaid.{said_range}
+use Rattle.lane_laws.specs.Counted.{ServerOrder, acked_of, announced_of, range_sum}
+use Rattle.lane_laws.specs.LaneTalks.{talk_behind}
+
+-- the shape of a log stays
+pub shape_of : (l : DiskLog) (events : List DiskEvent) → (log_of after l events).shape ≡ l.shape
+shape_of l [] = refl
+shape_of l (event ∷ events) = shape_of (after l event) events
+
+-- IT TAKES an acknowledgement that names its ring, begins after those that it took, and ends where it announced
+pub same_is : (one other : ℕ) → one ≡ other → is_other one other ≡ false
+same_is one other is = ap (λ (x : ℕ). is_other one x) (sym is) ∙ ap (λ (b : Bool). if b then false else true) (same_number one)
+
+past : (b : Bool) (x y : ClientTake) → b ≡ false → (if b then x else y) ≡ y
+past true x y is = absurd (cc is)
+past false x y is = refl
+
+at_once : (b : Bool) (x y : ClientTake) → b ≡ true → (if b then x else y) ≡ x
+at_once true x y is = refl
+at_once false x y is = absurd (cc is)
+
+record AckFits (s : ClientState) (session : ClientSession) (n ident start end : ℕ) : Type 0 where
+  sid : s.shake.sid ≡ Some n
+  named : s.shake.draft.ident_own ≡ ident
+  begins : slot_in s session.acked ≡ start
+  ends : end < s.slots
+  within : session.acked + range_length s.slots start end ≤ session.announced
+
+takes_fitting : (s : ClientState) (session : ClientSession) (n ident start end : ℕ) → AckFits s session n ident start end
+    → takes_ack s session ident start end ≡ GoesOn (acknowledged s session (range_length s.slots start end))
+takes_fitting s session n ident start end fits =
+    past (is_other s.shake.draft.ident_own ident) (Resets (the_cause.Ident s.shake.draft.ident_own ident)) _ (same_is s.shake.draft.ident_own ident fits.named)
+    ∙ past (is_other (slot_in s session.acked) start) (Resets (the_cause.Slot (slot_in s session.acked) start)) _ (same_is (slot_in s session.acked) start fits.begins)
+    ∙ at_once (nat_lt end s.slots && nat_le (session.acked + range_length s.slots start end) session.announced) (GoesOn (acknowledged s session (range_length s.slots start end)))
+    (Resets (the_cause.RangeEnd end))
+    (and_from (nat_lt end s.slots) (nat_le (session.acked + range_length s.slots start end) session.announced) (lt-ltb end s.slots fits.ends)
+    (le-leb (session.acked + range_length s.slots start end) session.announced fits.within))
+
+pub no_fault : (o : Option ℕ) (n : ℕ) → o ≡ Some n → sid_fault o n ≡ None
+no_fault None n is = absurd (cc is)
+no_fault (Some m) n is = let same : n ≡ m = cc is in ap (λ (x : ℕ). sid_fault (Some m) x) same ∙ ap (λ (b : Bool). if b then None else Some (the_cause.Sid m m)) (same_number m)
+
+hears_fitting : (s : ClientState) (session : ClientSession) (n ident start end : ℕ) (bytes : List ℕ) → AckFits s session n ident start end
+    → hears_message s (Some session) (read_data Ack n ident start end bytes) ≡ GoesOn (acknowledged s session (range_length s.slots start end))
+hears_fitting s session n ident start end bytes fits =
+    ap (λ (f : Option Cause). sid_first f (takes_ack s session ident start end)) (no_fault s.shake.sid n fits.sid) ∙ takes_fitting s session n ident start end fits
+
+-- so what it hears whole makes it go on
+goes_on : (s : ClientState) (session : ClientSession) (n ident start end : ℕ) (bytes : List ℕ) (take : ClientTake) → s.session ≡ Some session
+    → AckFits s session n ident start end → SpellsMessage bytes (read_data Ack n ident start end bytes) → HearsWhole s (Some bytes) take → (t : ClientState) × (take ≡ GoesOn t)
+goes_on s session n ident start end bytes take is fits spells hears =
+    let now : ClientState = record s { link = cleared s.link } in
+    let fits_now : AckFits now session n ident start end =
+    record { sid = fits.sid; named = fits.named; begins = fits.begins; ends = fits.ends; within = fits.within } in
+    let message : Message = read_data Ack n ident start end bytes in
+    let decoded : hears.0 ≡ Ok message = decodes_to bytes message hears.0 tt spells hears.1 in (
+      acknowledged now session (range_length s.slots start end),
+      hears.2 ∙ ap (reads now) decoded ∙ ap (λ (o : Option ClientSession). hears_message now o message) is
+          ∙ hears_fitting now session n ident start end bytes fits_now,
+    )
+
+-- WHAT IT MAY HEAR: as many slots as it announced
+pub answered_asked : (slots : ℕ) (o : Option ServerSession) (q : Option ServerCounts) (turns : List Turn) → ServerOrder slots o q turns
+    → range_sum slots 2 (said turns) ≤ range_sum slots 1 (heard turns)
+answered_asked slots None q turns order = omega (arith, order.answered)
+answered_asked slots (Some s) None turns order = absurd order
+answered_asked slots (Some s) (Some d) turns order = omega (arith, order.answered, order.asked, range_answered slots s.range d order.range)
+
+-- the next answer of the server is one that the client takes
+ack_fits : (shape : Shape) (sid : ℕ) (c : ClientState) (session : ClientSession) (turns : List Turn) (bytes : List ℕ)
+    → (at : AtPlace (deal shape sid 0) Initiator c.shake (is_some c.session) turns) → at.place ≡ AllSaid → c.session ≡ Some session → c.slots ≡ shape.slots → shape.slots ≤ 256
+    → acked_of c.session ≡ range_sum shape.slots 2 (heard turns) → (is : IsData Responder (deal shape sid 0) (length at.theirs) (sum_of Responder (deal shape sid 0) at.theirs) bytes)
+    → range_sum shape.slots 2 (heard turns ++ bytes ∷ []) ≤ session.announced
+    → AckFits c session sid sid (sum_of Responder (deal shape sid 0) at.theirs % shape.slots) is.end
+ack_fits shape sid c session turns bytes at last open_is slots few acked is most =
+    let d = deal shape sid 0 in
+    let sum = sum_of Responder d at.theirs in
+    let counted : session.acked ≡ range_sum shape.slots 2 (heard turns) = ap acked_of (sym open_is) ∙ acked in
+    let same : session.acked ≡ sum =
+    counted ∙ ap (range_sum shape.slots 2) at.heard_is ∙ placed_sum d Responder at.place shape.slots 2 at.theirs (inr refl) in
+    let ends = is.ends in
+    let start_small : sum % shape.slots < 2 ^ 32 = omega (arith, mod_below sum shape.slots (omega (arith, ends)), few) in
+    let end_small : is.end < 2 ^ 32 = omega (arith, ends, few) in
+    let adds : length_in shape.slots (range_in 2 (Some bytes)) ≡ range_length shape.slots (sum % shape.slots) is.end =
+    ap (λ (b : List ℕ). length_in shape.slots (range_in 2 (Some b))) is.bytes_are
+    ∙ said_range shape.slots 2 sid Ack is.seq sid (sum % shape.slots) is.end is.state refl start_small end_small in
+    let own : range_length c.slots (sum % shape.slots) is.end ≡ range_length shape.slots (sum % shape.slots) is.end =
+    ap (λ (n : ℕ). range_length n (sum % shape.slots) is.end) slots in
+    record {
+      sid = ap (λ (h : Handshake). h.sid) at.shake_is ∙ ap (λ (n : Place). (shake_at false d Initiator n).sid) last;
+      named = ap (λ (h : Handshake). h.draft.ident_own) at.shake_is ∙ ap (λ (n : Place). (shake_at false d Initiator n).draft.ident_own) last;
+      begins = ap (λ (n : ℕ). session.acked % n) slots ∙ ap (λ (x : ℕ). x % shape.slots) same;
+      ends = omega (arith, ends, slots);
+      within = omega (arith, own, adds, counted, sum_more shape.slots 2 (heard turns) bytes, most);
+    }
+
+pub client_hears_in_session : (shape : Shape) (events : List DiskEvent) (s : LaneState) (session : ClientSession) (k : LinkState) (bytes : List ℕ) (take : ClientTake)
+    → IsShape shape → Run LaneStep (fresh shape) events s → (log_of after (nothing_yet shape) events).wire.forged ≡ false
+    → s.client.session ≡ Some session → s.wire.wire.end_a ≡ Up → s.wire.wire.end_b ≡ Up
+    → IsFront (heard (log_of after (nothing_yet shape) events).talk.client ++ bytes ∷ []) (said (log_of after (nothing_yet shape) events).talk.server)
+    → HearsWhole (record s.client { link = k }) (Some bytes) take → (t : ClientState) × (take ≡ GoesOn t)
+client_hears_in_session shape events s session k bytes take sound run clean open_is up_a up_b front hears =
+    let l = log_of after (nothing_yet shape) events in
+    let knows : Knows s l = run_knows shape events s sound run in
+    let shape_is : l.shape ≡ shape = shape_of (nothing_yet shape) events in
+    let placed : LanePlaced shape s l.talk = run_placed shape events s sound run clean in
+    let sid = placed.sid in
+    let d = deal shape sid 0 in
+    let open_one : is_some s.client.session ≡ true = ap is_some open_is in
+    let at = (placed.client up_a).up (is_open_up Initiator s.client.link s.client.shake (is_some s.client.session) l.talk.client knows.rests.client open_one) in
+    let last : at.place ≡ AllSaid = at.opens open_one in
+    let client = counted_client shape s l shape_is knows in
+    let server = counted_server shape s l shape_is knows in
+    let peer = server_said shape sid s.server l.talk.server knows.utters.server (placed.server up_b) in
+    let is : IsData Responder d (length at.theirs) (sum_of Responder d at.theirs) bytes =
+    hears_data d Initiator s.client.shake (is_some s.client.session) l.talk.client (said l.talk.server) bytes at last peer front in
+    let talk : l.talk ≡ talk_behind events = talk_is (nothing_yet shape) events in
+    let clean_s : s.wire.forged ≡ false = ap (λ (w : WireLog). w.forged) knows.all.stands.wire ∙ clean in
+    let front_b : IsFront (heard l.talk.server) (said l.talk.client) =
+    subst (λ (t : TalkLog). IsFront (heard t.server) (said t.client)) (sym talk) (heard_messages shape events s B sound run clean_s up_b) in
+    let announced : session.announced ≡ range_sum shape.slots 1 (said l.talk.client) = ap announced_of (sym open_is) ∙ client.announced in
+    let most : range_sum shape.slots 2 (heard l.talk.client ++ bytes ∷ []) ≤ session.announced =
+    omega (
+      arith,
+      front_sum shape.slots 2 (heard l.talk.client ++ bytes ∷ []) (said l.talk.server) front,
+      answered_asked shape.slots s.server.session l.work.server l.talk.server server.order,
+      front_sum shape.slots 1 (heard l.talk.server) (said l.talk.client) front_b,
+      announced,
+    ) in
+    let fits = ack_fits shape sid s.client session l.talk.client bytes at last open_is client.slots sound.most_slots client.acked is most in
+    let start = sum_of Responder d at.theirs % shape.slots in
+    let ends = is.ends in
+    let small = placed.small in
+    let below : start < 2 ^ 32 = omega (arith, mod_below (sum_of Responder d at.theirs) shape.slots (omega (arith, ends)), sound.most_slots) in
+    let spells : SpellsMessage bytes (read_data Ack sid sid start is.end bytes) =
+    subst (λ (b : List ℕ). SpellsMessage b (read_data Ack sid sid start is.end b)) (sym is.bytes_are)
+    (data_spells Ack sid is.seq sid start is.end is.state small (omega (arith, small)) below (omega (arith, ends, sound.most_slots))) in
+    let fits_now : AckFits (record s.client { link = k }) session sid sid start is.end =
+    record { sid = fits.sid; named = fits.named; begins = fits.begins; ends = fits.ends; within = fits.within } in
+    goes_on (record s.client { link = k }) session sid sid start is.end bytes take open_is fits_now spells hears

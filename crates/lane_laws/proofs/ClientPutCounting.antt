@@ -1,0 +1,191 @@
+-- A packet that a client puts leaves its session counting what it said and heard.
+use Rattle.std.proofs.Common.{◌≡◌, ℕ, ◌+◌, ◌-◌, ◌<◌, ◌≤◌, Bool, true, false, Option, Some, None, List, ◌∷◌, ◌++◌, length, refl, sym, ap, ◌∙◌, subst, arith}
+use Rattle.std.specs.Prelude.{is_some, ⊤}
+use Rattle.std.proofs.lemmas.Nat.{mod_below}
+use Rattle.ldc_link.specs.declared.phase.Role.TheVariants.{Initiator}
+use Rattle.ldc_link.specs.LinkState.{is_up}
+use Rattle.ldc_link.specs.Putting.{behind_put}
+use Rattle.ldc_packet.specs.declared.packet.Subtype.TheVariants.{Info}
+use Rattle.ldc_queue.specs.Talk.{Said, Turn}
+use Rattle.vio_tag.specs.Spelling.{canonical}
+use Rattle.vio_handshake.specs.declared.handshake.Handshake.{Handshake}
+use Rattle.disk_model.specs.Sayings.{half_said, said}
+use Rattle.disk_model.specs.Agreement.{ClientAgrees}
+use Rattle.disk_model.specs.Messages.{range_ended, range_in}
+use Rattle.disk_model.specs.WorkLog.{ClientCounts, change_client, length_in, one_in, opened_client}
+use Rattle.disk_model.specs.ClientPutting.{announcement, announced, is_announcing, session_behind}
+use Rattle.disk_model.specs.ClientState.{ClientSession, ClientState, slot_in}
+use Rattle.disk_model.specs.EndPuts.{ComesUp, EndsOwn, Goes, PutKind, shake_behind}
+use Rattle.disk_model.specs.LaneState.{Shape}
+use Rattle.disk_model.specs.Offering.{client_offer}
+use Rattle.disk_model.specs.Ranges.{range_length, wrapped}
+use Rattle.lane_laws.proofs.EndPutting.{SaysLast, SaysOn}
+use Rattle.lane_laws.proofs.EndUttering.{is_open_up}
+use Rattle.lane_laws.proofs.Fitting.{behind_fits}
+use Rattle.lane_laws.proofs.RangeSums.{count_more, count_said, sum_more, sum_said}
+use Rattle.lane_laws.proofs.RangeTurns.{range_turns}
+use Rattle.lane_laws.proofs.RangesSaid.{said_one, said_range}
+use Rattle.lane_laws.proofs.Sharing.{in_order}
+use Rattle.lane_laws.specs.Counted.{ClientCounted, ClientHolds, HoldsOwed, acked_of, announced_of, infos_of, range_count, range_sum, ready_count}
+use Rattle.lane_laws.specs.LaneRests.{ClientRests, ClientUtters}
+use Rattle.lane_laws.specs.Sound.{ClientSound, InOrder}
+
+-- THE LOG counts what is said
+abbrev pub SameButSaid : Option ClientSession → Option ClientSession → Type 0
+SameButSaid None None = ⊤
+SameButSaid None (Some t) = ⊥
+SameButSaid (Some s) None = ⊥
+SameButSaid (Some s) (Some t) = (t.base ≡ s.base) × (t.published ≡ s.published) × (t.acked ≡ s.acked) × (t.completed ≡ s.completed)
+
+pub same_said : (o : Option ClientSession) → SameButSaid o o
+same_said None = tt
+same_said (Some s) = (refl, refl, refl, refl)
+
+said_agrees : (o p : Option ClientSession) (done n m : ℕ) (k : Option ClientCounts) → SameButSaid o p → announced_of p ≡ announced_of o + n → infos_of p ≡ infos_of o + m → ClientAgrees o done k
+    → ClientAgrees p done (change_client (λ (c : ClientCounts). record c { announced = c.announced + n; infos = c.infos + m }) k)
+said_agrees None None done n m None same more one agrees = tt
+said_agrees None None done n m (Some c) same more one agrees = absurd agrees
+said_agrees (Some s) None done n m k same more one agrees = absurd same
+said_agrees None (Some t) done n m k same more one agrees = absurd same
+said_agrees (Some s) (Some t) done n m None same more one agrees = absurd agrees
+said_agrees (Some s) (Some t) done n m (Some c) same more one agrees = record {
+  base = same.0 ∙ agrees.base;
+  published = same.1 ∙ agrees.published;
+  announced = more ∙ ap (λ (x : ℕ). x + n) agrees.announced;
+  infos = one ∙ ap (λ (x : ℕ). x + m) agrees.infos;
+  acked = same.2 ∙ agrees.acked;
+  completed = agrees.completed ∙ ap (λ (x : ℕ). c.base + x) (sym same.3);
+}
+
+-- a client after a packet of this kind, and its counts in the log
+abbrev pub put_as : PutKind → ClientState → ClientState
+put_as kind c = record c { link = behind_put c.link; shake = shake_behind kind c.shake; session = session_behind kind c }
+
+abbrev pub counts_as : Shape → Bool → List Turn → List ℕ → ℕ → ℕ → Option ClientCounts → Option ClientCounts
+counts_as shape opens turns packet sid done k = opened_client opens sid done
+    (change_client (λ (x : ClientCounts). record x {
+      announced = x.announced + length_in shape.slots (range_ended 1 (half_said turns) packet);
+      infos = x.infos + one_in (range_ended 1 (half_said turns) packet);
+    }) k)
+
+-- what is said after it
+pub record SaidOf (shape : Shape) (c : ClientState) (p : Option ClientSession) (turns : List Turn) (packet : List ℕ) : Type 0 where
+  pub same : SameButSaid c.session p
+  pub announced : announced_of p ≡ range_sum shape.slots 1 (said (Said packet ∷ turns))
+  pub infos : infos_of p ≡ range_count 1 (said (Said packet ∷ turns))
+
+pub says_agrees : (shape : Shape) (c : ClientState) (p : Option ClientSession) (turns : List Turn) (packet : List ℕ) (sid done : ℕ) (k : Option ClientCounts) → ClientCounted shape c turns done k
+    → SaidOf shape c p turns packet → ClientAgrees p done (counts_as shape false turns packet sid done k)
+says_agrees shape c p turns packet sid done k counted says =
+    said_agrees c.session p done (length_in shape.slots (range_ended 1 (half_said turns) packet)) (one_in (range_ended 1 (half_said turns) packet)) k says.same
+    (omega (arith, says.announced, sum_said shape.slots 1 packet turns, counted.announced))
+    (omega (arith, says.infos, count_said 1 packet turns, counted.infos)) counted.agrees
+
+-- A PACKET THAT GOES ON
+on_holds : (c : ClientState) (turns : List Turn) (packet : List ℕ) → SaysOn c.link turns packet → ClientHolds c turns → ClientHolds (record c { link = behind_put c.link }) (Said packet ∷ turns)
+on_holds c turns packet on holds = record {
+  owed = λ quiet some. subst (λ (xs : List ℕ). HoldsOwed c.shake.owed xs) (sym on.whole) (holds.owed quiet (on.some some));
+  own = λ session is now. on.whole ∙ holds.own session is now;
+}
+
+pub goes_counting : (shape : Shape) (c : ClientState) (turns : List Turn) (packet : List ℕ) (sid done : ℕ) (k : Option ClientCounts) → SaysOn c.link turns packet → ClientCounted shape c turns done k
+    → ClientCounted shape (put_as Goes c) (Said packet ∷ turns) done (counts_as shape false turns packet sid done k)
+goes_counting shape c turns packet sid done k on counted =
+    let announced : announced_of c.session ≡ range_sum shape.slots 1 (said (Said packet ∷ turns)) = counted.announced ∙ ap (range_sum shape.slots 1) (sym on.messages) in
+    let infos : infos_of c.session ≡ range_count 1 (said (Said packet ∷ turns)) = counted.infos ∙ ap (range_count 1) (sym on.messages) in
+    record {
+      slots = counted.slots;
+      shake = counted.shake;
+      holds = on_holds c turns packet on counted.holds;
+      announced = announced;
+      infos = infos;
+      acked = counted.acked;
+      ready = λ none. ap ready_count on.messages ∙ counted.ready none;
+      agrees = says_agrees shape c c.session turns packet sid done k counted (record { same = same_said c.session; announced = announced; infos = infos });
+    }
+
+-- WITH RDX its link comes up, and held nothing
+pub comes_counting : (shape : Shape) (c : ClientState) (turns : List Turn) (packet : List ℕ) (sid done : ℕ) (k : Option ClientCounts) → ClientRests c turns → ClientUtters c turns → is_up c.link ≡ false
+    → SaysOn c.link turns packet → ClientCounted shape c turns done k
+    → ClientCounted shape (put_as ComesUp c) (Said packet ∷ turns) done (counts_as shape false turns packet sid done k)
+comes_counting shape c turns packet sid done k rests utters down on counted =
+    let announced : announced_of c.session ≡ range_sum shape.slots 1 (said (Said packet ∷ turns)) = counted.announced ∙ ap (range_sum shape.slots 1) (sym on.messages) in
+    let infos : infos_of c.session ≡ range_count 1 (said (Said packet ∷ turns)) = counted.infos ∙ ap (range_count 1) (sym on.messages) in
+    record {
+      slots = counted.slots;
+      shake = behind_fits Initiator (client_offer shape.blocks shape.slots) ComesUp c.shake counted.shake;
+      holds = record {
+        owed = λ quiet some. absurd (omega (arith, on.some some, ap length (utters.idle down)));
+        own = λ session is now.
+            let up : is_up c.link ≡ true = is_open_up Initiator c.link c.shake (is_some c.session) turns rests (ap is_some is) in
+            let never : false ≡ true = sym down ∙ up in absurd (cc);
+      };
+      announced = announced;
+      infos = infos;
+      acked = counted.acked;
+      ready = λ none. ap ready_count on.messages ∙ counted.ready none;
+      agrees = says_agrees shape c c.session turns packet sid done k counted (record { same = same_said c.session; announced = announced; infos = infos });
+    }
+
+-- THE LAST PART of its own INFO: all that is published is announced
+pub record OwnInfo (c : ClientState) (bytes : List ℕ) : Type 0 where
+  pub session : ClientSession
+  pub is : c.session ≡ Some session
+  pub announcing : session.announcing ≡ true
+  pub bytes_are : bytes ≡ canonical (announcement c session)
+
+pub own_info : (c : ClientState) (turns : List Turn) (o : Option ClientSession) → c.session ≡ o → is_announcing o ≡ true → ClientHolds c turns → OwnInfo c (half_said turns ++ c.link.to_send)
+own_info c turns None is own holds = absurd (cc)
+own_info c turns (Some session) is own holds = record { session = session; is = is; announcing = own; bytes_are = holds.own session is own }
+
+pub none_left : (c : ClientState) (turns : List Turn) (packet : List ℕ) (shake : Handshake) (session : Option ClientSession) → SaysLast c.link turns packet
+    → ((s : ClientSession) → session ≡ Some s → s.announcing ≡ true → ⊥)
+    → ClientHolds (record c { link = behind_put c.link; shake = shake; session = session }) (Said packet ∷ turns)
+none_left c turns packet shake session last never = record {
+  owed = λ quiet some. absurd (omega (arith, some, ap length last.none));
+  own = λ s is now. absurd (never s is now);
+}
+
+pub own_counting : (shape : Shape) (c : ClientState) (turns : List Turn) (packet : List ℕ) (sid done : ℕ) (k : Option ClientCounts) → ClientSound c → is_announcing c.session ≡ true
+    → SaysLast c.link turns packet → ClientCounted shape c turns done k
+    → ClientCounted shape (put_as EndsOwn c) (Said packet ∷ turns) done (counts_as shape false turns packet sid done k)
+own_counting shape c turns packet sid done k sound own last counted =
+    let info = own_info c turns c.session refl own counted.holds in
+    let s = info.session in
+    let order : InOrder (length c.pending) s = in_order (length c.pending) c.session s info.is sound.counts in
+    let some : s.announced < s.published = order.own info.announcing in
+    let most : s.published ≤ s.announced + c.slots = omega (arith, order.published, order.completed, order.acked, sound.pending) in
+    let behind : Option ClientSession = Some (record s { announced = s.published; infos = s.infos + 1; announcing = false }) in
+    let becomes : announced c.session ≡ behind = ap announced info.is in
+    let bytes = half_said turns ++ c.link.to_send in
+    let wide : 1 ≤ c.slots = omega (arith, some, most) in
+    let small : c.slots ≤ 256 = sound.slots in
+    let adds : length_in shape.slots (range_in 1 (Some bytes)) ≡ s.published - s.announced =
+    ap (λ (xs : List ℕ). length_in shape.slots (range_in 1 (Some xs))) info.bytes_are
+    ∙ said_range shape.slots 1 c.shake.draft.sid Info (wrapped (s.infos + 1)) c.shake.draft.ident_own (slot_in c s.announced) (slot_in c (s.published - 1)) 1 refl
+    (omega (arith, mod_below s.announced c.slots wide, small)) (omega (arith, mod_below (s.published - 1) c.slots wide, small))
+    ∙ ap (λ (n : ℕ). range_length n (slot_in c s.announced) (slot_in c (s.published - 1))) (sym counted.slots)
+    ∙ range_turns c.slots s.announced s.published some most in
+    let one : one_in (range_in 1 (Some bytes)) ≡ 1 =
+    ap (λ (xs : List ℕ). one_in (range_in 1 (Some xs))) info.bytes_are
+    ∙ said_one 1 c.shake.draft.sid Info (wrapped (s.infos + 1)) c.shake.draft.ident_own (slot_in c s.announced) (slot_in c (s.published - 1)) 1 refl in
+    let before : s.announced ≡ range_sum shape.slots 1 (said turns) = ap announced_of (sym info.is) ∙ counted.announced in
+    let before_infos : s.infos ≡ range_count 1 (said turns) = ap infos_of (sym info.is) ∙ counted.infos in
+    let announced_is : s.published ≡ range_sum shape.slots 1 (said (Said packet ∷ turns)) =
+    omega (arith, before, adds, some, ap (range_sum shape.slots 1) last.messages, sum_more shape.slots 1 (said turns) bytes) in
+    let infos_are : s.infos + 1 ≡ range_count 1 (said (Said packet ∷ turns)) =
+    omega (arith, before_infos, one, ap (range_count 1) last.messages, count_more 1 (said turns) bytes) in
+    let same : SameButSaid c.session behind = subst (λ (o : Option ClientSession). SameButSaid o behind) (sym info.is) (refl, refl, refl, refl) in
+    subst (λ (o : Option ClientSession). ClientCounted shape (record c { link = behind_put c.link; session = o }) (Said packet ∷ turns) done (counts_as shape false turns packet sid done k)) (sym becomes)
+    (record {
+      slots = counted.slots;
+      shake = counted.shake;
+      holds = none_left c turns packet c.shake behind last (λ x is now.
+          let here : record s { announced = s.published; infos = s.infos + 1; announcing = false } ≡ x = cc is in
+          let never : false ≡ true = ap (λ (y : ClientSession). y.announcing) here ∙ now in absurd (cc));
+      announced = announced_is;
+      infos = infos_are;
+      acked = ap acked_of (sym info.is) ∙ counted.acked;
+      ready = λ none. absurd (cc);
+      agrees = says_agrees shape c behind turns packet sid done k counted (record { same = same; announced = announced_is; infos = infos_are });
+    })

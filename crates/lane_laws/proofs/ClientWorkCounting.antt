@@ -1,0 +1,298 @@
+-- A message that a client holds, one of its handshake that it puts whole, and its work on requests leave its session counting what it said and
+-- heard.
+use Rattle.std.proofs.Common.{◌≡◌, ℕ, ◌+◌, inl, Bool, true, false, Option, Some, None, List, [], ◌∷◌, ◌++◌, length, refl, sym, ap, ◌∙◌, subst, arith}
+use Rattle.std.specs.Prelude.{is_some}
+use Rattle.ldc_link.specs.declared.phase.Role.{Role}
+use Rattle.ldc_link.specs.declared.phase.Role.TheVariants.{Initiator, Responder}
+use Rattle.ldc_link.specs.LinkState.{is_up}
+use Rattle.ldc_link.specs.Putting.{behind_put, owes}
+use Rattle.ldc_queue.specs.Talk.{Said, Turn}
+use Rattle.vio_tag.specs.declared.message.Message.{Message}
+use Rattle.vio_tag.specs.Spelling.{canonical}
+use Rattle.vio_handshake.specs.declared.handshake.Phase.{Phase}
+use Rattle.vio_handshake.specs.declared.handshake.Phase.TheVariants.{Open, PeerReadyTaken}
+use Rattle.vio_handshake.specs.Rules.{opens_by_put, shake_sent}
+use Rattle.disk_model.specs.Sayings.{half_said, said}
+use Rattle.disk_model.specs.Agreement.{ClientAgrees, ClientCountsAgree}
+use Rattle.disk_model.specs.Messages.{range_in}
+use Rattle.disk_model.specs.WorkLog.{ClientCounts, change_client, length_in, one_in}
+use Rattle.disk_model.specs.ClientPutting.{announcement, announcing, client_holds, holding, is_announcing, opened_if}
+use Rattle.disk_model.specs.ClientRule.{Announces, ClientRule, Completes, Joins, Publishes, Puts, Rests, Says, Takes}
+use Rattle.disk_model.specs.ClientState.{ClientSession, ClientState, first_id, opened_session}
+use Rattle.disk_model.specs.ClientStep.{ClientAdmits, ClientCompletes, ClientPublishes}
+use Rattle.disk_model.specs.DiskEvent.{Accepted, Admitted, Full, Refused}
+use Rattle.disk_model.specs.LaneState.{Shape}
+use Rattle.disk_model.specs.Offering.{client_offer}
+use Rattle.disk_model.specs.Seeing.{Seen}
+use Rattle.lane_laws.proofs.ClientPutCounting.{counts_as, none_left, put_as, same_said, says_agrees}
+use Rattle.lane_laws.proofs.EndPutting.{SaysLast}
+use Rattle.lane_laws.proofs.EndUttering.{is_awake, is_open_up, none_half, up_empty}
+use Rattle.lane_laws.proofs.Fitting.{sent_fits}
+use Rattle.lane_laws.proofs.RangeSums.{count_more, ready_more, sum_more}
+use Rattle.lane_laws.proofs.RangesSaid.{canonical_ready, owed_no_range}
+use Rattle.lane_laws.proofs.RulesFree.{publishes_free}
+use Rattle.lane_laws.proofs.Ruling.{client_may}
+use Rattle.lane_laws.specs.Counted.{ClientCounted, acked_of, announced_of, infos_of, is_ready, one_where, range_count, range_sum, ready_count}
+use Rattle.lane_laws.specs.LaneRests.{ClientRests, ClientUtters}
+use Rattle.lane_laws.specs.RuleFacts.{ClientMay}
+use Rattle.lane_laws.specs.ShakeFits.{MayOwe, OwedFits}
+use Rattle.lane_laws.specs.Sound.{ClientSound}
+use Rattle.disk_model.specs.EndPuts.{EndsShake, put_opens}
+
+-- A MESSAGE OF THE HANDSHAKE is put whole: by the agreement to RDX the session opens
+pub opens_phase : (role : Role) (phase : Phase) → opens_by_put role phase ≡ true → phase ≡ PeerReadyTaken
+opens_phase Initiator PeerReadyTaken is = refl
+opens_phase Initiator phase is = absurd (cc)
+opens_phase Responder phase is = absurd (cc)
+
+closed : (o : Option ClientSession) (phase : Phase) → (is_some o ≡ true → phase ≡ Open) → phase ≡ PeerReadyTaken → o ≡ None
+closed None phase opened is = refl
+closed (Some session) phase opened is = let never : PeerReadyTaken ≡ Open = sym is ∙ opened refl in absurd (cc)
+
+-- the message that was owed: it names no range
+record PutsOwed (c : ClientState) (bytes : List ℕ) : Type 0 where
+  message : Message
+  bytes_are : bytes ≡ canonical message
+  may : MayOwe c.shake.phase message.subtype message.body
+  none : range_in 1 (Some bytes) ≡ None
+
+puts_owed : (shape : Shape) (c : ClientState) (turns : List Turn) (packet : List ℕ) (done : ℕ) (k : Option ClientCounts) → is_announcing c.session ≡ false → SaysLast c.link turns packet
+    → ClientCounted shape c turns done k → PutsOwed c (half_said turns ++ c.link.to_send)
+puts_owed shape c turns packet done k own last counted =
+    let holds = counted.holds.owed own last.some in
+    let may : MayOwe c.shake.phase holds.message.subtype holds.message.body = subst (OwedFits c.shake.phase) holds.owed_is counted.shake.owed in
+    record {
+      message = holds.message;
+      bytes_are = holds.bytes_are;
+      may = may;
+      none = ap (λ (xs : List ℕ). range_in 1 (Some xs)) holds.bytes_are ∙ owed_no_range c.shake.phase 1 holds.message (inl refl) may;
+    }
+
+record SumsSame (shape : Shape) (turns : List Turn) (packet : List ℕ) : Type 0 where
+  ranges : range_sum shape.slots 1 (said (Said packet ∷ turns)) ≡ range_sum shape.slots 1 (said turns)
+  infos : range_count 1 (said (Said packet ∷ turns)) ≡ range_count 1 (said turns)
+
+sums_same : (shape : Shape) (c : ClientState) (turns : List Turn) (packet : List ℕ) → SaysLast c.link turns packet → PutsOwed c (half_said turns ++ c.link.to_send) → SumsSame shape turns packet
+sums_same shape c turns packet last owed =
+    let bytes = half_said turns ++ c.link.to_send in
+    record {
+      ranges = omega (arith, ap (range_sum shape.slots 1) last.messages, sum_more shape.slots 1 (said turns) bytes, ap (length_in shape.slots) owed.none);
+      infos = omega (arith, ap (range_count 1) last.messages, count_more 1 (said turns) bytes, ap one_in owed.none);
+    }
+
+not_ready : (b : Bool) (bytes : List ℕ) → is_ready bytes ≡ b → (is_ready bytes ≡ true → ⊥) → one_where (is_ready bytes) ≡ 0
+not_ready true bytes is never = absurd (never is)
+not_ready false bytes is never = ap one_where is
+
+shake_as : (opens : Bool) (shape : Shape) (c : ClientState) (turns : List Turn) (packet : List ℕ) (sid done : ℕ) (k : Option ClientCounts) → opens_by_put c.shake.role c.shake.phase ≡ opens
+    → ClientRests c turns → first_id c ≡ done → is_announcing c.session ≡ false → SaysLast c.link turns packet → ClientCounted shape c turns done k
+    → ClientCounted shape (record c { link = behind_put c.link; shake = shake_sent c.shake; session = opened_if opens c }) (Said packet ∷ turns) done (counts_as shape opens turns packet sid done k)
+shake_as true shape c turns packet sid done k is rests first own last counted =
+    let none : c.session ≡ None = closed c.session c.shake.phase rests.opened (opens_phase c.shake.role c.shake.phase is) in
+    let same = sums_same shape c turns packet last (puts_owed shape c turns packet done k own last counted) in
+    record {
+      slots = counted.slots;
+      shake = sent_fits Initiator (client_offer shape.blocks shape.slots) c.shake counted.shake;
+      holds = none_left c turns packet (shake_sent c.shake) (Some (opened_session (first_id c))) last (λ s now announces.
+          let here : opened_session (first_id c) ≡ s = cc is in
+          let never : false ≡ true = ap (λ (x : ClientSession). x.announcing) here ∙ announces in absurd (cc));
+      announced = omega (arith, same.ranges, counted.announced, ap announced_of none);
+      infos = omega (arith, same.infos, counted.infos, ap infos_of none);
+      acked = omega (arith, counted.acked, ap acked_of none);
+      ready = λ absent. absurd (cc);
+      agrees = record { base = first; published = refl; announced = refl; infos = refl; acked = refl; completed = omega arith };
+    }
+shake_as false shape c turns packet sid done k is rests first own last counted =
+    let owed = puts_owed shape c turns packet done k own last counted in
+    let same = sums_same shape c turns packet last owed in
+    let announced : announced_of c.session ≡ range_sum shape.slots 1 (said (Said packet ∷ turns)) = counted.announced ∙ sym same.ranges in
+    let infos : infos_of c.session ≡ range_count 1 (said (Said packet ∷ turns)) = counted.infos ∙ sym same.infos in
+    let bytes = half_said turns ++ c.link.to_send in
+    let unready : one_where (is_ready bytes) ≡ 0 = not_ready (is_ready bytes) bytes refl (λ test.
+    let phase : c.shake.phase ≡ PeerReadyTaken = canonical_ready c.shake.phase owed.message owed.may (ap is_ready (sym owed.bytes_are) ∙ test) in
+    let now : opens_by_put c.shake.role c.shake.phase ≡ true = ap (λ (r : Role). opens_by_put r c.shake.phase) counted.shake.role_is ∙ ap (λ (p : Phase). opens_by_put Initiator p) phase in
+    let never : false ≡ true = sym is ∙ now in absurd (cc)) in
+    record {
+      slots = counted.slots;
+      shake = sent_fits Initiator (client_offer shape.blocks shape.slots) c.shake counted.shake;
+      holds = none_left c turns packet (shake_sent c.shake) c.session last (λ s now announces.
+          let never : false ≡ true = sym own ∙ ap is_announcing now ∙ announces in absurd (cc));
+      announced = announced;
+      infos = infos;
+      acked = counted.acked;
+      ready = λ none. omega (arith, ap ready_count last.messages, ready_more (said turns) bytes, unready, counted.ready none);
+      agrees = says_agrees shape c c.session turns packet sid done k counted (record { same = same_said c.session; announced = announced; infos = infos });
+    }
+
+pub shake_counting : (shape : Shape) (c : ClientState) (turns : List Turn) (packet : List ℕ) (sid done : ℕ) (k : Option ClientCounts) → ClientRests c turns → first_id c ≡ done
+    → is_announcing c.session ≡ false → SaysLast c.link turns packet → ClientCounted shape c turns done k
+    → ClientCounted shape (put_as EndsShake c) (Said packet ∷ turns) done (counts_as shape (put_opens EndsShake c.shake) turns packet sid done k)
+shake_counting shape c turns packet sid done k rests first own last counted =
+    shake_as (opens_by_put c.shake.role c.shake.phase) shape c turns packet sid done k refl rests first own last counted
+
+-- IT HOLDS a message
+record Known (c : ClientState) (turns : List Turn) : Type 0 where
+  sound : ClientSound c
+  rests : ClientRests c turns
+  utters : ClientUtters c turns
+
+free_half : (c : ClientState) (turns : List Turn) → ClientUtters c turns → c.link.to_send ≡ [] → half_said turns ≡ []
+free_half c turns utters empty = none_half Initiator c.shake.phase c.shake.offer c.shake.draft (half_said turns) c.link.to_send empty utters.utters.holds
+
+-- a link that holds nothing holds no INFO
+no_own : (c : ClientState) (session : ClientSession) → ClientSound c → c.link.to_send ≡ [] → c.session ≡ Some session → session.announcing ≡ true → ⊥
+no_own c session sound empty is announces = absurd (omega (arith, sound.own (ap is_announcing is ∙ announces), ap length empty))
+
+says_counting : (shape : Shape) (c : ClientState) (turns : List Turn) (message : Message) (done : ℕ) (k : Option ClientCounts) → Known c turns → owes c.link ≡ false → c.shake.owed ≡ Some message
+    → ClientCounted shape c turns done k → ClientCounted shape (holding message c) turns done k
+says_counting shape c turns message done k known free owed counted =
+    let empty : c.link.to_send ≡ [] = up_empty c.link (is_awake Initiator c.link c.shake turns message owed known.utters) free in
+    let half = free_half c turns known.utters empty in
+    record {
+      slots = counted.slots;
+      shake = counted.shake;
+      holds = record {
+        owed = λ quiet some. record { message = message; owed_is = owed; bytes_are = ap (λ (xs : List ℕ). xs ++ canonical message) half };
+        own = λ session is announces. absurd (no_own c session known.sound empty is announces);
+      };
+      announced = counted.announced;
+      infos = counted.infos;
+      acked = counted.acked;
+      ready = counted.ready;
+      agrees = counted.agrees;
+    }
+
+announcing_agrees : (o : Option ClientSession) (session : ClientSession) (done : ℕ) (k : Option ClientCounts) → o ≡ Some session → ClientAgrees o done k
+    → ClientAgrees (Some (record session { announcing = true })) done k
+announcing_agrees None session done k is agrees = absurd (cc is)
+announcing_agrees (Some s) session done None is agrees = absurd agrees
+announcing_agrees (Some s) session done (Some c) is agrees =
+    let same : s ≡ session = cc is in
+    subst (λ (x : ClientSession). ClientCountsAgree (record x { announcing = true }) done c) same
+    (record { base = agrees.base; published = agrees.published; announced = agrees.announced; infos = agrees.infos; acked = agrees.acked; completed = agrees.completed })
+
+announces_counting : (shape : Shape) (c : ClientState) (turns : List Turn) (session : ClientSession) (done : ℕ) (k : Option ClientCounts) → Known c turns → owes c.link ≡ false
+    → c.session ≡ Some session → ClientCounted shape c turns done k → ClientCounted shape (announcing session (holding (announcement c session) c)) turns done k
+announces_counting shape c turns session done k known free is counted =
+    let empty : c.link.to_send ≡ [] = up_empty c.link (is_open_up Initiator c.link c.shake (is_some c.session) turns known.rests (ap is_some is)) free in
+    let half = free_half c turns known.utters empty in
+    record {
+      slots = counted.slots;
+      shake = counted.shake;
+      holds = record {
+        owed = λ quiet some. absurd (cc);
+        own = λ other now announces.
+            let same : record session { announcing = true } ≡ other = cc is in
+            ap (λ (xs : List ℕ). xs ++ canonical (announcement c session)) half ∙ ap (λ (x : ClientSession). canonical (announcement c x)) same;
+      };
+      announced = ap announced_of (sym is) ∙ counted.announced;
+      infos = ap infos_of (sym is) ∙ counted.infos;
+      acked = ap acked_of (sym is) ∙ counted.acked;
+      ready = λ none. absurd (cc);
+      agrees = announcing_agrees c.session session done k is counted.agrees;
+    }
+
+held_is : (shape : Shape) (one other : ClientState) (turns : List Turn) (done : ℕ) (k : Option ClientCounts) → Some one ≡ Some other → ClientCounted shape one turns done k
+    → ClientCounted shape other turns done k
+held_is shape one other turns done k is counted = let same : one ≡ other = cc is in subst (λ (x : ClientState). ClientCounted shape x turns done k) same counted
+
+pub client_holds_counting : (shape : Shape) (c : ClientState) (at : Seen) (rule : ClientRule) (held : ClientState) (turns : List Turn) (done : ℕ) (k : Option ClientCounts) → ClientSound c
+    → ClientRests c turns → ClientUtters c turns → ClientMay c at rule → client_holds rule c ≡ Some held → ClientCounted shape c turns done k → ClientCounted shape held turns done k
+client_holds_counting shape c at Puts held turns done k sound rests utters may is counted = held_is shape c held turns done k is counted
+client_holds_counting shape c at (Says message) held turns done k sound rests utters may is counted =
+    held_is shape (holding message c) held turns done k is
+    (says_counting shape c turns message done k (record { sound = sound; rests = rests; utters = utters }) may.1 may.2 counted)
+client_holds_counting shape c at (Announces session) held turns done k sound rests utters may is counted =
+    held_is shape (announcing session (holding (announcement c session) c)) held turns done k is
+    (announces_counting shape c turns session done k (record { sound = sound; rests = rests; utters = utters }) may.1 may.3 counted)
+client_holds_counting shape c at Joins held turns done k sound rests utters may is counted = absurd (cc)
+client_holds_counting shape c at (Completes session) held turns done k sound rests utters may is counted = absurd (cc)
+client_holds_counting shape c at (Takes packet) held turns done k sound rests utters may is counted = absurd (cc)
+client_holds_counting shape c at (Publishes session request) held turns done k sound rests utters may is counted = absurd (cc)
+client_holds_counting shape c at Rests held turns done k sound rests utters may is counted = absurd (cc)
+
+-- ITS WORK: it publishes a request
+published_agrees : (o : Option ClientSession) (session : ClientSession) (done : ℕ) (k : Option ClientCounts) → o ≡ Some session → ClientAgrees o done k
+    → ClientAgrees (Some (record session { published = session.published + 1 })) done (change_client (λ (c : ClientCounts). record c { published = c.published + 1 }) k)
+published_agrees None session done k is agrees = absurd (cc is)
+published_agrees (Some s) session done None is agrees = absurd agrees
+published_agrees (Some s) session done (Some c) is agrees =
+    let same : s ≡ session = cc is in
+    subst (λ (x : ClientSession). ClientCountsAgree (record x { published = x.published + 1 }) done (record c { published = c.published + 1 })) same
+    (record { base = agrees.base; published = ap (λ (n : ℕ). n + 1) agrees.published; announced = agrees.announced; infos = agrees.infos; acked = agrees.acked; completed = agrees.completed })
+
+pub client_publishes_counting : (shape : Shape) (c : ClientState) (at : Seen) (memory : List ℕ) (id : ℕ) (t : ClientState) (new : List ℕ) (turns : List Turn) (done : ℕ) (k : Option ClientCounts)
+    → ClientSound c → ClientRests c turns → ClientPublishes c at memory id t new → ClientCounted shape c turns done k
+    → ClientCounted shape t turns done (change_client (λ (x : ClientCounts). record x { published = x.published + 1 }) k)
+client_publishes_counting shape c at memory id t new turns done k sound rests step counted =
+    let may : ClientMay c at (Publishes step.session step.request) = subst (ClientMay c at) step.rule (client_may c at) in
+    let up : is_up c.link ≡ true = is_open_up Initiator c.link c.shake (is_some c.session) turns rests (ap is_some may.1) in
+    let empty : c.link.to_send ≡ [] = up_empty c.link up (publishes_free c at step.session step.request step.rule) in
+    subst (λ (x : ClientState). ClientCounted shape x turns done (change_client (λ (y : ClientCounts). record y { published = y.published + 1 }) k)) (sym step.is) (record {
+      slots = counted.slots;
+      shake = counted.shake;
+      holds = record {
+        owed = λ quiet some. absurd (omega (arith, some, ap length empty));
+        own = λ other now announces.
+            let same : record step.session { published = step.session.published + 1 } ≡ other = cc in
+            absurd (no_own c step.session sound empty may.1 (ap (λ (x : ClientSession). x.announcing) same ∙ announces));
+      };
+      announced = ap announced_of (sym may.1) ∙ counted.announced;
+      infos = ap infos_of (sym may.1) ∙ counted.infos;
+      acked = ap acked_of (sym may.1) ∙ counted.acked;
+      ready = λ none. absurd (cc);
+      agrees = published_agrees c.session step.session done k may.1 counted.agrees;
+    })
+
+-- it completes one
+completed_agrees : (o : Option ClientSession) (session : ClientSession) (done : ℕ) (k : Option ClientCounts) → o ≡ Some session → ClientAgrees o done k
+    → ClientAgrees (Some (record session { completed = session.completed + 1 })) (done + 1) k
+completed_agrees None session done k is agrees = absurd (cc is)
+completed_agrees (Some s) session done None is agrees = absurd agrees
+completed_agrees (Some s) session done (Some c) is agrees =
+    let same : s ≡ session = cc is in
+    subst (λ (x : ClientSession). ClientCountsAgree (record x { completed = x.completed + 1 }) (done + 1) c) same
+    (record {
+      base = agrees.base;
+      published = agrees.published;
+      announced = agrees.announced;
+      infos = agrees.infos;
+      acked = agrees.acked;
+      completed = omega (arith, agrees.completed);
+    })
+
+pub client_completes_counting : (shape : Shape) (c : ClientState) (at : Seen) (memory : List ℕ) (id operation status : ℕ) (bytes : List ℕ) (t : ClientState) (new : List ℕ) (turns : List Turn)
+    (done : ℕ) (k : Option ClientCounts) → ClientCompletes c at memory id operation status bytes t new → ClientCounted shape c turns done k → ClientCounted shape t turns (done + 1) k
+client_completes_counting shape c at memory id operation status bytes t new turns done k step counted =
+    let may : ClientMay c at (Completes step.session) = subst (ClientMay c at) step.rule (client_may c at) in
+    subst (λ (x : ClientState). ClientCounted shape x turns (done + 1) k) (sym step.is) (record {
+      slots = counted.slots;
+      shake = counted.shake;
+      holds = record {
+        owed = λ quiet some. counted.holds.owed (ap is_announcing may.1 ∙ quiet) some;
+        own = λ other now announces.
+            let same : record step.session { completed = step.session.completed + 1 } ≡ other = cc in
+            counted.holds.own step.session may.1 (ap (λ (x : ClientSession). x.announcing) same ∙ announces) ∙ ap (λ (x : ClientSession). canonical (announcement c x)) same;
+      };
+      announced = ap announced_of (sym may.1) ∙ counted.announced;
+      infos = ap infos_of (sym may.1) ∙ counted.infos;
+      acked = ap acked_of (sym may.1) ∙ counted.acked;
+      ready = λ none. absurd (cc);
+      agrees = completed_agrees c.session step.session done k may.1 counted.agrees;
+    })
+
+-- and what is asked of it
+pub client_admits_counting : (shape : Shape) (c : ClientState) (event : Admitted) (t : ClientState) (turns : List Turn) (done : ℕ) (k : Option ClientCounts) → ClientAdmits c event t
+    → ClientCounted shape c turns done k → ClientCounted shape t turns done k
+client_admits_counting shape c (Refused why request) t turns done k admits counted = subst (λ (x : ClientState). ClientCounted shape x turns done k) (sym admits.1) counted
+client_admits_counting shape c (Full request) t turns done k admits counted = subst (λ (x : ClientState). ClientCounted shape x turns done k) (sym admits.2) counted
+client_admits_counting shape c (Accepted id request) t turns done k admits counted = subst (λ (x : ClientState). ClientCounted shape x turns done k) (sym admits.5) (record {
+  slots = counted.slots;
+  shake = counted.shake;
+  holds = record { owed = counted.holds.owed; own = counted.holds.own };
+  announced = counted.announced;
+  infos = counted.infos;
+  acked = counted.acked;
+  ready = counted.ready;
+  agrees = counted.agrees;
+})

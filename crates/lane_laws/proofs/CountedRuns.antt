@@ -1,0 +1,36 @@
+-- Along every run the completions have the numbers 0, 1, 2 and so on.
+use Rattle.std.proofs.Common.{ℕ, List, [], ◌∷◌, subst}
+use Rattle.runs.specs.Lawful.{Lawful}
+use Rattle.runs.specs.Run.{Run}
+use Rattle.disk_model.specs.DiskLog.{DiskLog, after, nothing_yet}
+use Rattle.disk_model.specs.RequestLaws.{OnceAt}
+use Rattle.disk_model.specs.DiskEvent.{Accepted, Asks, Desc, DiskEvent, Done, Finished, Full, Misplaced, Moved, Off, OnWire, Published, Refused, Rests, Started, Stopped, Stored, Turns, Works}
+use Rattle.disk_model.specs.LaneState.{IsShape, LaneState, Shape, fresh}
+use Rattle.disk_model.specs.LaneStep.{LaneStep}
+use Rattle.lane_laws.proofs.StandingRuns.{once_lawful}
+use Rattle.lane_laws.proofs.StandingSteps.{wired_keeps}
+use Rattle.lane_laws.specs.CompletedIds.{CountsFrom, done_ids, id_in, with_id}
+
+counts_step : (l : DiskLog) (event : DiskEvent) (ids : List ℕ) → OnceAt l event → CountsFrom (after l event).work.done ids → CountsFrom l.work.done (with_id (id_in event) ids)
+counts_step l (OnWire event) ids once rest = subst (λ (n : ℕ). CountsFrom n ids) (wired_keeps l.shape.slots l.talk l.work event).done rest
+counts_step l (Asks (Accepted id request)) ids once rest = rest
+counts_step l (Asks (Full request)) ids once rest = rest
+counts_step l (Asks (Refused why request)) ids once rest = rest
+counts_step l (Works (Published id)) ids once rest = rest
+counts_step l (Works (Done id operation status bytes)) ids once rest = (once.next, rest)
+counts_step l (Works (Desc slot bytes)) ids once rest = rest
+counts_step l (Works (Moved unit fault)) ids once rest = rest
+counts_step l (Works (Stored operation block count failed)) ids once rest = rest
+counts_step l (Works (Finished slot status)) ids once rest = rest
+counts_step l (Works Misplaced) ids once rest = rest
+counts_step l (Turns Stopped) ids once rest = rest
+counts_step l (Turns Started) ids once rest = rest
+counts_step l (Turns Off) ids once rest = rest
+counts_step l (Rests event) ids once rest = rest
+
+counts_from : (l : DiskLog) (events : List DiskEvent) → Lawful OnceAt after l events → CountsFrom l.work.done (done_ids events)
+counts_from l [] lawful = tt
+counts_from l (event ∷ events) lawful = counts_step l event (done_ids events) lawful.0 (counts_from (after l event) events lawful.1)
+
+pub ids_count_up : (shape : Shape) (events : List DiskEvent) (s : LaneState) → IsShape shape → Run LaneStep (fresh shape) events s → CountsFrom 0 (done_ids events)
+ids_count_up shape events s sound run = counts_from (nothing_yet shape) events (once_lawful shape events s sound run)

@@ -1,0 +1,137 @@
+-- A packet for which an end resets itself says why, and a reset without one has a cause that lies in no packet.
+use Rattle.std.proofs.Common.{◌≡◌, ℕ, Option, Some, None, List, refl, sym, subst, inl, inr}
+use Rattle.std.specs.Prelude.{⊤}
+use Rattle.dring.specs.declared.peer.RingFault.{RingFault}
+use Rattle.dring.specs.declared.peer.RingFault.TheVariants as refused
+use Rattle.ldc_link.specs.Following.{Follows}
+use Rattle.ldc_link.specs.LinkState.{cleared}
+use Rattle.ldc_link.specs.Taking.{Heard, LinkTake, TakesBytes, Unheard}
+use Rattle.ldc_packet.specs.Fault.{first_fault}
+use Rattle.ldc_queue.specs.Talk.{Turn}
+use Rattle.vio_tag.specs.declared.cause.Cause.{Cause}
+use Rattle.vio_tag.specs.declared.cause.Cause.TheVariants as the_cause
+use Rattle.disk_model.specs.ResetSays.{MessageSays, ResetSays}
+use Rattle.disk_model.specs.WireAt.{GapOf}
+use Rattle.disk_model.specs.ClientRule as client_rule
+use Rattle.disk_model.specs.ClientState.{ClientState}
+use Rattle.disk_model.specs.ClientStep.{ClientFails}
+use Rattle.disk_model.specs.ClientTaking as client
+use Rattle.disk_model.specs.EndPuts.{shake_risen}
+use Rattle.disk_model.specs.ServerRule as server_rule
+use Rattle.disk_model.specs.ServerState.{Ends, Progress, ServerSession, ServerState, Work}
+use Rattle.disk_model.specs.ServerStep.{ServerFails, WorkFails}
+use Rattle.disk_model.specs.ServerTaking as server
+use Rattle.disk_model.specs.ServerWork.{EndFails, FetchFails, Reach, cause_of, slot_at}
+use Rattle.lane_laws.proofs.HeardRuns.{heard_lawfully}
+use Rattle.lane_laws.proofs.LinkEnds.{EndsBy, link_ends}
+use Rattle.lane_laws.proofs.LinkResets.{LiesInPacket, SaysWhy, link_why}
+use Rattle.lane_laws.proofs.MessageResets.{client_reads, server_reads}
+
+-- the packet ends a message that says why
+by_message : (turns : List Turn) (bytes message : List ℕ) (cause : Cause) → first_fault bytes ≡ None → EndsBy turns bytes message → MessageSays message cause → SaysWhy turns bytes cause
+by_message turns bytes message (the_cause.Tag fault) sound by says = record { says = (sound, (by.ends, subst (λ (m : List ℕ). MessageSays m (the_cause.Tag fault)) by.is says)); gap = tt; carried = tt }
+by_message turns bytes message (the_cause.Sid expected found) sound by says = record { says = (sound, (by.ends, subst (λ (m : List ℕ). MessageSays m (the_cause.Sid expected found)) by.is says)); gap = tt; carried = tt }
+by_message turns bytes message the_cause.Order sound by says = record { says = (sound, (by.ends, subst (λ (m : List ℕ). MessageSays m the_cause.Order) by.is says)); gap = tt; carried = tt }
+by_message turns bytes message the_cause.Refused sound by says = record { says = (sound, (by.ends, subst (λ (m : List ℕ). MessageSays m the_cause.Refused) by.is says)); gap = tt; carried = tt }
+by_message turns bytes message (the_cause.Ident expected found) sound by says = record { says = (sound, (by.ends, subst (λ (m : List ℕ). MessageSays m (the_cause.Ident expected found)) by.is says)); gap = tt; carried = tt }
+by_message turns bytes message (the_cause.Seq expected found) sound by says = record { says = (sound, (by.ends, subst (λ (m : List ℕ). MessageSays m (the_cause.Seq expected found)) by.is says)); gap = tt; carried = tt }
+by_message turns bytes message (the_cause.Slot expected found) sound by says = record { says = (sound, (by.ends, subst (λ (m : List ℕ). MessageSays m (the_cause.Slot expected found)) by.is says)); gap = tt; carried = tt }
+by_message turns bytes message (the_cause.RangeEnd found) sound by says = record { says = (sound, (by.ends, subst (λ (m : List ℕ). MessageSays m (the_cause.RangeEnd found)) by.is says)); gap = tt; carried = tt }
+by_message turns bytes message _ sound by says = absurd says
+
+-- THE CLIENT
+client_whole : (turns : List Turn) (bytes : List ℕ) (s : ClientState) (whole : Option (List ℕ)) (cause : Cause) → first_fault bytes ≡ None
+    → ((message : List ℕ) → whole ≡ Some message → EndsBy turns bytes message) → client.HearsWhole s whole (client.Resets cause) → SaysWhy turns bytes cause
+client_whole turns bytes s None cause sound ends hears = absurd (cc)
+client_whole turns bytes s (Some message) cause sound ends hears =
+    by_message turns bytes message cause sound (ends message refl)
+    (says (client.reads (record s { link = cleared s.link }) hears.0) (client_reads message (record s { link = cleared s.link }) hears.0 hears.1) hears.2)
+  where
+    told : client.ClientTake → Type 0
+    told (client.GoesOn t) = ⊤
+    told (client.Resets why) = MessageSays message why
+
+    says : (take : client.ClientTake) → told take → client.Resets cause ≡ take → MessageSays message cause
+    says take why is = subst told (sym is) why
+
+client_link : (turns : List Turn) (bytes : List ℕ) (s : ClientState) (link : LinkTake) (cause : Cause) → Follows s.link turns → s.link.whole ≡ None → TakesBytes s.link bytes link
+    → client.HearsLink s link (client.Resets cause) → SaysWhy turns bytes cause
+client_link turns bytes s (Heard k) cause follows none takes hears =
+    client_whole turns bytes (record s { link = k }) k.whole cause (heard_lawfully s.link turns bytes k follows takes).sound
+    (λ message is. link_ends turns bytes s.link k message follows none takes is) hears
+client_link turns bytes s (Unheard other) cause follows none takes hears =
+    let same : cause ≡ other = cc in link_why turns bytes s.link cause follows (subst (λ (c : Cause). TakesBytes s.link bytes (Unheard c)) (sym same) takes)
+
+abbrev pub LiesIn : Option (List ℕ) → Cause → Type 0
+LiesIn None cause = ⊤
+LiesIn (Some packet) cause = LiesInPacket cause
+
+pub record WhyReset (turns : List Turn) (packet : Option (List ℕ)) (cause : Cause) : Type 0 where
+  pub says : ResetSays turns packet cause
+  pub gap : GapOf turns cause packet
+  pub carried : LiesIn packet cause
+
+pub client_fails : (turns : List Turn) (rule : client_rule.ClientRule) (s : ClientState) (memory : List ℕ) (cause : Cause) (packet : Option (List ℕ)) → Follows s.link turns
+    → s.link.whole ≡ None → ClientFails rule s memory cause packet → WhyReset turns packet cause
+client_fails turns (client_rule.Takes bytes) s memory cause packet follows none fails =
+    let why = client_link turns bytes s fails.1.link cause follows none fails.1.takes fails.1.hears in
+    subst (λ (p : Option (List ℕ)). WhyReset turns p cause) (sym fails.0) (record { says = why.says; gap = why.gap; carried = why.carried })
+client_fails turns (client_rule.Completes session) s memory cause packet follows none fails =
+    subst (λ (p : Option (List ℕ)). WhyReset turns p cause) (sym fails.0)
+    (subst (λ (c : Cause). WhyReset turns None c) (sym fails.2) (record { says = tt; gap = tt; carried = tt }))
+client_fails turns _ s memory cause packet follows none fails = absurd fails
+
+-- THE SERVER
+server_whole : (turns : List Turn) (bytes : List ℕ) (s : ServerState) (whole : Option (List ℕ)) (cause : Cause) → first_fault bytes ≡ None
+    → ((message : List ℕ) → whole ≡ Some message → EndsBy turns bytes message) → server.HearsWhole s whole (server.Resets cause) → SaysWhy turns bytes cause
+server_whole turns bytes s None cause sound ends hears = absurd (cc)
+server_whole turns bytes s (Some message) cause sound ends hears =
+    by_message turns bytes message cause sound (ends message refl)
+    (says (server.reads (record s { link = cleared s.link }) hears.0) (server_reads message (record s { link = cleared s.link }) hears.0 hears.1) hears.2)
+  where
+    told : server.ServerTake → Type 0
+    told (server.GoesOn t opens) = ⊤
+    told (server.Resets why) = MessageSays message why
+
+    says : (take : server.ServerTake) → told take → server.Resets cause ≡ take → MessageSays message cause
+    says take why is = subst told (sym is) why
+
+server_link : (turns : List Turn) (bytes : List ℕ) (s : ServerState) (link : LinkTake) (cause : Cause) → Follows s.link turns → s.link.whole ≡ None → TakesBytes s.link bytes link
+    → server.HearsLink s link (server.Resets cause) → SaysWhy turns bytes cause
+server_link turns bytes s (Heard k) cause follows none takes hears =
+    server_whole turns bytes (record s { link = k; shake = shake_risen s.link k s.shake }) k.whole cause (heard_lawfully s.link turns bytes k follows takes).sound
+    (λ message is. link_ends turns bytes s.link k message follows none takes is) hears
+server_link turns bytes s (Unheard other) cause follows none takes hears =
+    let same : cause ≡ other = cc in link_why turns bytes s.link cause follows (subst (λ (c : Cause). TakesBytes s.link bytes (Unheard c)) (sym same) takes)
+
+by_copy : (turns : List Turn) (fault : ℕ) (cause : Cause) → cause ≡ the_cause.Copy fault → WhyReset turns None cause
+by_copy turns fault cause is = subst (λ (c : Cause). WhyReset turns None c) (sym is) (record { says = tt; gap = tt; carried = tt })
+
+by_ring : (turns : List Turn) (slot : ℕ) (why : RingFault) → WhyReset turns None (cause_of slot why)
+by_ring turns slot (refused.Copy fault) = record { says = tt; gap = tt; carried = tt }
+by_ring turns slot (refused.NotReady state) = record { says = tt; gap = tt; carried = tt }
+
+by_fetch : (turns : List Turn) (s : ServerState) (reach : Reach) (slot : ℕ) (cause : Cause) → FetchFails s reach slot cause → WhyReset turns None cause
+by_fetch turns s reach slot cause (inl fails) = subst (λ (c : Cause). WhyReset turns None c) (sym fails.2) (by_ring turns slot fails.0)
+by_fetch turns s reach slot cause (inr fails) = by_copy turns _ cause fails.3
+
+by_end : (turns : List Turn) (s : ServerState) (reach : Reach) (slot : ℕ) (work : Work) (status : ℕ) (cause : Cause) (new : List ℕ) → EndFails s reach slot work status cause new
+    → WhyReset turns None cause
+by_end turns s reach slot work status cause new (inl fails) = by_copy turns _ cause fails.2
+by_end turns s reach slot work status cause new (inr fails) = by_copy turns _ cause fails.3
+
+by_work : (turns : List Turn) (p : Progress) (s : ServerState) (session : ServerSession) (work : Work) (reach : Reach) (cause : Cause) (new : List ℕ)
+    → WorkFails p s session work reach cause new → WhyReset turns None cause
+by_work turns (Ends status) s session work reach cause new fails = by_end turns s reach (slot_at s session.finished) work status cause new fails
+by_work turns _ s session work reach cause new fails = absurd fails
+
+pub server_fails : (turns : List Turn) (rule : server_rule.ServerRule) (s : ServerState) (reach : Reach) (cause : Cause) (packet : Option (List ℕ)) (new : List ℕ) → Follows s.link turns
+    → s.link.whole ≡ None → ServerFails rule s reach cause packet new → WhyReset turns packet cause
+server_fails turns (server_rule.Takes bytes) s reach cause packet new follows none fails =
+    let why = server_link turns bytes s fails.1.link cause follows none fails.1.takes fails.1.hears in
+    subst (λ (p : Option (List ℕ)). WhyReset turns p cause) (sym fails.0) (record { says = why.says; gap = why.gap; carried = why.carried })
+server_fails turns (server_rule.Fetches session) s reach cause packet new follows none fails =
+    subst (λ (p : Option (List ℕ)). WhyReset turns p cause) (sym fails.0) (by_fetch turns s reach (slot_at s session.descs) cause fails.1)
+server_fails turns (server_rule.Serves session work) s reach cause packet new follows none fails =
+    subst (λ (p : Option (List ℕ)). WhyReset turns p cause) (sym fails.0) (by_work turns work.progress s session work reach cause new fails.1)
+server_fails turns _ s reach cause packet new follows none fails = absurd fails

@@ -1,0 +1,222 @@
+-- A packet that an end takes lowers what remains, after every run of a lane that nobody forged.
+use Rattle.std.proofs.Common.{◌≡◌, ℕ, ◌+◌, ◌-◌, ◌%◌, ◌^◌, ◌<◌, ◌≤◌, inl, inr, Bool, true, false, Option, Some, None, List, [], ◌∷◌, ◌++◌, length, refl, sym, ap, ◌∙◌, subst, arith}
+use Rattle.ldc_queue.specs.declared.end.End.{End}
+use Rattle.std.proofs.lemmas.Nat.{mod_below}
+use Rattle.ldc_queue.specs.declared.end.ChannelState.{ChannelState}
+use Rattle.disk_model.specs.Sayings.{heard}
+use Rattle.disk_model.specs.WireAt.{IsUp}
+use Rattle.disk_model.specs.Agreement.{ServerAgrees}
+use Rattle.disk_model.specs.WorkLog.{ServerCounts}
+use Rattle.disk_model.specs.ClientState.{ClientState}
+use Rattle.disk_model.specs.Ranges.{range_length, wrapped}
+use Rattle.disk_model.specs.ServerRule as server_rules
+use Rattle.disk_model.specs.ServerState.{ServerSession, ServerState, SlotRange, Work}
+use Rattle.lane_laws.proofs.Agreeing.{AskedWithin, asked_within}
+use Rattle.lane_laws.proofs.NoRefusal.{takes_fine}
+use Rattle.lane_laws.proofs.QueueOffers.{waits_offering}
+use Rattle.lane_laws.proofs.RangeSums.{sum_front}
+use Rattle.lane_laws.proofs.RemainingRuns.{steps_stand, steps_fall}
+use Rattle.lane_laws.proofs.RulesFree.{ServerFree, TakesFree, server_free}
+use Rattle.lane_laws.proofs.ServerCounting.{opens_new}
+use Rattle.lane_laws.proofs.ServerTaken.{ServerAsked, ServerTook, opened_or, server_took_what}
+use Rattle.lane_laws.specs.Budget.{one_range, range_left}
+use Rattle.lane_laws.specs.Counted.{range_sum}
+use Rattle.lane_laws.specs.Remaining.{asked_in, total}
+use Rattle.lane_laws.specs.RemainingSteps.{total_at, AllDo, DoesSomething}
+use Rattle.ldc_queue.specs.Talk.{Heard as Heard_, Turn}
+use Rattle.lane_laws.proofs.PlaceOwed.{client_owed, server_owed}
+use Rattle.lane_laws.proofs.RemainingTakes.{client_took_falls, server_took_falls}
+use Rattle.lane_laws.proofs.Ruling.{client_may, server_may}
+use Rattle.lane_laws.specs.RemainingTurn.{ClientInTurn, ServerInTurn}
+use Rattle.lane_laws.specs.RuleFacts.{ClientMay, ServerMay}
+use Rattle.ldc_queue.specs.declared.end.End.TheVariants.{A, B}
+use Rattle.runs.specs.Lawful.{log_append, log_of}
+use Rattle.runs.specs.Run.{Run, run_push}
+use Rattle.ldc_queue.specs.declared.end.ChannelState.TheVariants.{Up}
+use Rattle.disk_model.specs.WireEvent.{Took, Joined, Sent, WireEvent}
+use Rattle.disk_model.specs.WireLog.{WireLog, wire_moved}
+use Rattle.disk_model.specs.DiskLog.{DiskLog, after, nothing_yet}
+use Rattle.disk_model.specs.ClientRule as client_rules
+use Rattle.disk_model.specs.DiskEvent.{DiskEvent, OnWire, Desc, Done, Finished, Misplaced, Moved, Published, Stored, Works}
+use Rattle.disk_model.specs.LaneState.{IsShape, LaneState, Shape, fresh}
+use Rattle.disk_model.specs.LaneStep.{LaneStep, EndOnWire}
+use Rattle.vio_handshake.specs.declared.session.Offer.{Offer}
+use Rattle.disk_model.specs.Seeing.{seen}
+use Rattle.lane_laws.proofs.ClientTaken.{client_took_what}
+use Rattle.lane_laws.proofs.LaneCounting.{Knows, run_knows}
+use Rattle.lane_laws.proofs.LanePlacing.{LanePlaced}
+use Rattle.lane_laws.proofs.PlacesAlong.{run_placed}
+use Rattle.lane_laws.proofs.RemainingClientHears.{owes_nothing}
+use Rattle.lane_laws.specs.Remaining.{remaining}
+
+-- the places after one more event
+placed_behind : (shape : Shape) (events : List DiskEvent) (s : LaneState) (event : DiskEvent) (t : LaneState) → IsShape shape → Run LaneStep (fresh shape) events s → LaneStep s event t → t.wire.forged ≡ false
+    → LanePlaced shape t (after (log_of after (nothing_yet shape) events) event).talk
+placed_behind shape events s event t sound run step clean =
+    let more : List DiskEvent = events ++ event ∷ [] in
+    let then_run : Run LaneStep (fresh shape) more t = run_push LaneStep (fresh shape) s t events event run step in
+    let behind : log_of after (nothing_yet shape) more ≡ after (log_of after (nothing_yet shape) events) event = log_append after (nothing_yet shape) events (event ∷ []) in
+    let clean_more : (log_of after (nothing_yet shape) more).wire.forged ≡ false = ap (λ (w : WireLog). w.forged) (sym (run_knows shape more t sound then_run).all.stands.wire) ∙ clean in
+    subst (λ (x : DiskLog). LanePlaced shape t x.talk) behind (run_placed shape more t sound then_run clean_more)
+
+pub client_in_turn : (shape : Shape) (events : List DiskEvent) (s : LaneState) (packet : List ℕ) (opens : Bool) (t : LaneState) → IsShape shape → Run LaneStep (fresh shape) events s → s.wire.forged ≡ false
+    → LaneStep s (OnWire (Took A packet opens)) t → ClientInTurn s.client t.client
+client_in_turn shape events s packet opens t sound run clean step =
+    let l = log_of after (nothing_yet shape) events in
+    let at = seen A s.shape.entries s.wire.wire in
+    let knows : Knows s l = run_knows shape events s sound run in
+    let may : ClientMay s.client at (client_rules.Takes packet) = subst (ClientMay s.client at) step.step.0 (client_may s.client at) in
+    let placed = placed_behind shape events s (OnWire (Took A packet opens)) t sound run step (ap (λ (x : LaneState). x.wire.forged) step.is ∙ clean) in
+    let took = client_took_what s.client l.talk.client packet t.client knows.all.talks.follows_a knows.rests.client.whole step.step.1 in
+    let up : t.wire.wire.end_a ≡ Up = ap (λ (x : LaneState). x.wire.wire.end_a) step.is ∙ may.0 in
+    record {
+      one_ring = ap (λ (o : Offer). o.both_rings) knows.counted.client.shake.offer_is;
+      whole = knows.rests.client.whole;
+      owed = client_owed shape placed.sid s.client t.client l.talk.client packet sound.most_slots placed.small (owes_nothing s.client at packet step.step.0) took (placed.client up);
+    }
+
+pub client_falls : (shape : Shape) (events : List DiskEvent) (s : LaneState) (packet : List ℕ) (opens : Bool) (t : LaneState) → IsShape shape → Run LaneStep (fresh shape) events s → s.wire.forged ≡ false
+    → LaneStep s (OnWire (Took A packet opens)) t → remaining t < remaining s
+client_falls shape events s packet opens t sound run clean step =
+    let knows : Knows s (log_of after (nothing_yet shape) events) = run_knows shape events s sound run in
+    let falls = client_took_falls s packet opens t knows.all.talks.client.asking (client_in_turn shape events s packet opens t sound run clean step) step in
+    omega (arith, falls)
+
+-- THE SERVER
+none_work : (o : Option ServerSession) (w : Option Work) (q : Option ServerCounts) → o ≡ None → ServerAgrees o w q → w ≡ None
+none_work None w None is agrees = agrees
+none_work None w (Some c) is agrees = absurd agrees
+none_work (Some s) w q is agrees = absurd (cc is)
+
+no_range : (o : Option ServerSession) → ((session : ServerSession) → o ≡ Some session → session.range ≡ None) → range_left o ≡ 0
+no_range None none = refl
+no_range (Some session) none = ap one_range (none session refl)
+
+opened_range : (b : Bool) (o : Option ServerSession) → range_left o ≡ 0 → range_left (opened_or b o) ≡ 0
+opened_range true o none = refl
+opened_range false o none = none
+
+-- it is asked for more
+more_asked : (slots before behind start end : ℕ) → before < 2 ^ 64 → before ≤ behind → behind ≡ wrapped (before + range_length slots start end) → 1 ≤ slots → slots ≤ 256 → before < behind
+more_asked slots before behind start end small less is some few = omega (arith, small, less, is, few, mod_below (end + slots - start % slots) slots some)
+
+abbrev AsksMore : LaneState → LaneState → Type 0
+AsksMore s t = range_left t.server.session ≡ 1 → (asked_in s.server.session < asked_in t.server.session) × (asked_in t.server.session ≤ total_at s.wire.wire.end_a s.client)
+
+never_asks : (s t : LaneState) → range_left t.server.session ≡ 0 → AsksMore s t
+never_asks s t none one = absurd (omega (arith, none, one))
+
+abbrev behind_ask : ServerState → ServerSession → SlotRange → ServerSession
+behind_ask v session range =
+    record session { asked = wrapped (session.asked + range_length v.shake.draft.peer_slots range.start range.end); seq = wrapped (session.seq + 1); range = Some range }
+
+asks_more : (s t : LaneState) (l next : DiskLog) (turns : List Turn) (packet : List ℕ) (opens : Bool) → (asks : ServerAsked s.server turns packet t.server opens) → l.talk.server ≡ turns → next.talk.server ≡ Heard_ packet ∷ turns
+    → next.shape.slots ≡ l.shape.slots → t.client ≡ s.client → t.wire.wire.end_a ≡ s.wire.wire.end_a → AskedWithin s l asks.session
+    → AskedWithin t next (behind_ask s.server asks.session asks.range)
+    → AsksMore s t
+asks_more s t l next turns packet opens asks talk then_talk shape client wire was now one =
+    let slots = s.server.shake.draft.peer_slots in
+    let behind : ServerSession = behind_ask s.server asks.session asks.range in
+    let session_is : t.server.session ≡ Some behind = ap (λ (v : ServerState). v.session) asks.is in
+    let sum_was : asks.session.asked ≡ range_sum l.shape.slots 1 (heard turns) = was.asked ∙ ap (λ (x : List Turn). range_sum l.shape.slots 1 (heard x)) talk in
+    let sum_now : behind.asked ≡ range_sum l.shape.slots 1 (heard turns ++ asks.hears.bytes ∷ []) =
+    now.asked ∙ ap (λ (n : ℕ). range_sum n 1 (heard next.talk.server)) shape ∙ ap (λ (x : List Turn). range_sum l.shape.slots 1 (heard x)) then_talk ∙ ap (range_sum l.shape.slots 1) asks.hears.messages in
+    let more : asks.session.asked ≤ behind.asked = omega (arith, sum_was, sum_now, sum_front l.shape.slots 1 (heard turns) (asks.hears.bytes ∷ [])) in
+    let above : asks.session.asked < behind.asked =
+    more_asked slots asks.session.asked behind.asked asks.range.start asks.range.end was.small more refl (omega (arith, asks.ends)) was.slots in
+    let most : total_at s.wire.wire.end_a s.client ≡ total (length s.client.pending) s.client.session = ap (λ (x : ChannelState). total_at x s.client) was.up in
+    let same : total (length t.client.pending) t.client.session ≡ total (length s.client.pending) s.client.session = ap (λ (c : ClientState). total (length c.pending) c.session) client in (
+      subst (λ (o : Option ServerSession). asked_in o < asked_in t.server.session) (sym asks.session_is) (subst (λ (o : Option ServerSession). asks.session.asked < asked_in o) (sym session_is) above),
+      subst (λ (o : Option ServerSession). asked_in o ≤ total_at s.wire.wire.end_a s.client) (sym session_is) (omega (arith, now.within, most, same)),
+    )
+
+by_took : (shape : Shape) (events : List DiskEvent) (s : LaneState) (packet : List ℕ) (opens : Bool) (t : LaneState) → IsShape shape → Run LaneStep (fresh shape) events s → s.wire.forged ≡ false → IsUp B s.wire.wire
+    → LaneStep s (OnWire (Took B packet opens)) t → TakesFree s.server → ServerTook s.server (log_of after (nothing_yet shape) events).talk.server packet t.server opens → AsksMore s t
+by_took shape events s packet opens t sound run clean up step free (inl part) =
+    never_asks s t (ap (λ (v : ServerState). range_left v.session) part.is ∙ no_range s.server.session free.range)
+by_took shape events s packet opens t sound run clean up step free (inr (inl shakes)) =
+    never_asks s t (ap (λ (v : ServerState). range_left v.session) shakes.is ∙ opened_range opens s.server.session (no_range s.server.session free.range))
+by_took shape events s packet opens t sound run clean up step free (inr (inr asks)) =
+    let l = log_of after (nothing_yet shape) events in
+    let event = OnWire (Took B packet opens) in
+    let more : List DiskEvent = events ++ event ∷ [] in
+    let then_run : Run LaneStep (fresh shape) more t = run_push LaneStep (fresh shape) s t events event run step in
+    let behind : log_of after (nothing_yet shape) more ≡ after l event = log_append after (nothing_yet shape) events (event ∷ []) in
+    let clean_t : t.wire.forged ≡ false = ap (λ (x : LaneState). x.wire.forged) step.1.is ∙ clean in
+    let up_t : t.wire.wire.end_b ≡ Up = ap (λ (x : LaneState). x.wire.wire.end_b) step.1.is ∙ up in
+    let now = asked_within shape more t (behind_ask s.server asks.session asks.range) sound then_run clean_t up_t (ap (λ (v : ServerState). v.session) asks.is) in
+    asks_more s t l (after l event) l.talk.server packet opens asks refl refl refl (ap (λ (x : LaneState). x.client) step.1.is) (ap (λ (x : LaneState). x.wire.wire.end_a) step.1.is)
+    (asked_within shape events s asks.session sound run clean up asks.session_is) (subst (λ (x : DiskLog). AskedWithin t x (behind_ask s.server asks.session asks.range)) behind now)
+
+pub server_in_turn : (shape : Shape) (events : List DiskEvent) (s : LaneState) (packet : List ℕ) (opens : Bool) (t : LaneState) → IsShape shape → Run LaneStep (fresh shape) events s → s.wire.forged ≡ false
+    → LaneStep s (OnWire (Took B packet opens)) t → ServerInTurn (total_at s.wire.wire.end_a s.client) opens packet s.server t.server
+server_in_turn shape events s packet opens t sound run clean step =
+    let l = log_of after (nothing_yet shape) events in
+    let at = seen B s.shape.entries s.wire.wire in
+    let knows : Knows s l = run_knows shape events s sound run in
+    let may : ServerMay s.server at (server_rules.Takes packet) = subst (ServerMay s.server at) step.1.step.1.0 (server_may s.server at) in
+    let free : TakesFree s.server = subst (ServerFree s.server) step.1.step.1.0 (server_free s.server at) in
+    let placed = placed_behind shape events s (OnWire (Took B packet opens)) t sound run step (ap (λ (x : LaneState). x.wire.forged) step.1.is ∙ clean) in
+    let took = server_took_what s.server l.talk.server packet t.server opens knows.all.talks.follows_b knows.rests.server.whole step.1.step.1.1 in
+    let up : t.wire.wire.end_b ≡ Up = ap (λ (x : LaneState). x.wire.wire.end_b) step.1.is ∙ may.0 in
+    record {
+      role = knows.counted.server.shake.role_is;
+      one_ring = ap (λ (o : Offer). o.both_rings) knows.counted.server.shake.offer_is;
+      whole = knows.rests.server.whole;
+      fits = (steps_stand shape events s run).fit;
+      owed = server_owed shape placed.sid s.server t.server l.talk.server (Heard_ packet ∷ l.talk.server) packet opens sound.most_slots placed.small free.owed took (placed.server up);
+      link = λ m takes. takes_fine s.server.link m packet (waits_offering shape events s packet sound run clean may.1) takes;
+      opened = λ is.
+          let none = opens_new s.server t.server l.talk.server packet knows.rests.server (subst (λ (b : Bool). ServerTook s.server l.talk.server packet t.server b) is took) in
+          (none, none_work s.server.session s.server.work l.work.server none knows.counted.server.agrees);
+      asks = by_took shape events s packet opens t sound run clean may.0 step free took;
+    }
+
+pub server_falls : (shape : Shape) (events : List DiskEvent) (s : LaneState) (packet : List ℕ) (opens : Bool) (t : LaneState) → IsShape shape → Run LaneStep (fresh shape) events s → s.wire.forged ≡ false
+    → LaneStep s (OnWire (Took B packet opens)) t → remaining t < remaining s
+server_falls shape events s packet opens t sound run clean step =
+    let falls = server_took_falls s packet opens t (server_in_turn shape events s packet opens t sound run clean step) step in
+    omega (arith, falls)
+
+-- EACH STEP by which an end does something
+does_falls : (shape : Shape) (events : List DiskEvent) (s : LaneState) (event : DiskEvent) (t : LaneState) → IsShape shape → Run LaneStep (fresh shape) events s → s.wire.forged ≡ false → LaneStep s event t
+    → DoesSomething event → remaining t < remaining s
+does_falls shape events s (OnWire (Took A packet opens)) t sound run clean step does = client_falls shape events s packet opens t sound run clean step
+does_falls shape events s (OnWire (Took B packet opens)) t sound run clean step does = server_falls shape events s packet opens t sound run clean step
+does_falls shape events s (OnWire (Joined e lost)) t sound run clean step does = steps_fall shape events s (OnWire (Joined e lost)) t sound run step does
+does_falls shape events s (OnWire (Sent e packet opens)) t sound run clean step does = steps_fall shape events s (OnWire (Sent e packet opens)) t sound run step does
+does_falls shape events s (Works event) t sound run clean step does = steps_fall shape events s (Works event) t sound run step does
+does_falls shape events s _ t sound run clean step does = absurd does
+
+end_clean : (e : End) (s : LaneState) (event : WireEvent) (t : LaneState) → EndOnWire e s event t → (wire_moved s.wire event).forged ≡ s.wire.forged → s.wire.forged ≡ false → t.wire.forged ≡ false
+end_clean A s event t step same clean = ap (λ (x : LaneState). x.wire.forged) step.is ∙ same ∙ clean
+end_clean B s event t step same clean = ap (λ (x : LaneState). x.wire.forged) step.1.is ∙ same ∙ clean
+
+does_clean : (s : LaneState) (event : DiskEvent) (t : LaneState) → LaneStep s event t → DoesSomething event → s.wire.forged ≡ false → t.wire.forged ≡ false
+does_clean s (OnWire (Took e packet opens)) t step does clean = end_clean e s (Took e packet opens) t step refl clean
+does_clean s (OnWire (Joined e lost)) t step does clean = end_clean e s (Joined e lost) t step refl clean
+does_clean s (OnWire (Sent e packet opens)) t step does clean = end_clean e s (Sent e packet opens) t step refl clean
+does_clean s (Works (Published id)) t step does clean = ap (λ (x : LaneState). x.wire.forged) step.is ∙ clean
+does_clean s (Works (Done id operation status bytes)) t step does clean = ap (λ (x : LaneState). x.wire.forged) step.is ∙ clean
+does_clean s (Works (Desc slot bytes)) t step does clean = ap (λ (x : LaneState). x.wire.forged) step.1.is ∙ clean
+does_clean s (Works (Moved unit fault)) t step does clean = ap (λ (x : LaneState). x.wire.forged) step.1.is ∙ clean
+does_clean s (Works (Stored operation block count failed)) t step does clean = ap (λ (x : LaneState). x.wire.forged) step.1.is ∙ clean
+does_clean s (Works (Finished slot status)) t step does clean = ap (λ (x : LaneState). x.wire.forged) step.1.is ∙ clean
+does_clean s (Works Misplaced) t step does clean = absurd does
+does_clean s _ t step does clean = absurd does
+
+pub took_falls : (shape : Shape) (events : List DiskEvent) (s : LaneState) (e : End) (packet : List ℕ) (opens : Bool) (t : LaneState) → IsShape shape → Run LaneStep (fresh shape) events s → s.wire.forged ≡ false
+    → LaneStep s (OnWire (Took e packet opens)) t → remaining t < remaining s
+took_falls shape events s A packet opens t sound run clean step = client_falls shape events s packet opens t sound run clean step
+took_falls shape events s B packet opens t sound run clean step = server_falls shape events s packet opens t sound run clean step
+
+-- so many of them lower it by so much at least
+pub many_fall : (shape : Shape) (events : List DiskEvent) (s : LaneState) (more : List DiskEvent) (t : LaneState) → IsShape shape → Run LaneStep (fresh shape) events s → s.wire.forged ≡ false
+    → Run LaneStep s more t → AllDo more → remaining t + length more ≤ remaining s
+many_fall shape events s [] t sound run clean steps all = subst (λ (x : LaneState). remaining x + 0 ≤ remaining s) steps (omega arith)
+many_fall shape events s (event ∷ more) t sound run clean steps all =
+    let m : LaneState = steps.0 in
+    let one : remaining m < remaining s = does_falls shape events s event m sound run clean steps.1 all.0 in
+    let rest : remaining t + length more ≤ remaining m =
+    many_fall shape (events ++ event ∷ []) m more t sound (run_push LaneStep (fresh shape) s m events event run steps.1) (does_clean s event m steps.1 all.0 clean) steps.2 all.1 in
+    omega (arith, one, rest)

@@ -1,0 +1,182 @@
+-- Along every run of a lane that nobody forged few packets wait and are still to be put, against those that were answered.
+use Rattle.std.proofs.Common.{◌≡◌, ℕ, true, false, Option, List, [], ◌∷◌, ◌++◌, drop, length, refl, sym, ap, ◌∙◌, subst, arith}
+use Rattle.std.specs.Prelude.{⊤}
+use Rattle.runs.specs.Lawful.{log_append, run_lawful}
+use Rattle.runs.specs.Run.{Run, run_push}
+use Rattle.ldc_queue.specs.declared.end.End.{End}
+use Rattle.ldc_queue.specs.declared.end.End.TheVariants.{A, B}
+use Rattle.ldc_queue.specs.Talk.{Turn}
+use Rattle.vio_tag.specs.declared.cause.Cause.{Cause}
+use Rattle.disk_model.specs.Sayings.{heard}
+use Rattle.disk_model.specs.WireEvent.{Blocked, ByRestart, ByScript, ByStep, ByTick, Declines, Giver, Idle, Injected, Joined, Lost, Poked, Reset, Sent, Took, WireEvent, giver}
+use Rattle.disk_model.specs.WireLog.{WireLog, server_closed, wire_moved}
+use Rattle.disk_model.specs.DiskLog.{DiskLog, after, nothing_yet}
+use Rattle.disk_model.specs.ClientState.{joined_client}
+use Rattle.disk_model.specs.DiskEvent.{Asks, Calm, CalmReset, CalmRestart, CalmStart, CalmStop, CalmTick, Desc, DiskEvent, Done, Finished, Misplaced, Moved, Off, OnWire, Published, Rests, Started, Stopped, Stored, Switched, Turns, Worked, Works}
+use Rattle.disk_model.specs.LaneState.{IsShape, LaneState, Shape, fresh}
+use Rattle.disk_model.specs.LaneStep.{CallsReset, LaneStep, ResetBy, RestStep, TurnStep, WireStep, WorkStep}
+use Rattle.disk_model.specs.ServerState.{ServerState, joined_server, restarted_server}
+use Rattle.lane_laws.proofs.FlightClient.{client_admits_flies, client_completes_flies, client_publishes_flies}
+use Rattle.lane_laws.proofs.FlightRuns.{InFlight, StepKnown, at_client, at_server, began, client_anew, client_on, client_wire, end_wire, flight_is, knows_at, log_at, server_anew, server_on, server_wire}
+use Rattle.lane_laws.proofs.FlightServer.{server_fetches_flies, server_finishes_flies, server_moves_flies, server_stores_flies}
+use Rattle.lane_laws.proofs.FlightSums.{Flight, client_loses, server_closes, server_loses}
+use Rattle.lane_laws.proofs.LaneCounting.{run_knows}
+use Rattle.lane_laws.proofs.RingRuns.{before}
+use Rattle.lane_laws.proofs.RemainingTakes.{first_gone}
+use Rattle.lane_laws.specs.Counted.{infos_of, range_count}
+use Rattle.lane_laws.specs.Remaining.{client_packets, server_packets}
+
+-- RESETS that no step gave
+client_called : (shape : Shape) (events : List DiskEvent) (s : LaneState) (cause : Cause) (packet : Option (List ℕ)) (lost : ℕ) (t : LaneState) → StepKnown shape events s (OnWire (Reset A cause packet lost)) t
+    → CallsReset s (record s { client = joined_client s.client }) cause A packet lost t → InFlight s (log_at shape events).talk.client → InFlight t []
+client_called shape events s cause packet lost t known calls flight =
+    flight_is (record s { client = joined_client s.client; wire = wire_moved s.wire (Reset A cause packet lost); near = _ }) t [] calls.2
+    (client_anew s (joined_client s.client) (log_at shape events).talk.client (knows_at shape events s (OnWire (Reset A cause packet lost)) t known).all.talks.client.role refl flight)
+
+server_called : (s : LaneState) (v : ServerState) (cause : Cause) (packet : Option (List ℕ)) (lost : ℕ) (t : LaneState) (turns : List Turn) → Flight (wire_moved s.wire (Joined B 0)) s.client v turns
+    → CallsReset s (record s { server = v }) cause B packet lost t → InFlight t turns
+server_called s v cause packet lost t turns anew calls = flight_is (record s { server = v; wire = wire_moved s.wire (Reset B cause packet lost); near = _ }) t turns calls.2 anew
+
+reset_by : (by : Giver) (e : End) (shape : Shape) (events : List DiskEvent) (s : LaneState) (cause : Cause) (packet : Option (List ℕ)) (lost : ℕ) (t : LaneState)
+    → StepKnown shape events s (OnWire (Reset e cause packet lost)) t → ResetBy by e s cause packet lost t → InFlight s (log_at shape events).talk.client
+    → InFlight t (after (log_at shape events) (OnWire (Reset e cause packet lost))).talk.client
+reset_by ByStep A shape events s cause packet lost t known step flight = client_wire shape events s (Reset A cause packet lost) t known step flight
+reset_by ByStep B shape events s cause packet lost t known step flight = server_wire shape events s (Reset B cause packet lost) t known step flight
+reset_by ByScript A shape events s cause packet lost t known step flight = client_called shape events s cause packet lost t known step flight
+reset_by ByScript B shape events s cause packet lost t known step flight =
+    server_called s (joined_server s.server) cause packet lost t (log_at shape events).talk.client
+    (began s (joined_server s.server) (log_at shape events).talk.client (knows_at shape events s (OnWire (Reset B cause packet lost)) t known).all.talks.server.role refl flight) step.1
+reset_by ByRestart A shape events s cause packet lost t known step flight = absurd step
+reset_by ByRestart B shape events s cause packet lost t known step flight =
+    server_called s (restarted_server s.server) cause packet lost t (log_at shape events).talk.client (server_anew s (restarted_server s.server) (log_at shape events).talk.client refl refl flight) step.1
+reset_by ByTick A shape events s cause packet lost t known step flight = client_called shape events s cause packet lost t known step.1 flight
+reset_by ByTick B shape events s cause packet lost t known step flight = absurd step
+
+-- A PACKET IS LOST
+lost_by : (e : End) (s : LaneState) (packet : List ℕ) (t : LaneState) (turns : List Turn) → WireStep s (Lost e packet) t → InFlight s turns → InFlight t turns
+lost_by A s packet t turns step flight =
+    flight_is (record s { wire = wire_moved s.wire (Lost A packet) }) t turns step.1 (record {
+      few = client_loses s.wire.wire.end_a s.wire.wire.end_b (length s.wire.wire.to_a) (length (drop 1 s.wire.wire.to_a)) (length s.wire.wire.to_b) s.wire.lossy (client_packets s.client)
+          (server_packets s.server) (range_count 2 (heard turns)) (infos_of s.client.session) (first_gone packet s.wire.wire.to_a step.0) flight.few;
+      pieces = flight.pieces;
+    })
+lost_by B s packet t turns step flight =
+    flight_is (record s { wire = wire_moved s.wire (Lost B packet) }) t turns step.1 (record {
+      few = server_loses s.wire.wire.end_a s.wire.wire.end_b (length s.wire.wire.to_a) (length s.wire.wire.to_b) (length (drop 1 s.wire.wire.to_b)) s.wire.lossy (client_packets s.client)
+          (server_packets s.server) (range_count 2 (heard turns)) (infos_of s.client.session) (first_gone packet s.wire.wire.to_b step.0) flight.few;
+      pieces = flight.pieces;
+    })
+
+never_forged : (s t u : LaneState) (turns : List Turn) → t ≡ u → u.wire.forged ≡ true → t.wire.forged ≡ false → InFlight t turns
+never_forged s t u turns is forged clean = let never : true ≡ false = sym forged ∙ sym (ap (λ (x : LaneState). x.wire.forged) is) ∙ clean in absurd (cc never)
+
+poked_by : (e : End) (s : LaneState) (at : ℕ) (bytes : List ℕ) (t : LaneState) (turns : List Turn) → WireStep s (Poked e at bytes) t → t.wire.forged ≡ false → InFlight t turns
+poked_by A s at bytes t turns step clean = never_forged s t (record s { wire = wire_moved s.wire (Poked A at bytes); memory = _ }) turns step.1 refl clean
+poked_by B s at bytes t turns step clean = absurd step
+
+-- THE WIRE
+on_wire : (shape : Shape) (events : List DiskEvent) (s : LaneState) (event : WireEvent) (t : LaneState) → StepKnown shape events s (OnWire event) t → WireStep s event t
+    → InFlight s (log_at shape events).talk.client → InFlight t (after (log_at shape events) (OnWire event)).talk.client
+on_wire shape events s (Joined e lost) t known step flight = end_wire e shape events s (Joined e lost) t known step flight
+on_wire shape events s (Took e packet opens) t known step flight = end_wire e shape events s (Took e packet opens) t known step flight
+on_wire shape events s (Sent e packet opens) t known step flight = end_wire e shape events s (Sent e packet opens) t known step flight
+on_wire shape events s (Idle e) t known step flight = end_wire e shape events s (Idle e) t known step flight
+on_wire shape events s (Blocked e) t known step flight = end_wire e shape events s (Blocked e) t known step flight
+on_wire shape events s (Reset e cause packet lost) t known step flight = reset_by (giver cause) e shape events s cause packet lost t known step flight
+on_wire shape events s (Lost e packet) t known step flight = lost_by e s packet t (log_at shape events).talk.client step flight
+on_wire shape events s (Injected e packet) t known step flight =
+    never_forged s t (record s { wire = wire_moved s.wire (Injected e packet) }) (log_at shape events).talk.client step.2 refl known.clean
+on_wire shape events s (Poked e at bytes) t known step flight = poked_by e s at bytes t (log_at shape events).talk.client step known.clean
+on_wire shape events s (Declines d) t known step flight = flight_is s t (log_at shape events).talk.client step.1 flight
+
+-- THE WORK
+works : (s : LaneState) (event : Worked) (t : LaneState) (turns : List Turn) → WorkStep s event t → InFlight s turns → InFlight t turns
+works s (Published id) t turns step flight =
+    client_on s t turns (ap (λ (x : LaneState). x.wire) step.is) (ap (λ (x : LaneState). x.server) step.is)
+    (client_publishes_flies s.client (at_client s) s.memory id t.client t.memory step.step) flight
+works s (Done id operation status bytes) t turns step flight =
+    client_on s t turns (ap (λ (x : LaneState). x.wire) step.is) (ap (λ (x : LaneState). x.server) step.is)
+    (client_completes_flies s.client (at_client s) s.memory id operation status bytes t.client t.memory step.step) flight
+works s (Desc slot bytes) t turns step flight =
+    server_on s t turns (ap (λ (x : LaneState). x.wire) step.1.is) (ap (λ (x : LaneState). x.client) step.1.is)
+    (server_fetches_flies s.server (at_server s) _ slot bytes t.server t.memory step.1.step.1.0) flight
+works s (Moved unit fault) t turns step flight =
+    server_on s t turns (ap (λ (x : LaneState). x.wire) step.1.is) (ap (λ (x : LaneState). x.client) step.1.is)
+    (server_moves_flies s.server (at_server s) _ unit fault t.server t.memory step.1.step.1.0) flight
+works s (Stored operation block count failed) t turns step flight =
+    server_on s t turns (ap (λ (x : LaneState). x.wire) step.1.is) (ap (λ (x : LaneState). x.client) step.1.is)
+    (server_stores_flies s.server (at_server s) operation block count failed step.0 t.server step.1.step.1.0) flight
+works s (Finished slot status) t turns step flight =
+    server_on s t turns (ap (λ (x : LaneState). x.wire) step.1.is) (ap (λ (x : LaneState). x.client) step.1.is)
+    (server_finishes_flies s.server (at_server s) _ slot status t.server t.memory step.1.step.1.0) flight
+works s Misplaced t turns step flight = absurd step
+
+-- STOPS, and what changes nothing
+turns_fly : (s : LaneState) (event : Switched) (t : LaneState) (turns : List Turn) → TurnStep s event t → InFlight s turns → InFlight t turns
+turns_fly s Stopped t turns step flight =
+    flight_is (record s { wire = server_closed s.wire; server = restarted_server s.server; stopped = true; near = _ }) t turns step.1 (record {
+      few = server_closes s.wire.wire.end_a (client_packets s.client) (server_packets (restarted_server s.server)) (range_count 2 (heard turns)) (infos_of s.client.session);
+      pieces = tt;
+    })
+turns_fly s Started t turns step flight = flight_is (record s { stopped = false }) t turns step.1 flight
+turns_fly s Off t turns step flight = flight_is s t turns step.1 flight
+
+calm : (s : LaneState) (event : Calm) (t : LaneState) → RestStep s event t → t ≡ s
+calm s CalmTick t step = step.1
+calm s CalmStop t step = step.1
+calm s CalmStart t step = step.1
+calm s (CalmReset A) t step = absurd step
+calm s (CalmReset B) t step = step.1
+calm s CalmRestart t step = step.1
+
+flight_step : (shape : Shape) (events : List DiskEvent) (s : LaneState) (event : DiskEvent) (t : LaneState) → StepKnown shape events s event t → LaneStep s event t
+    → InFlight s (log_at shape events).talk.client → InFlight t (after (log_at shape events) event).talk.client
+flight_step shape events s (OnWire event) t known step flight = on_wire shape events s event t known step flight
+flight_step shape events s (Asks event) t known step flight =
+    client_on s t (log_at shape events).talk.client (ap (λ (x : LaneState). x.wire) step.1) (ap (λ (x : LaneState). x.server) step.1) (client_admits_flies s.client event t.client step.0) flight
+flight_step shape events s (Works event) t known step flight = works s event t (log_at shape events).talk.client step flight
+flight_step shape events s (Turns Stopped) t known step flight = turns_fly s Stopped t (log_at shape events).talk.client step flight
+flight_step shape events s (Turns Started) t known step flight = turns_fly s Started t (log_at shape events).talk.client step flight
+flight_step shape events s (Turns Off) t known step flight = turns_fly s Off t (log_at shape events).talk.client step flight
+flight_step shape events s (Rests event) t known step flight = flight_is s t (log_at shape events).talk.client (calm s event t step) flight
+
+-- ALONG EVERY RUN
+record AlongFlight (shape : Shape) (s : LaneState) (l : DiskLog) : Type 0 where
+  events : List DiskEvent
+  run : Run LaneStep (fresh shape) events s
+  log : l ≡ log_at shape events
+  flight : s.wire.forged ≡ false → InFlight s l.talk.client
+
+clean_before : (shape : Shape) (events : List DiskEvent) (s : LaneState) (event : DiskEvent) (t : LaneState) → IsShape shape → Run LaneStep (fresh shape) events s → LaneStep s event t
+    → t.wire.forged ≡ false → s.wire.forged ≡ false
+clean_before shape events s event t sound run step clean =
+    let l = log_at shape events in
+    let more : List DiskEvent = events ++ event ∷ [] in
+    let then_run : Run LaneStep (fresh shape) more t = run_push LaneStep (fresh shape) s t events event run step in
+    let behind : log_at shape more ≡ after l event = log_append after (nothing_yet shape) events (event ∷ []) in
+    let now : (after l event).wire.forged ≡ false =
+    ap (λ (x : DiskLog). x.wire.forged) (sym behind) ∙ sym (ap (λ (w : WireLog). w.forged) (run_knows shape more t sound then_run).all.stands.wire) ∙ clean in
+    ap (λ (w : WireLog). w.forged) (run_knows shape events s sound run).all.stands.wire ∙ before l event now
+
+along_step : (shape : Shape) → IsShape shape → (s : LaneState) (l : DiskLog) (event : DiskEvent) (t : LaneState) → AlongFlight shape s l → LaneStep s event t → ⊤ × AlongFlight shape t (after l event)
+along_step shape sound s l event t along step = (
+  tt,
+  record {
+    events = along.events ++ event ∷ [];
+    run = run_push LaneStep (fresh shape) s t along.events event along.run step;
+    log = ap (λ (x : DiskLog). after x event) along.log ∙ sym (log_append after (nothing_yet shape) along.events (event ∷ []));
+    flight = λ clean.
+        let clean_s = clean_before shape along.events s event t sound along.run step clean in
+        subst (λ (x : DiskLog). InFlight t (after x event).talk.client) (sym along.log)
+        (flight_step shape along.events s event t (record { sound = sound; run = along.run; clean = clean; clean_s = clean_s; step = step }) step
+        (subst (λ (x : DiskLog). InFlight s x.talk.client) along.log (along.flight clean_s)));
+  },
+)
+
+fresh_flight : (shape : Shape) → InFlight (fresh shape) []
+fresh_flight shape = record { few = omega arith; pieces = tt }
+
+pub run_flight : (shape : Shape) (events : List DiskEvent) (s : LaneState) → IsShape shape → Run LaneStep (fresh shape) events s → s.wire.forged ≡ false → InFlight s (log_at shape events).talk.client
+run_flight shape events s sound run =
+    (run_lawful LaneStep (λ (l : DiskLog) (e : DiskEvent). ⊤) after (AlongFlight shape) (along_step shape sound) (fresh shape) s (nothing_yet shape) events
+    (record { events = []; run = refl; log = refl; flight = λ clean. fresh_flight shape }) run).1.flight

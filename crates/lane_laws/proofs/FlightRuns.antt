@@ -1,0 +1,246 @@
+-- A step of an end on the wire of a lane that nobody forged leaves few packets that wait and are still to be put, against those that were answered.
+use Rattle.std.proofs.Common.{◌≡◌, ℕ, ◌+◌, ◌≤◌, Bool, false, Option, Some, None, List, [], ◌∷◌, ◌++◌, drop, length, refl, sym, ap, ◌∙◌, subst, arith}
+use Rattle.runs.specs.Lawful.{log_of}
+use Rattle.runs.specs.Run.{Run}
+use Rattle.ldc_link.specs.declared.phase.Role.{Role}
+use Rattle.ldc_link.specs.declared.phase.Role.TheVariants.{Initiator, Responder}
+use Rattle.ldc_link.specs.LinkState.{first_phase}
+use Rattle.ldc_queue.specs.declared.end.End.{End}
+use Rattle.ldc_queue.specs.declared.end.End.TheVariants.{A, B}
+use Rattle.ldc_queue.specs.Talk.{Heard as Heard_, Said as Said_, Turn}
+use Rattle.vio_handshake.specs.declared.handshake.Phase.TheVariants as hand
+use Rattle.disk_model.specs.Sayings.{half_heard, heard}
+use Rattle.disk_model.specs.WireEvent.{Blocked, Declines, Idle, Injected, Joined, Lost, Poked, Reset, Sent, Took, WireEvent}
+use Rattle.disk_model.specs.WireLog.{WireLog, wire_moved}
+use Rattle.disk_model.specs.DiskLog.{DiskLog, after, nothing_yet}
+use Rattle.disk_model.specs.Messages.{range_ended}
+use Rattle.disk_model.specs.WorkLog.{one_in}
+use Rattle.disk_model.specs.ClientRule as client_rules
+use Rattle.disk_model.specs.ClientState.{ClientState, joined_client}
+use Rattle.disk_model.specs.DiskEvent.{DiskEvent, OnWire}
+use Rattle.disk_model.specs.LaneState.{IsShape, LaneState, Shape, fresh}
+use Rattle.disk_model.specs.LaneStep.{EndOnWire, LaneStep}
+use Rattle.disk_model.specs.Seeing.{Seen, seen}
+use Rattle.disk_model.specs.ServerRule as server_rules
+use Rattle.disk_model.specs.ServerState.{ServerState, joined_server}
+use Rattle.lane_laws.proofs.ClientSteps.{client_sends}
+use Rattle.lane_laws.proofs.FallsInTurn.{client_in_turn, server_in_turn}
+use Rattle.lane_laws.proofs.FlightClient.{ClientFlies, client_blocked_flies, client_sends_flies}
+use Rattle.lane_laws.proofs.FlightServer.{FewPieces, ServerFlies, server_blocked_flies, server_sends_flies, server_takes_flies}
+use Rattle.lane_laws.proofs.FlightSums.{Flight, client_begins, client_goes, client_puts_one, client_takes_one, one_longer, server_begins, server_goes, server_puts_one, server_takes_one}
+use Rattle.lane_laws.proofs.IdleRuns.{client_same, server_same}
+use Rattle.lane_laws.proofs.LaneCounting.{Knows, knows_step, run_knows}
+use Rattle.lane_laws.proofs.RangeSums.{count_heard}
+use Rattle.lane_laws.proofs.RemainingClientHears.{client_hears}
+use Rattle.lane_laws.proofs.RemainingLane.{closed_in}
+use Rattle.lane_laws.proofs.RemainingRuns.{steps_stand}
+use Rattle.lane_laws.proofs.RemainingServerTurns.{server_turns}
+use Rattle.lane_laws.proofs.Ruling.{client_may, server_may}
+use Rattle.lane_laws.proofs.ServerSteps.{server_sends}
+use Rattle.lane_laws.proofs.ServerTaken.{server_took_what}
+use Rattle.lane_laws.proofs.RemainingTakes.{first_gone}
+use Rattle.lane_laws.specs.Counted.{infos_of, range_count}
+use Rattle.lane_laws.specs.Remaining.{client_packets, client_puts, later, server_packets, server_puts}
+use Rattle.lane_laws.specs.RemainingSteps.{ClientHears, ServerTurn, total_at}
+use Rattle.lane_laws.specs.RuleFacts.{ClientMay, ServerMay}
+
+-- a lane and what its client said and heard
+abbrev pub InFlight : LaneState → List Turn → Type 0
+InFlight s turns = Flight s.wire s.client s.server turns
+
+pub flight_is : (s t : LaneState) (turns : List Turn) → t ≡ s → InFlight s turns → InFlight t turns
+flight_is s t turns is flight = subst (λ (x : LaneState). InFlight x turns) (sym is) flight
+
+-- what is known of a step
+pub record StepKnown (shape : Shape) (events : List DiskEvent) (s : LaneState) (event : DiskEvent) (t : LaneState) : Type 0 where
+  pub sound : IsShape shape
+  pub run : Run LaneStep (fresh shape) events s
+  pub clean : t.wire.forged ≡ false
+  pub clean_s : s.wire.forged ≡ false
+  pub step : LaneStep s event t
+
+abbrev pub log_at : Shape → List DiskEvent → DiskLog
+log_at shape events = log_of after (nothing_yet shape) events
+
+pub knows_at : (shape : Shape) (events : List DiskEvent) (s : LaneState) (event : DiskEvent) (t : LaneState) → StepKnown shape events s event t → Knows s (log_at shape events)
+knows_at shape events s event t known = run_knows shape events s known.sound known.run
+
+abbrev pub at_client : LaneState → Seen
+at_client s = seen A s.shape.entries s.wire.wire
+
+abbrev pub at_server : LaneState → Seen
+at_server s = seen B s.shape.entries s.wire.wire
+
+-- AN END that begins
+begun_client : (c : ClientState) → c.link.role ≡ Initiator → client_packets (joined_client c) ≡ 9
+begun_client c role = omega (arith, ap (λ (r : Role). client_puts (first_phase r) (later c.shake.role hand.Down)) role)
+
+begun_server : (v : ServerState) → v.link.role ≡ Responder → server_packets (joined_server v) ≡ 8
+begun_server v role = omega (arith, ap (λ (r : Role). server_puts (first_phase r) (later v.shake.role hand.Down)) role)
+
+pub client_anew : (s : LaneState) (c : ClientState) (turns : List Turn) → s.client.link.role ≡ Initiator → c ≡ joined_client s.client → InFlight s turns → Flight (wire_moved s.wire (Joined A 0)) c s.server []
+client_anew s c turns role is flight = subst (λ (x : ClientState). Flight (wire_moved s.wire (Joined A 0)) x s.server []) (sym is) (record {
+  few = client_begins s.wire.wire.end_a s.wire.wire.end_b s.wire.wire.to_a s.wire.wire.to_b s.wire.lossy (client_packets s.client) (client_packets (joined_client s.client)) (server_packets s.server)
+      (range_count 2 (heard turns)) (infos_of s.client.session) (begun_client s.client role) flight.few;
+  pieces = flight.pieces;
+})
+
+pub server_anew : (s : LaneState) (v : ServerState) (turns : List Turn) → server_packets v ≡ 8 → v.work ≡ None → InFlight s turns → Flight (wire_moved s.wire (Joined B 0)) s.client v turns
+server_anew s v turns eight none flight = record {
+  few = server_begins s.wire.wire.end_a s.wire.wire.end_b s.wire.wire.to_a s.wire.wire.to_b s.wire.lossy (client_packets s.client) (server_packets s.server) (server_packets v)
+      (range_count 2 (heard turns)) (infos_of s.client.session) eight flight.few;
+  pieces = subst FewPieces (sym none) tt;
+}
+
+-- AN END that goes on
+pub client_on : (s t : LaneState) (turns : List Turn) → t.wire ≡ s.wire → t.server ≡ s.server → ClientFlies 0 s.client t.client → InFlight s turns → InFlight t turns
+client_on s t turns wire server flies flight =
+    subst (λ (w : WireLog). Flight w t.client t.server turns) (sym wire) (subst (λ (v : ServerState). Flight s.wire t.client v turns) (sym server) (record {
+      few = client_goes s.wire.wire.end_a s.wire.wire.end_b (length s.wire.wire.to_a) (length s.wire.wire.to_b) s.wire.lossy (client_packets s.client) (client_packets t.client) (server_packets s.server)
+          (range_count 2 (heard turns)) (infos_of s.client.session) (infos_of t.client.session) flies flight.few;
+      pieces = flight.pieces;
+    }))
+
+pub server_on : (s t : LaneState) (turns : List Turn) → t.wire ≡ s.wire → t.client ≡ s.client → ServerFlies 0 0 s.server t.server → InFlight s turns → InFlight t turns
+server_on s t turns wire client flies flight =
+    subst (λ (w : WireLog). Flight w t.client t.server turns) (sym wire) (subst (λ (c : ClientState). Flight s.wire c t.server turns) (sym client) (record {
+      few = server_goes s.wire.wire.end_a s.wire.wire.end_b (length s.wire.wire.to_a) (length s.wire.wire.to_b) s.wire.lossy (client_packets s.client) (server_packets s.server) (server_packets t.server)
+          (range_count 2 (heard turns)) (infos_of s.client.session) flies.packets flight.few;
+      pieces = flies.pieces flight.pieces;
+    }))
+
+-- THE CLIENT takes a packet
+one_most : (range : Option (List ℕ)) → one_in range ≤ 1
+one_most None = omega arith
+one_most (Some message) = omega arith
+
+client_took : (shape : Shape) (events : List DiskEvent) (s : LaneState) (packet : List ℕ) (opens : Bool) (t : LaneState) → StepKnown shape events s (OnWire (Took A packet opens)) t
+    → InFlight s (log_at shape events).talk.client → InFlight t (Heard_ packet ∷ (log_at shape events).talk.client)
+client_took shape events s packet opens t known flight =
+    let l = log_at shape events in
+    let turns : List Turn = l.talk.client in
+    let step = known.step in
+    let knows : Knows s l = knows_at shape events s (OnWire (Took A packet opens)) t known in
+    let may : ClientMay s.client (at_client s) (client_rules.Takes packet) = subst (ClientMay s.client (at_client s)) step.step.0 (client_may s.client (at_client s)) in
+    let hears : ClientHears s.client t.client = client_hears s.client (at_client s) packet t.client knows.all.talks.client.asking step.step.0
+    (client_in_turn shape events s packet opens t known.sound known.run known.clean_s step) step.step.1 in
+    let infos : infos_of t.client.session ≡ infos_of s.client.session =
+    (knows_step s l (OnWire (Took A packet opens)) t knows step).1.counted.client.infos ∙ sym knows.counted.client.infos in
+    let answers : range_count 2 (heard (Heard_ packet ∷ turns)) ≤ range_count 2 (heard turns) + 1 = omega (arith, count_heard 2 packet turns, one_most (range_ended 2 (half_heard turns) packet)) in
+    flight_is (record s { wire = wire_moved s.wire (Took A packet opens); client = t.client; memory = t.memory; near = s.near }) t (Heard_ packet ∷ turns) step.is (record {
+      few = client_takes_one s.wire.wire.end_a s.wire.wire.end_b (length s.wire.wire.to_a) (length (drop 1 s.wire.wire.to_a)) (length s.wire.wire.to_b) s.wire.lossy (client_packets s.client)
+          (client_packets t.client) (server_packets s.server) (range_count 2 (heard turns)) (range_count 2 (heard (Heard_ packet ∷ turns))) (infos_of s.client.session) (infos_of t.client.session)
+          may.0 (first_gone packet s.wire.wire.to_a may.1) hears.packets answers infos flight.few;
+      pieces = flight.pieces;
+    })
+
+-- it puts one
+client_sent : (shape : Shape) (events : List DiskEvent) (s : LaneState) (packet : List ℕ) (opens : Bool) (t : LaneState) → StepKnown shape events s (OnWire (Sent A packet opens)) t
+    → InFlight s (log_at shape events).talk.client → InFlight t (Said_ packet ∷ (log_at shape events).talk.client)
+client_sent shape events s packet opens t known flight =
+    let l = log_at shape events in
+    let turns : List Turn = l.talk.client in
+    let step = known.step in
+    let knows : Knows s l = knows_at shape events s (OnWire (Sent A packet opens)) t known in
+    let sound = knows.all.talks.client in
+    let put = client_sends s.client (at_client s) s.memory packet opens t.client t.memory sound step.step in
+    let flies : ClientFlies 1 s.client t.client = client_sends_flies s.client (at_client s) s.memory packet opens t.client t.memory turns step.step sound knows.utters.client
+    (closed_in s.client s.client.session refl (steps_stand shape events s known.run).opens) in
+    flight_is (record s { wire = wire_moved s.wire (Sent A packet opens); client = t.client; memory = t.memory; near = s.near }) t (Said_ packet ∷ turns) step.is (record {
+      few = client_puts_one s.wire.wire.end_a s.wire.wire.end_b (length s.wire.wire.to_a) (length s.wire.wire.to_b) (length (s.wire.wire.to_b ++ packet ∷ [])) s.wire.lossy (client_packets s.client)
+          (client_packets t.client) (server_packets s.server) (range_count 2 (heard turns)) (infos_of s.client.session) (infos_of t.client.session) put.up (one_longer s.wire.wire.to_b packet) flies flight.few;
+      pieces = flight.pieces;
+    })
+
+pub client_wire : (shape : Shape) (events : List DiskEvent) (s : LaneState) (event : WireEvent) (t : LaneState) → StepKnown shape events s (OnWire event) t → EndOnWire A s event t
+    → InFlight s (log_at shape events).talk.client → InFlight t (after (log_at shape events) (OnWire event)).talk.client
+client_wire shape events s (Joined A lost) t known step flight =
+    flight_is (record s { wire = wire_moved s.wire (Joined A lost); client = t.client; memory = t.memory; near = s.near }) t [] step.is
+    (client_anew s t.client (log_at shape events).talk.client (knows_at shape events s (OnWire (Joined A lost)) t known).all.talks.client.role step.step.2 flight)
+client_wire shape events s (Took A packet opens) t known step flight = client_took shape events s packet opens t known flight
+client_wire shape events s (Sent A packet opens) t known step flight = client_sent shape events s packet opens t known flight
+client_wire shape events s (Blocked A) t known step flight =
+    let knows : Knows s (log_at shape events) = knows_at shape events s (OnWire (Blocked A)) t known in
+    client_on s t (log_at shape events).talk.client (ap (λ (x : LaneState). x.wire) step.is) (ap (λ (x : LaneState). x.server) step.is)
+    (client_blocked_flies s.client (at_client s) t.client (log_at shape events).talk.client step.step.0 knows.all.talks.client knows.utters.client) flight
+client_wire shape events s (Idle A) t known step flight = flight_is s t (log_at shape events).talk.client (client_same s t step) flight
+client_wire shape events s (Reset A cause packet lost) t known step flight =
+    flight_is (record s { wire = wire_moved s.wire (Joined A 0); client = t.client; memory = t.memory; near = _ }) t [] step.is
+    (client_anew s t.client (log_at shape events).talk.client (knows_at shape events s (OnWire (Reset A cause packet lost)) t known).all.talks.client.role step.step.2 flight)
+client_wire shape events s (Joined B lost) t known step flight = absurd step.step
+client_wire shape events s (Took B packet opens) t known step flight = absurd step.step
+client_wire shape events s (Sent B packet opens) t known step flight = absurd step.step
+client_wire shape events s (Blocked B) t known step flight = absurd step.step
+client_wire shape events s (Idle B) t known step flight = absurd step.step
+client_wire shape events s (Reset B cause packet lost) t known step flight = absurd step.step
+client_wire shape events s (Lost e packet) t known step flight = absurd step.step
+client_wire shape events s (Injected e packet) t known step flight = absurd step.step
+client_wire shape events s (Poked e at bytes) t known step flight = absurd step.step
+client_wire shape events s (Declines d) t known step flight = absurd step.step
+
+-- THE SERVER takes a packet, and puts one
+server_took : (shape : Shape) (events : List DiskEvent) (s : LaneState) (packet : List ℕ) (opens : Bool) (t : LaneState) → StepKnown shape events s (OnWire (Took B packet opens)) t
+    → InFlight s (log_at shape events).talk.client → InFlight t (log_at shape events).talk.client
+server_took shape events s packet opens t known flight =
+    let l = log_at shape events in
+    let step = known.step in
+    let knows : Knows s l = knows_at shape events s (OnWire (Took B packet opens)) t known in
+    let may : ServerMay s.server (at_server s) (server_rules.Takes packet) = subst (ServerMay s.server (at_server s)) step.1.step.1.0 (server_may s.server (at_server s)) in
+    let most = total_at s.wire.wire.end_a s.client in
+    let turn : ServerTurn most s.server t.server = server_turns most s.server (at_server s) packet t.server opens step.1.step.1.0
+    (server_in_turn shape events s packet opens t known.sound known.run known.clean_s step) step.1.step.1.1 in
+    let took = server_took_what s.server l.talk.server packet t.server opens knows.all.talks.follows_b knows.rests.server.whole step.1.step.1.1 in
+    let flies : ServerFlies 0 1 s.server t.server = server_takes_flies most s.server t.server l.talk.server packet opens turn took in
+    flight_is (record s { wire = wire_moved s.wire (Took B packet opens); server = t.server; memory = t.memory; near = s.near }) t l.talk.client step.1.is (record {
+      few = server_takes_one s.wire.wire.end_a s.wire.wire.end_b (length s.wire.wire.to_a) (length s.wire.wire.to_b) (length (drop 1 s.wire.wire.to_b)) s.wire.lossy (client_packets s.client)
+          (server_packets s.server) (server_packets t.server) (range_count 2 (heard l.talk.client)) (infos_of s.client.session) may.0 (first_gone packet s.wire.wire.to_b may.1) flies.packets flight.few;
+      pieces = flies.pieces flight.pieces;
+    })
+
+server_sent : (shape : Shape) (events : List DiskEvent) (s : LaneState) (packet : List ℕ) (opens : Bool) (t : LaneState) → StepKnown shape events s (OnWire (Sent B packet opens)) t
+    → InFlight s (log_at shape events).talk.client → InFlight t (log_at shape events).talk.client
+server_sent shape events s packet opens t known flight =
+    let l = log_at shape events in
+    let step = known.step in
+    let sound = (knows_at shape events s (OnWire (Sent B packet opens)) t known).all.talks.server in
+    let put = server_sends s.server (at_server s) packet opens t.server sound step.1.step.1.0 in
+    let flies : ServerFlies 1 0 s.server t.server = server_sends_flies s.server (at_server s) packet opens t.server sound step.1.step.1.0 in
+    flight_is (record s { wire = wire_moved s.wire (Sent B packet opens); server = t.server; memory = t.memory; near = s.near }) t l.talk.client step.1.is (record {
+      few = server_puts_one s.wire.wire.end_a s.wire.wire.end_b (length s.wire.wire.to_a) (length (s.wire.wire.to_a ++ packet ∷ [])) (length s.wire.wire.to_b) s.wire.lossy (client_packets s.client)
+          (server_packets s.server) (server_packets t.server) (range_count 2 (heard l.talk.client)) (infos_of s.client.session) put.up (one_longer s.wire.wire.to_a packet) flies.packets flight.few;
+      pieces = flies.pieces flight.pieces;
+    })
+
+pub began : (s : LaneState) (v : ServerState) (turns : List Turn) → s.server.link.role ≡ Responder → v ≡ joined_server s.server → InFlight s turns → Flight (wire_moved s.wire (Joined B 0)) s.client v turns
+began s v turns role is flight = server_anew s v turns (ap server_packets is ∙ begun_server s.server role) (ap (λ (x : ServerState). x.work) is) flight
+
+pub server_wire : (shape : Shape) (events : List DiskEvent) (s : LaneState) (event : WireEvent) (t : LaneState) → StepKnown shape events s (OnWire event) t → EndOnWire B s event t
+    → InFlight s (log_at shape events).talk.client → InFlight t (after (log_at shape events) (OnWire event)).talk.client
+server_wire shape events s (Joined B lost) t known step flight =
+    flight_is (record s { wire = wire_moved s.wire (Joined B lost); server = t.server; memory = t.memory; near = s.near }) t (log_at shape events).talk.client step.1.is
+    (began s t.server (log_at shape events).talk.client (knows_at shape events s (OnWire (Joined B lost)) t known).all.talks.server.role step.1.step.1.2 flight)
+server_wire shape events s (Took B packet opens) t known step flight = server_took shape events s packet opens t known flight
+server_wire shape events s (Sent B packet opens) t known step flight = server_sent shape events s packet opens t known flight
+server_wire shape events s (Blocked B) t known step flight =
+    let knows : Knows s (log_at shape events) = knows_at shape events s (OnWire (Blocked B)) t known in
+    server_on s t (log_at shape events).talk.client (ap (λ (x : LaneState). x.wire) step.1.is) (ap (λ (x : LaneState). x.client) step.1.is)
+    (server_blocked_flies s.server (at_server s) t.server (log_at shape events).talk.server step.1.step.1.0 knows.utters.server) flight
+server_wire shape events s (Idle B) t known step flight = flight_is s t (log_at shape events).talk.client (server_same s t step) flight
+server_wire shape events s (Reset B cause packet lost) t known step flight =
+    flight_is (record s { wire = wire_moved s.wire (Joined B 0); server = t.server; memory = t.memory; near = _ }) t (log_at shape events).talk.client step.1.is
+    (began s t.server (log_at shape events).talk.client (knows_at shape events s (OnWire (Reset B cause packet lost)) t known).all.talks.server.role step.1.step.1.2 flight)
+server_wire shape events s (Joined A lost) t known step flight = absurd step.1.step.1
+server_wire shape events s (Took A packet opens) t known step flight = absurd step.1.step.1
+server_wire shape events s (Sent A packet opens) t known step flight = absurd step.1.step.1
+server_wire shape events s (Blocked A) t known step flight = absurd step.1.step.1
+server_wire shape events s (Idle A) t known step flight = absurd step.1.step.1
+server_wire shape events s (Reset A cause packet lost) t known step flight = absurd step.1.step.1
+server_wire shape events s (Lost e packet) t known step flight = absurd step.1.step.1
+server_wire shape events s (Injected e packet) t known step flight = absurd step.1.step.1
+server_wire shape events s (Poked e at bytes) t known step flight = absurd step.1.step.1
+server_wire shape events s (Declines d) t known step flight = absurd step.1.step.1
+
+pub end_wire : (e : End) (shape : Shape) (events : List DiskEvent) (s : LaneState) (event : WireEvent) (t : LaneState) → StepKnown shape events s (OnWire event) t → EndOnWire e s event t
+    → InFlight s (log_at shape events).talk.client → InFlight t (after (log_at shape events) (OnWire event)).talk.client
+end_wire A shape events s event t known step flight = client_wire shape events s event t known step flight
+end_wire B shape events s event t known step flight = server_wire shape events s event t known step flight

@@ -1,0 +1,101 @@
+-- How many packets wait and are still to be put on a lane that nobody forged, against those that were answered: the two ends begin with 17
+-- packets of their own, and each INFO brings two more, its own and its answer. What happens to a channel keeps it so.
+use Rattle.std.proofs.Common.{◌≡◌, ℕ, ◌+◌, ◌≤◌, Bool, true, false, List, [], ◌∷◌, ◌++◌, length, refl, arith, length-append}
+use Rattle.ldc_queue.specs.declared.end.ChannelState.{ChannelState}
+use Rattle.ldc_queue.specs.declared.end.ChannelState.TheVariants.{Down, Resetting, Up}
+use Rattle.ldc_queue.specs.Talk.{Turn}
+use Rattle.ldc_queue.specs.Wire.{peer_behind, queue_behind, upset}
+use Rattle.disk_model.specs.Sayings.{heard}
+use Rattle.disk_model.specs.WireLog.{WireLog, lossy_behind}
+use Rattle.disk_model.specs.ClientState.{ClientState}
+use Rattle.disk_model.specs.ServerState.{ServerState}
+use Rattle.lane_laws.proofs.FlightServer.{FewPieces}
+use Rattle.lane_laws.specs.Counted.{infos_of, one_where, range_count}
+use Rattle.lane_laws.specs.Remaining.{client_packets, server_packets}
+
+-- an end that isn't up counts as one that begins
+abbrev pub live_count : ChannelState → ℕ → ℕ → ℕ
+live_count Up first now = now
+live_count Down first now = first
+live_count Resetting first now = first
+
+-- the ends' states, how many packets wait for each, whether one was lost, how many each has still to put, and how many answers to ranges the
+-- client heard and how many INFO it put
+abbrev pub FewFly : ChannelState → ChannelState → ℕ → ℕ → Bool → ℕ → ℕ → ℕ → ℕ → Type 0
+FewFly x y to_a to_b lossy client server answers infos =
+    to_a + to_b + live_count x 9 client + live_count y 8 server + live_count x 0 answers + one_where lossy ≤ 17 + live_count x 0 infos
+
+pub record Flight (w : WireLog) (c : ClientState) (v : ServerState) (turns : List Turn) : Type 0 where
+  pub few : FewFly w.wire.end_a w.wire.end_b (length w.wire.to_a) (length w.wire.to_b) w.lossy (client_packets c) (server_packets v) (range_count 2 (heard turns)) (infos_of c.session)
+  pub pieces : FewPieces v.work
+
+-- THE CLIENT puts a packet, takes one, and goes on
+pub client_puts_one : (x y : ChannelState) (a b more : ℕ) (lossy : Bool) (c t v q i j : ℕ) → x ≡ Up → more ≡ b + 1 → t + 1 + i ≤ c + j → FewFly x y a b lossy c v q i → FewFly x y a more lossy t v q j
+client_puts_one Up y a b more lossy c t v q i j up one flies few = omega (arith, one, flies, few)
+client_puts_one Down y a b more lossy c t v q i j up one flies few = absurd (cc up)
+client_puts_one Resetting y a b more lossy c t v q i j up one flies few = absurd (cc up)
+
+pub client_takes_one : (x y : ChannelState) (a less b : ℕ) (lossy : Bool) (c t v q p i j : ℕ) → x ≡ Up → less + 1 ≡ a → t ≤ c → p ≤ q + 1 → j ≡ i → FewFly x y a b lossy c v q i
+    → FewFly x y less b lossy t v p j
+client_takes_one Up y a less b lossy c t v q p i j up one flies answers same few = omega (arith, one, flies, answers, same, few)
+client_takes_one Down y a less b lossy c t v q p i j up one flies answers same few = absurd (cc up)
+client_takes_one Resetting y a less b lossy c t v q p i j up one flies answers same few = absurd (cc up)
+
+pub client_goes : (x y : ChannelState) (a b : ℕ) (lossy : Bool) (c t v q i j : ℕ) → t + 0 + i ≤ c + j → FewFly x y a b lossy c v q i → FewFly x y a b lossy t v q j
+client_goes Up y a b lossy c t v q i j flies few = omega (arith, flies, few)
+client_goes Down y a b lossy c t v q i j flies few = few
+client_goes Resetting y a b lossy c t v q i j flies few = few
+
+-- THE SERVER likewise
+pub server_puts_one : (x y : ChannelState) (a more b : ℕ) (lossy : Bool) (c v u q i : ℕ) → y ≡ Up → more ≡ a + 1 → u + 1 ≤ v + 0 → FewFly x y a b lossy c v q i → FewFly x y more b lossy c u q i
+server_puts_one x Up a more b lossy c v u q i up one flies few = omega (arith, one, flies, few)
+server_puts_one x Down a more b lossy c v u q i up one flies few = absurd (cc up)
+server_puts_one x Resetting a more b lossy c v u q i up one flies few = absurd (cc up)
+
+pub server_takes_one : (x y : ChannelState) (a b less : ℕ) (lossy : Bool) (c v u q i : ℕ) → y ≡ Up → less + 1 ≡ b → u + 0 ≤ v + 1 → FewFly x y a b lossy c v q i → FewFly x y a less lossy c u q i
+server_takes_one x Up a b less lossy c v u q i up one flies few = omega (arith, one, flies, few)
+server_takes_one x Down a b less lossy c v u q i up one flies few = absurd (cc up)
+server_takes_one x Resetting a b less lossy c v u q i up one flies few = absurd (cc up)
+
+pub server_goes : (x y : ChannelState) (a b : ℕ) (lossy : Bool) (c v u q i : ℕ) → u + 0 ≤ v + 0 → FewFly x y a b lossy c v q i → FewFly x y a b lossy c u q i
+server_goes x Up a b lossy c v u q i flies few = omega (arith, flies, few)
+server_goes x Down a b lossy c v u q i flies few = few
+server_goes x Resetting a b lossy c v u q i flies few = few
+
+-- AN END BEGINS, or is closed
+begins_small : (y : ChannelState) (v : ℕ) → live_count (upset y) 8 v ≡ 8
+begins_small Up v = refl
+begins_small Down v = refl
+begins_small Resetting v = refl
+
+begins_large : (x : ChannelState) (n c : ℕ) → live_count (upset x) n c ≡ n
+begins_large Up n c = refl
+begins_large Down n c = refl
+begins_large Resetting n c = refl
+
+pub client_begins : (x y : ChannelState) (to_a to_b : List (List ℕ)) (lossy : Bool) (c t v q i : ℕ) → t ≡ 9 → FewFly x y (length to_a) (length to_b) lossy c v q i
+    → FewFly Up (peer_behind x y) (length (queue_behind x to_a)) (length (queue_behind x to_b)) (lossy_behind x lossy) t v 0 0
+client_begins Up y to_a to_b lossy c t v q i nine few = omega (arith, nine, begins_small y v)
+client_begins Down y to_a to_b lossy c t v q i nine few = omega (arith, nine, few)
+client_begins Resetting y to_a to_b lossy c t v q i nine few = omega (arith, nine, few)
+
+pub server_begins : (x y : ChannelState) (to_a to_b : List (List ℕ)) (lossy : Bool) (c v u q i : ℕ) → u ≡ 8 → FewFly x y (length to_a) (length to_b) lossy c v q i
+    → FewFly (peer_behind y x) Up (length (queue_behind y to_a)) (length (queue_behind y to_b)) (lossy_behind y lossy) c u q i
+server_begins x Up to_a to_b lossy c v u q i eight few = omega (arith, eight, begins_large x 9 c, begins_large x 0 q)
+server_begins x Down to_a to_b lossy c v u q i eight few = omega (arith, eight, few)
+server_begins x Resetting to_a to_b lossy c v u q i eight few = omega (arith, eight, few)
+
+pub server_closes : (x : ChannelState) (c v q i : ℕ) → FewFly (upset x) Down 0 0 false c v q i
+server_closes x c v q i = omega (arith, begins_large x 9 c, begins_large x 0 q)
+
+-- A PACKET IS LOST
+
+pub client_loses : (x y : ChannelState) (a less b : ℕ) (lossy : Bool) (c v q i : ℕ) → less + 1 ≡ a → FewFly x y a b lossy c v q i → FewFly x y less b true c v q i
+client_loses x y a less b lossy c v q i one few = omega (arith, one, few)
+
+pub server_loses : (x y : ChannelState) (a b less : ℕ) (lossy : Bool) (c v q i : ℕ) → less + 1 ≡ b → FewFly x y a b lossy c v q i → FewFly x y a less true c v q i
+server_loses x y a b less lossy c v q i one few = omega (arith, one, few)
+
+-- LISTS
+pub one_longer : (packets : List (List ℕ)) (packet : List ℕ) → length (packets ++ packet ∷ []) ≡ length packets + 1
+one_longer packets packet = omega (arith, length-append packets (packet ∷ []))

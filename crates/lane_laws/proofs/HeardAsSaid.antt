@@ -1,0 +1,42 @@
+-- On a lane that nobody forged each message that an end heard is as the other's handshake has it.
+use Rattle.std.proofs.Common.{◌≡◌, ℕ, false, List, [], ◌∷◌, ◌++◌, subst}
+use Rattle.runs.specs.Run.{Run}
+use Rattle.ldc_link.specs.declared.phase.Role.{Role}
+use Rattle.ldc_link.specs.declared.phase.Role.TheVariants.{Initiator, Responder}
+use Rattle.ldc_queue.specs.declared.end.End.TheVariants.{A, B}
+use Rattle.ldc_queue.specs.OneStream.{IsFront}
+use Rattle.vio_handshake.specs.declared.handshake.Phase.{Phase}
+use Rattle.vio_handshake.specs.declared.session.Offer.{Offer}
+use Rattle.vio_handshake.specs.declared.session.Session.{Session}
+use Rattle.disk_model.specs.Sayings.{heard, said}
+use Rattle.disk_model.specs.WireAt.{IsUp}
+use Rattle.disk_model.specs.DiskEvent.{DiskEvent}
+use Rattle.disk_model.specs.LaneState.{IsShape, LaneState, Shape, fresh}
+use Rattle.disk_model.specs.LaneStep.{LaneStep}
+use Rattle.lane_laws.proofs.HeardFront.{heard_messages}
+use Rattle.lane_laws.proofs.LaneUttering.{client_said, server_said}
+use Rattle.lane_laws.specs.LaneTalks.{talk_behind}
+use Rattle.lane_laws.specs.Utterances.{SaysEach}
+
+each_before : (role : Role) (p : Phase) (offer : Offer) (draft : Session) (xs rest : List (List ℕ)) → SaysEach role p offer draft (xs ++ rest) → SaysEach role p offer draft xs
+each_before role p offer draft [] rest says = tt
+each_before role p offer draft (bytes ∷ xs) rest says = (says.0, each_before role p offer draft xs rest says.1)
+
+each_front : (role : Role) (p : Phase) (offer : Offer) (draft : Session) (xs ys : List (List ℕ)) → IsFront xs ys → SaysEach role p offer draft ys
+    → SaysEach role p offer draft xs
+each_front role p offer draft xs ys front says =
+    each_before role p offer draft xs front.0 (subst (λ (zs : List (List ℕ)). SaysEach role p offer draft zs) front.1 says)
+
+pub client_heard : (shape : Shape) (events : List DiskEvent) (s : LaneState) → IsShape shape → Run LaneStep (fresh shape) events s
+    → s.wire.forged ≡ false → IsUp A s.wire.wire
+    → SaysEach Responder s.server.shake.phase s.server.shake.offer s.server.shake.draft (heard (talk_behind events).client)
+client_heard shape events s sound run clean up =
+    each_front Responder s.server.shake.phase s.server.shake.offer s.server.shake.draft (heard (talk_behind events).client) (said (talk_behind events).server)
+    (heard_messages shape events s A sound run clean up) (server_said shape events s sound run)
+
+pub server_heard : (shape : Shape) (events : List DiskEvent) (s : LaneState) → IsShape shape → Run LaneStep (fresh shape) events s
+    → s.wire.forged ≡ false → IsUp B s.wire.wire
+    → SaysEach Initiator s.client.shake.phase s.client.shake.offer s.client.shake.draft (heard (talk_behind events).server)
+server_heard shape events s sound run clean up =
+    each_front Initiator s.client.shake.phase s.client.shake.offer s.client.shake.draft (heard (talk_behind events).server) (said (talk_behind events).client)
+    (heard_messages shape events s B sound run clean up) (client_said shape events s sound run)

@@ -1,0 +1,123 @@
+-- An end that rests has nothing to do, as the log counts it.
+use Rattle.std.proofs.Common.{◌≡◌, ℕ, zero, suc, ◌-◌, ◌≤◌, false, Option, Some, None, List, [], ◌∷◌, length, refl, sym, ap, ◌∙◌, subst, arith, length-drop}
+use Rattle.std.specs.Prelude.{nat_lt, slice_get}
+use Rattle.std.proofs.lemmas.Bool.Decides.{nat_tests}
+use Rattle.ldc_queue.specs.declared.end.End.{End}
+use Rattle.ldc_queue.specs.declared.end.End.TheVariants.{A, B}
+use Rattle.ldc_queue.specs.Wire.{waiting_for}
+use Rattle.vdisk_msg.specs.declared.request.Request.{Request}
+use Rattle.disk_model.specs.WireEvent.{Blocked, Declines, Idle, Injected, Joined, Lost, Poked, Reset, Sent, Took, WireEvent}
+use Rattle.disk_model.specs.WireLog.{WireLog}
+use Rattle.disk_model.specs.Agreement.{ClientAgrees, ServerAgrees, WorkAgrees}
+use Rattle.disk_model.specs.DiskLog.{DiskLog}
+use Rattle.disk_model.specs.QuietLaws.{ClientIsIdle, EndIsIdle, IdleAt, ServerIsIdle}
+use Rattle.disk_model.specs.WorkLaws.{IfClient, IfServer}
+use Rattle.disk_model.specs.WorkLog.{ClientCounts, ServerCounts}
+use Rattle.disk_model.specs.ClientState.{ClientSession}
+use Rattle.disk_model.specs.DiskEvent.{Asks, DiskEvent, OnWire, Rests, Turns, Works}
+use Rattle.disk_model.specs.LaneState.{LaneState}
+use Rattle.disk_model.specs.LaneStep.{EndOnWire, LaneStep, WireStep}
+use Rattle.disk_model.specs.ServerState.{ServerSession, Work}
+use Rattle.lane_laws.proofs.Sharing.{in_order}
+use Rattle.lane_laws.specs.Counted.{InServerOrder, RangeStands}
+use Rattle.lane_laws.specs.Sound.{InOrder}
+use Rattle.lane_laws.proofs.Counting.{OfServer, of_client, of_server}
+use Rattle.lane_laws.proofs.IdleRules.{ClientIdles, ServerIdles, client_idles, server_idles}
+use Rattle.lane_laws.proofs.WorkNumbers.{Grounded, at_client, at_server, finished_descs, order_of}
+
+pub none_waits : (waiting : List (List ℕ)) → slice_get waiting 0 ≡ None → waiting ≡ []
+none_waits [] none = refl
+none_waits (packet ∷ waiting) none = absurd (cc)
+
+not_below : (a b : ℕ) → nat_lt a b ≡ false → b ≤ a
+not_below a b test = grind (arith, nat_tests, test)
+
+past_all : (requests : List Request) (n : ℕ) → slice_get requests n ≡ None → length requests ≤ n
+past_all [] n none = omega arith
+past_all (one ∷ requests) zero none = absurd (cc)
+past_all (one ∷ requests) (suc n) none = omega (arith, past_all requests n none)
+
+-- the session of the log is the state's
+some_client : (o : Option ClientSession) (done : ℕ) (k : Option ClientCounts) (P : ClientCounts → Type 0) → ClientAgrees o done k
+    → ((session : ClientSession) (c : ClientCounts) → o ≡ Some session → k ≡ Some c → P c) → IfClient k P
+some_client o done None P agrees holds = tt
+some_client None done (Some c) P agrees holds = absurd agrees
+some_client (Some session) done (Some c) P agrees holds = holds session c refl refl
+
+some_server : (o : Option ServerSession) (work : Option Work) (d : Option ServerCounts) (P : ServerCounts → Type 0) → ServerAgrees o work d
+    → ((session : ServerSession) (c : ServerCounts) → o ≡ Some session → d ≡ Some c → P c) → IfServer d P
+some_server o work None P agrees holds = tt
+some_server None work (Some c) P agrees holds = absurd agrees
+some_server (Some session) work (Some c) P agrees holds = holds session c refl refl
+
+pub idle_client : (s : LaneState) (l : DiskLog) → Grounded s l → ClientIdles s.client (at_client s) → IfClient l.work.client (ClientIsIdle l)
+idle_client s l grounded idles =
+    some_client s.client.session l.work.done l.work.client (ClientIsIdle l) grounded.knows.counted.client.agrees (λ session c is has.
+    let of = of_client s.client.session session l.work.done l.work.client is grounded.knows.counted.client.agrees in
+    let both : Some of.counts ≡ Some c = sym of.is ∙ has in
+    let same : of.counts ≡ c = cc in
+    let order : InOrder (length s.client.pending) session =
+    in_order (length s.client.pending) s.client.session session is grounded.knows.all.talks.client.counts in
+    let stand = grounded.knows.all.stands.requests in
+    let acked = not_below session.completed session.acked (idles.completed session is) in
+    let has_done = idles.rests.rests.session session is in
+    let announced = not_below session.announced session.published has_done.announced in
+    let published = past_all s.client.pending (session.published - session.completed) has_done.published in
+    subst (ClientIsIdle l) same (record {
+      published = omega (arith, of.agree.base, of.agree.published, of.agree.completed, published, order.published, order.completed, order.acked, order.announced, ap length stand.pending, length-drop l.work.done l.work.issued, stand.done);
+      announced = omega (arith, of.agree.announced, of.agree.published, announced, order.announced);
+      completed = omega (arith, of.agree.completed, of.agree.acked, acked, order.completed);
+    }))
+
+-- a server without a range has finished and answered all
+no_work : (work : Option Work) (c : ServerCounts) → WorkAgrees work c → c.asked ≡ c.answered → c.answered ≤ c.finished → c.descs ≤ c.asked → c.owed ≡ []
+no_work None c agrees all answered descs = agrees.0
+no_work (Some work) c agrees all answered descs = absurd (omega (arith, agrees.2, all, answered, descs))
+
+pub idle_server : (s : LaneState) (l : DiskLog) → Grounded s l → ServerIdles s.server (at_server s) → IfServer l.work.server ServerIsIdle
+idle_server s l grounded idles =
+    some_server s.server.session s.server.work l.work.server ServerIsIdle grounded.knows.counted.server.agrees (λ session c is has.
+    let of : OfServer session s.server.work l.work.server =
+    of_server s.server.session session s.server.work l.work.server is grounded.knows.counted.server.agrees in
+    let both : Some of.counts ≡ Some c = sym of.is ∙ has in
+    let same : of.counts ≡ c = cc in
+    let order : InServerOrder l.shape.slots session of.counts l.talk.server =
+    order_of l.shape.slots s.server.session session l.work.server of.counts l.talk.server is of.is grounded.knows.counted.server.order in
+    let all : of.counts.answered ≡ of.counts.asked =
+    subst (λ (r : Option _). RangeStands l.shape.slots r of.counts) (idles.range session is) order.range in
+    let finished = finished_descs s.server.work of.counts of.work_agrees in
+    subst ServerIsIdle same (record {
+      nothing_owed = no_work s.server.work of.counts of.work_agrees (sym all) order.finished order.descs;
+      fetched = omega (arith, all, order.finished, order.descs, finished);
+      answered = omega (arith, all, order.finished, order.descs, finished);
+    }))
+
+same_waiting : (e : End) (s : LaneState) (l : DiskLog) → Grounded s l → waiting_for e s.wire.wire ≡ [] → waiting_for e l.wire.wire ≡ []
+same_waiting e s l grounded none = ap (λ (w : WireLog). waiting_for e w.wire) (sym grounded.knows.all.stands.wire) ∙ none
+
+idle_end : (e : End) (s : LaneState) (l : DiskLog) (t : LaneState) → Grounded s l → EndOnWire e s (Idle e) t → (waiting_for e l.wire.wire ≡ []) × EndIsIdle e l
+idle_end A s l t grounded step =
+    let idles = client_idles s.client (at_client s) step.step.0 in
+    (same_waiting A s l grounded (none_waits (waiting_for A s.wire.wire) idles.rests.first), idle_client s l grounded idles)
+idle_end B s l t grounded step =
+    let idles = server_idles s.server (at_server s) step.1.step.1.0 in
+    (same_waiting B s l grounded (none_waits (waiting_for B s.wire.wire) idles.first), idle_server s l grounded idles)
+
+wire_idle : (s : LaneState) (l : DiskLog) (event : WireEvent) (t : LaneState) → Grounded s l → WireStep s event t → IdleAt l (OnWire event)
+wire_idle s l (Idle e) t grounded step = idle_end e s l t grounded step
+wire_idle s l (Joined e lost) t grounded step = tt
+wire_idle s l (Took e packet opens) t grounded step = tt
+wire_idle s l (Sent e packet opens) t grounded step = tt
+wire_idle s l (Blocked e) t grounded step = tt
+wire_idle s l (Reset e cause packet lost) t grounded step = tt
+wire_idle s l (Lost e packet) t grounded step = tt
+wire_idle s l (Injected e packet) t grounded step = tt
+wire_idle s l (Poked e at bytes) t grounded step = tt
+wire_idle s l (Declines d) t grounded step = tt
+
+pub idle_at : (s : LaneState) (l : DiskLog) (event : DiskEvent) (t : LaneState) → Grounded s l → LaneStep s event t → IdleAt l event
+idle_at s l (OnWire event) t grounded step = wire_idle s l event t grounded step
+idle_at s l (Asks event) t grounded step = tt
+idle_at s l (Works event) t grounded step = tt
+idle_at s l (Turns event) t grounded step = tt
+idle_at s l (Rests event) t grounded step = tt

@@ -1,0 +1,63 @@
+-- Along every run: where the last event was an idle step of an end, resting is still that end's next step.
+use Rattle.std.proofs.Common.{◌≡◌, ℕ, List, sym, ap, ◌∙◌, subst, Some}
+use Rattle.std.specs.Prelude.{⊤}
+use Rattle.runs.specs.Lawful.{log_of, run_lawful}
+use Rattle.runs.specs.Run.{Run}
+use Rattle.ldc_queue.specs.declared.end.End.{End}
+use Rattle.ldc_queue.specs.declared.end.End.TheVariants.{A, B}
+use Rattle.disk_model.specs.WireEvent.{Blocked, Declines, Idle, Injected, Joined, Lost, Poked, Reset, Sent, Took, WireEvent}
+use Rattle.disk_model.specs.Agreement.{IdleAgrees}
+use Rattle.disk_model.specs.DiskLog.{DiskLog, after, idle_in, nothing_yet}
+use Rattle.disk_model.specs.ClientState.{ClientState}
+use Rattle.disk_model.specs.DiskEvent.{Asks, DiskEvent, OnWire, Rests, Turns, Works}
+use Rattle.disk_model.specs.LaneState.{IsShape, LaneState, Shape, fresh}
+use Rattle.disk_model.specs.LaneStep.{EndOnWire, LaneStep, WireStep}
+use Rattle.disk_model.specs.ServerState.{ServerState}
+
+with_client : LaneState → ClientState → List ℕ → LaneState
+with_client s c memory = record s { client = c; memory = memory }
+
+with_server : LaneState → ServerState → List ℕ → LaneState
+with_server s v memory = record s { server = v; memory = memory }
+
+-- an idle step leaves the lane as it was
+pub client_same : (s : LaneState) (t : LaneState) → EndOnWire A s (Idle A) t → t ≡ s
+unfolding with_client
+client_same s t step =
+    let is : t ≡ with_client s t.client t.memory = step.is in
+    is ∙ ap (λ (c : ClientState). with_client s c t.memory) step.step.1 ∙ ap (λ (m : List ℕ). with_client s s.client m) step.step.2
+
+pub server_same : (s : LaneState) (t : LaneState) → EndOnWire B s (Idle B) t → t ≡ s
+unfolding with_server
+server_same s t step =
+    let is : t ≡ with_server s t.server t.memory = step.1.is in
+    is ∙ ap (λ (v : ServerState). with_server s v t.memory) step.1.step.1.1 ∙ ap (λ (m : List ℕ). with_server s s.server m) step.1.step.1.2
+
+idle_end : (e : End) (s : LaneState) (t : LaneState) → EndOnWire e s (Idle e) t → IdleAgrees t (Some e)
+idle_end A s t step = subst (λ (x : LaneState). IdleAgrees x (Some A)) (sym (client_same s t step)) step.step.0
+idle_end B s t step = subst (λ (x : LaneState). IdleAgrees x (Some B)) (sym (server_same s t step)) (step.1.step.0, step.1.step.1.0)
+
+idle_wire : (s : LaneState) (event : WireEvent) (t : LaneState) → WireStep s event t → IdleAgrees t (idle_in event)
+idle_wire s (Idle e) t step = idle_end e s t step
+idle_wire s (Joined e lost) t step = tt
+idle_wire s (Took e packet opens) t step = tt
+idle_wire s (Sent e packet opens) t step = tt
+idle_wire s (Blocked e) t step = tt
+idle_wire s (Reset e cause packet lost) t step = tt
+idle_wire s (Lost e packet) t step = tt
+idle_wire s (Injected e packet) t step = tt
+idle_wire s (Poked e at bytes) t step = tt
+idle_wire s (Declines d) t step = tt
+
+idle_step : (s : LaneState) (l : DiskLog) (event : DiskEvent) (t : LaneState) → LaneStep s event t → IdleAgrees t (after l event).last_idle
+idle_step s l (OnWire event) t step = idle_wire s event t step
+idle_step s l (Asks event) t step = tt
+idle_step s l (Works event) t step = tt
+idle_step s l (Turns event) t step = tt
+idle_step s l (Rests event) t step = tt
+
+pub idle_agrees : (shape : Shape) (events : List DiskEvent) (s : LaneState) → IsShape shape → Run LaneStep (fresh shape) events s → IdleAgrees s (log_of after (nothing_yet shape) events).last_idle
+idle_agrees shape events s sound run =
+    (run_lawful LaneStep (λ (l : DiskLog) (e : DiskEvent). ⊤) after (λ (x : LaneState) (l : DiskLog). IdleAgrees x l.last_idle)
+    (λ (x : LaneState) (l : DiskLog) (e : DiskEvent) (y : LaneState) agrees step. (tt, idle_step x l e y step))
+    (fresh shape) s (nothing_yet shape) events tt run).1

@@ -1,0 +1,246 @@
+-- Along every run of a lane that nobody forged: its near counts stand to its log; and while no store failed, its buffers and its server hold
+-- what was asked.
+use Rattle.std.proofs.Common.{◌≡◌, ℕ, Bool, true, false, Option, List, [], refl, sym, ap, ◌∙◌, subst, arith}
+use Rattle.std.specs.Prelude.{◌||◌, ⊤}
+use Rattle.runs.specs.Lawful.{log_of, run_lawful}
+use Rattle.runs.specs.Run.{Run}
+use Rattle.ldc_queue.specs.declared.end.ChannelState.TheVariants.{Up}
+use Rattle.ldc_queue.specs.declared.end.End.{End}
+use Rattle.ldc_queue.specs.declared.end.End.TheVariants.{A, B}
+use Rattle.vio_tag.specs.declared.cause.Cause.{Cause}
+use Rattle.disk_model.specs.WireEvent.{Blocked, ByRestart, ByScript, ByStep, ByTick, Declines, Giver, Idle, Injected, Joined, Lost, Poked, Reset, Sent, Took, WireEvent, giver}
+use Rattle.disk_model.specs.WireLog.{WireLog}
+use Rattle.disk_model.specs.DiskLog.{DiskLog, after, nothing_yet}
+use Rattle.disk_model.specs.DiskEvent.{Asks, Calm, CalmReset, CalmRestart, CalmStart, CalmStop, CalmTick, Desc, DiskEvent, Done, Finished, Misplaced, Moved, Off, OnWire, Published, Rests, Started, Stopped, Stored, Switched, Turns, Worked, Works}
+use Rattle.disk_model.specs.LaneState.{IsShape, LaneState, Shape, fresh}
+use Rattle.disk_model.specs.LaneStep.{EndOnWire, LaneStep, ResetBy, RestStep, ServerWorks, TurnStep, WireStep, WorkStep}
+use Rattle.lane_laws.proofs.Agreeing.{always_agree, server_alive}
+use Rattle.lane_laws.proofs.CarriedRuns.{all_step}
+use Rattle.lane_laws.proofs.LaneCounting.{run_knows}
+use Rattle.lane_laws.proofs.RingAlong.{Along, along_run, along_step}
+use Rattle.lane_laws.proofs.RingRuns.{before as clean_before, known_of}
+use Rattle.lane_laws.proofs.SlotsAlong.{facts_at, run_slots}
+use Rattle.lane_laws.proofs.SlotsStepping.{StepFacts}
+use Rattle.lane_laws.specs.Standing.{LaneStands}
+use Rattle.lane_laws.specs.Contents.{ContentsStand}
+use Rattle.lane_laws.specs.LaneView.{view_of}
+use Rattle.lane_laws.proofs.CallChanges.{asks_changes, calm_changes, turn_changes, wire_changes}
+use Rattle.lane_laws.proofs.DoneChanges.{done_changes, finished_changes, published_changes}
+use Rattle.lane_laws.proofs.PlacedViews.{placed}
+use Rattle.lane_laws.proofs.ServerChanges.{moved_changes}
+use Rattle.lane_laws.proofs.Standing.{Before, NearStands}
+use Rattle.lane_laws.proofs.StoreChanges.{fetched_changes, stored_changes}
+use Rattle.lane_laws.proofs.WireChanges.{Changed}
+use Rattle.lane_laws.proofs.WireCounts.{near_wire}
+use Rattle.lane_laws.proofs.WorkCounts.{near_asked, near_calm, near_turned, near_work}
+use Rattle.lane_laws.proofs.WorkSteps.{kind_contents}
+
+-- EACH EVENT but a unit's store, as a change of the view
+abbrev pub NotStored : DiskEvent → Type 0
+NotStored (Works (Stored operation block count failed)) = ⊥
+NotStored _ = ⊤
+
+pub lane_changes : (s : LaneState) (l : DiskLog) (event : DiskEvent) (t : LaneState) → Before s l → ContentsStand (view_of s) → StepFacts s l event t → (after l event).wire.forged ≡ false
+    → NotStored event → LaneStep s event t → Changed s event t
+lane_changes s l (OnWire event) t before contents facts clean not step = wire_changes s l event t before contents facts clean step
+lane_changes s l (Asks event) t before contents facts clean not step = asks_changes s event t step
+lane_changes s l (Works (Published id)) t before contents facts clean not step = published_changes s l id t before step
+lane_changes s l (Works (Done id operation status bytes)) t before contents facts clean not step = done_changes s l id operation status bytes t before step
+lane_changes s l (Works (Desc slot bytes)) t before contents facts clean not step = fetched_changes s l slot bytes t before facts step
+lane_changes s l (Works (Moved unit fault)) t before contents facts clean not step = moved_changes s l unit fault t before contents step
+lane_changes s l (Works (Finished slot status)) t before contents facts clean not step = finished_changes s l slot status t before step
+lane_changes s l (Works (Stored operation block count failed)) t before contents facts clean not step = absurd not
+lane_changes s l (Works Misplaced) t before contents facts clean not step = absurd step
+lane_changes s l (Turns event) t before contents facts clean not step = turn_changes s l event t before contents step
+lane_changes s l (Rests event) t before contents facts clean not step = calm_changes s event t step
+
+-- A STORE that failed stays so
+either_false : (a b : Bool) → (a || b) ≡ false → (a ≡ false) × (b ≡ false)
+either_false false b is = (refl, is)
+either_false true b is = absurd (cc is)
+
+end_failed : (e : End) (s : LaneState) (event : WireEvent) (t : LaneState) → EndOnWire e s event t → t.failed ≡ s.failed
+end_failed A s event t step = ap (λ (x : LaneState). x.failed) step.is
+end_failed B s event t step = ap (λ (x : LaneState). x.failed) step.1.is
+
+reset_failed : (by : Giver) (e : End) (s : LaneState) (cause : Cause) (packet : Option (List ℕ)) (lost : ℕ) (t : LaneState) → ResetBy by e s cause packet lost t → t.failed ≡ s.failed
+reset_failed ByStep e s cause packet lost t step = end_failed e s (Reset e cause packet lost) t step
+reset_failed ByScript A s cause packet lost t step = ap (λ (x : LaneState). x.failed) step.2
+reset_failed ByScript B s cause packet lost t step = ap (λ (x : LaneState). x.failed) step.1.2
+reset_failed ByRestart A s cause packet lost t step = absurd step
+reset_failed ByRestart B s cause packet lost t step = ap (λ (x : LaneState). x.failed) step.1.2
+reset_failed ByTick A s cause packet lost t step = ap (λ (x : LaneState). x.failed) step.1.2
+reset_failed ByTick B s cause packet lost t step = absurd step
+
+poked_failed : (e : End) (s : LaneState) (at : ℕ) (bytes : List ℕ) (t : LaneState) → WireStep s (Poked e at bytes) t → t.failed ≡ s.failed
+poked_failed A s at bytes t step = ap (λ (x : LaneState). x.failed) step.1
+poked_failed B s at bytes t step = absurd step
+
+wire_failed : (s : LaneState) (event : WireEvent) (t : LaneState) → WireStep s event t → t.failed ≡ s.failed
+wire_failed s (Joined e lost) t step = end_failed e s (Joined e lost) t step
+wire_failed s (Took e packet opens) t step = end_failed e s (Took e packet opens) t step
+wire_failed s (Sent e packet opens) t step = end_failed e s (Sent e packet opens) t step
+wire_failed s (Idle e) t step = end_failed e s (Idle e) t step
+wire_failed s (Blocked e) t step = end_failed e s (Blocked e) t step
+wire_failed s (Reset e cause packet lost) t step = reset_failed (giver cause) e s cause packet lost t step
+wire_failed s (Lost e packet) t step = ap (λ (x : LaneState). x.failed) step.1
+wire_failed s (Injected e packet) t step = ap (λ (x : LaneState). x.failed) step.2
+wire_failed s (Poked e at bytes) t step = poked_failed e s at bytes t step
+wire_failed s (Declines d) t step = ap (λ (x : LaneState). x.failed) step.1
+
+served_failed : (s : LaneState) (gave : List ℕ) (event : Worked) (t : LaneState) → ServerWorks s gave event t → t.failed ≡ false → s.failed ≡ false
+served_failed s gave event t step not = (either_false s.failed _ (sym (ap (λ (x : LaneState). x.failed) step.is) ∙ not)).0
+
+work_failed : (s : LaneState) (event : Worked) (t : LaneState) → WorkStep s event t → t.failed ≡ false → s.failed ≡ false
+work_failed s (Published id) t step not = sym (ap (λ (x : LaneState). x.failed) step.is) ∙ not
+work_failed s (Done id operation status bytes) t step not = sym (ap (λ (x : LaneState). x.failed) step.is) ∙ not
+work_failed s (Desc slot bytes) t step not = served_failed s step.0 (Desc slot bytes) t step.1 not
+work_failed s (Moved unit fault) t step not = served_failed s step.0 (Moved unit fault) t step.1 not
+work_failed s (Stored operation block count failed) t step not = served_failed s step.0 (Stored operation block count failed) t step.1 not
+work_failed s (Finished slot status) t step not = served_failed s step.0 (Finished slot status) t step.1 not
+work_failed s Misplaced t step not = absurd step
+
+turn_failed : (s : LaneState) (event : Switched) (t : LaneState) → TurnStep s event t → t.failed ≡ s.failed
+turn_failed s Stopped t step = ap (λ (x : LaneState). x.failed) step.1
+turn_failed s Started t step = ap (λ (x : LaneState). x.failed) step.1
+turn_failed s Off t step = ap (λ (x : LaneState). x.failed) step.1
+
+rest_failed : (s : LaneState) (event : Calm) (t : LaneState) → RestStep s event t → t.failed ≡ s.failed
+rest_failed s CalmTick t step = ap (λ (x : LaneState). x.failed) step.1
+rest_failed s CalmStop t step = ap (λ (x : LaneState). x.failed) step.1
+rest_failed s CalmStart t step = ap (λ (x : LaneState). x.failed) step.1
+rest_failed s (CalmReset A) t step = absurd step
+rest_failed s (CalmReset B) t step = ap (λ (x : LaneState). x.failed) step.1
+rest_failed s CalmRestart t step = ap (λ (x : LaneState). x.failed) step.1
+
+pub failed_before : (s : LaneState) (event : DiskEvent) (t : LaneState) → LaneStep s event t → t.failed ≡ false → s.failed ≡ false
+failed_before s (OnWire event) t step not = sym (wire_failed s event t step) ∙ not
+failed_before s (Asks event) t step not = sym (ap (λ (x : LaneState). x.failed) step.1) ∙ not
+failed_before s (Works event) t step not = work_failed s event t step not
+failed_before s (Turns event) t step not = sym (turn_failed s event t step) ∙ not
+failed_before s (Rests event) t step not = sym (rest_failed s event t step) ∙ not
+
+-- a unit whose store didn't fail
+pub stored_well : (s : LaneState) (gave : List ℕ) (operation block count : ℕ) (failed : Bool) (t : LaneState) → ServerWorks s gave (Stored operation block count failed) t → t.failed ≡ false → failed ≡ false
+stored_well s gave operation block count failed t step not = (either_false s.failed failed (sym (ap (λ (x : LaneState). x.failed) step.is) ∙ not)).1
+
+-- THE COUNTS after an event
+near_behind : (s : LaneState) (l : DiskLog) (event : DiskEvent) (t : LaneState) → Before s l → StepFacts s l event t → LaneStands t (after l event) → LaneStep s event t → NearStands t (after l event)
+near_behind s l (OnWire event) t before facts behind step = near_wire s l event t before facts behind step
+near_behind s l (Asks event) t before facts behind step = near_asked s l event t before step
+near_behind s l (Works event) t before facts behind step = near_work s l event t before step
+near_behind s l (Turns event) t before facts behind step = near_turned s l event t before step
+near_behind s l (Rests event) t before facts behind step = near_calm s l event t before step
+
+-- THE CONTENTS after it
+store_contents : (s : LaneState) (l : DiskLog) (operation block count : ℕ) (failed : Bool) (gave : List ℕ) (t : LaneState) → Before s l → ContentsStand (view_of s) → failed ≡ false
+    → ServerWorks s gave (Stored operation block count failed) t → ContentsStand (view_of t)
+store_contents s l operation block count failed gave t before contents well step =
+    let here : ServerWorks s gave (Stored operation block count false) t = subst (λ (f : Bool). ServerWorks s gave (Stored operation block count f) t) well step in
+    let change = stored_changes s l operation block count gave t before contents here in
+    kind_contents change.kind s.client.blocks (view_of s) (view_of t) (placed s l before) change.change contents
+
+changed_contents : (s : LaneState) (l : DiskLog) (event : DiskEvent) (t : LaneState) → Before s l → ContentsStand (view_of s) → Changed s event t → ContentsStand (view_of t)
+changed_contents s l event t before contents change = kind_contents change.kind s.client.blocks (view_of s) (view_of t) (placed s l before) change.change contents
+
+contents_behind : (s : LaneState) (l : DiskLog) (event : DiskEvent) (t : LaneState) → Before s l → ContentsStand (view_of s) → StepFacts s l event t → (after l event).wire.forged ≡ false → t.failed ≡ false
+    → LaneStep s event t → ContentsStand (view_of t)
+contents_behind s l (Works (Stored operation block count failed)) t before contents facts clean well step =
+    store_contents s l operation block count failed step.0 t before contents (stored_well s step.0 operation block count failed t step.1 well) step.1
+contents_behind s l (OnWire event) t before contents facts clean well step = changed_contents s l (OnWire event) t before contents (lane_changes s l (OnWire event) t before contents facts clean tt step)
+contents_behind s l (Asks event) t before contents facts clean well step = changed_contents s l (Asks event) t before contents (lane_changes s l (Asks event) t before contents facts clean tt step)
+contents_behind s l (Works (Published id)) t before contents facts clean well step =
+    changed_contents s l (Works (Published id)) t before contents (lane_changes s l (Works (Published id)) t before contents facts clean tt step)
+contents_behind s l (Works (Done id operation status bytes)) t before contents facts clean well step =
+    changed_contents s l (Works (Done id operation status bytes)) t before contents (lane_changes s l (Works (Done id operation status bytes)) t before contents facts clean tt step)
+contents_behind s l (Works (Desc slot bytes)) t before contents facts clean well step =
+    changed_contents s l (Works (Desc slot bytes)) t before contents (lane_changes s l (Works (Desc slot bytes)) t before contents facts clean tt step)
+contents_behind s l (Works (Moved unit fault)) t before contents facts clean well step =
+    changed_contents s l (Works (Moved unit fault)) t before contents (lane_changes s l (Works (Moved unit fault)) t before contents facts clean tt step)
+contents_behind s l (Works (Finished slot status)) t before contents facts clean well step =
+    changed_contents s l (Works (Finished slot status)) t before contents (lane_changes s l (Works (Finished slot status)) t before contents facts clean tt step)
+contents_behind s l (Works Misplaced) t before contents facts clean well step = absurd step
+contents_behind s l (Turns event) t before contents facts clean well step = changed_contents s l (Turns event) t before contents (lane_changes s l (Turns event) t before contents facts clean tt step)
+contents_behind s l (Rests event) t before contents facts clean well step = changed_contents s l (Rests event) t before contents (lane_changes s l (Rests event) t before contents facts clean tt step)
+
+-- ALONG A RUN
+pub before_of : (shape : Shape) (events : List DiskEvent) (s : LaneState) → IsShape shape → Run LaneStep (fresh shape) events s → (log_of after (nothing_yet shape) events).wire.forged ≡ false
+    → NearStands s (log_of after (nothing_yet shape) events) → Before s (log_of after (nothing_yet shape) events)
+before_of shape events s sound run clean near =
+    let l = log_of after (nothing_yet shape) events in
+    let agree = always_agree shape sound in
+    let along = along_run shape events s sound agree run in
+    let wire = along.all.stands.wire in
+    record {
+      knows = run_knows shape events s sound run;
+      known = known_of s l along.all along.ring (agree events s run clean) clean;
+      order = run_slots shape events s sound run clean;
+      near = near;
+      alive = λ d up is.
+          subst (λ (w : WireLog). w.wire.end_a ≡ Up) wire
+          (server_alive shape events s sound run (ap (λ (w : WireLog). w.forged) wire ∙ clean) (subst (λ (w : WireLog). w.wire.end_b ≡ Up) (sym wire) up) d is);
+    }
+
+pub record AlongContents (shape : Shape) (s : LaneState) (l : DiskLog) : Type 0 where
+  pub along : Along shape s l
+  pub near : l.wire.forged ≡ false → NearStands s l
+  pub contents : l.wire.forged ≡ false → s.failed ≡ false → ContentsStand (view_of s)
+
+-- what is known of a step after a run
+pub record AtStep (s : LaneState) (l : DiskLog) (event : DiskEvent) (t : LaneState) : Type 0 where
+  pub before : Before s l
+  pub facts : StepFacts s l event t
+  pub behind : LaneStands t (after l event)
+
+pub at_step : (shape : Shape) → IsShape shape → (s : LaneState) (l : DiskLog) (event : DiskEvent) (t : LaneState) → AlongContents shape s l → LaneStep s event t → (after l event).wire.forged ≡ false
+    → AtStep s l event t
+at_step shape sound s l event t holds step clean =
+    let along = holds.along in
+    let log = along.log in
+    let events = along.events in
+    let here : Along shape s (log_of after (nothing_yet shape) events) = subst (Along shape s) log along in
+    let clean_here = clean_before l event clean in
+    record {
+      before =
+          subst (Before s) (sym log)
+          (before_of shape events s sound along.run (sym (ap (λ (x : DiskLog). x.wire.forged) log) ∙ clean_here) (subst (NearStands s) log (holds.near clean_here)));
+      facts =
+          subst (λ (x : DiskLog). StepFacts s x event t) (sym log)
+          (facts_at shape events s event t sound here along.run step (subst (λ (x : DiskLog). (after x event).wire.forged ≡ false) log clean));
+      behind = (all_step s l event t along.all step).1.stands;
+    }
+
+pub contents_step : (shape : Shape) → IsShape shape → (s : LaneState) (l : DiskLog) (event : DiskEvent) (t : LaneState) → AlongContents shape s l → LaneStep s event t → ⊤ × AlongContents shape t (after l event)
+contents_step shape sound s l event t holds step = (
+  tt,
+  record {
+    along = (along_step shape (always_agree shape sound) s l event t holds.along step).1;
+    near = λ clean. let at = at_step shape sound s l event t holds step clean in near_behind s l event t at.before at.facts at.behind step;
+    contents = λ clean well.
+        let at = at_step shape sound s l event t holds step clean in
+        contents_behind s l event t at.before (holds.contents (clean_before l event clean) (failed_before s event t step well)) at.facts clean well step;
+  },
+)
+
+fresh_near : (shape : Shape) → NearStands (fresh shape) (nothing_yet shape)
+fresh_near shape = record {
+  k = refl;
+  m = omega arith;
+  ever = record { done_first = omega arith; most = omega arith; session = λ session is. absurd (cc is) };
+}
+
+fresh_contents : (shape : Shape) → ContentsStand (view_of (fresh shape))
+fresh_contents shape = record {
+  writes = λ session is i below request got. absurd (cc is);
+  work = λ work is request got. absurd (cc is);
+  none = λ is. refl;
+}
+
+pub run_contents : (shape : Shape) (events : List DiskEvent) (s : LaneState) → IsShape shape → Run LaneStep (fresh shape) events s → AlongContents shape s (log_of after (nothing_yet shape) events)
+run_contents shape events s sound run =
+    (run_lawful LaneStep (λ (l : DiskLog) (e : DiskEvent). ⊤) after (AlongContents shape) (contents_step shape sound) (fresh shape) s (nothing_yet shape) events
+    (record {
+      along = along_run shape [] (fresh shape) sound (always_agree shape sound) refl;
+      near = λ clean. fresh_near shape;
+      contents = λ clean well. fresh_contents shape;
+    }) run).1

@@ -1,0 +1,148 @@
+-- What the packets of a client leave of its session's places, and what those of a server leave of its descriptor in work.
+use Rattle.std.proofs.Common.{◌≡◌, ℕ, ◌+◌, Bool, true, false, Option, Some, None, List, inl, inr, refl, sym, ap, ◌∙◌, subst}
+use Rattle.ldc_link.specs.Following.{Follows}
+use Rattle.ldc_queue.specs.Talk.{Turn}
+use Rattle.disk_model.specs.ClientPutting.{announced, client_holds, client_kind, opened_if, session_behind}
+use Rattle.disk_model.specs.ClientRule as client
+use Rattle.disk_model.specs.ClientState.{ClientSession, ClientState, first_id, opened_session}
+use Rattle.disk_model.specs.ClientStep.{ClientSends}
+use Rattle.disk_model.specs.ClientTaking.{ClientTakes, GoesOn}
+use Rattle.disk_model.specs.EndPuts.{ComesUp, EndsOwn, EndsShake, Goes, PutKind, put_opens}
+use Rattle.disk_model.specs.Seeing.{Seen}
+use Rattle.disk_model.specs.ServerPutting.{server_holds}
+use Rattle.disk_model.specs.ServerRule as server
+use Rattle.disk_model.specs.ServerState.{ServerState, Work}
+use Rattle.disk_model.specs.ServerStep.{ServerSends}
+use Rattle.disk_model.specs.ServerTaking.{ServerTakes, GoesOn as ServerGoesOn}
+use Rattle.lane_laws.proofs.ClientTaken.{ClientTook, client_took_what}
+use Rattle.lane_laws.proofs.Ruling.{client_may}
+use Rattle.lane_laws.proofs.ServerTaken.{ServerTook, server_took_what}
+use Rattle.lane_laws.specs.RuleFacts.{ClientMay}
+use Rattle.lane_laws.proofs.Changes.{Keeps}
+
+-- A SESSION'S PLACES that stay
+pub keeps_same : (before now : Option ClientSession) → now ≡ before → Keeps before now
+keeps_same before now same = λ session is. record { was = session; there = sym same ∙ is; completed = refl; published = refl }
+
+pub keeps_none : (before : Option ClientSession) → Keeps before None
+keeps_none before = λ session is. absurd (cc is)
+
+pub keeps_some : (before : Option ClientSession) (one other : ClientSession) → before ≡ Some one → other.completed ≡ one.completed → other.published ≡ one.published → Keeps before (Some other)
+keeps_some before one other there completed published = λ session is.
+    let same : other ≡ session = cc is in
+    record {
+      was = one;
+      there = there;
+      completed = ap (λ (x : ClientSession). x.completed) (sym same) ∙ completed;
+      published = ap (λ (x : ClientSession). x.published) (sym same) ∙ published;
+    }
+
+pub keeps_both : (before middle now : Option ClientSession) → Keeps before middle → Keeps middle now → Keeps before now
+keeps_both before middle now first second = λ session is.
+    let late = second session is in
+    let early = first late.was late.there in
+    record { was = early.was; there = early.there; completed = late.completed ∙ early.completed; published = late.published ∙ early.published }
+
+keeps_announced : (session : Option ClientSession) → Keeps session (announced session)
+keeps_announced None = keeps_none None
+keeps_announced (Some session) = keeps_some (Some session) session (record session { announced = session.published; infos = session.infos + 1; announcing = false }) refl refl refl
+
+-- THE CLIENT
+pub record ClientLeaves (c t : ClientState) : Type 0 where
+  pub ever : t.ever_published ≡ c.ever_published
+  pub keeps : Keeps c.session t.session
+
+pub leaves_same : (c t : ClientState) → t ≡ c → ClientLeaves c t
+leaves_same c t is = record { ever = ap (λ (x : ClientState). x.ever_published) is; keeps = keeps_same c.session t.session (ap (λ (x : ClientState). x.session) is) }
+
+took_leaves : (c : ClientState) (turns : List Turn) (packet : List ℕ) (t : ClientState) → ClientTook c turns packet t → ClientLeaves c t
+took_leaves c turns packet t (inl part) =
+    record { ever = ap (λ (x : ClientState). x.ever_published) part.is; keeps = keeps_same c.session t.session (ap (λ (x : ClientState). x.session) part.is) }
+took_leaves c turns packet t (inr (inl shakes)) =
+    record { ever = ap (λ (x : ClientState). x.ever_published) shakes.is; keeps = keeps_same c.session t.session (ap (λ (x : ClientState). x.session) shakes.is) }
+took_leaves c turns packet t (inr (inr acked)) = record {
+  ever = ap (λ (x : ClientState). x.ever_published) acked.is;
+  keeps = subst (λ (o : Option ClientSession). Keeps c.session o) (sym (ap (λ (x : ClientState). x.session) acked.is)) (keeps_some c.session acked.session _ acked.session_is refl refl);
+}
+
+pub client_took : (c : ClientState) (turns : List Turn) (packet : List ℕ) (t : ClientState) → Follows c.link turns → c.link.whole ≡ None → ClientTakes c packet (GoesOn t) → ClientLeaves c t
+client_took c turns packet t follows none takes = took_leaves c turns packet t (client_took_what c turns packet t follows none takes)
+
+held_is : (c one other : ClientState) → Some one ≡ Some other → ClientLeaves c one → ClientLeaves c other
+held_is c one other is leaves = let same : one ≡ other = cc is in subst (λ (x : ClientState). ClientLeaves c x) same leaves
+
+pub held_leaves : (c : ClientState) (at : Seen) (rule : client.ClientRule) (held : ClientState) → ClientMay c at rule → client_holds rule c ≡ Some held → ClientLeaves c held
+held_leaves c at client.Puts held may is = held_is c c held is (leaves_same c c refl)
+held_leaves c at (client.Says message) held may is = held_is c _ held is (record { ever = refl; keeps = keeps_same c.session c.session refl })
+held_leaves c at (client.Announces session) held may is = held_is c _ held is (record { ever = refl; keeps = keeps_some c.session session _ may.3 refl refl })
+held_leaves c at client.Joins held may is = absurd (cc)
+held_leaves c at (client.Completes session) held may is = absurd (cc)
+held_leaves c at (client.Takes packet) held may is = absurd (cc)
+held_leaves c at (client.Publishes session request) held may is = absurd (cc)
+held_leaves c at client.Rests held may is = absurd (cc)
+
+opened_not : (b : Bool) (c : ClientState) → b ≡ false → Keeps c.session (opened_if b c)
+opened_not false c is = keeps_same c.session c.session refl
+opened_not true c is = absurd (cc is)
+
+put_keeps : (kind : PutKind) (c : ClientState) → put_opens kind c.shake ≡ false → Keeps c.session (session_behind kind c)
+put_keeps EndsOwn c is = keeps_announced c.session
+put_keeps Goes c is = keeps_same c.session c.session refl
+put_keeps ComesUp c is = keeps_same c.session c.session refl
+put_keeps EndsShake c is = opened_not (put_opens EndsShake c.shake) c is
+
+pub client_sent : (c : ClientState) (at : Seen) (memory packet : List ℕ) (t : ClientState) (new : List ℕ) → ClientSends c at memory packet false t new → ClientLeaves c t
+client_sent c at memory packet t new sends =
+    let held = held_leaves c at (client.client_rule c at) sends.held (client_may c at) sends.holds in
+    record {
+      ever = ap (λ (x : ClientState). x.ever_published) sends.is ∙ held.ever;
+      keeps = subst (λ (o : Option ClientSession). Keeps c.session o) (sym (ap (λ (x : ClientState). x.session) sends.is))
+          (keeps_both c.session sends.held.session (session_behind (client_kind sends.held) sends.held) held.keeps (put_keeps (client_kind sends.held) sends.held (sym sends.opens_is)));
+    }
+
+-- its session opens: nothing is published in it
+opened_behind : (kind : PutKind) (c : ClientState) → put_opens kind c.shake ≡ true → session_behind kind c ≡ Some (opened_session (first_id c))
+opened_behind EndsOwn c is = absurd (cc is)
+opened_behind Goes c is = absurd (cc is)
+opened_behind ComesUp c is = absurd (cc is)
+opened_behind EndsShake c is = ap (λ (b : Bool). opened_if b c) is
+
+pub record ClientOpened (c t : ClientState) : Type 0 where
+  pub ever : t.ever_published ≡ c.ever_published
+  pub base : ℕ
+  pub session : t.session ≡ Some (opened_session base)
+
+pub client_opened : (c : ClientState) (at : Seen) (memory packet : List ℕ) (t : ClientState) (new : List ℕ) → ClientSends c at memory packet true t new → ClientOpened c t
+client_opened c at memory packet t new sends =
+    let held = held_leaves c at (client.client_rule c at) sends.held (client_may c at) sends.holds in
+    record {
+      ever = ap (λ (x : ClientState). x.ever_published) sends.is ∙ held.ever;
+      base = first_id sends.held;
+      session = ap (λ (x : ClientState). x.session) sends.is ∙ opened_behind (client_kind sends.held) sends.held (sym sends.opens_is);
+    }
+
+-- THE SERVER
+took_work : (s : ServerState) (turns : List Turn) (packet : List ℕ) (t : ServerState) (opens : Bool) → ServerTook s turns packet t opens → t.work ≡ s.work
+took_work s turns packet t opens (inl part) = ap (λ (x : ServerState). x.work) part.is
+took_work s turns packet t opens (inr (inl shakes)) = ap (λ (x : ServerState). x.work) shakes.is
+took_work s turns packet t opens (inr (inr asks)) = ap (λ (x : ServerState). x.work) asks.is
+
+pub server_took : (s : ServerState) (turns : List Turn) (packet : List ℕ) (t : ServerState) (opens : Bool) → Follows s.link turns → s.link.whole ≡ None
+    → ServerTakes s packet (ServerGoesOn t opens) → t.work ≡ s.work
+server_took s turns packet t opens follows none takes = took_work s turns packet t opens (server_took_what s turns packet t opens follows none takes)
+
+abbrev work_in : Option ServerState → Option Work
+work_in None = None
+work_in (Some x) = x.work
+
+pub server_held : (s : ServerState) (rule : server.ServerRule) (held : ServerState) → server_holds rule s ≡ Some held → held.work ≡ s.work
+server_held s server.Puts held is = ap work_in (sym is)
+server_held s (server.Says message) held is = ap work_in (sym is)
+server_held s server.Joins held is = absurd (cc)
+server_held s (server.Fetches session) held is = absurd (cc)
+server_held s (server.Serves session work) held is = absurd (cc)
+server_held s (server.Takes packet) held is = absurd (cc)
+server_held s server.Rests held is = absurd (cc)
+
+pub server_sent : (s : ServerState) (at : Seen) (packet : List ℕ) (opens : Bool) (t : ServerState) → ServerSends s at packet opens t → t.work ≡ s.work
+server_sent s at packet opens t sends = ap (λ (x : ServerState). x.work) sends.is ∙ server_held s (server.server_rule s at) sends.held sends.holds

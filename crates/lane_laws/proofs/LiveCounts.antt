@@ -1,0 +1,59 @@
+-- How many of the pending requests the server finished in its session: those between the first that isn't done and its count.
+use Rattle.std.proofs.Common.{◌≡◌, ◌≢◌, ℕ, ◌+◌, Option, Some, None, refl, arith}
+use Rattle.ldc_queue.specs.declared.end.ChannelState.{ChannelState}
+use Rattle.ldc_queue.specs.declared.end.ChannelState.TheVariants.{Down, Resetting, Up}
+use Rattle.ldc_queue.specs.Wire.{peer_behind}
+use Rattle.disk_model.specs.WorkLog.{ClientCounts, ServerCounts, change_client, change_server}
+use Rattle.lane_laws.proofs.SlotsStepping.{upset_not}
+
+-- the counts of a server whose end is up
+abbrev pub counts_while : ChannelState → Option ServerCounts → Option ServerCounts
+counts_while Up counts = counts
+counts_while Down counts = None
+counts_while Resetting counts = None
+
+abbrev pub KIs : Option ServerCounts → Option ClientCounts → ℕ → ℕ → Type 0
+KIs None client done k = k ≡ 0
+KIs (Some d) None done k = k ≡ 0
+KIs (Some d) (Some c) done k = c.base + d.finished ≡ done + k
+
+-- THE COUNTS that change leave what is finished
+pub kis_server : (x : ChannelState) (q : Option ServerCounts) (g : ServerCounts → ServerCounts) (o : Option ClientCounts) (done k : ℕ) → ((d : ServerCounts) → (g d).finished ≡ d.finished)
+    → KIs (counts_while x q) o done k → KIs (counts_while x (change_server g q)) o done k
+kis_server Down q g o done k same is = is
+kis_server Resetting q g o done k same is = is
+kis_server Up None g o done k same is = is
+kis_server Up (Some d) g None done k same is = is
+kis_server Up (Some d) g (Some c) done k same is = omega (arith, is, same d)
+
+pub kis_client : (q : Option ServerCounts) (f : ClientCounts → ClientCounts) (o : Option ClientCounts) (done k : ℕ) → ((c : ClientCounts) → (f c).base ≡ c.base) → KIs q o done k
+    → KIs q (change_client f o) done k
+kis_client None f o done k same is = is
+kis_client (Some d) f None done k same is = is
+kis_client (Some d) f (Some c) done k same is = omega (arith, is, same c)
+
+pub kis_none : (q : Option ServerCounts) (o : Option ClientCounts) (done : ℕ) → q ≡ None → KIs q o done 0
+kis_none None o done none = refl
+kis_none (Some d) o done none = absurd (cc none)
+
+pub zero_where : (q : Option ServerCounts) (o : Option ClientCounts) (done k : ℕ) → q ≡ None → KIs q o done k → k ≡ 0
+zero_where None o done k none is = is
+zero_where (Some d) o done k none is = absurd (cc none)
+
+-- where the client's end isn't up no server works on
+pub not_live : (x y : ChannelState) (q : Option ServerCounts) → ((d : ServerCounts) → y ≡ Up → q ≡ Some d → x ≡ Up) → x ≢ Up → counts_while y q ≡ None
+not_live x Down q alive not = refl
+not_live x Resetting q alive not = refl
+not_live x Up None alive not = refl
+not_live x Up (Some d) alive not = absurd (not (alive d refl refl))
+
+pub not_up : (x : ChannelState) (q : Option ServerCounts) → x ≢ Up → counts_while x q ≡ None
+not_up Down q not = refl
+not_up Resetting q not = refl
+not_up Up q not = absurd (not refl)
+
+-- after an end that was configured the other isn't up, or stays as it was
+pub peer_not_live : (x y : ChannelState) (q : Option ServerCounts) → ((d : ServerCounts) → y ≡ Up → q ≡ Some d → x ≡ Up) → counts_while (peer_behind x y) q ≡ None
+peer_not_live Up y q alive = not_up (peer_behind Up y) q (upset_not y)
+peer_not_live Down y q alive = not_live Down y q alive (λ up. absurd (cc up))
+peer_not_live Resetting y q alive = not_live Resetting y q alive (λ up. absurd (cc up))

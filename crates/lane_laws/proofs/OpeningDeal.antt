@@ -1,0 +1,112 @@
+-- The deal that the ends of a disk's lane make: their offers match, and the messages are of their fields' widths.
+use Rattle.std.proofs.Common.{◌≡◌, ℕ, zero, suc, ◌+◌, ◌*◌, ◌%◌, ◌^◌, ◌<◌, ◌≤◌, Bool, true, false, List, [], ◌∷◌, length, refl, sym, ap, subst, arith, nat_le}
+use Rattle.std.specs.Prelude.{if◌then◌else◌}
+use Rattle.std.proofs.lemmas.Bool.Decides.{nat_tests}
+use Rattle.map_table.specs.Cookies.{IsCookie}
+use Rattle.map_table.specs.declared.cookie.Cookie.{Cookie}
+use Rattle.map_table.proofs.Each.{each_replicate}
+use Rattle.vdisk_msg.specs.Requested.{ring_pages}
+use Rattle.vio_tag.proofs.AttributeBytes.{disk_attr_reads_back}
+use Rattle.vio_tag.specs.declared.attributes.DiskAttr.{DiskAttr}
+use Rattle.vio_tag.specs.Form.{HasWidths, IsWellFormed, no_cookie}
+use Rattle.vio_handshake.specs.Acceptance.{are_aligned, hold_ring, sizes}
+use Rattle.vio_handshake.specs.Attributes.{blocks_of}
+use Rattle.vio_handshake.specs.Offers.{FitsRing}
+use Rattle.vio_handshake.proofs.MessageWidths.{OfferHasWidths, message_has_widths, message_is_well_formed}
+use Rattle.vio_handshake.proofs.PlaceRows.{Fits}
+use Rattle.vio_handshake.proofs.Places.{Deal, Place, message_at}
+use Rattle.disk_model.specs.LaneState.{Shape}
+use Rattle.disk_model.specs.Offering.{client_offer, disk_of, own_cookies, page_cookies, server_offer}
+use Rattle.lane_laws.proofs.OfferedRing.{cookies_are, few_cookies, filled_front, filled_long, offered_form}
+
+abbrev pub deal : Shape → ℕ → ℕ → Deal
+deal shape sid last = record { asks = client_offer shape.blocks shape.slots; answers = server_offer shape.blocks shape.slots; sid = sid; last = last }
+
+-- THE RING is aligned, and its cookies hold it
+aligned_pages : (page n : ℕ) → are_aligned (page_cookies page n) ≡ true
+aligned_pages page zero = refl
+aligned_pages page (suc n) =
+    let even : (8192 * page) % 8 ≡ 0 = omega arith in
+    rw (even, aligned_pages (page + 1) n) refl
+
+sizes_pages : (page n : ℕ) → sizes (page_cookies page n) ≡ 8192 * n
+sizes_pages page zero = refl
+sizes_pages page (suc n) = omega (arith, sizes_pages (page + 1) n)
+
+holds_if : (b : Bool) (slots : ℕ) → hold_ring (if b then page_cookies 0 (ring_pages slots) else record { address = 0; size = 128 * slots } ∷ []) (slots * 128) ≡ true
+unfolding hold_ring
+holds_if true slots =
+    let enough : nat_le (slots * 128) (sizes (page_cookies 0 (ring_pages slots))) ≡ true =
+    (let most : slots * 128 ≤ sizes (page_cookies 0 (ring_pages slots)) = omega (arith, sizes_pages 0 (ring_pages slots)) in grind (arith, nat_tests)) in
+    rw (aligned_pages 0 (ring_pages slots)) enough
+holds_if false slots =
+    let even : (128 * slots) % 8 ≡ 0 = omega arith in
+    let enough : nat_le (slots * 128) (128 * slots + 0) ≡ true = grind (arith, nat_tests) in
+    rw (even) enough
+
+some_if : (b : Bool) (slots : ℕ) → 1 ≤ slots → 1 ≤ length (if b then page_cookies 0 (ring_pages slots) else record { address = 0; size = 128 * slots } ∷ [])
+some_if true slots some = pages_some (ring_pages slots) (omega (arith, some))
+  where
+    pages_some : (n : ℕ) → 1 ≤ n → 1 ≤ length (page_cookies 0 n)
+    pages_some zero less = absurd (omega (arith, less))
+    pages_some (suc n) less = omega arith
+some_if false slots some = omega arith
+
+fits_ring : (blocks slots : ℕ) → 1 ≤ slots → slots ≤ 256 → FitsRing (client_offer blocks slots) (server_offer blocks slots)
+fits_ring blocks slots some few = record {
+  slots = refl;
+  slot_size = refl;
+  some = some_if (nat_le 64 slots) slots some;
+  most = few_cookies slots few;
+  held = subst (λ (cs : List Cookie). hold_ring cs (slots * 128) ≡ true) (sym (filled_front 14 (own_cookies slots) (few_cookies slots few))) (holds_if (nat_le 64 slots) slots);
+}
+
+blocks_back : (blocks slots : ℕ) → blocks < 2 ^ 64 → blocks_of (client_offer blocks slots) ≡ blocks
+blocks_back blocks slots few =
+    ap (λ (a : DiskAttr). a.blocks) (disk_attr_reads_back (disk_of blocks) (record {
+      mode = omega arith;
+      kind = omega arith;
+      media = omega arith;
+      block_size = omega arith;
+      operations = omega arith;
+      blocks = few;
+      max_transfer = omega arith;
+      physical = omega arith;
+    }))
+
+pub deal_fits : (shape : Shape) (sid last : ℕ) → 1 ≤ shape.slots → shape.slots ≤ 256 → shape.blocks < 2 ^ 64 → Fits false (deal shape sid last)
+deal_fits shape sid last some few blocks = record {
+  kind = refl;
+  peer_kind = refl;
+  ring = fits_ring shape.blocks shape.slots some few;
+  device = (refl, subst (λ (n : ℕ). n < 2 ^ 64) (sym (blocks_back shape.blocks shape.slots blocks)) blocks);
+}
+
+-- THE MESSAGES
+client_widths : (blocks slots : ℕ) → slots ≤ 256 → OfferHasWidths (client_offer blocks slots)
+client_widths blocks slots few = record {
+  minor = omega arith;
+  class = omega arith;
+  slots = omega (arith, few);
+  slot_size = omega arith;
+  room = filled_long 14 (own_cookies slots);
+  cookies = cookies_are blocks slots few;
+  form = offered_form blocks slots few;
+}
+
+server_widths : (blocks slots : ℕ) → OfferHasWidths (server_offer blocks slots)
+server_widths blocks slots = record {
+  minor = omega arith;
+  class = omega arith;
+  slots = omega arith;
+  slot_size = omega arith;
+  room = refl;
+  cookies = each_replicate IsCookie 14 no_cookie (record { address = omega arith; size = omega arith });
+  form = record { most = omega arith; none = refl };
+}
+
+pub place_widths : (shape : Shape) (sid last : ℕ) (n : Place) → shape.slots ≤ 256 → sid < 2 ^ 32 → HasWidths (message_at (deal shape sid last) n)
+place_widths shape sid last n few small = message_has_widths (deal shape sid last) n (client_widths shape.blocks shape.slots few) (server_widths shape.blocks shape.slots) small
+
+pub place_form : (shape : Shape) (sid last : ℕ) (n : Place) → shape.slots ≤ 256 → IsWellFormed (message_at (deal shape sid last) n)
+place_form shape sid last n few = message_is_well_formed (deal shape sid last) n (client_widths shape.blocks shape.slots few) (server_widths shape.blocks shape.slots)

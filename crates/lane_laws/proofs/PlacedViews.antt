@@ -1,0 +1,212 @@
+-- A lane that nobody forges has its requests in their places: those that are finished, the one in work, and those that are published.
+use Rattle.std.proofs.Common.{◌≡◌, ℕ, ◌+◌, ◌*◌, ◌%◌, ◌<◌, ◌≤◌, ◌⊎◌, Option, Some, None, List, drop, length, inl, inr, refl, sym, ap, ◌∙◌, subst, arith, length-drop}
+use Rattle.std.specs.Prelude.{slice_get}
+use Rattle.ldc_queue.specs.declared.end.ChannelState.{ChannelState}
+use Rattle.ldc_queue.specs.declared.end.ChannelState.TheVariants.{Down, Resetting, Up}
+use Rattle.vdisk_msg.specs.declared.request.Request.{Request}
+use Rattle.vdisk_msg.specs.Requested.{ring_pages}
+use Rattle.disk_model.specs.Agreement.{ClientAgrees, ClientCountsAgree, ServerAgrees}
+use Rattle.disk_model.specs.DiskLog.{DiskLog}
+use Rattle.disk_model.specs.RingLog.{Accepted}
+use Rattle.disk_model.specs.WorkLog.{ClientCounts, ServerCounts}
+use Rattle.disk_model.specs.ClientState.{ClientSession}
+use Rattle.disk_model.specs.LaneState.{LaneState}
+use Rattle.disk_model.specs.ServerState.{ServerSession, Work}
+use Rattle.lane_laws.proofs.RingClientSteps.{got_at}
+use Rattle.lane_laws.proofs.RingEnds.{HasWork, has_work}
+use Rattle.lane_laws.proofs.RingSessions.{one_ring}
+use Rattle.lane_laws.proofs.RingTable.{id_is}
+use Rattle.lane_laws.proofs.RingWork.{AtWork, Known, at_work, ids_in, turn_in}
+use Rattle.lane_laws.specs.MemoryStands.{memory_long}
+use Rattle.lane_laws.specs.RingAgreed.{OneRing, ring_in}
+use Rattle.lane_laws.specs.RingSlots.{HoldsIssued}
+use Rattle.lane_laws.specs.Sound.{CountsInOrder, InOrder}
+use Rattle.lane_laws.specs.LaneView.{view_of, work_while}
+use Rattle.lane_laws.proofs.Changes.{Placed}
+use Rattle.lane_laws.proofs.LiveCounts.{KIs, counts_while, zero_where}
+use Rattle.lane_laws.proofs.Standing.{Before}
+
+-- a server that works, or none does
+pub record IsLive (x : ChannelState) (q : Option ServerCounts) : Type 0 where
+  pub counts : ServerCounts
+  pub up : x ≡ Up
+  pub there : q ≡ Some counts
+
+pub live_or_not : (x : ChannelState) (q : Option ServerCounts) → (counts_while x q ≡ None) ⊎ IsLive x q
+live_or_not Down q = inl refl
+live_or_not Resetting q = inl refl
+live_or_not Up None = inl refl
+live_or_not Up (Some d) = inr (record { counts = d; up = refl; there = refl })
+
+pub live_work : (x : ChannelState) (w : Option Work) (work : Work) → work_while x w ≡ Some work → (x ≡ Up) × (w ≡ Some work)
+live_work Up w work is = (refl, is)
+live_work Down w work is = absurd (cc is)
+live_work Resetting w work is = absurd (cc is)
+
+k_number : (x : ChannelState) (q : Option ServerCounts) (o : Option ClientCounts) (done k : ℕ) (d : ServerCounts) (c : ClientCounts) → x ≡ Up → q ≡ Some d → o ≡ Some c → KIs (counts_while x q) o done k
+    → c.base + d.finished ≡ done + k
+k_number Down q o done k d c up is open_is kis = absurd (cc up)
+k_number Resetting q o done k d c up is open_is kis = absurd (cc up)
+k_number Up q o done k d c up is open_is kis =
+    let one : KIs (Some d) o done k = subst (λ (r : Option ServerCounts). KIs r o done k) is kis in
+    let both : KIs (Some d) (Some c) done k = subst (λ (r : Option ClientCounts). KIs (Some d) r done k) open_is one in
+    both
+
+-- THE CLIENT'S SESSION, by the log's
+client_there : (o : Option ClientSession) (done : ℕ) (q : Option ClientCounts) (k : ClientCounts) → q ≡ Some k → ClientAgrees o done q → (c : ClientSession) × (o ≡ Some c) × ClientCountsAgree c done k
+client_there None done None k is agrees = absurd (cc is)
+client_there None done (Some x) k is agrees = absurd agrees
+client_there (Some c) done None k is agrees = absurd agrees
+client_there (Some c) done (Some x) k is agrees = let same : x ≡ k = cc is in (c, refl, subst (ClientCountsAgree c done) same agrees)
+
+pub in_order : (s : LaneState) (l : DiskLog) (session : ClientSession) → Known s l → s.client.session ≡ Some session → InOrder (length s.client.pending) session
+in_order s l session known is = subst (CountsInOrder (length s.client.pending)) is known.sound.counts
+
+-- WHERE A SERVER WORKS the client's session is open, and the server's count tells what is finished
+pub record Live (s : LaneState) (l : DiskLog) (d : ServerCounts) : Type 0 where
+  pub one : OneRing s l.work d
+  pub session : ClientSession
+  pub there : s.client.session ≡ Some session
+  pub agree : ClientCountsAgree session l.work.done one.client
+  pub number : one.client.base + d.finished ≡ l.work.done + s.near.k
+
+pub live : (s : LaneState) (l : DiskLog) (d : ServerCounts) → Before s l → l.wire.wire.end_b ≡ Up → l.work.server ≡ Some d → Live s l d
+live s l d before up is =
+    let one = one_ring s l d is up before.known.agree in
+    let client = client_there s.client.session l.work.done l.work.client one.client one.open_is before.known.agree.client in
+    record {
+      one = one;
+      session = client.0;
+      there = client.1;
+      agree = client.2;
+      number = k_number l.wire.wire.end_b l.work.server l.work.client l.work.done s.near.k d one.client up is one.open_is before.near.k;
+    }
+
+work_counts : (o : Option ServerSession) (w : Option Work) (q : Option ServerCounts) (work : Work) → w ≡ Some work → ServerAgrees o w q → (v : ServerSession) × (o ≡ Some v)
+work_counts None w None work is agrees = let never : Some work ≡ None = sym is ∙ agrees in absurd (cc never)
+work_counts None w (Some c) work is agrees = absurd agrees
+work_counts (Some v) w q work is agrees = (v, refl)
+
+-- THE DESCRIPTOR IN WORK is that of the request after those that are finished
+pub record Working (s : LaneState) (l : DiskLog) (work : Work) : Type 0 where
+  pub session : ServerSession
+  pub at : AtWork s l session
+  pub has : HasWork s l work at.of.counts
+  pub live : Live s l at.of.counts
+  pub request : Request
+  pub next : slice_get s.client.pending s.near.k ≡ Some request
+  pub id : ℕ
+  pub holds : HoldsIssued (ring_in l) (at.of.counts.finished % l.shape.slots) id 2 0 work.bytes
+  pub of_holds : holds.request ≡ request
+  pub number : live.session.completed + s.near.k ≡ at.of.counts.finished
+  pub served : live.session.completed + s.near.k < live.session.published
+
+pub working : (s : LaneState) (l : DiskLog) (work : Work) → Before s l → work_while s.wire.wire.end_b s.server.work ≡ Some work → Working s l work
+working s l work before is =
+    let known = before.known in
+    let both = live_work s.wire.wire.end_b s.server.work work is in
+    let v = work_counts s.server.session s.server.work l.work.server work both.1 known.agree.server in
+    let at = at_work s l v.0 known both.0 v.1 in
+    let d = at.of.counts in
+    let has = has_work s l v.0 work known at both.1 in
+    let on = live s l d before at.up at.of.open_is in
+    let k = at.one.client in
+    let slot = d.finished % l.shape.slots in
+    let stands = ids_in s l k known at.one.open_is slot (Accepted has.inside.id) has.inside.stands in
+    let turn = turn_in s l k known at.one.open_is in
+    let single = has.one in
+    let descs = at.one.descs in
+    let asked = at.one.asked in
+    let same_client : k ≡ on.one.client = let two : Some k ≡ Some on.one.client = sym at.one.open_is ∙ on.one.open_is in cc two in
+    let base : k.base ≡ on.one.client.base = ap (λ (c : ClientCounts). c.base) same_client in
+    let published : k.published ≡ on.one.client.published = ap (λ (c : ClientCounts). c.published) same_client in
+    let id_number : has.inside.id ≡ k.base + d.finished = id_is l.shape.slots l.work.done k slot has.inside.id d.finished stands at.one.done (omega (arith, single, descs, asked)) turn.turn refl in
+    let place : l.work.done + s.near.k ≡ has.inside.id = omega (arith, id_number, base, on.number) in
+    let counted = on.agree.completed in
+    let number : on.session.completed + s.near.k ≡ d.finished = omega (arith, counted, on.number) in
+    let holds : HoldsIssued (ring_in l) slot has.inside.id 2 0 work.bytes = subst (HoldsIssued (ring_in l) slot has.inside.id 2 0) has.desc has.inside.fetched in
+    record {
+      session = v.0;
+      at = at;
+      has = has;
+      live = on;
+      request = holds.request;
+      next = ap (λ (xs : List Request). slice_get xs s.near.k) known.stands.requests.pending ∙ got_at l.work.issued l.work.done s.near.k
+          ∙ ap (slice_get l.work.issued) place ∙ holds.accepted;
+      id = has.inside.id;
+      holds = holds;
+      of_holds = refl;
+      number = number;
+      served = let counted_published = on.agree.published in omega (arith, number, single, descs, asked, published, counted_published);
+    }
+
+-- THE PLACES
+buffers_room : (s : LaneState) → length s.memory ≡ memory_long s.client.slots → 32768 * s.client.slots ≤ length (drop (8192 * ring_pages s.client.slots) s.memory)
+buffers_room s long = omega (arith, long, length-drop (8192 * ring_pages s.client.slots) s.memory)
+
+record Finished (s : LaneState) (l : DiskLog) : Type 0 where
+  pending : s.near.k ≤ length s.client.pending
+  published : (session : ClientSession) → s.client.session ≡ Some session → session.completed + s.near.k ≤ session.published
+
+finished_by : (s : LaneState) (l : DiskLog) → Before s l → (counts_while l.wire.wire.end_b l.work.server ≡ None) ⊎ IsLive l.wire.wire.end_b l.work.server → Finished s l
+finished_by s l before (inl none) =
+    let zero = zero_where (counts_while l.wire.wire.end_b l.work.server) l.work.client l.work.done s.near.k none before.near.k in
+    record {
+      pending = omega (arith, zero);
+      published = λ session is.
+          let order = in_order s l session before.known is in
+          let completed = order.completed in
+          let acked = order.acked in
+          let announced = order.announced in
+          omega (arith, zero, completed, acked, announced);
+    }
+finished_by s l before (inr is) =
+    let on = live s l is.counts before is.up is.there in
+    let order = in_order s l on.session before.known on.there in
+    let most = order.published in
+    let counted = on.agree.completed in
+    let published = on.agree.published in
+    let asked = on.one.asked in
+    let descs = on.one.descs in
+    let number = on.number in
+    let first = finished_descs s l is.counts before is.there in
+    record {
+      pending = omega (arith, most, counted, published, asked, descs, number, first);
+      published = λ session there.
+          let two : Some on.session ≡ Some session = sym on.there ∙ there in
+          let same : on.session ≡ session = cc two in
+          subst (λ (x : ClientSession). x.completed + s.near.k ≤ x.published) same (omega (arith, counted, published, asked, descs, number, first));
+    }
+  where
+    counts_first : (o : Option ServerSession) (w : Option Work) (q : Option ServerCounts) (d : ServerCounts) → q ≡ Some d → ServerAgrees o w q → d.finished ≤ d.descs
+    counts_first None w None d there agrees = absurd (cc there)
+    counts_first None w (Some c) d there agrees = absurd agrees
+    counts_first (Some v) w None d there agrees = absurd agrees
+    counts_first (Some v) None (Some c) d there agrees = let same : c ≡ d = cc there in subst (λ (x : ServerCounts). x.finished ≤ x.descs) same (omega (arith, agrees.1.1))
+    counts_first (Some v) (Some work) (Some c) d there agrees = let same : c ≡ d = cc there in subst (λ (x : ServerCounts). x.finished ≤ x.descs) same (omega (arith, agrees.1.2))
+
+    finished_descs : (s : LaneState) (l : DiskLog) (d : ServerCounts) → Before s l → l.work.server ≡ Some d → d.finished ≤ d.descs
+    finished_descs s l d before there = counts_first s.server.session s.server.work l.work.server d there before.known.agree.server
+
+pub placed : (s : LaneState) (l : DiskLog) → Before s l → Placed s.client.blocks (view_of s)
+placed s l before =
+    let finished = finished_by s l before (live_or_not l.wire.wire.end_b l.work.server) in
+    record {
+      sound = before.known.memory.sound;
+      some = before.known.memory.some;
+      few = before.known.sound.pending;
+      room = buffers_room s before.known.memory.long;
+      finished = finished.pending;
+      serves = λ work is.
+          let on = working s l work before is in
+          let order = in_order s l on.live.session before.known on.live.there in
+          let most = order.published in
+          omega (arith, on.served, most);
+      published = finished.published;
+      most = λ session is. (in_order s l session before.known is).published;
+      served = λ session is work now.
+          let on = working s l work before now in
+          let two : Some on.live.session ≡ Some session = sym on.live.there ∙ is in
+          let same : on.live.session ≡ session = cc two in
+          subst (λ (x : ClientSession). x.completed + s.near.k < x.published) same on.served;
+    }

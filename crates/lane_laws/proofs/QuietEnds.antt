@@ -1,0 +1,100 @@
+-- Where nobody forged and nothing was lost, two ends that rest have finished: both sessions are open, and nothing is pending.
+use Rattle.std.proofs.Common.{◌≡◌, true, false, Option, Some, None, List, refl, sym, ap, ◌∙◌, subst, arith}
+use Rattle.std.specs.Prelude.{is_some}
+use Rattle.runs.specs.Lawful.{log_of}
+use Rattle.runs.specs.Run.{Run}
+use Rattle.ldc_link.specs.declared.phase.Role.TheVariants.{Initiator, Responder}
+use Rattle.disk_model.specs.Sayings.{heard, said}
+use Rattle.disk_model.specs.WireLog.{WireLog}
+use Rattle.disk_model.specs.DiskLog.{DiskLog, after, nothing_yet}
+use Rattle.disk_model.specs.QuietLaws.{ClientIsIdle, IsAtRest, ServerIsIdle}
+use Rattle.disk_model.specs.WorkLaws.{IfClient, IfServer}
+use Rattle.disk_model.specs.WorkLog.{ClientCounts, ServerCounts}
+use Rattle.disk_model.specs.ClientRule as client_rules
+use Rattle.disk_model.specs.DiskEvent.{DiskEvent}
+use Rattle.disk_model.specs.LaneState.{IsShape, LaneState, Shape, fresh}
+use Rattle.disk_model.specs.LaneStep.{LaneStep}
+use Rattle.disk_model.specs.ServerRule as server_rules
+use Rattle.lane_laws.proofs.EndPlaced.{AtPlace}
+use Rattle.lane_laws.proofs.LaneCounting.{Knows}
+use Rattle.lane_laws.proofs.LanePlacing.{LanePlaced}
+use Rattle.lane_laws.proofs.OpeningDeal.{deal}
+use Rattle.lane_laws.proofs.PlacesAlong.{run_placed}
+use Rattle.lane_laws.proofs.Ruling.{client_may, server_may}
+use Rattle.lane_laws.specs.Counted.{acked_of, announced_of, range_sum}
+use Rattle.lane_laws.specs.RuleFacts.{ClientMay, ServerMay}
+use Rattle.lane_laws.proofs.Counting.{OfClient, OfServer, of_client, of_server}
+use Rattle.lane_laws.proofs.HeardAll.{BothQuiet, HeardAll, heard_all}
+use Rattle.lane_laws.proofs.IdleLaw.{idle_client, idle_server, none_waits}
+use Rattle.lane_laws.proofs.IdleRules.{ClientIdles, ServerIdles, client_idles, server_idles}
+use Rattle.lane_laws.proofs.LinkRuns.{run_links}
+use Rattle.lane_laws.proofs.QuietPlaces.{both_said_all}
+use Rattle.lane_laws.proofs.WorkNumbers.{Grounded, at_client, at_server, order_of}
+
+-- TWO ENDS AT REST: resting is the next step of each
+pub record BothRest (s : LaneState) : Type 0 where
+  pub client : client_rules.client_rule s.client (at_client s) ≡ client_rules.Rests
+  pub server : server_rules.server_rule s.server (at_server s) ≡ server_rules.Rests
+
+both_quiet : (s : LaneState) → BothRest s → s.wire.lossy ≡ false → BothQuiet s
+both_quiet s rest whole =
+    let client : ClientIdles s.client (at_client s) = client_idles s.client (at_client s) rest.client in
+    let server : ServerIdles s.server (at_server s) = server_idles s.server (at_server s) rest.server in
+    record {
+      up_a = subst (ClientMay s.client (at_client s)) rest.client (client_may s.client (at_client s));
+      up_b = subst (ServerMay s.server (at_server s)) rest.server (server_may s.server (at_server s));
+      whole = whole;
+      to_a = none_waits s.wire.wire.to_a client.rests.first;
+      to_b = none_waits s.wire.wire.to_b server.first;
+      client = client.rests.rests.free;
+      server = server.free;
+    }
+
+-- an open session is one
+pub some_is : {X : Type 0} (o : Option X) → is_some o ≡ true → (x : X) × (o ≡ Some x)
+some_is {X} None now = absurd (cc now)
+some_is {X} (Some x) now = (x, refl)
+
+-- THE COUNTS of both sessions are one
+finished_all : (s : LaneState) (l : DiskLog) → Grounded s l → BothRest s → HeardAll s l.talk → is_some s.client.session ≡ true → is_some s.server.session ≡ true → IsAtRest l
+finished_all s l grounded rest all client_open server_open =
+    let c = some_is s.client.session client_open in
+    let v = some_is s.server.session server_open in
+    let client = grounded.knows.counted.client in
+    let server = grounded.knows.counted.server in
+    let k : OfClient c.0 l.work.done l.work.client = of_client s.client.session c.0 l.work.done l.work.client c.1 client.agrees in
+    let d : OfServer v.0 s.server.work l.work.server = of_server s.server.session v.0 s.server.work l.work.server v.1 server.agrees in
+    let order = order_of l.shape.slots s.server.session v.0 l.work.server d.counts l.talk.server v.1 d.is server.order in
+    let idle_c : ClientIsIdle l k.counts = subst (λ (o : Option ClientCounts). IfClient o (ClientIsIdle l)) k.is (idle_client s l grounded (client_idles s.client (at_client s) rest.client)) in
+    let idle_v : ServerIsIdle d.counts = subst (λ (o : Option ServerCounts). IfServer o ServerIsIdle) d.is (idle_server s l grounded (server_idles s.server (at_server s) rest.server)) in
+    let announced : c.0.announced ≡ range_sum l.shape.slots 1 (said l.talk.client) = sym (ap announced_of c.1) ∙ client.announced in
+    let acked : c.0.acked ≡ range_sum l.shape.slots 2 (heard l.talk.client) = sym (ap acked_of c.1) ∙ client.acked in
+    let asked : d.counts.asked ≡ c.0.announced = order.asked ∙ ap (range_sum l.shape.slots 1) (sym all.to_server) ∙ sym announced in
+    let answered : d.counts.answered ≡ c.0.acked = order.answered ∙ ap (range_sum l.shape.slots 2) all.to_client ∙ sym acked in
+    record {
+      finished = omega (arith, idle_c.completed, idle_c.published, idle_c.announced, idle_v.fetched, idle_v.answered, asked, answered, k.agree.announced, k.agree.acked);
+      client_open = λ none. let never : None ≡ Some k.counts = sym none ∙ k.is in absurd (cc never);
+      server_open = λ none. let never : None ≡ Some d.counts = sym none ∙ d.is in absurd (cc never);
+    }
+
+-- THE LAW of two ends at rest
+pub record Finished (s : LaneState) (l : DiskLog) : Type 0 where
+  pub at_rest : IsAtRest l
+  pub client : is_some s.client.session ≡ true
+  pub server : is_some s.server.session ≡ true
+
+pub quiet_ends : (shape : Shape) (events : List DiskEvent) (s : LaneState) → IsShape shape → Run LaneStep (fresh shape) events s → s.wire.forged ≡ false → s.wire.lossy ≡ false
+    → Grounded s (log_of after (nothing_yet shape) events) → BothRest s → Finished s (log_of after (nothing_yet shape) events)
+quiet_ends shape events s sound run clean whole grounded rest =
+    let l = log_of after (nothing_yet shape) events in
+    let quiet : BothQuiet s = both_quiet s rest whole in
+    let knows : Knows s l = grounded.knows in
+    let all : HeardAll s l.talk = heard_all s l.talk quiet (knows.all.talks.unforged clean) (run_links shape events s sound run clean) in
+    let placed : LanePlaced shape s l.talk = run_placed shape events s sound run (sym (ap (λ (w : WireLog). w.forged) knows.all.stands.wire) ∙ clean) in
+    let at : AtPlace (deal shape placed.sid 0) Initiator s.client.shake (is_some s.client.session) l.talk.client = (placed.client quiet.up_a).up all.client_up in
+    let there : AtPlace (deal shape placed.sid 0) Responder s.server.shake (is_some s.server.session) l.talk.server = (placed.server quiet.up_b).up all.server_up in
+    let places = both_said_all shape placed.sid s.client.shake s.server.shake (is_some s.client.session) (is_some s.server.session) l.talk.client l.talk.server at there
+    (client_idles s.client (at_client s) rest.client).rests.rests.owed (server_idles s.server (at_server s) rest.server).owed all.to_server all.to_client in
+    let client_open : is_some s.client.session ≡ true = at.opened places.0 in
+    let server_open : is_some s.server.session ≡ true = there.opened places.1 in
+    record { at_rest = finished_all s l grounded rest all client_open server_open; client = client_open; server = server_open }

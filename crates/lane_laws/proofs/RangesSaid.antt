@@ -1,0 +1,211 @@
+-- Which messages name a range of slots, and which agree to RDX: by their bytes, as they were heard and as they are said.
+use Rattle.std.proofs.Common.{◌≡◌, ◌≢◌, ℕ, ◌^◌, ◌<◌, ◌⊎◌, inl, inr, Bool, true, false, Some, None, List, refl, sym, ap, ◌∙◌, subst, arith}
+use Rattle.std.specs.Prelude.{◌&&◌, ◌==◌, ⊤}
+use Rattle.std.proofs.lemmas.Bool.{and_parts, eqb-true}
+use Rattle.std.proofs.lemmas.Bool.Decides.{nat_tests}
+use Rattle.ldc_packet.specs.declared.packet.Subtype.{Subtype}
+use Rattle.ldc_packet.specs.declared.packet.Subtype.TheVariants.{Ack, Info, Nack}
+use Rattle.ldc_packet.specs.Spelling.{subtype_code}
+use Rattle.vio_tag.proofs.Canonical.{canonical_spells}
+use Rattle.vio_tag.specs.declared.message.Message.{Message}
+use Rattle.vio_tag.specs.declared.message.MsgBody.{MsgBody}
+use Rattle.vio_tag.specs.declared.message.MsgBody.TheVariants.{Attr, DringData, DringReg, DringUnreg, Mcast, Plain, Rdx, Ver}
+use Rattle.vio_tag.specs.Form.{HasForm, IsWellFormed}
+use Rattle.vio_tag.specs.Spelling.{SpellsBody, SpellsMessage, canonical, envelope_at, envelope_code, subtype_at}
+use Rattle.vio_handshake.specs.declared.handshake.Phase.{Phase}
+use Rattle.vio_handshake.specs.declared.handshake.Phase.TheVariants.{PeerReadyTaken}
+use Rattle.disk_model.specs.Messages.{end_of, is_range, range_if, range_in, start_of}
+use Rattle.disk_model.specs.WorkLog.{length_in, one_in}
+use Rattle.disk_model.specs.Ranges.{range_length}
+use Rattle.lane_laws.specs.Counted.{is_ready}
+use Rattle.lane_laws.specs.ShakeFits.{MayOwe}
+
+-- THE ENVELOPE AND THE SUBTYPE of canonical bytes
+abbrev pub IsNoPlain : MsgBody → Type 0
+IsNoPlain (Plain envelope) = ⊥
+IsNoPlain _ = ⊤
+
+pub envelope_reads : (s : Subtype) (n : ℕ) (b : MsgBody) → IsNoPlain b → envelope_at (canonical (record { subtype = s; sid = n; body = b })) ≡ envelope_code b
+unfolding canonical
+envelope_reads s n (Ver major minor class) not = refl
+envelope_reads s n (Attr bytes) not = refl
+envelope_reads s n (DringReg ident slots slot_size options count cookies) not = refl
+envelope_reads s n (DringUnreg ident) not = refl
+envelope_reads s n Rdx not = refl
+envelope_reads s n (DringData seq ident start end state) not = refl
+envelope_reads s n (Mcast set count addresses) not = refl
+envelope_reads s n (Plain envelope) not = absurd not
+
+pub subtype_reads : (m : Message) → subtype_at (canonical m) ≡ subtype_code m.subtype
+unfolding canonical
+subtype_reads m = omega arith
+
+-- what the bytes say of their kind
+pub record IsOf (bytes : List ℕ) (s : Subtype) (b : MsgBody) : Type 0 where
+  pub envelope : envelope_at bytes ≡ envelope_code b
+  pub subtype : subtype_at bytes ≡ subtype_code s
+
+pub spelled_of : (bytes : List ℕ) (m : Message) → SpellsMessage bytes m → IsOf bytes m.subtype m.body
+spelled_of bytes m spells = record { envelope = spells.envelope; subtype = spells.subtype }
+
+pub canonical_of : (m : Message) → IsNoPlain m.body → IsOf (canonical m) m.subtype m.body
+canonical_of m not = record { envelope = envelope_reads m.subtype m.sid m.body not; subtype = subtype_reads m }
+
+-- NO RANGE
+abbrev pub IsNoData : MsgBody → Type 0
+IsNoData (DringData seq ident start end state) = ⊥
+IsNoData _ = ⊤
+
+other_code : (b : MsgBody) → IsNoData b → IsNoPlain b → envelope_code b ≢ 0x0042
+other_code (Ver major minor class) not plain is = absurd (omega (arith, is))
+other_code (Attr bytes) not plain is = absurd (omega (arith, is))
+other_code (DringReg ident slots slot_size options count cookies) not plain is = absurd (omega (arith, is))
+other_code (DringUnreg ident) not plain is = absurd (omega (arith, is))
+other_code Rdx not plain is = absurd (omega (arith, is))
+other_code (DringData seq ident start end state) not plain is = absurd not
+other_code (Mcast set count addresses) not plain is = absurd (omega (arith, is))
+other_code (Plain envelope) not plain is = absurd plain
+
+pub formed_code : (b : MsgBody) → IsNoData b → HasForm b → envelope_code b ≢ 0x0042
+formed_code (Plain envelope) not (inl form) is = absurd (omega (arith, is, form))
+formed_code (Plain envelope) not (inr form) is = absurd (omega (arith, is, form))
+formed_code (Ver major minor class) not form is = absurd (omega (arith, is))
+formed_code (Attr bytes) not form is = absurd (omega (arith, is))
+formed_code (DringReg ident slots slot_size options count cookies) not form is = absurd (omega (arith, is))
+formed_code (DringUnreg ident) not form is = absurd (omega (arith, is))
+formed_code Rdx not form is = absurd (omega (arith, is))
+formed_code (DringData seq ident start end state) not form is = absurd not
+formed_code (Mcast set count addresses) not form is = absurd (omega (arith, is))
+
+unequal : (a b : ℕ) → a ≢ b → (a == b) ≡ false
+unequal a b not = if_not (a == b) refl
+  where
+    if_not : (test : Bool) → (a == b) ≡ test → test ≡ false
+    if_not true is = absurd (not (eqb-true a b is))
+    if_not false is = refl
+
+no_range : (k : ℕ) (bytes : List ℕ) → is_range k bytes ≡ false → range_in k (Some bytes) ≡ None
+no_range k bytes is = ap (λ (b : Bool). range_if b bytes) is
+
+pub other_envelope : (k : ℕ) (bytes : List ℕ) → envelope_at bytes ≢ 0x0042 → range_in k (Some bytes) ≡ None
+other_envelope k bytes not = no_range k bytes (rw (unequal (envelope_at bytes) 0x0042 not) refl)
+
+pub other_subtype : (k : ℕ) (bytes : List ℕ) → subtype_at bytes ≢ k → range_in k (Some bytes) ≡ None
+other_subtype k bytes not = no_range k bytes (and_false (envelope_at bytes == 0x0042) (subtype_at bytes == k) (unequal (subtype_at bytes) k not))
+  where
+    and_false : (a b : Bool) → b ≡ false → (a && b) ≡ false
+    and_false true b is = is
+    and_false false b is = refl
+
+-- a message of the handshake that was heard
+pub heard_no_range : (k : ℕ) (bytes : List ℕ) (m : Message) → SpellsMessage bytes m → IsWellFormed m → IsNoData m.body → range_in k (Some bytes) ≡ None
+heard_no_range k bytes m spells form not =
+    other_envelope k bytes (λ (is : envelope_at bytes ≡ 0x0042). formed_code m.body not form (sym spells.envelope ∙ is))
+
+-- what a handshake owes
+owed_in : (phase : Phase) (k n : ℕ) (s : Subtype) (b : MsgBody) → (k ≡ 1) ⊎ (k ≡ 2) → MayOwe phase s b → range_in k (Some (canonical (record { subtype = s; sid = n; body = b }))) ≡ None
+owed_in phase k n Nack b kind may =
+    other_subtype k (canonical (record { subtype = Nack; sid = n; body = b }))
+    (λ (is : subtype_at (canonical (record { subtype = Nack; sid = n; body = b })) ≡ k). never kind (sym (subtype_reads (record { subtype = Nack; sid = n; body = b })) ∙ is))
+  where
+    never : (k ≡ 1) ⊎ (k ≡ 2) → 4 ≡ k → ⊥
+    never (inl one) is = absurd (omega (arith, one, is))
+    never (inr two) is = absurd (omega (arith, two, is))
+owed_in phase k n s (DringData seq ident start end state) kind may = absurd may
+owed_in phase k n s (Plain envelope) kind may = absurd may
+owed_in phase k n s (Mcast set count addresses) kind may = absurd may
+owed_in phase k n s b kind may = other_envelope k (canonical (record { subtype = s; sid = n; body = b })) (λ is. other_code b tt tt (sym (envelope_reads s n b tt) ∙ is))
+
+pub owed_no_range : (phase : Phase) (k : ℕ) (m : Message) → (k ≡ 1) ⊎ (k ≡ 2) → MayOwe phase m.subtype m.body → range_in k (Some (canonical m)) ≡ None
+owed_no_range phase k m kind may = owed_in phase k m.sid m.subtype m.body kind may
+
+-- A RANGE, as it was heard
+pub range_is : (k : ℕ) (bytes : List ℕ) → envelope_at bytes ≡ 0x0042 → subtype_at bytes ≡ k → range_in k (Some bytes) ≡ Some bytes
+range_is k bytes envelope subtype =
+    let test : is_range k bytes ≡ true = rw (envelope, subtype) (same_test k) in ap (λ (b : Bool). range_if b bytes) test
+  where
+    same_test : (n : ℕ) → (true && n == n) ≡ true
+    same_test n = let same : (n == n) ≡ true = grind (arith, nat_tests) in same
+
+pub heard_range : (slots k : ℕ) (bytes : List ℕ) (m : Message) (seq ident start end state : ℕ) → SpellsMessage bytes m → subtype_code m.subtype ≡ k
+    → m.body ≡ DringData seq ident start end state → length_in slots (range_in k (Some bytes)) ≡ range_length slots start end
+heard_range slots k bytes m seq ident start end state spells kind body =
+    let envelope : envelope_at bytes ≡ 0x0042 = spells.envelope ∙ ap envelope_code body in
+    let fields : SpellsBody bytes (DringData seq ident start end state) = subst (SpellsBody bytes) body spells.body in
+    ap (length_in slots) (range_is k bytes envelope (spells.subtype ∙ kind))
+    ∙ ap (λ (n : ℕ). range_length slots n (end_of bytes)) (sym fields.2) ∙ ap (λ (n : ℕ). range_length slots start n) (sym fields.3)
+
+pub heard_one : (k : ℕ) (bytes : List ℕ) (m : Message) (seq ident start end state : ℕ) → SpellsMessage bytes m → subtype_code m.subtype ≡ k
+    → m.body ≡ DringData seq ident start end state → one_in (range_in k (Some bytes)) ≡ 1
+heard_one k bytes m seq ident start end state spells kind body =
+    ap one_in (range_is k bytes (spells.envelope ∙ ap envelope_code body) (spells.subtype ∙ kind))
+
+-- and as it is said: the fields of its slots are read back, whatever the others are
+simple : Subtype → ℕ → ℕ → Message
+simple s start end = record { subtype = s; sid = 0; body = DringData 0 0 start end 0 }
+
+same_start : (s : Subtype) (n seq ident start end state : ℕ)
+    → start_of (canonical (record { subtype = s; sid = n; body = DringData seq ident start end state })) ≡ start_of (canonical (simple s start end))
+unfolding canonical simple
+same_start s n seq ident start end state = refl
+
+same_end : (s : Subtype) (n seq ident start end state : ℕ)
+    → end_of (canonical (record { subtype = s; sid = n; body = DringData seq ident start end state })) ≡ end_of (canonical (simple s start end))
+unfolding canonical simple
+same_end s n seq ident start end state = refl
+
+simple_spells : (s : Subtype) (start end : ℕ) → start < 2 ^ 32 → end < 2 ^ 32 → SpellsMessage (canonical (simple s start end)) (record { subtype = s; sid = 0; body = DringData 0 0 start end 0 })
+unfolding simple
+simple_spells s start end small_start small_end =
+    canonical_spells (record { subtype = s; sid = 0; body = DringData 0 0 start end 0 }) tt (omega arith, (omega arith, omega arith, small_start, small_end, omega arith))
+
+pub said_range : (slots k n : ℕ) (s : Subtype) (seq ident start end state : ℕ) → subtype_code s ≡ k → start < 2 ^ 32 → end < 2 ^ 32
+    → length_in slots (range_in k (Some (canonical (record { subtype = s; sid = n; body = DringData seq ident start end state })))) ≡ range_length slots start end
+said_range slots k n s seq ident start end state kind small_start small_end =
+    let bytes = canonical (record { subtype = s; sid = n; body = DringData seq ident start end state }) in
+    let spells = simple_spells s start end small_start small_end in
+    let begins : start_of bytes ≡ start = same_start s n seq ident start end state ∙ sym spells.body.2 in
+    let ends : end_of bytes ≡ end = same_end s n seq ident start end state ∙ sym spells.body.3 in
+    ap (length_in slots) (range_is k bytes (envelope_reads s n (DringData seq ident start end state) tt) (subtype_reads (record { subtype = s; sid = n; body = DringData seq ident start end state }) ∙ kind))
+    ∙ ap (λ (x : ℕ). range_length slots x (end_of bytes)) begins ∙ ap (λ (x : ℕ). range_length slots start x) ends
+
+pub said_one : (k n : ℕ) (s : Subtype) (seq ident start end state : ℕ) → subtype_code s ≡ k
+    → one_in (range_in k (Some (canonical (record { subtype = s; sid = n; body = DringData seq ident start end state })))) ≡ 1
+said_one k n s seq ident start end state kind =
+    let bytes = canonical (record { subtype = s; sid = n; body = DringData seq ident start end state }) in
+    ap one_in (range_is k bytes (envelope_reads s n (DringData seq ident start end state) tt) (subtype_reads (record { subtype = s; sid = n; body = DringData seq ident start end state }) ∙ kind))
+
+pub said_other : (k other n : ℕ) (s : Subtype) (seq ident start end state : ℕ) → subtype_code s ≡ other → other ≢ k
+    → range_in k (Some (canonical (record { subtype = s; sid = n; body = DringData seq ident start end state }))) ≡ None
+said_other k other n s seq ident start end state kind not =
+    other_subtype k (canonical (record { subtype = s; sid = n; body = DringData seq ident start end state }))
+    (λ is. not (sym (subtype_reads (record { subtype = s; sid = n; body = DringData seq ident start end state }) ∙ kind) ∙ is))
+
+-- THE AGREEMENT TO RDX
+pub ready_heard : (bytes : List ℕ) (m : Message) → SpellsMessage bytes m → m.subtype ≡ Ack → m.body ≡ Rdx → is_ready bytes ≡ true
+ready_heard bytes m spells acks body =
+    let envelope : envelope_at bytes ≡ 5 = spells.envelope ∙ ap envelope_code body in
+    let subtype : subtype_at bytes ≡ 2 = spells.subtype ∙ ap subtype_code acks in
+    rw (envelope, subtype) refl
+
+-- a message that a handshake owes is one in one phase alone
+ready_codes : (envelope subtype : ℕ) → (envelope == 5 && subtype == 2) ≡ true → (envelope ≡ 5) × (subtype ≡ 2)
+ready_codes envelope subtype test = let both = and_parts (envelope == 5) (subtype == 2) test in (eqb-true envelope 5 both.0, eqb-true subtype 2 both.1)
+
+ready_in : (phase : Phase) (n : ℕ) (s : Subtype) (b : MsgBody) → MayOwe phase s b → is_ready (canonical (record { subtype = s; sid = n; body = b })) ≡ true → phase ≡ PeerReadyTaken
+ready_in phase n Ack Rdx may test = may
+ready_in phase n Nack b may test =
+    let m : Message = record { subtype = Nack; sid = n; body = b } in
+    absurd (omega (arith, subtype_reads m, (ready_codes (envelope_at (canonical m)) (subtype_at (canonical m)) test).1))
+ready_in phase n Info b may test =
+    let m : Message = record { subtype = Info; sid = n; body = b } in
+    absurd (omega (arith, subtype_reads m, (ready_codes (envelope_at (canonical m)) (subtype_at (canonical m)) test).1))
+ready_in phase n Ack (DringData seq ident start end state) may test = absurd may
+ready_in phase n Ack (Mcast set count addresses) may test = absurd may
+ready_in phase n Ack (Plain envelope) may test = absurd may
+ready_in phase n Ack b may test =
+    let m : Message = record { subtype = Ack; sid = n; body = b } in
+    absurd (omega (arith, envelope_reads Ack n b tt, (ready_codes (envelope_at (canonical m)) (subtype_at (canonical m)) test).0))
+
+pub canonical_ready : (phase : Phase) (m : Message) → MayOwe phase m.subtype m.body → is_ready (canonical m) ≡ true → phase ≡ PeerReadyTaken
+canonical_ready phase m may test = ready_in phase m.sid m.subtype m.body may test

@@ -1,0 +1,35 @@
+-- What holds of each lane that is reached, also where somebody forges.
+use Rattle.std.proofs.Common.{◌≡◌, ◌*◌, ◌≤◌, List, length, ap, ◌∙◌}
+use Rattle.runs.specs.Lawful.{log_of, run_lawful}
+use Rattle.runs.specs.Run.{Run}
+use Rattle.ldc_link.specs.Following.{Follows}
+use Rattle.disk_model.specs.DiskLog.{after, nothing_yet}
+use Rattle.disk_model.specs.RequestLaws.{CarriesAt}
+use Rattle.disk_model.specs.DiskEvent.{DiskEvent}
+use Rattle.disk_model.specs.LaneState.{IsShape, LaneState, Shape, fresh, pages_of}
+use Rattle.disk_model.specs.LaneStep.{LaneStep}
+use Rattle.lane_laws.proofs.CarriedRuns.{AllStand, all_step, fresh_all}
+use Rattle.lane_laws.proofs.HeardFront.{run_talks}
+use Rattle.lane_laws.specs.LaneTalks.{talk_behind}
+use Rattle.lane_laws.specs.MemoryStands.{memory_long}
+use Rattle.lane_laws.specs.Sound.{CountsInOrder}
+
+pub client_follows : (shape : Shape) (events : List DiskEvent) (s : LaneState) → IsShape shape → Run LaneStep (fresh shape) events s → Follows s.client.link (talk_behind events).client
+client_follows shape events s sound run = (run_talks shape events s sound run).follows_a
+
+pub server_follows : (shape : Shape) (events : List DiskEvent) (s : LaneState) → IsShape shape → Run LaneStep (fresh shape) events s → Follows s.server.link (talk_behind events).server
+server_follows shape events s sound run = (run_talks shape events s sound run).follows_b
+
+pub counts_stand : (shape : Shape) (events : List DiskEvent) (s : LaneState) → IsShape shape → Run LaneStep (fresh shape) events s → CountsInOrder (length s.client.pending) s.client.session
+counts_stand shape events s sound run = (run_talks shape events s sound run).client.counts
+
+pub pending_fits : (shape : Shape) (events : List DiskEvent) (s : LaneState) → IsShape shape → Run LaneStep (fresh shape) events s → length s.client.pending ≤ s.client.slots
+pending_fits shape events s sound run = (run_talks shape events s sound run).client.pending
+
+pub all_behind : (shape : Shape) (events : List DiskEvent) (s : LaneState) → IsShape shape → Run LaneStep (fresh shape) events s → AllStand s (log_of after (nothing_yet shape) events)
+all_behind shape events s sound run =
+    (run_lawful LaneStep CarriesAt after AllStand all_step (fresh shape) s (nothing_yet shape) events (fresh_all shape sound) run).1
+
+pub memory_stays : (shape : Shape) (events : List DiskEvent) (s : LaneState) → IsShape shape → Run LaneStep (fresh shape) events s → length s.memory ≡ 8192 * pages_of s.shape
+memory_stays shape events s sound run =
+    let all = all_behind shape events s sound run in all.memory.long ∙ ap memory_long all.stands.slots

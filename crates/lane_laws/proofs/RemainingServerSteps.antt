@@ -1,0 +1,237 @@
+-- The work of a server: what remains falls.
+use Rattle.std.proofs.Common.{◌≡◌, ◌≢◌, ℕ, ◌+◌, ◌-◌, ◌*◌, ◌%◌, ◌/◌, ◌≤◌, ◌<◌, Bool, true, false, Option, Some, None, List, refl, sym, ap, ◌∙◌, subst, arith}
+use Rattle.std.specs.Prelude.{⊤, not, nat_le, nat_lt, ◌&&◌, ◌||◌, ◌==◌, if◌then◌else◌}
+use Rattle.std.proofs.lemmas.Bool.{eqb-false, leb-true, ltb-true}
+use Rattle.cookie_copy.specs.declared.fault.CopyFault.{CopyFault}
+use Rattle.cookie_copy.specs.Faults.{is_up}
+use Rattle.ldc_link.specs.Putting.{owes}
+use Rattle.vdisk_msg.specs.Check.{first_defect, has_size, holds_cookies, is_allowed, is_within, moves_data}
+use Rattle.vdisk_msg.specs.declared.desc.DescFault.{DescFault}
+use Rattle.vdisk_msg.specs.declared.desc.DescFault.TheVariants as fault
+use Rattle.vdisk_msg.specs.declared.desc.DiskDesc.{DiskDesc}
+use Rattle.vdisk_msg.specs.Descriptor as slot_says
+use Rattle.vdisk_msg.specs.Pieces.{unit_count}
+use Rattle.vio_tag.specs.declared.message.Message.{Message}
+use Rattle.disk_model.specs.Ranges.{wrapped}
+use Rattle.disk_model.specs.Seeing.{Seen}
+use Rattle.disk_model.specs.ServerRule.{Fetches, Joins, Puts, Says, ServerRule, Serves, answer, in_range, in_session, says, server_rule, serves, takes_first}
+use Rattle.disk_model.specs.ServerState.{Ends, Flushes, Gathers, Gives, Progress, Reads, ServerSession, ServerState, SlotRange, Work, Writes}
+use Rattle.disk_model.specs.ServerStep.{ServerFetches, ServerFinishes, ServerMoves, ServerStores}
+use Rattle.disk_model.specs.ServerWork.{MovesIn, Reach, StoresIn, checked_progress, desc_of, first_progress, gathered, gathers_next, given, or_ends}
+use Rattle.lane_laws.proofs.RemainingServerPuts.{ServerLowers}
+use Rattle.lane_laws.specs.Remaining.{asked_in, pieces_left, server_packets, serving_left, unfinished, work_left}
+use Rattle.lane_laws.specs.RemainingSteps.{CountsFit}
+
+-- WHERE A SERVER WORKS: in its session, with some descriptor that it was asked for and didn't finish
+pub record Working (s : ServerState) (session : ServerSession) (work : Option Work) : Type 0 where
+  pub session_is : s.session ≡ Some session
+  pub work_is : s.work ≡ work
+  pub more : (session.finished == session.asked) ≡ false
+
+abbrev WorkMay : ServerState → ServerRule → Type 0
+WorkMay s (Fetches session) = Working s session None
+WorkMay s (Serves session work) = Working s session (Some work)
+WorkMay s _ = ⊤
+
+takes_may : (s : ServerState) (first : Option (List ℕ)) → WorkMay s (takes_first first)
+takes_may s None = tt
+takes_may s (Some packet) = tt
+
+serves_may : (s : ServerState) (session : ServerSession) (work : Option Work) → s.session ≡ Some session → s.work ≡ work → (session.finished == session.asked) ≡ false
+    → WorkMay s (serves session work)
+serves_may s session None is worked more = record { session_is = is; work_is = worked; more = more }
+serves_may s session (Some work) is worked more = record { session_is = is; work_is = worked; more = more }
+
+range_may : (s : ServerState) (session : ServerSession) (range : SlotRange) (b : Bool) → s.session ≡ Some session → (session.finished == session.asked) ≡ b
+    → WorkMay s (if b then Says (answer s range) else serves session s.work)
+range_may s session range true is all = tt
+range_may s session range false is more = serves_may s session s.work is refl more
+
+in_range_may : (s : ServerState) (at : Seen) (session : ServerSession) (range : Option SlotRange) → s.session ≡ Some session → WorkMay s (in_range s session range at)
+in_range_may s at session None is = takes_may s at.first
+in_range_may s at session (Some range) is = range_may s session range (session.finished == session.asked) is refl
+
+in_session_may : (s : ServerState) (at : Seen) (open_one : Option ServerSession) → s.session ≡ open_one → WorkMay s (in_session s open_one at)
+in_session_may s at None is = takes_may s at.first
+in_session_may s at (Some session) is = in_range_may s at session session.range is
+
+says_may : (s : ServerState) (at : Seen) (owed : Option Message) → WorkMay s (says s owed at)
+says_may s at (Some message) = tt
+says_may s at None = in_session_may s at s.session refl
+
+puts_may : (s : ServerState) (at : Seen) (b : Bool) → WorkMay s (if b then Puts else says s s.shake.owed at)
+puts_may s at true = tt
+puts_may s at false = says_may s at s.shake.owed
+
+up_may : (s : ServerState) (at : Seen) (b : Bool) → WorkMay s (if b then (if owes s.link then Puts else says s s.shake.owed at) else Joins)
+up_may s at true = puts_may s at (owes s.link)
+up_may s at false = tt
+
+work_may : (s : ServerState) (at : Seen) → WorkMay s (server_rule s at)
+work_may s at = up_may s at (is_up at.state)
+
+-- A SESSION and a work of which less is left, with the same range and the same that was asked
+lower_sum : (packets less more by : ℕ) → less + by ≤ more → 2 * packets + less + by ≤ 2 * packets + more
+lower_sum packets less more by fall = omega (arith, fall)
+
+works_lower : (s : ServerState) (session next : ServerSession) (work later_work : Option Work) → Working s session work → next.range ≡ session.range → next.asked ≡ session.asked
+    → work_left (unfinished next) later_work + 1 ≤ work_left (unfinished session) work → ServerLowers 1 s (record s { session = Some next; work = later_work })
+works_lower s session next work later_work working range asked fall =
+    let before : serving_left s.work s.session ≡ work_left (unfinished session) work =
+    ap (λ (w : Option Work). serving_left w s.session) working.work_is ∙ ap (serving_left work) working.session_is in
+    let packets : server_packets (record s { session = Some next; work = later_work }) ≡ server_packets s =
+    ap (λ (n : Option SlotRange). server_packets (record s { session = Some (record next { range = n }) })) range
+    ∙ ap (λ (o : Option ServerSession). server_packets (record s { session = o })) (sym working.session_is) in
+    record {
+      asked = asked ∙ ap asked_in (sym working.session_is);
+      lowers = both_sums (server_packets (record s { session = Some next; work = later_work })) (server_packets s) (work_left (unfinished next) later_work) (work_left (unfinished session) work)
+          (serving_left s.work s.session) packets before fall;
+    }
+  where
+    both_sums : (a b less more was : ℕ) → a ≡ b → was ≡ more → less + 1 ≤ more → 2 * a + less + 1 ≤ 2 * b + was
+    both_sums a b less more was same is fall = omega (arith, same, is, fall)
+
+-- PIECES
+reads_less : (b : Bool) (size unit : ℕ) → nat_lt (unit + 1) (unit_count size) ≡ b → pieces_left (unit_count size) (if b then Reads (unit + 1) else Ends 0) + 1 ≤ 1 + 2 * (unit_count size - (unit + 1))
+reads_less true size unit is = omega (arith, ltb-true (unit + 1) (unit_count size) is)
+reads_less false size unit is = omega arith
+
+gathers_less : (b : Bool) (size unit : ℕ) → nat_lt (unit + 1) (unit_count size) ≡ b → pieces_left (unit_count size) (if b then Gathers (unit + 1) else Ends 0) + 1 ≤ 1 + 2 * (unit_count size - (unit + 1))
+gathers_less true size unit is = omega (arith, ltb-true (unit + 1) (unit_count size) is)
+gathers_less false size unit is = omega arith
+
+abbrev pub Less : Work → Progress → Progress → Type 0
+Less work next progress = pieces_left (unit_count (desc_of work).size) next + 1 ≤ pieces_left (unit_count (desc_of work).size) progress
+
+given_less : (why : Option CopyFault) (work : Work) (unit : ℕ) (bytes : List ℕ) → Less work (given why work unit) (Gives unit bytes)
+given_less None work unit bytes = reads_less (nat_lt (unit + 1) (unit_count (desc_of work).size)) (desc_of work).size unit refl
+given_less (Some why) work unit bytes = omega arith
+
+gathered_less : (why : Option CopyFault) (work : Work) (reach : Reach) (unit : ℕ) → Less work (gathered why work reach unit) (Gathers unit)
+gathered_less None work reach unit = omega arith
+gathered_less (Some why) work reach unit = omega arith
+
+pub moves_less : (progress : Progress) (work : Work) (reach : Reach) (unit : ℕ) (why : Option CopyFault) (next : Progress) (new : List ℕ)
+    → MovesIn progress work reach unit why next new → Less work next progress
+moves_less (Gives u bytes) work reach unit why next new moves = subst (λ (x : Progress). Less work x (Gives u bytes)) (sym moves.2) (given_less why work u bytes)
+moves_less (Gathers u) work reach unit why next new moves = subst (λ (x : Progress). Less work x (Gathers u)) (sym moves.2) (gathered_less why work reach u)
+moves_less _ work reach unit why next new moves = absurd moves
+
+or_ends_less : (failed : Bool) (work : Work) (next progress : Progress) → Less work next progress → Less work (Ends 5) progress → Less work (or_ends failed next) progress
+or_ends_less true work next progress less fails = fails
+or_ends_less false work next progress less fails = less
+
+pub stores_less : (progress : Progress) (work : Work) (operation block count : ℕ) (failed : Bool) (gave : List ℕ) (next : Progress)
+    → StoresIn progress work operation block count failed gave next → Less work next progress
+stores_less (Reads u) work operation block count failed gave next stores =
+    subst (λ (x : Progress). Less work x (Reads u)) (sym stores.2) (or_ends_less failed work (Gives u gave) (Reads u) (omega arith) (omega arith))
+stores_less (Writes u bytes) work operation block count failed gave next stores =
+    subst (λ (x : Progress). Less work x (Writes u bytes)) (sym stores.2)
+    (or_ends_less failed work (gathers_next (desc_of work).size u) (Writes u bytes)
+    (gathers_less (nat_lt (u + 1) (unit_count (desc_of work).size)) (desc_of work).size u refl) (omega arith))
+stores_less Flushes work operation block count failed gave next stores =
+    subst (λ (x : Progress). Less work x Flushes) (sym stores.4) (or_ends_less failed work (Ends 0) Flushes (omega arith) (omega arith))
+stores_less _ work operation block count failed gave next stores = absurd stores
+
+progress_lowers : (s : ServerState) (at : Seen) (session : ServerSession) (work : Work) (next : Progress) → server_rule s at ≡ Serves session work → Less work next work.progress
+    → ServerLowers 1 s (record s { work = Some (record work { progress = next }) })
+progress_lowers s at session work next rule less =
+    let working : Working s session (Some work) = subst (WorkMay s) rule (work_may s at) in
+    let lower = works_lower s session session (Some work) (Some (record work { progress = next })) working refl refl (omega (arith, less)) in
+    subst (λ (o : Option ServerSession). ServerLowers 1 s (record s { session = o; work = Some (record work { progress = next }) })) (sym working.session_is) lower
+
+pub moves_lowers : (s : ServerState) (at : Seen) (reach : Reach) (unit : ℕ) (why : Option CopyFault) (t : ServerState) (new : List ℕ) → ServerMoves s at reach unit why t new
+    → ServerLowers 1 s t
+moves_lowers s at reach unit why t new step =
+    subst (ServerLowers 1 s) (sym step.is)
+    (progress_lowers s at step.session step.work step.next step.rule (moves_less step.work.progress step.work reach unit why step.next new step.moves))
+
+pub stores_lowers : (s : ServerState) (at : Seen) (operation block count : ℕ) (failed : Bool) (gave : List ℕ) (t : ServerState)
+    → ServerStores s at operation block count failed gave t → ServerLowers 1 s t
+stores_lowers s at operation block count failed gave t step =
+    subst (ServerLowers 1 s) (sym step.is)
+    (progress_lowers s at step.session step.work step.next step.rule (stores_less step.work.progress step.work operation block count failed gave step.next step.stores))
+
+-- WHAT IS FETCHED has at most eight pieces
+no_defect : (b : Bool) (why : DescFault) (rest : Option DescFault) → (if b then Some why else rest) ≡ None → (b ≡ false) × (rest ≡ None)
+no_defect true why rest is = absurd (cc)
+no_defect false why rest is = (refl, is)
+
+not_false : (b : Bool) → not b ≡ false → b ≡ true
+not_false true is = refl
+not_false false is = absurd (cc)
+
+middle_true : (a b c : Bool) → (a && b && c) ≡ true → b ≡ true
+middle_true true true c is = refl
+middle_true false true c is = refl
+middle_true true false c is = absurd (cc)
+middle_true false false c is = absurd (cc)
+
+sound_size : (desc : DiskDesc) (blocks : ℕ) → moves_data desc.operation ≡ true → first_defect desc blocks 0x0e ≡ None → desc.size ≤ 32768
+sound_size desc blocks moves sound =
+    let allowed = no_defect (not (is_allowed desc.operation 0x0e)) fault.Operation _ sound in
+    let moved : (if not true then None else (if not (holds_cookies desc.count) then Some fault.Cookies else if not (has_size desc.size) then Some fault.Size
+    else if not (is_within desc.offset (desc.size / 512) blocks) then Some fault.Range else None)) ≡ None =
+    subst (λ (b : Bool). (if not b then None else (if not (holds_cookies desc.count) then Some fault.Cookies else if not (has_size desc.size) then Some fault.Size
+    else if not (is_within desc.offset (desc.size / 512) blocks) then Some fault.Range else None)) ≡ None) moves allowed.1 in
+    let held = no_defect (not (holds_cookies desc.count)) fault.Cookies _ moved in
+    let sized = no_defect (not (has_size desc.size)) fault.Size _ held.1 in
+    leb-true desc.size 32768 (middle_true (nat_lt 0 desc.size) (nat_le desc.size 32768) (desc.size % 512 == 0) (not_false (has_size desc.size) sized.0))
+
+few_units : (size : ℕ) → size ≤ 32768 → unit_count size ≤ 4
+few_units size most = omega (arith, most)
+
+few_of : (reads writes : Bool) (units : ℕ) → ((reads || writes) ≡ true → units ≤ 4) → pieces_left units (if reads then Reads 0 else if writes then Gathers 0 else Flushes) ≤ 8
+few_of true writes units few = omega (arith, few refl)
+few_of false true units few = omega (arith, few refl)
+few_of false false units few = omega arith
+
+few_checked : (defect : Option DescFault) (desc : DiskDesc) (blocks : ℕ) → first_defect desc blocks 0x0e ≡ defect → pieces_left (unit_count desc.size) (checked_progress defect desc) ≤ 8
+few_checked (Some why) desc blocks is = omega arith
+few_checked None desc blocks is =
+    few_of (desc.operation == 1) (desc.operation == 2) (unit_count desc.size) (λ moves. few_units desc.size (sound_size desc blocks moves is))
+
+pub few_pieces : (desc : DiskDesc) (blocks : ℕ) → pieces_left (unit_count desc.size) (first_progress blocks desc) ≤ 8
+few_pieces desc blocks = few_checked (first_defect desc blocks 0x0e) desc blocks refl
+
+-- WHERE THE COUNTS fit into 8 bytes
+counts_of : (open_one : Option ServerSession) (session : ServerSession) → open_one ≡ Some session → CountsFit open_one
+    → (session.asked < 18446744073709551616) × (session.finished < 18446744073709551616)
+counts_of open_one session is fit = subst CountsFit is fit
+
+some_left : (asked finished : ℕ) → finished ≢ asked → asked < 18446744073709551616 → finished < 18446744073709551616
+    → 1 ≤ ((asked + 18446744073709551616) - finished) % 18446744073709551616
+some_left asked finished other fits also = omega (arith, other, fits, also)
+
+one_less : (asked finished : ℕ) → finished ≢ asked → asked < 18446744073709551616 → finished < 18446744073709551616
+    → ((asked + 18446744073709551616) - (finished + 1) % 18446744073709551616) % 18446744073709551616 + 1 ≤ ((asked + 18446744073709551616) - finished) % 18446744073709551616
+one_less asked finished other fits also = omega (arith, other, fits, also)
+
+pub fetches_lowers : (s : ServerState) (at : Seen) (reach : Reach) (slot : ℕ) (bytes : List ℕ) (t : ServerState) (new : List ℕ) → CountsFit s.session
+    → ServerFetches s at reach slot bytes t new → ServerLowers 1 s t
+fetches_lowers s at reach slot bytes t new fit step =
+    let working : Working s step.session None = subst (WorkMay s) step.rule (work_may s at) in
+    let fits = counts_of s.session step.session working.session_is fit in
+    let some = some_left step.session.asked step.session.finished (eqb-false step.session.finished step.session.asked working.more) fits.0 fits.1 in
+    let next : Option Work = Some (record { bytes = bytes; progress = first_progress s.blocks (slot_says.disk_desc_of bytes) }) in
+    subst (ServerLowers 1 s) (sym step.is)
+    (works_lower s step.session (record step.session { descs = wrapped (step.session.descs + 1) }) None next working refl refl
+    (fetched_less (unfinished step.session) (pieces_left (unit_count (slot_says.disk_desc_of bytes).size) (first_progress s.blocks (slot_says.disk_desc_of bytes))) some
+    (few_pieces (slot_says.disk_desc_of bytes) s.blocks)))
+  where
+    fetched_less : (n pieces : ℕ) → 1 ≤ n → pieces ≤ 8 → pieces + 1 + 10 * (n - 1) + 1 ≤ 10 * n
+    fetched_less n pieces some few = omega (arith, some, few)
+
+pub finishes_lowers : (s : ServerState) (at : Seen) (reach : Reach) (slot status : ℕ) (t : ServerState) (new : List ℕ) → CountsFit s.session
+    → ServerFinishes s at reach slot status t new → ServerLowers 1 s t
+finishes_lowers s at reach slot status t new fit step =
+    let working : Working s step.session (Some step.work) = subst (WorkMay s) step.rule (work_may s at) in
+    let fits = counts_of s.session step.session working.session_is fit in
+    let less = one_less step.session.asked step.session.finished (eqb-false step.session.finished step.session.asked working.more) fits.0 fits.1 in
+    let next : ServerSession = record step.session { finished = wrapped (step.session.finished + 1) } in
+    subst (ServerLowers 1 s) (sym step.is)
+    (works_lower s step.session next (Some step.work) None working refl refl
+    (finished_less (unfinished next) (unfinished step.session) (pieces_left (unit_count (desc_of step.work).size) step.work.progress) less))
+  where
+    finished_less : (few n pieces : ℕ) → few + 1 ≤ n → 10 * few + 1 ≤ pieces + 1 + 10 * (n - 1)
+    finished_less few n pieces less = omega (arith, less)

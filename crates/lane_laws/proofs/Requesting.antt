@@ -1,0 +1,183 @@
+-- What a client's step does to its requests.
+use Rattle.std.proofs.Common.{◌≡◌, ℕ, ◌+◌, ◌<◌, Bool, true, false, Option, Some, None, List, [], ◌∷◌, ◌++◌, length, drop, refl, sym, ap, ◌∙◌, subst, arith, length-drop, length-append}
+use Rattle.std.specs.Prelude.{zero, suc, slice_get}
+use Rattle.std.proofs.lemmas.List.{drop-append-le, drop-drop}
+use Rattle.vdisk_msg.specs.declared.request.Request.{Request}
+use Rattle.vdisk_msg.specs.Requests.{operation_of}
+use Rattle.disk_model.specs.WorkLog.{WorkLog}
+use Rattle.disk_model.specs.ClientPutting.{announced, announcement, announcing, client_holds, client_kind, client_put, holding, opened_if, session_behind}
+use Rattle.disk_model.specs.ClientRule.{Announces, ClientRule, Completes, Joins, Publishes, Puts, Rests, Says, Takes, client_rule}
+use Rattle.disk_model.specs.ClientState.{ClientSession, ClientState, first_id, joined_client}
+use Rattle.disk_model.specs.ClientStep.{ClientCompletes, ClientPublishes, ClientSends}
+use Rattle.disk_model.specs.ClientTaking.{ClientTakes, GoesOn}
+use Rattle.disk_model.specs.EndPuts.{ComesUp, EndsOwn, EndsShake, Goes, PutKind, put_opens}
+use Rattle.disk_model.specs.Seeing.{Seen}
+use Rattle.lane_laws.proofs.ClientHearing.{by_link}
+use Rattle.lane_laws.proofs.Ruling.{client_may}
+use Rattle.lane_laws.specs.RuleFacts.{ClientMay}
+use Rattle.lane_laws.specs.Sound.{ClientSound}
+use Rattle.lane_laws.specs.Standing.{RequestsStand, SessionStands}
+
+-- its requests stay, and so does what its session counts, or it opens at the first that isn't done
+pub record KeepsRequests (c t : ClientState) : Type 0 where
+  pub pending : t.pending ≡ c.pending
+  pub next : t.next_id ≡ c.next_id
+  pub blocks : t.blocks ≡ c.blocks
+  pub slots : t.slots ≡ c.slots
+  pub session : (done : ℕ) → done ≡ first_id c → SessionStands done c.session → SessionStands done t.session
+
+pub stays_kept : (c : ClientState) → KeepsRequests c c
+stays_kept c = record { pending = refl; next = refl; blocks = refl; slots = refl; session = λ done first stands. stands }
+
+pub joined_kept : (c : ClientState) → KeepsRequests c (joined_client c)
+joined_kept c = record { pending = refl; next = refl; blocks = refl; slots = refl; session = λ done first stands. tt }
+
+pub took_kept : (c : ClientState) (packet : List ℕ) (t : ClientState) → ClientSound c → ClientTakes c packet (GoesOn t) → KeepsRequests c t
+took_kept c packet t sound takes =
+    let by = by_link c packet takes.link t sound takes.takes takes.hears in
+    record { pending = by.2.pending; next = by.2.next; blocks = by.2.blocks; slots = by.2.slots; session = λ done first stands. by.2.keeps done stands }
+
+-- a session after a packet that was put
+announced_stands : (done : ℕ) (session : Option ClientSession) → SessionStands done session → SessionStands done (announced session)
+announced_stands done None stands = tt
+announced_stands done (Some s) stands = stands
+
+opened_stands : (b : Bool) (c : ClientState) (done : ℕ) → done ≡ first_id c → SessionStands done c.session → SessionStands done (opened_if b c)
+opened_stands true c done first stands = omega (arith, first)
+opened_stands false c done first stands = stands
+
+behind_stands : (kind : PutKind) (c : ClientState) (done : ℕ) → done ≡ first_id c → SessionStands done c.session → SessionStands done (session_behind kind c)
+behind_stands EndsOwn c done first stands = announced_stands done c.session stands
+behind_stands Goes c done first stands = stands
+behind_stands ComesUp c done first stands = stands
+behind_stands EndsShake c done first stands = opened_stands (put_opens EndsShake c.shake) c done first stands
+
+put_kept : (c : ClientState) (kind : PutKind) (t : ClientState) → t.session ≡ session_behind kind c → t.pending ≡ c.pending → t.next_id ≡ c.next_id
+    → t.blocks ≡ c.blocks → t.slots ≡ c.slots → KeepsRequests c t
+put_kept c kind t session pending next blocks slots = record {
+  pending = pending;
+  next = next;
+  blocks = blocks;
+  slots = slots;
+  session = λ done first stands. subst (SessionStands done) (sym session) (behind_stands kind c done first stands);
+}
+
+held_is : (c one other : ClientState) → Some one ≡ Some other → KeepsRequests c one → KeepsRequests c other
+held_is c one other is kept = let same : one ≡ other = cc is in subst (λ (x : ClientState). KeepsRequests c x) same kept
+
+announcing_kept : (c : ClientState) (session : ClientSession) → c.session ≡ Some session → KeepsRequests c (announcing session (holding (announcement c session) c))
+announcing_kept c session is = record {
+  pending = refl;
+  next = refl;
+  blocks = refl;
+  slots = refl;
+  session = λ done first stands. subst (SessionStands done) is stands;
+}
+
+pub held_kept : (c : ClientState) (at : Seen) (rule : ClientRule) (held : ClientState) → ClientMay c at rule → client_holds rule c ≡ Some held → KeepsRequests c held
+held_kept c at Puts held may is = held_is c c held is (stays_kept c)
+held_kept c at (Says message) held may is =
+    held_is c (holding message c) held is (record { pending = refl; next = refl; blocks = refl; slots = refl; session = λ done first stands. stands })
+held_kept c at (Announces session) held may is = held_is c (announcing session (holding (announcement c session) c)) held is (announcing_kept c session may.3)
+held_kept c at Joins held may is = absurd (cc)
+held_kept c at (Completes session) held may is = absurd (cc)
+held_kept c at (Takes packet) held may is = absurd (cc)
+held_kept c at (Publishes session request) held may is = absurd (cc)
+held_kept c at Rests held may is = absurd (cc)
+
+-- one after the other
+both_kept : (c m t : ClientState) → KeepsRequests c m → KeepsRequests m t → KeepsRequests c t
+both_kept c m t one other = record {
+  pending = other.pending ∙ one.pending;
+  next = other.next ∙ one.next;
+  blocks = other.blocks ∙ one.blocks;
+  slots = other.slots ∙ one.slots;
+  session = λ done first stands. other.session done (first ∙ sym (same_first c m one)) (one.session done first stands);
+}
+  where
+    same_first : (c m : ClientState) → KeepsRequests c m → first_id m ≡ first_id c
+    same_first c m one = omega (arith, one.next, ap length one.pending)
+
+pub sent_kept : (c : ClientState) (at : Seen) (memory packet : List ℕ) (opens : Bool) (t : ClientState) (new : List ℕ) → ClientSends c at memory packet opens t new → KeepsRequests c t
+sent_kept c at memory packet opens t new sends =
+    let held = held_kept c at (client_rule c at) sends.held (client_may c at) sends.holds in
+    let put : KeepsRequests sends.held (client_put sends.held) = put_kept sends.held (client_kind sends.held) (client_put sends.held) refl refl refl refl refl in
+    subst (λ (x : ClientState). KeepsRequests c x) (sym sends.is) (both_kept c sends.held (client_put sends.held) held put)
+
+pub published_kept : (c : ClientState) (at : Seen) (memory : List ℕ) (id : ℕ) (t : ClientState) (new : List ℕ) → ClientPublishes c at memory id t new → KeepsRequests c t
+published_kept c at memory id t new step =
+    let may : ClientMay c at (Publishes step.session step.request) = subst (ClientMay c at) step.rule (client_may c at) in
+    subst (λ (x : ClientState). KeepsRequests c x) (sym step.is)
+    (record { pending = refl; next = refl; blocks = refl; slots = refl; session = λ done first stands. subst (SessionStands done) may.1 stands })
+
+-- REQUESTS THAT STAND: the first that isn't done is the number of those that are
+pub first_done : (c : ClientState) (w : WorkLog) → RequestsStand c w → w.done ≡ first_id c
+first_done c w stand = omega (arith, stand.next, stand.done, ap length stand.pending, length-drop w.done w.issued)
+
+pub kept_stand : (c t : ClientState) (w : WorkLog) → RequestsStand c w → KeepsRequests c t → RequestsStand t w
+kept_stand c t w stand kept = record {
+  pending = kept.pending ∙ stand.pending;
+  next = kept.next ∙ stand.next;
+  done = stand.done;
+  session = kept.session w.done (first_done c w stand) stand.session;
+}
+
+-- the log's other counts play no part
+pub same_stand : (c : ClientState) (w x : WorkLog) → x.issued ≡ w.issued → x.done ≡ w.done → RequestsStand c w → RequestsStand c x
+same_stand c w x issued done stand = record {
+  pending = stand.pending ∙ ap (λ (n : ℕ). drop n w.issued) (sym done) ∙ ap (λ (xs : List Request). drop x.done xs) (sym issued);
+  next = stand.next ∙ ap length (sym issued);
+  done = omega (arith, done, ap length issued, stand.done);
+  session = subst (λ (n : ℕ). SessionStands n c.session) (sym done) stand.session;
+}
+
+-- one that is accepted is the last
+pub accepted_stand : (c : ClientState) (w : WorkLog) (request : Request) → RequestsStand c w
+    → RequestsStand (record c { pending = c.pending ++ request ∷ []; next_id = c.next_id + 1 }) (record w { issued = w.issued ++ request ∷ [] })
+accepted_stand c w request stand =
+    let longer = length-append w.issued (request ∷ []) in
+    record {
+      pending = ap (λ (xs : List Request). xs ++ request ∷ []) stand.pending ∙ sym (drop-append-le w.done w.issued (request ∷ []) stand.done);
+      next = omega (arith, longer, stand.next);
+      done = omega (arith, longer, stand.done);
+      session = stand.session;
+    }
+
+-- one that is done is the first of those that are pending
+got_dropped : (xs : List Request) (n : ℕ) (request : Request) → slice_get (drop n xs) 0 ≡ Some request → slice_get xs n ≡ Some request
+got_dropped xs zero request is = is
+got_dropped [] (suc n) request is = absurd (cc)
+got_dropped (x ∷ xs) (suc n) request is = got_dropped xs n request is
+
+got_below : (xs : List Request) (n : ℕ) (request : Request) → slice_get xs n ≡ Some request → n < length xs
+got_below [] n request is = absurd (cc)
+got_below (one ∷ xs) zero request is = omega arith
+got_below (one ∷ xs) (suc n) request is = omega (arith, got_below xs n request is)
+
+pub record CompletesNext (c : ClientState) (w : WorkLog) (id operation : ℕ) (request : Request) (t : ClientState) : Type 0 where
+  pub accepted : slice_get w.issued id ≡ Some request
+  pub operation_is : operation ≡ operation_of request
+  pub next : id ≡ w.done
+  pub stand : RequestsStand t (record w { done = w.done + 1 })
+  pub blocks : t.blocks ≡ c.blocks
+  pub slots : t.slots ≡ c.slots
+
+pub completed_next : (c : ClientState) (w : WorkLog) (at : Seen) (memory : List ℕ) (id operation status : ℕ) (bytes : List ℕ) (t : ClientState) (new : List ℕ)
+    → RequestsStand c w → (step : ClientCompletes c at memory id operation status bytes t new) → CompletesNext c w id operation step.request t
+completed_next c w at memory id operation status bytes t new stand step =
+    let may : ClientMay c at (Completes step.session) = subst (ClientMay c at) step.rule (client_may c at) in
+    let counts : w.done ≡ step.session.base + step.session.completed = subst (SessionStands w.done) may.1 stand.session in
+    let front : slice_get (drop w.done w.issued) 0 ≡ Some step.request = subst (λ (xs : List Request). slice_get xs 0 ≡ Some step.request) stand.pending step.front in
+    let got = got_dropped w.issued w.done step.request front in
+    let id_is : id ≡ w.done = step.id_is ∙ sym counts in
+    let below = got_below w.issued w.done step.request got in
+    let dropped : drop 1 (drop w.done w.issued) ≡ drop (w.done + 1) w.issued = drop-drop 1 w.done w.issued in
+    record {
+      accepted = subst (λ (n : ℕ). slice_get w.issued n ≡ Some step.request) (sym id_is) got;
+      operation_is = step.operation_is;
+      next = id_is;
+      stand = subst (λ (x : ClientState). RequestsStand x (record w { done = w.done + 1 })) (sym step.is)
+          (record { pending = ap (drop 1) stand.pending ∙ dropped; next = stand.next; done = omega (arith, below); session = omega (arith, counts) });
+      blocks = ap (λ (x : ClientState). x.blocks) step.is;
+      slots = ap (λ (x : ClientState). x.slots) step.is;
+    }

@@ -1,0 +1,178 @@
+-- The cookies of a client's ring, and of a request's buffer, name bytes that follow one another, so that what goes through them is a
+-- range of the memory.
+use Rattle.std.proofs.Common.{◌≡◌, ℕ, zero, suc, ◌+◌, ◌-◌, ◌*◌, ◌%◌, ◌<◌, ◌≤◌, min, List, [], ◌∷◌, take, Bool, true, false, not, cond, nat_lt, nat_le, refl, ap, ◌∙◌, subst, arith, Option, Some, None}
+use Rattle.std.specs.Prelude.{if◌then◌else◌}
+use Rattle.std.proofs.lemmas.Bool.{leb-true}
+use Rattle.std.proofs.lemmas.Bool.Decides.{nat_tests}
+use Rattle.std.specs.List.{list_all, range_with_len}
+use Rattle.map_table.specs.declared.cookie.Cookie.{Cookie}
+use Rattle.cookie_copy.proofs.InTurn.{spots_follow}
+use Rattle.map_table.specs.declared.table.Entry.{Entry}
+use Rattle.cookie_copy.specs.declared.fault.Access.{Access}
+use Rattle.cookie_copy.specs.declared.fault.CopyFault.{CopyFault}
+use Rattle.cookie_copy.specs.declared.fault.CopyFault.TheVariants.{Channel, BadAlign, Short}
+use Rattle.cookie_copy.specs.Faults.{first_address_fault, first_copy_fault, held, is_aligned, is_aligned_cookie, is_even_word}
+use Rattle.cookie_copy.specs.Following.{FollowOn}
+use Rattle.cookie_copy.specs.Moved.{moved_spots, spots}
+use Rattle.vdisk_msg.specs.Requested.{buffer_cookies, cookie_count, page_cookie, ring_pages}
+use Rattle.disk_model.specs.Offering.{own_cookies, page_cookies}
+
+-- THE RING
+follow_pages : (page n : ℕ) → FollowOn (8192 * page) (page_cookies page n)
+follow_pages page zero = tt
+follow_pages page (suc n) =
+    let next : 8192 * (page + 1) ≡ 8192 * page + 8192 = omega arith in
+    (refl, subst (λ (a : ℕ). FollowOn a (page_cookies (page + 1) n)) next (follow_pages (page + 1) n))
+
+held_pages : (page n : ℕ) → held (page_cookies page n) ≡ 8192 * n
+held_pages page zero = refl
+held_pages page (suc n) = omega (arith, held_pages (page + 1) n)
+
+aligned_pages : (page n : ℕ) → list_all is_aligned_cookie (page_cookies page n) ≡ true
+aligned_pages page zero = refl
+aligned_pages page (suc n) =
+    let even : (8192 * page) % 8 ≡ 0 = omega arith in
+    let here : is_even_word (8192 * page) ≡ true = grind (arith, nat_tests) in
+    rw (here, aligned_pages (page + 1) n) refl
+
+-- cookies whose bytes are the front of a memory, at least those of a ring, and within its pages
+pub record RingBytes (slots : ℕ) (cookies : List Cookie) : Type 0 where
+  pub size : ℕ
+  pub spots_are : spots cookies ≡ range_with_len 0 size
+  pub holds : 128 * slots ≤ size
+  pub within : size ≤ 8192 * ring_pages slots
+  pub aligned : list_all is_aligned_cookie cookies ≡ true
+
+one_aligned : (slots : ℕ) → list_all is_aligned_cookie (record { address = 0; size = 128 * slots } ∷ []) ≡ true
+one_aligned slots =
+    let even : (128 * slots) % 8 ≡ 0 = omega arith in
+    let here : is_even_word (128 * slots) ≡ true = grind (arith, nat_tests) in
+    rw (here) refl
+
+ring_bytes_if : (b : Bool) (slots : ℕ) → RingBytes slots (if b then page_cookies 0 (ring_pages slots) else record { address = 0; size = 128 * slots } ∷ [])
+ring_bytes_if true slots =
+    let follow : FollowOn 0 (page_cookies 0 (ring_pages slots)) = follow_pages 0 (ring_pages slots) in
+    record {
+      size = 8192 * ring_pages slots;
+      spots_are = spots_follow 0 (page_cookies 0 (ring_pages slots)) follow ∙ ap (λ (m : ℕ). range_with_len 0 m) (held_pages 0 (ring_pages slots));
+      holds = omega arith;
+      within = omega arith;
+      aligned = aligned_pages 0 (ring_pages slots);
+    }
+ring_bytes_if false slots =
+    let one : List Cookie = record { address = 0; size = 128 * slots } ∷ [] in
+    let follow : FollowOn 0 one = (refl, tt) in
+    let whole : held one ≡ 128 * slots = omega arith in
+    record {
+      size = 128 * slots;
+      spots_are = spots_follow 0 one follow ∙ ap (λ (m : ℕ). range_with_len 0 m) whole;
+      holds = omega arith;
+      within = omega arith;
+      aligned = one_aligned slots;
+    }
+
+pub ring_bytes : (slots : ℕ) → RingBytes slots (own_cookies slots)
+ring_bytes slots = ring_bytes_if (nat_le 64 slots) slots
+
+-- A BUFFER
+page_used : (place size k : ℕ) → 8192 * k < size → page_cookie place size k ≡ record { address = place + 8192 * k; size = min 8192 (size - 8192 * k) }
+page_used place size k below =
+    let test : nat_lt (8192 * k) size ≡ true = grind (arith, nat_tests) in
+    ap (λ (b : Bool). cond b (record { address = place + 8192 * k; size = min 8192 (size - 8192 * k) }) (record { address = 0; size = 0 })) test
+
+page_at : (place size k : ℕ) → 8192 * k < size → (page_cookie place size k).address ≡ place + 8192 * k
+page_at place size k below = ap (λ (c : Cookie). c.address) (page_used place size k below)
+
+page_long : (place size k : ℕ) → 8192 * k < size → (page_cookie place size k).size ≡ min 8192 (size - 8192 * k)
+page_long place size k below = ap (λ (c : Cookie). c.size) (page_used place size k below)
+
+-- the cookies that a size uses follow one another and hold it
+record Follows (place size : ℕ) (cookies : List Cookie) : Type 0 where
+  follow : FollowOn place cookies
+  whole : held cookies ≡ size
+
+-- of n pages, the last of them used in part
+follow_count : (n place size : ℕ) → size ≤ 8192 * n → 8192 * n < size + 8192 → n ≤ 4 → Follows place size (take n (buffer_cookies place size))
+unfolding buffer_cookies
+follow_count zero place size most least few = record { follow = tt; whole = omega (arith, most) }
+follow_count (suc zero) place size most least few =
+    let b0 : 8192 * 0 < size = omega (arith, least) in
+    let l0 = page_long place size 0 b0 in
+    let p0 = page_at place size 0 b0 in
+    record {
+      follow = (omega (arith, p0, least), tt);
+      whole = omega (arith, l0, most, least);
+    }
+follow_count (suc (suc zero)) place size most least few =
+    let b0 : 8192 * 0 < size = omega (arith, least) in
+    let b1 : 8192 * 1 < size = omega (arith, least) in
+    let l0 = page_long place size 0 b0 in
+    let l1 = page_long place size 1 b1 in
+    let p0 = page_at place size 0 b0 in
+    let p1 = page_at place size 1 b1 in
+    record {
+      follow = (omega (arith, p0, least), (omega (arith, p1, l0, least), tt));
+      whole = omega (arith, l0, l1, most, least);
+    }
+follow_count (suc (suc (suc zero))) place size most least few =
+    let b0 : 8192 * 0 < size = omega (arith, least) in
+    let b1 : 8192 * 1 < size = omega (arith, least) in
+    let b2 : 8192 * 2 < size = omega (arith, least) in
+    let l0 = page_long place size 0 b0 in
+    let l1 = page_long place size 1 b1 in
+    let l2 = page_long place size 2 b2 in
+    let p0 = page_at place size 0 b0 in
+    let p1 = page_at place size 1 b1 in
+    let p2 = page_at place size 2 b2 in
+    record {
+      follow = (omega (arith, p0, least), (omega (arith, p1, l0, least), (omega (arith, p2, l0, l1, least), tt)));
+      whole = omega (arith, l0, l1, l2, most, least);
+    }
+follow_count (suc (suc (suc (suc zero)))) place size most least few =
+    let b0 : 8192 * 0 < size = omega (arith, least) in
+    let b1 : 8192 * 1 < size = omega (arith, least) in
+    let b2 : 8192 * 2 < size = omega (arith, least) in
+    let b3 : 8192 * 3 < size = omega (arith, least) in
+    let l0 = page_long place size 0 b0 in
+    let l1 = page_long place size 1 b1 in
+    let l2 = page_long place size 2 b2 in
+    let l3 = page_long place size 3 b3 in
+    let p0 = page_at place size 0 b0 in
+    let p1 = page_at place size 1 b1 in
+    let p2 = page_at place size 2 b2 in
+    let p3 = page_at place size 3 b3 in
+    record {
+      follow = (omega (arith, p0, least), (omega (arith, p1, l0, least), (omega (arith, p2, l0, l1, least), (omega (arith, p3, l0, l1, l2, least), tt))));
+      whole = omega (arith, l0, l1, l2, l3, most, least);
+    }
+follow_count (suc (suc (suc (suc (suc n))))) place size most least few = absurd (omega (arith, few))
+
+pub buffer_spots : (place size : ℕ) → size ≤ 32768 → (spots (take (cookie_count size) (buffer_cookies place size)) ≡ range_with_len place size)
+    × (held (take (cookie_count size) (buffer_cookies place size)) ≡ size)
+buffer_spots place size few =
+    let used = follow_count (cookie_count size) place size (omega arith) (omega arith) (omega (arith, few)) in (
+      spots_follow place (take (cookie_count size) (buffer_cookies place size)) used.follow ∙ ap (λ (m : ℕ). range_with_len place m) used.whole,
+      used.whole,
+    )
+
+-- A COPY that is answered is within its cookies
+held_if : (up aligned holds : Bool) (rest : Option CopyFault) → (cond (not up) (Some Channel) (cond (not aligned) (Some BadAlign) (cond (not holds) (Some Short) rest))) ≡ None → holds ≡ true
+held_if true true true rest is = refl
+held_if true true false rest is = absurd (cc is)
+held_if true false holds rest is = absurd (cc is)
+held_if false aligned holds rest is = absurd (cc is)
+
+up_if : (up : Bool) (rest : Option CopyFault) → (cond (not up) (Some Channel) rest) ≡ None → up ≡ true
+up_if true rest is = refl
+up_if false rest is = absurd (cc is)
+
+pub copy_held : (up : Bool) (access : Access) (table : List (Option Entry)) (cookies : List Cookie) (offset n : ℕ) → first_copy_fault up access table cookies offset n ≡ None
+    → offset + n ≤ held cookies
+copy_held up access table cookies offset n none =
+    leb-true (offset + n) (held cookies)
+    (held_if up (is_aligned cookies offset n) (nat_le (offset + n) (held cookies)) (first_address_fault access table (moved_spots cookies offset n)) none)
+
+pub copy_up : (up : Bool) (access : Access) (table : List (Option Entry)) (cookies : List Cookie) (offset n : ℕ) → first_copy_fault up access table cookies offset n ≡ None → up ≡ true
+copy_up up access table cookies offset n none =
+    up_if up
+    (cond (not (is_aligned cookies offset n)) (Some BadAlign) (cond (not (nat_le (offset + n) (held cookies))) (Some Short) (first_address_fault access table (moved_spots cookies offset n)))) none

@@ -1,0 +1,235 @@
+-- The log of the ring after an event that leaves its slots as they are: what is known of bytes, numbers and work carries over.
+use Rattle.std.proofs.Common.{◌≡◌, ℕ, ◌+◌, Bool, true, false, List, Option, Some, None, ◌⊎◌, inl, inr, refl, sym, ap, ◌∙◌, subst, arith}
+use Rattle.std.specs.Prelude.{⊤, ◌-◌, ◌%◌, slice_get}
+use Rattle.ldc_queue.specs.declared.end.ChannelState.{ChannelState}
+use Rattle.ldc_queue.specs.declared.end.ChannelState.TheVariants.{Down, Resetting, Up}
+use Rattle.ldc_queue.specs.declared.end.End.TheVariants.{A, B}
+use Rattle.ldc_queue.specs.Wire.{peer_behind}
+use Rattle.disk_model.specs.WireEvent.{Blocked, Declines, Idle, Injected, Joined, Lost, Poked, Reset, Sent, Took, WireEvent}
+use Rattle.vdisk_msg.specs.declared.request.Request.{Request}
+use Rattle.disk_model.specs.DiskLog.{DiskLog, after}
+use Rattle.disk_model.specs.RingLog.{Accepted, SlotLog}
+use Rattle.disk_model.specs.WorkLog.{ClientCounts, ServerCounts, change_client, change_server, opened_counts}
+use Rattle.disk_model.specs.DiskEvent.{DiskEvent, OnWire}
+use Rattle.disk_model.specs.LaneState.{LaneState}
+use Rattle.lane_laws.proofs.RingTable.{map_stands, same_holds}
+use Rattle.lane_laws.specs.RingAgreed.{InRing, ring_in}
+use Rattle.lane_laws.specs.RingSlots.{HoldsIssued, IdStands, IdsStand, InWork, RingHolds, RingOf, SameSlots, WorkStands}
+
+-- the client's ids stay, or its session is gone
+abbrev pub KeepsIds : Option ClientCounts → Option ClientCounts → Type 0
+KeepsIds None None = ⊤
+KeepsIds None (Some c) = ⊥
+KeepsIds (Some c) None = ⊤
+KeepsIds (Some c) (Some d) = (d.base ≡ c.base) × (d.published ≡ c.published)
+
+pub record SameWork (c d : ServerCounts) : Type 0 where
+  pub descs : d.descs ≡ c.descs
+  pub finished : d.finished ≡ c.finished
+  pub desc : d.desc ≡ c.desc
+
+-- the server's descriptor stays in work, or none is
+abbrev pub KeepsWork : Option ServerCounts → Option ServerCounts → Type 0
+KeepsWork None None = ⊤
+KeepsWork (Some c) None = ⊤
+KeepsWork None (Some d) = d.descs ≡ d.finished
+KeepsWork (Some c) (Some d) = (d.descs ≡ d.finished) ⊎ SameWork c d
+
+pub record LeavesRing (l : DiskLog) (event : DiskEvent) : Type 0 where
+  pub ring : (after l event).ring ≡ l.ring
+  pub issued : (after l event).work.issued ≡ l.work.issued
+  pub done : (after l event).work.done ≡ l.work.done
+  pub client : KeepsIds l.work.client (after l event).work.client
+  pub server : KeepsWork l.work.server (after l event).work.server
+  pub unforged : (after l event).wire.forged ≡ false → l.wire.forged ≡ false
+  pub live : (after l event).wire.wire.end_b ≡ Up → (l.wire.wire.end_b ≡ Up) ⊎ ((after l event).work.server ≡ None)
+
+-- WHAT CARRIES OVER
+same_ids : (slots done : ℕ) (c d : ClientCounts) (slot : ℕ) → d.base ≡ c.base → d.published ≡ c.published → (id : ℕ) → IdStands slots done c slot id → IdStands slots done d slot id
+same_ids slots done c d slot base published id stands =
+    let since = stands.since in
+    let based = stands.based in
+    let below = stands.below in
+    record {
+      based = omega (arith, base, based);
+      since = since;
+      below = omega (arith, base, published, below);
+      slot_is = stands.slot_is ∙ ap (λ (b : ℕ). (id - b) % slots) (sym base);
+    }
+
+ids_kept : (slots done : ℕ) (ring : List SlotLog) (o q : Option ClientCounts) → KeepsIds o q → IdsStand slots done ring o → IdsStand slots done ring q
+ids_kept slots done ring None None keeps stand = tt
+ids_kept slots done ring (Some c) None keeps stand = tt
+ids_kept slots done ring None (Some d) keeps stand = absurd keeps
+ids_kept slots done ring (Some c) (Some d) keeps stand = λ slot is got. map_stands slots done done c d slot (same_ids slots done c d slot keeps.0 keeps.1) is (stand slot is got)
+
+work_same : (r : RingOf) (ring : List SlotLog) (c d : ServerCounts) → SameWork c d → (c.descs ≡ c.finished + 1 → InWork r ring c) → d.descs ≡ d.finished + 1 → InWork r ring d
+work_same r ring c d same stands one =
+    let descs = same.descs in
+    let finished = same.finished in
+    let work = stands (omega (arith, descs, finished, one)) in
+    record {
+      id = work.id;
+      stands = subst (λ (f : ℕ). slice_get ring (f % r.slots) ≡ Some (Accepted work.id)) (sym finished) work.stands;
+      fetched = subst (λ (bytes : List ℕ). HoldsIssued r (d.finished % r.slots) work.id 2 0 bytes) (sym same.desc)
+          (subst (λ (f : ℕ). HoldsIssued r (f % r.slots) work.id 2 0 c.desc) (sym finished) work.fetched);
+    }
+
+work_kept : (r : RingOf) (ring : List SlotLog) (o q : Option ServerCounts) → KeepsWork o q → WorkStands r ring o → WorkStands r ring q
+work_kept r ring None None keeps stand = tt
+work_kept r ring (Some c) None keeps stand = tt
+work_kept r ring None (Some d) keeps stand = λ one. absurd (omega (arith, keeps, one))
+work_kept r ring (Some c) (Some d) (inl none) stand = λ one. absurd (omega (arith, none, one))
+work_kept r ring (Some c) (Some d) (inr same) stand = work_same r ring c d same stand
+
+-- where the server's end is up after it
+work_live : (r : RingOf) (ring : List SlotLog) (o q : Option ServerCounts) (up : Type 0) → KeepsWork o q → (up → WorkStands r ring o) → up ⊎ (q ≡ None) → WorkStands r ring q
+work_live r ring o q up keeps stand (inl is) = work_kept r ring o q keeps (stand is)
+work_live r ring o q up keeps stand (inr none) = subst (WorkStands r ring) (sym none) tt
+
+pub leaves_stand : (s : LaneState) (l : DiskLog) (event : DiskEvent) (t : LaneState) → LeavesRing l event → SameSlots l.shape.slots s.memory t.memory → InRing s l → InRing t (after l event)
+leaves_stand s l event t leaves same ring = record {
+  holds =
+      subst (λ (issued : List Request). RingHolds (record { blocks = l.shape.blocks; slots = l.shape.slots; issued = issued }) (after l event).ring t.memory) (sym leaves.issued)
+      (subst (λ (table : List SlotLog). RingHolds (ring_in l) table t.memory) (sym leaves.ring) (same_holds (ring_in l) l.ring s.memory t.memory ring.holds same));
+  ids =
+      subst (λ (done : ℕ). IdsStand l.shape.slots done (after l event).ring (after l event).work.client) (sym leaves.done)
+      (subst (λ (table : List SlotLog). IdsStand l.shape.slots l.work.done table (after l event).work.client) (sym leaves.ring)
+      (ids_kept l.shape.slots l.work.done l.ring l.work.client (after l event).work.client leaves.client ring.ids));
+  work = λ up.
+      subst (λ (issued : List Request). WorkStands (record { blocks = l.shape.blocks; slots = l.shape.slots; issued = issued }) (after l event).ring (after l event).work.server) (sym leaves.issued)
+      (subst (λ (table : List SlotLog). WorkStands (ring_in l) table (after l event).work.server) (sym leaves.ring)
+      (work_live (ring_in l) l.ring l.work.server (after l event).work.server (l.wire.wire.end_b ≡ Up) leaves.server ring.work (leaves.live up)));
+}
+
+-- EACH KIND of change
+pub ids_gone : (o : Option ClientCounts) → KeepsIds o None
+ids_gone None = tt
+ids_gone (Some c) = tt
+
+pub ids_stay : (o : Option ClientCounts) → KeepsIds o o
+ids_stay None = tt
+ids_stay (Some c) = (refl, refl)
+
+pub ids_changed : (f : ClientCounts → ClientCounts) (o : Option ClientCounts) → ((c : ClientCounts) → (f c).base ≡ c.base) → ((c : ClientCounts) → (f c).published ≡ c.published)
+    → KeepsIds o (change_client f o)
+ids_changed f None base published = tt
+ids_changed f (Some c) base published = (base c, published c)
+
+pub work_gone : (o : Option ServerCounts) → KeepsWork o None
+work_gone None = tt
+work_gone (Some c) = tt
+
+pub work_stays : (o : Option ServerCounts) → KeepsWork o o
+work_stays None = tt
+work_stays (Some c) = inr (record { descs = refl; finished = refl; desc = refl })
+
+pub work_changed : (f : ServerCounts → ServerCounts) (o : Option ServerCounts) → ((c : ServerCounts) → SameWork c (f c)) → KeepsWork o (change_server f o)
+work_changed f None same = tt
+work_changed f (Some c) same = inr (same c)
+
+pub work_opened : (b : Bool) (sid : ℕ) (f : ServerCounts → ServerCounts) (o : Option ServerCounts) → ((c : ServerCounts) → SameWork c (f c))
+    → KeepsWork o (opened_counts b sid (change_server f o))
+work_opened true sid f None same = refl
+work_opened true sid f (Some c) same = inl refl
+work_opened false sid f o same = work_changed f o same
+
+peer_up : (a b : ChannelState) → peer_behind a b ≡ Up → b ≡ Up
+peer_up Up Up is = refl
+peer_up Up Down is = absurd (cc is)
+peer_up Up Resetting is = absurd (cc is)
+peer_up Down b is = is
+peer_up Resetting b is = is
+
+same_work : (c : ServerCounts) (d : ServerCounts) → d.descs ≡ c.descs → d.finished ≡ c.finished → d.desc ≡ c.desc → SameWork c d
+same_work c d descs finished desc = record { descs = descs; finished = finished; desc = desc }
+
+-- THE WIRE, but for a packet by which the client's session opens
+abbrev pub OpensNot : WireEvent → Type 0
+OpensNot (Sent A packet opens) = opens ≡ false
+OpensNot (Took A packet opens) = opens ≡ false
+OpensNot _ = ⊤
+
+pub wire_leaves : (l : DiskLog) (event : WireEvent) → OpensNot event → LeavesRing l (OnWire event)
+wire_leaves l (Joined A lost) not = record {
+  ring = refl;
+  issued = refl;
+  done = refl;
+  client = ids_gone l.work.client;
+  server = work_stays l.work.server;
+  unforged = λ f. f;
+  live = λ up. inl (peer_up l.wire.wire.end_a l.wire.wire.end_b up);
+}
+wire_leaves l (Joined B lost) not = record {
+  ring = refl;
+  issued = refl;
+  done = refl;
+  client = ids_stay l.work.client;
+  server = work_gone l.work.server;
+  unforged = λ f. f;
+  live = λ up. inr refl;
+}
+wire_leaves l (Reset A cause packet lost) not = record {
+  ring = refl;
+  issued = refl;
+  done = refl;
+  client = ids_gone l.work.client;
+  server = work_stays l.work.server;
+  unforged = λ f. f;
+  live = λ up. inl (peer_up l.wire.wire.end_a l.wire.wire.end_b up);
+}
+wire_leaves l (Reset B cause packet lost) not = record {
+  ring = refl;
+  issued = refl;
+  done = refl;
+  client = ids_stay l.work.client;
+  server = work_gone l.work.server;
+  unforged = λ f. f;
+  live = λ up. inr refl;
+}
+wire_leaves l (Took A packet false) not = record {
+  ring = refl;
+  issued = refl;
+  done = refl;
+  client = ids_changed _ l.work.client (λ c. refl) (λ c. refl);
+  server = work_stays l.work.server;
+  unforged = λ f. f;
+  live = λ up. inl up;
+}
+wire_leaves l (Took A packet true) not = absurd (cc not)
+wire_leaves l (Took B packet opens) not = record {
+  ring = refl;
+  issued = refl;
+  done = refl;
+  client = ids_stay l.work.client;
+  server = work_opened opens _ _ l.work.server (λ c. same_work c _ refl refl refl);
+  unforged = λ f. f;
+  live = λ up. inl up;
+}
+wire_leaves l (Sent A packet false) not = record {
+  ring = refl;
+  issued = refl;
+  done = refl;
+  client = ids_changed _ l.work.client (λ c. refl) (λ c. refl);
+  server = work_stays l.work.server;
+  unforged = λ f. f;
+  live = λ up. inl up;
+}
+wire_leaves l (Sent A packet true) not = absurd (cc not)
+wire_leaves l (Sent B packet opens) not = record {
+  ring = refl;
+  issued = refl;
+  done = refl;
+  client = ids_stay l.work.client;
+  server = work_opened opens _ _ l.work.server (λ c. same_work c _ refl refl refl);
+  unforged = λ f. f;
+  live = λ up. inl up;
+}
+wire_leaves l (Lost A packet) not = record { ring = refl; issued = refl; done = refl; client = ids_stay l.work.client; server = work_stays l.work.server; unforged = λ f. f; live = λ up. inl up }
+wire_leaves l (Lost B packet) not = record { ring = refl; issued = refl; done = refl; client = ids_stay l.work.client; server = work_stays l.work.server; unforged = λ f. f; live = λ up. inl up }
+wire_leaves l (Injected A packet) not = record { ring = refl; issued = refl; done = refl; client = ids_stay l.work.client; server = work_stays l.work.server; unforged = λ f. absurd (cc f); live = λ up. inl up }
+wire_leaves l (Injected B packet) not = record { ring = refl; issued = refl; done = refl; client = ids_stay l.work.client; server = work_stays l.work.server; unforged = λ f. absurd (cc f); live = λ up. inl up }
+wire_leaves l (Poked e at bytes) not = record { ring = refl; issued = refl; done = refl; client = ids_stay l.work.client; server = work_stays l.work.server; unforged = λ f. absurd (cc f); live = λ up. inl up }
+wire_leaves l (Idle e) not = record { ring = refl; issued = refl; done = refl; client = ids_stay l.work.client; server = work_stays l.work.server; unforged = λ f. f; live = λ up. inl up }
+wire_leaves l (Blocked e) not = record { ring = refl; issued = refl; done = refl; client = ids_stay l.work.client; server = work_stays l.work.server; unforged = λ f. f; live = λ up. inl up }
+wire_leaves l (Declines d) not = record { ring = refl; issued = refl; done = refl; client = ids_stay l.work.client; server = work_stays l.work.server; unforged = λ f. f; live = λ up. inl up }

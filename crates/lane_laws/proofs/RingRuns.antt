@@ -1,0 +1,241 @@
+-- Where the sessions agree before an event and after it, the event keeps that each slot of the ring has the bytes and the number that
+-- the log of the ring says.
+use Rattle.std.proofs.Common.{◌≡◌, ℕ, ◌+◌, ◌-◌, ◌*◌, ◌^◌, ◌<◌, ◌≤◌, Bool, true, false, List, [], ◌∷◌, ◌++◌, length, replicate, take, Option, Some, None, sym, ap, ◌∙◌, subst, arith, length-append}
+use Rattle.std.specs.Prelude.{if◌then◌else◌, ◌==◌, slice_get, zero, suc}
+use Rattle.std.proofs.lemmas.List.{drop-replicate, length-replicate, take-replicate}
+use Rattle.std.proofs.lemmas.Option.{slice_get_within}
+use Rattle.cookie_copy.specs.Identity.{IsIdentity}
+use Rattle.cookie_copy.specs.declared.fault.CopyFault.{CopyFault}
+use Rattle.dring.proofs.Turning.{slot_fits}
+use Rattle.dring.specs.Slots.{slot_bytes}
+use Rattle.map_table.specs.declared.table.Entry.{Entry}
+use Rattle.ldc_queue.specs.declared.end.End.TheVariants.{A, B}
+use Rattle.vdisk_msg.specs.Check.{first_defect}
+use Rattle.vdisk_msg.specs.declared.desc.DescFault.{DescFault}
+use Rattle.vdisk_msg.specs.declared.desc.DescFault.TheVariants.{Cookies, Operation, Range, Size}
+use Rattle.vdisk_msg.specs.declared.desc.DiskDesc.{DiskDesc}
+use Rattle.vdisk_msg.specs.Pieces.{Finishes, Moves, Piece, Stores, checked_pieces, operation_pieces, pieces, read_pieces, refusal_status, unit_count, write_pieces}
+use Rattle.disk_model.specs.TalkLog.{TalkLog}
+use Rattle.disk_model.specs.WireEvent.{Blocked, Declines, Idle, Injected, Joined, Lost, Poked, Reset, Sent, Took, WireEvent}
+use Rattle.disk_model.specs.Agreement.{RingAgrees, SlotAgrees}
+use Rattle.disk_model.specs.DiskLog.{DiskLog, after, nothing_yet}
+use Rattle.disk_model.specs.RingLog.{Accepted as IsAccepted, Done as IsDone, Free, Ready, SlotLog, Zeros, no_ring}
+use Rattle.disk_model.specs.WorkLog.{ServerCounts, WorkLog, change_server, moved_rest, opened_counts, rest_of, stored_rest, work_wired}
+use Rattle.disk_model.specs.DiskEvent.{Accepted, Admitted, Asks, Desc, DiskEvent, Done, Finished, Full, Misplaced, Moved, Off, OnWire, Published, Refused, Rests, Started, Stopped, Stored, Turns, Works}
+use Rattle.disk_model.specs.LaneState.{IsShape, LaneState, Shape, fresh, pages_of}
+use Rattle.disk_model.specs.LaneStep.{LaneStep}
+use Rattle.lane_laws.proofs.CarriedRuns.{AllStand}
+use Rattle.lane_laws.proofs.RingPages.{few_pages, own_is_identity, same_pages}
+use Rattle.lane_laws.proofs.RingSteps.{event_in_ring}
+use Rattle.lane_laws.proofs.RingWork.{Known}
+use Rattle.lane_laws.proofs.StandingSteps.{wired_keeps}
+use Rattle.lane_laws.specs.RingAgreed.{RingStands, SessionsAgree, ring_in}
+use Rattle.lane_laws.specs.RingSlots.{OwesStatus, RingHolds, RingOf, SlotHolds, StatusStands}
+use Rattle.lane_laws.specs.Standing.{LaneStands}
+
+-- A STATUS that is owed has 4 bytes
+rest_status : (owed : List Piece) → OwesStatus owed → OwesStatus (rest_of owed)
+rest_status [] small = tt
+rest_status (Finishes status ∷ rest) small = small.1
+rest_status (Moves unit ∷ rest) small = small
+rest_status (Stores unit ∷ rest) small = small
+
+moved_status : (fault : Option CopyFault) (owed : List Piece) → OwesStatus owed → OwesStatus (moved_rest fault owed)
+moved_status None owed small = rest_status owed small
+moved_status (Some why) owed small = (omega arith, tt)
+
+stored_status : (failed : Bool) (owed : List Piece) → OwesStatus owed → OwesStatus (stored_rest failed owed)
+stored_status false owed small = rest_status owed small
+stored_status true owed small = (omega arith, tt)
+
+end_status : (owed : List Piece) → OwesStatus owed → OwesStatus (owed ++ Finishes 0 ∷ [])
+end_status [] small = (omega arith, tt)
+end_status (Finishes status ∷ rest) small = (small.0, end_status rest small.1)
+end_status (Moves unit ∷ rest) small = end_status rest small
+end_status (Stores unit ∷ rest) small = end_status rest small
+
+read_status : (unit n : ℕ) → OwesStatus (read_pieces unit n)
+read_status unit zero = tt
+read_status unit (suc n) = read_status (unit + 1) n
+
+write_status : (unit n : ℕ) → OwesStatus (write_pieces unit n)
+write_status unit zero = tt
+write_status unit (suc n) = write_status (unit + 1) n
+
+operation_status : (read write : Bool) (units : ℕ) → OwesStatus (if read then read_pieces 0 units else if write then write_pieces 0 units else Stores 0 ∷ [])
+operation_status true write units = read_status 0 units
+operation_status false true units = write_status 0 units
+operation_status false false units = tt
+
+refused_status : (fault : DescFault) → refusal_status fault < 2 ^ 32
+refused_status Operation = omega arith
+refused_status Cookies = omega arith
+refused_status Size = omega arith
+refused_status Range = omega arith
+
+checked_status : (fault : Option DescFault) (desc : DiskDesc) → OwesStatus (checked_pieces fault desc)
+checked_status None desc =
+    end_status (operation_pieces desc.operation (unit_count desc.size)) (operation_status (desc.operation == 1) (desc.operation == 2) (unit_count desc.size))
+checked_status (Some fault) desc = (refused_status fault, tt)
+
+pieces_status : (desc : DiskDesc) (blocks mask : ℕ) → OwesStatus (pieces desc blocks mask)
+unfolding pieces
+pieces_status desc blocks mask = checked_status (first_defect desc blocks mask) desc
+
+changed_status : (f : ServerCounts → ServerCounts) (o : Option ServerCounts) → ((c : ServerCounts) → OwesStatus c.owed → OwesStatus (f c).owed) → StatusStands o → StatusStands (change_server f o)
+changed_status f None keeps stands = tt
+changed_status f (Some c) keeps stands = keeps c stands
+
+opened_status : (b : Bool) (sid : ℕ) (o : Option ServerCounts) → StatusStands o → StatusStands (opened_counts b sid o)
+opened_status true sid o stands = tt
+opened_status false sid o stands = stands
+
+wire_status : (slots : ℕ) (talk : TalkLog) (w : WorkLog) (event : WireEvent) → StatusStands w.server → StatusStands (work_wired slots talk w event).server
+wire_status slots talk w (Joined A lost) stands = stands
+wire_status slots talk w (Joined B lost) stands = tt
+wire_status slots talk w (Reset A cause packet lost) stands = stands
+wire_status slots talk w (Reset B cause packet lost) stands = tt
+wire_status slots talk w (Took A packet opens) stands = stands
+wire_status slots talk w (Took B packet opens) stands = opened_status opens _ _ (changed_status _ w.server (λ c small. small) stands)
+wire_status slots talk w (Sent A packet opens) stands = stands
+wire_status slots talk w (Sent B packet opens) stands = opened_status opens _ _ (changed_status _ w.server (λ c small. small) stands)
+wire_status slots talk w (Lost e packet) stands = stands
+wire_status slots talk w (Injected e packet) stands = stands
+wire_status slots talk w (Poked e at bytes) stands = stands
+wire_status slots talk w (Idle e) stands = stands
+wire_status slots talk w (Blocked e) stands = stands
+wire_status slots talk w (Declines d) stands = stands
+
+statuses : (l : DiskLog) (event : DiskEvent) → StatusStands l.work.server → StatusStands (after l event).work.server
+statuses l (OnWire event) stands = wire_status l.shape.slots l.talk l.work event stands
+statuses l (Asks (Accepted id request)) stands = stands
+statuses l (Asks (Full request)) stands = stands
+statuses l (Asks (Refused why request)) stands = stands
+statuses l (Works (Published id)) stands = stands
+statuses l (Works (Done id operation status bytes)) stands = stands
+statuses l (Works (Desc slot bytes)) stands = changed_status _ l.work.server (λ c small. pieces_status _ l.shape.blocks 0x0e) stands
+statuses l (Works (Moved unit fault)) stands = changed_status _ l.work.server (λ c small. moved_status fault c.owed small) stands
+statuses l (Works (Stored operation block count failed)) stands = changed_status _ l.work.server (λ c small. stored_status failed c.owed small) stands
+statuses l (Works (Finished slot status)) stands = changed_status _ l.work.server (λ c small. rest_status c.owed small) stands
+statuses l (Works Misplaced) stands = stands
+statuses l (Turns Stopped) stands = tt
+statuses l (Turns Started) stands = stands
+statuses l (Turns Off) stands = stands
+statuses l (Rests event) stands = stands
+
+-- THE IDS are below 2^64
+issued_wired : (slots : ℕ) (talk : TalkLog) (w : WorkLog) (event : WireEvent) → length w.issued < 2 ^ 64 → length (work_wired slots talk w event).issued < 2 ^ 64
+issued_wired slots talk w event few = omega (arith, ap length (wired_keeps slots talk w event).issued, few)
+
+issued_asked : (s : LaneState) (l : DiskLog) (event : Admitted) (t : LaneState) → LaneStands s l → length l.work.issued < 2 ^ 64 → LaneStep s (Asks event) t
+    → length (after l (Asks event)).work.issued < 2 ^ 64
+issued_asked s l (Refused why request) t stands few step = few
+issued_asked s l (Full request) t stands few step = few
+issued_asked s l (Accepted id request) t stands few step = omega (arith, stands.requests.next, step.0.3, length-append l.work.issued (request ∷ []))
+
+pub issued_behind : (s : LaneState) (l : DiskLog) (event : DiskEvent) (t : LaneState) → LaneStands s l → length l.work.issued < 2 ^ 64 → LaneStep s event t
+    → length (after l event).work.issued < 2 ^ 64
+issued_behind s l (OnWire event) t stands few step = issued_wired l.shape.slots l.talk l.work event few
+issued_behind s l (Asks event) t stands few step = issued_asked s l event t stands few step
+issued_behind s l (Works (Published id)) t stands few step = few
+issued_behind s l (Works (Done id operation status bytes)) t stands few step = few
+issued_behind s l (Works (Desc slot bytes)) t stands few step = few
+issued_behind s l (Works (Moved unit fault)) t stands few step = few
+issued_behind s l (Works (Stored operation block count failed)) t stands few step = few
+issued_behind s l (Works (Finished slot status)) t stands few step = few
+issued_behind s l (Works Misplaced) t stands few step = few
+issued_behind s l (Turns Stopped) t stands few step = few
+issued_behind s l (Turns Started) t stands few step = few
+issued_behind s l (Turns Off) t stands few step = few
+issued_behind s l (Rests event) t stands few step = few
+
+-- where nobody forged after an event, nobody had before it
+wire_before : (l : DiskLog) (event : WireEvent) → (after l (OnWire event)).wire.forged ≡ false → l.wire.forged ≡ false
+wire_before l (Joined e lost) not = not
+wire_before l (Reset e cause packet lost) not = not
+wire_before l (Took e packet opens) not = not
+wire_before l (Sent e packet opens) not = not
+wire_before l (Lost e packet) not = not
+wire_before l (Injected e packet) not = absurd (cc not)
+wire_before l (Poked e at bytes) not = absurd (cc not)
+wire_before l (Idle e) not = not
+wire_before l (Blocked e) not = not
+wire_before l (Declines d) not = not
+
+pub before : (l : DiskLog) (event : DiskEvent) → (after l event).wire.forged ≡ false → l.wire.forged ≡ false
+before l (OnWire event) not = wire_before l event not
+before l (Asks event) not = not
+before l (Works event) not = not
+before l (Turns Stopped) not = not
+before l (Turns Started) not = not
+before l (Turns Off) not = not
+before l (Rests event) not = not
+
+-- EACH EVENT
+pub known_of : (s : LaneState) (l : DiskLog) → AllStand s l → RingStands s l → SessionsAgree s l → l.wire.forged ≡ false → Known s l
+known_of s l all ring agree not = record {
+  pages = ring.pages;
+  stands = all.stands;
+  memory = all.memory;
+  sound = all.talks.client;
+  ring = ring.unforged not;
+  unforged = not;
+  statuses = ring.statuses;
+  agree = agree;
+}
+
+pub ring_step : (s : LaneState) (l : DiskLog) (event : DiskEvent) (t : LaneState) → AllStand s l → (l.wire.forged ≡ false → SessionsAgree s l)
+    → ((after l event).wire.forged ≡ false → SessionsAgree t (after l event)) → RingStands s l → LaneStep s event t → RingStands t (after l event)
+ring_step s l event t all agree behind ring step =
+    let same = same_pages s event t step in
+    record {
+      pages = record {
+        identity = subst (λ (table : List (Option Entry)). IsIdentity table (pages_of l.shape)) (sym same.table) ring.pages.identity;
+        few = ring.pages.few;
+        disk = ring.pages.disk;
+      };
+      issued = issued_behind s l event t all.stands ring.issued step;
+      statuses = statuses l event ring.statuses;
+      unforged = λ not. event_in_ring s l event t (known_of s l all ring (agree (before l event not)) (before l event not)) ring.issued (behind not) step not;
+    }
+
+-- A FRESH RING is zeros
+zeros_at : (pages slots slot : ℕ) → slot < slots → 128 * slots ≤ 8192 * pages → slot_bytes 128 slot (replicate (8192 * pages) 0) ≡ replicate 128 0
+zeros_at pages slots slot below room =
+    let fits : 128 * slot + 128 ≤ 128 * slots = slot_fits 128 slot slots below in
+    ap (λ (xs : List ℕ). take 128 xs) (drop-replicate (128 * slot) (8192 * pages) 0) ∙ take-replicate 128 (8192 * pages - 128 * slot) 0 (omega (arith, fits, room))
+
+zeros_entry : (n j : ℕ) (is : SlotLog) → slice_get (replicate n Zeros) j ≡ Some is → is ≡ Zeros
+zeros_entry zero j is got = absurd (cc got)
+zeros_entry (suc n) zero is got = let same : Zeros ≡ is = cc got in sym same
+zeros_entry (suc n) (suc j) is got = zeros_entry n j is got
+
+fresh_holds : (shape : Shape) → RingHolds (ring_in (nothing_yet shape)) (no_ring shape.slots) (fresh shape).memory
+fresh_holds shape = record {
+  long = length-replicate shape.slots Zeros;
+  each = λ slot is got.
+      let within : slot < shape.slots = omega (arith, slice_get_within (no_ring shape.slots) slot is got, length-replicate shape.slots Zeros) in
+      subst (λ (e : SlotLog). SlotHolds (ring_in (nothing_yet shape)) slot e (slot_bytes 128 slot (fresh shape).memory)) (sym (zeros_entry shape.slots slot is got))
+      (zeros_at (pages_of shape) shape.slots slot within (omega arith));
+}
+
+pub fresh_ring : (shape : Shape) → IsShape shape → RingStands (fresh shape) (nothing_yet shape)
+fresh_ring shape sound = record {
+  pages = record { identity = own_is_identity (pages_of shape) (few_pages shape sound); few = sound.most_slots; disk = sound.most_blocks };
+  issued = omega arith;
+  statuses = tt;
+  unforged = λ not. record { holds = fresh_holds shape; ids = tt; work = λ up. tt };
+}
+
+-- WHAT FOLLOWS: the ring is as the log says
+slot_agrees : (r : RingOf) (slot : ℕ) (is : SlotLog) (bytes : List ℕ) → SlotHolds r slot is bytes → SlotAgrees r.issued r.slots slot is bytes
+slot_agrees r slot Zeros bytes holds = holds
+slot_agrees r slot Free bytes holds = holds
+slot_agrees r slot (Ready id) bytes holds = record { request = holds.request; accepted = holds.accepted; bytes_are = holds.bytes_are }
+slot_agrees r slot (IsAccepted id) bytes holds = record { request = holds.request; accepted = holds.accepted; bytes_are = holds.bytes_are }
+slot_agrees r slot (IsDone id status) bytes holds = record { request = holds.request; accepted = holds.accepted; bytes_are = holds.bytes_are }
+
+pub ring_agrees : (s : LaneState) (l : DiskLog) → RingStands s l → l.wire.forged ≡ false → RingAgrees s.memory l.shape.slots l.work.issued l.ring
+ring_agrees s l ring not =
+    let holds = (ring.unforged not).holds in
+    record { long = holds.long; each = λ slot is got. slot_agrees (ring_in l) slot is (slot_bytes 128 slot s.memory) (holds.each slot is got) }

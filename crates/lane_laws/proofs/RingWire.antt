@@ -1,0 +1,200 @@
+-- What the wire's events do to the ring: nothing, but that it is cleared as the client's session opens.
+use Rattle.std.proofs.Common.{◌≡◌, ℕ, ◌%◌, Bool, true, false, List, Option, Some, None, refl, sym, ap, ◌∙◌, subst, arith}
+use Rattle.std.specs.Prelude.{if◌then◌else◌, slice_index, replicate}
+use Rattle.dring.specs.Slots.{free_slots, slot_bytes}
+use Rattle.ldc_queue.specs.declared.end.ChannelState.TheVariants.{Up}
+use Rattle.ldc_queue.specs.declared.end.End.{End}
+use Rattle.ldc_queue.specs.declared.end.End.TheVariants.{A, B}
+use Rattle.vio_bytes.specs.Place.{put_at}
+use Rattle.vio_tag.specs.declared.cause.Cause.{Cause}
+use Rattle.disk_model.specs.WireEvent.{Blocked, ByRestart, ByScript, ByStep, ByTick, Declines, Giver, Idle, Injected, Joined, Lost, Poked, Reset, Sent, Took, WireEvent, giver}
+use Rattle.disk_model.specs.DiskLog.{DiskLog, after}
+use Rattle.disk_model.specs.RingLog.{Free}
+use Rattle.disk_model.specs.WorkLaws.{IfServer}
+use Rattle.disk_model.specs.WorkLog.{ClientCounts, ServerCounts}
+use Rattle.disk_model.specs.ClientRule.{client_rule}
+use Rattle.disk_model.specs.ClientState.{ClientState}
+use Rattle.disk_model.specs.ClientStep.{ClientSends}
+use Rattle.disk_model.specs.DiskEvent.{OnWire}
+use Rattle.disk_model.specs.LaneState.{LaneState, pages_of}
+use Rattle.disk_model.specs.LaneStep.{EndOnWire, ResetBy, WireStep, reach}
+use Rattle.disk_model.specs.Seeing.{seen}
+use Rattle.disk_model.specs.ServerRule as server_rules
+use Rattle.disk_model.specs.ServerState.{Ends, Progress, ServerSession, Work}
+use Rattle.disk_model.specs.ServerStep.{ServerFails, WorkFails}
+use Rattle.disk_model.specs.ServerWork.{slot_at}
+use Rattle.lane_laws.proofs.Requesting.{held_kept}
+use Rattle.lane_laws.proofs.RingClient.{cleared_slot}
+use Rattle.lane_laws.proofs.RingEnds.{has_work, work_below}
+use Rattle.lane_laws.proofs.RingLeaves.{OpensNot, leaves_stand, wire_leaves}
+use Rattle.lane_laws.proofs.RingServer.{end_refused}
+use Rattle.lane_laws.proofs.RingTable.{free_ids, free_ring}
+use Rattle.lane_laws.proofs.RingWork.{Known, at_work, numbered, slots_are}
+use Rattle.lane_laws.proofs.RingWrites.{equal_slots}
+use Rattle.lane_laws.proofs.Ruling.{client_may, server_may}
+use Rattle.lane_laws.specs.RingAgreed.{InRing, OneRing, SessionsAgree, ring_in}
+use Rattle.lane_laws.specs.RingSlots.{WorkStands}
+use Rattle.lane_laws.specs.RuleFacts.{ServerMay}
+
+-- THE CLIENT'S PACKETS
+pub record Clears (s : LaneState) (opens : Bool) (new : List ℕ) : Type 0 where
+  pub is : new ≡ (if opens then put_at 0 (free_slots 128 s.client.slots) s.memory else s.memory)
+
+pub sent_clears : (s : LaneState) (packet : List ℕ) (opens : Bool) (t : ClientState) (new : List ℕ) → ClientSends s.client (seen A s.shape.entries s.wire.wire) s.memory packet opens t new
+    → Clears s opens new
+sent_clears s packet opens t new sends =
+    let at = seen A s.shape.entries s.wire.wire in
+    let held = held_kept s.client at (client_rule s.client at) sends.held (client_may s.client at) sends.holds in
+    record {
+      is =
+          sends.cleared
+          ∙ ap (λ (b : Bool). if b then put_at 0 (free_slots 128 sends.held.slots) s.memory else s.memory) (sym sends.opens_is)
+          ∙ ap (λ (n : ℕ). if opens then put_at 0 (free_slots 128 n) s.memory else s.memory) held.slots;
+    }
+
+-- the session opens: all slots are free, and no descriptor is in work
+abbrev published_of : Option ClientCounts → ℕ
+published_of None = 0
+published_of (Some c) = c.published
+
+none_in_work : (s t : LaneState) (l : DiskLog) (packet : List ℕ) → SessionsAgree t (after l (OnWire (Sent A packet true))) → (q : Option ServerCounts) → l.work.server ≡ q
+    → l.wire.wire.end_b ≡ Up → WorkStands (ring_in l) (replicate l.shape.slots Free) q
+none_in_work s t l packet agree None is up = tt
+none_in_work s t l packet agree (Some d) is up =
+    let one : OneRing t (after l (OnWire (Sent A packet true))).work d =
+    subst (λ (q : Option ServerCounts). IfServer q (OneRing t (after l (OnWire (Sent A packet true))).work)) is (agree.ring up) in
+    let nothing : 0 ≡ one.client.published = ap published_of one.open_is in
+    let descs = one.descs in
+    let asked = one.asked in
+    λ single. absurd (omega (arith, nothing, descs, asked, single))
+
+opened_in_ring : (s : LaneState) (l : DiskLog) (packet : List ℕ) (t : LaneState) → Known s l → SessionsAgree t (after l (OnWire (Sent A packet true)))
+    → ClientSends s.client (seen A s.shape.entries s.wire.wire) s.memory packet true t.client t.memory → InRing t (after l (OnWire (Sent A packet true)))
+opened_in_ring s l packet t known agree sends =
+    let n = l.shape.slots in
+    let memory : t.memory ≡ put_at 0 (free_slots 128 n) s.memory =
+    (sent_clears s packet true t.client t.memory sends).is ∙ ap (λ (m : ℕ). put_at 0 (free_slots 128 m) s.memory) (slots_are s l known.stands) in
+    record {
+      holds = free_ring (ring_in l) t.memory (λ slot below. ap (λ (m : List ℕ). slice_index (slot_bytes 128 slot m) 0) memory ∙ cleared_slot n slot s.memory below);
+      ids = free_ids n l.work.done (after l (OnWire (Sent A packet true))).work.client;
+      work = λ up. none_in_work s t l packet agree l.work.server refl up;
+    }
+
+-- THE SERVER'S RESETS write nothing in session
+fails_same : (p : Progress) (s : LaneState) (l : DiskLog) (v : ServerSession) (w : Work) (cause : Cause) (new : List ℕ) → Known s l → s.wire.wire.end_b ≡ Up → s.server.session ≡ Some v
+    → s.server.work ≡ Some w → WorkFails p s.server v w (reach s (seen B s.shape.entries s.wire.wire).both) cause new → new ≡ s.memory
+fails_same (Ends status) s l v w cause new known up session working fails =
+    let both = (seen B s.shape.entries s.wire.wire).both in
+    let work = at_work s l v known up session in
+    let d = work.of.counts in
+    let has = has_work s l v w known work working in
+    let single = has.one in
+    let descs = work.one.descs in
+    let small = work.one.small in
+    let next : slot_at s.server v.finished ≡ d.finished % l.shape.slots = numbered s l v work v.finished d.finished known.stands work.of.agree.finished (omega (arith, single, descs, small)) in
+    end_refused s.server (reach s both) (pages_of l.shape) l.shape.slots (slot_at s.server v.finished) w status cause new (work.reaches both)
+    (omega (arith, next, work_below s l d known)) fails
+fails_same _ s l v w cause new known up session working fails = absurd fails
+
+rule_same : (rule : server_rules.ServerRule) (s : LaneState) (l : DiskLog) (cause : Cause) (packet : Option (List ℕ)) (new : List ℕ) → Known s l
+    → ServerMay s.server (seen B s.shape.entries s.wire.wire) rule → ServerFails rule s.server (reach s (seen B s.shape.entries s.wire.wire).both) cause packet new → new ≡ s.memory
+rule_same (server_rules.Takes bytes) s l cause packet new known may fails = fails.2
+rule_same (server_rules.Fetches session) s l cause packet new known may fails = fails.2
+rule_same (server_rules.Serves session work) s l cause packet new known may fails = fails_same work.progress s l session work cause new known may.0 may.1 may.2 fails.1
+rule_same _ s l cause packet new known may fails = absurd fails
+
+-- EACH EVENT that opens no session of the client leaves the memory
+client_same : (s : LaneState) (event : WireEvent) (t : LaneState) → OpensNot event → EndOnWire A s event t → t.memory ≡ s.memory
+client_same s (Joined A lost) t not step = step.step.3
+client_same s (Took A packet opens) t not step = step.step.3
+client_same s (Sent A packet false) t not step = (sent_clears s packet false t.client t.memory step.step).is
+client_same s (Sent A packet true) t not step = absurd (cc not)
+client_same s (Blocked A) t not step = step.step.2
+client_same s (Idle A) t not step = step.step.2
+client_same s (Reset A cause packet lost) t not step = step.step.3
+client_same s (Joined B lost) t not step = absurd step.step
+client_same s (Took B packet opens) t not step = absurd step.step
+client_same s (Sent B packet opens) t not step = absurd step.step
+client_same s (Blocked B) t not step = absurd step.step
+client_same s (Idle B) t not step = absurd step.step
+client_same s (Reset B cause packet lost) t not step = absurd step.step
+client_same s (Lost e packet) t not step = absurd step.step
+client_same s (Injected e packet) t not step = absurd step.step
+client_same s (Poked e at bytes) t not step = absurd step.step
+client_same s (Declines d) t not step = absurd step.step
+
+server_same : (s : LaneState) (l : DiskLog) (event : WireEvent) (t : LaneState) → Known s l → EndOnWire B s event t → t.memory ≡ s.memory
+server_same s l (Joined B lost) t known step = step.1.step.1.3
+server_same s l (Took B packet opens) t known step = step.1.step.1.2
+server_same s l (Sent B packet opens) t known step = step.1.step.1.1
+server_same s l (Blocked B) t known step = step.1.step.1.2
+server_same s l (Idle B) t known step = step.1.step.1.2
+server_same s l (Reset B cause packet lost) t known step =
+    let at = seen B s.shape.entries s.wire.wire in
+    rule_same (server_rules.server_rule s.server at) s l cause packet t.memory known (server_may s.server at) step.1.step.1.0
+server_same s l (Joined A lost) t known step = absurd step.1.step.1
+server_same s l (Took A packet opens) t known step = absurd step.1.step.1
+server_same s l (Sent A packet opens) t known step = absurd step.1.step.1
+server_same s l (Blocked A) t known step = absurd step.1.step.1
+server_same s l (Idle A) t known step = absurd step.1.step.1
+server_same s l (Reset A cause packet lost) t known step = absurd step.1.step.1
+server_same s l (Lost e packet) t known step = absurd step.1.step.1
+server_same s l (Injected e packet) t known step = absurd step.1.step.1
+server_same s l (Poked e at bytes) t known step = absurd step.1.step.1
+server_same s l (Declines d) t known step = absurd step.1.step.1
+
+end_same : (e : End) (s : LaneState) (l : DiskLog) (event : WireEvent) (t : LaneState) → OpensNot event → Known s l → EndOnWire e s event t → t.memory ≡ s.memory
+end_same A s l event t not known step = client_same s event t not step
+end_same B s l event t not known step = server_same s l event t known step
+
+reset_same : (by : Giver) (e : End) (s : LaneState) (l : DiskLog) (cause : Cause) (packet : Option (List ℕ)) (lost : ℕ) (t : LaneState) → Known s l → ResetBy by e s cause packet lost t
+    → t.memory ≡ s.memory
+reset_same ByStep e s l cause packet lost t known step = end_same e s l (Reset e cause packet lost) t tt known step
+reset_same ByScript A s l cause packet lost t known step = ap (λ (x : LaneState). x.memory) step.2
+reset_same ByScript B s l cause packet lost t known step = ap (λ (x : LaneState). x.memory) step.1.2
+reset_same ByRestart A s l cause packet lost t known step = absurd step
+reset_same ByRestart B s l cause packet lost t known step = ap (λ (x : LaneState). x.memory) step.1.2
+reset_same ByTick A s l cause packet lost t known step = ap (λ (x : LaneState). x.memory) step.1.2
+reset_same ByTick B s l cause packet lost t known step = absurd step
+
+pub wire_same : (s : LaneState) (l : DiskLog) (event : WireEvent) (t : LaneState) → OpensNot event → Known s l → WireStep s event t → (after l (OnWire event)).wire.forged ≡ false
+    → t.memory ≡ s.memory
+wire_same s l (Joined e lost) t not known step unforged = end_same e s l (Joined e lost) t not known step
+wire_same s l (Took e packet opens) t not known step unforged = end_same e s l (Took e packet opens) t not known step
+wire_same s l (Sent e packet opens) t not known step unforged = end_same e s l (Sent e packet opens) t not known step
+wire_same s l (Idle e) t not known step unforged = end_same e s l (Idle e) t not known step
+wire_same s l (Blocked e) t not known step unforged = end_same e s l (Blocked e) t not known step
+wire_same s l (Reset e cause packet lost) t not known step unforged = reset_same (giver cause) e s l cause packet lost t known step
+wire_same s l (Lost e packet) t not known step unforged = ap (λ (x : LaneState). x.memory) step.1
+wire_same s l (Injected e packet) t not known step unforged = ap (λ (x : LaneState). x.memory) step.2
+wire_same s l (Poked e at bytes) t not known step unforged = absurd (cc unforged)
+wire_same s l (Declines d) t not known step unforged = ap (λ (x : LaneState). x.memory) step.1
+
+quiet_in_ring : (s : LaneState) (l : DiskLog) (event : WireEvent) (t : LaneState) → OpensNot event → Known s l → WireStep s event t → (after l (OnWire event)).wire.forged ≡ false
+    → InRing t (after l (OnWire event))
+quiet_in_ring s l event t not known step unforged =
+    leaves_stand s l (OnWire event) t (wire_leaves l event not) (equal_slots l.shape.slots s.memory t.memory (wire_same s l event t not known step unforged)) known.ring
+
+sent_in_ring : (s : LaneState) (l : DiskLog) (e : End) (packet : List ℕ) (opens : Bool) (t : LaneState) → Known s l → SessionsAgree t (after l (OnWire (Sent e packet opens)))
+    → WireStep s (Sent e packet opens) t → (after l (OnWire (Sent e packet opens))).wire.forged ≡ false → InRing t (after l (OnWire (Sent e packet opens)))
+sent_in_ring s l A packet true t known agree step unforged = opened_in_ring s l packet t known agree step.step
+sent_in_ring s l A packet false t known agree step unforged = quiet_in_ring s l (Sent A packet false) t refl known step unforged
+sent_in_ring s l B packet opens t known agree step unforged = quiet_in_ring s l (Sent B packet opens) t tt known step unforged
+
+took_in_ring : (s : LaneState) (l : DiskLog) (e : End) (packet : List ℕ) (opens : Bool) (t : LaneState) → Known s l → WireStep s (Took e packet opens) t
+    → (after l (OnWire (Took e packet opens))).wire.forged ≡ false → InRing t (after l (OnWire (Took e packet opens)))
+took_in_ring s l A packet opens t known step unforged = quiet_in_ring s l (Took A packet opens) t step.step.2 known step unforged
+took_in_ring s l B packet opens t known step unforged = quiet_in_ring s l (Took B packet opens) t tt known step unforged
+
+pub wire_in_ring : (s : LaneState) (l : DiskLog) (event : WireEvent) (t : LaneState) → Known s l → SessionsAgree t (after l (OnWire event)) → WireStep s event t
+    → (after l (OnWire event)).wire.forged ≡ false → InRing t (after l (OnWire event))
+wire_in_ring s l (Sent e packet opens) t known agree step unforged = sent_in_ring s l e packet opens t known agree step unforged
+wire_in_ring s l (Took e packet opens) t known agree step unforged = took_in_ring s l e packet opens t known step unforged
+wire_in_ring s l (Joined e lost) t known agree step unforged = quiet_in_ring s l (Joined e lost) t tt known step unforged
+wire_in_ring s l (Idle e) t known agree step unforged = quiet_in_ring s l (Idle e) t tt known step unforged
+wire_in_ring s l (Blocked e) t known agree step unforged = quiet_in_ring s l (Blocked e) t tt known step unforged
+wire_in_ring s l (Reset e cause packet lost) t known agree step unforged = quiet_in_ring s l (Reset e cause packet lost) t tt known step unforged
+wire_in_ring s l (Lost e packet) t known agree step unforged = quiet_in_ring s l (Lost e packet) t tt known step unforged
+wire_in_ring s l (Injected e packet) t known agree step unforged = absurd (cc unforged)
+wire_in_ring s l (Poked e at bytes) t known agree step unforged = absurd (cc unforged)
+wire_in_ring s l (Declines d) t known agree step unforged = quiet_in_ring s l (Declines d) t tt known step unforged

@@ -1,0 +1,138 @@
+-- What more is known where a rule is an end's next step: that its link holds nothing, that nothing is owed, and how its range stands.
+use Rattle.std.proofs.Common.{◌≡◌, ℕ, ◌-◌, ◌⊎◌, Bool, true, false, Option, Some, None, List, refl, sym, ◌∙◌, inl, inr, subst}
+use Rattle.std.specs.Prelude.{if◌then◌else◌, nat_lt, slice_get, ◌==◌, ⊤}
+use Rattle.std.proofs.lemmas.Bool.{eqb-true}
+use Rattle.cookie_copy.specs.Faults.{is_up}
+use Rattle.ldc_link.specs.Putting.{owes}
+use Rattle.vdisk_msg.specs.declared.request.Request.{Request}
+use Rattle.vio_tag.specs.declared.message.Message.{Message}
+use Rattle.disk_model.specs.ClientRule as client
+use Rattle.disk_model.specs.ClientState.{ClientSession, ClientState}
+use Rattle.disk_model.specs.Seeing.{Seen}
+use Rattle.disk_model.specs.ServerRule as server
+use Rattle.disk_model.specs.ServerState.{ServerSession, ServerState, SlotRange, Work}
+
+-- THE CLIENT publishes only where its link holds nothing
+abbrev PublishesFree : ClientState → client.ClientRule → Type 0
+PublishesFree s (client.Publishes session request) = owes s.link ≡ false
+PublishesFree s _ = ⊤
+
+next_free : (s : ClientState) (session : ClientSession) (next : Option Request) → owes s.link ≡ false → PublishesFree s (client.publishes session next)
+next_free s session None free = tt
+next_free s session (Some request) free = free
+
+announces_free : (s : ClientState) (session : ClientSession) (b : Bool) → owes s.link ≡ false
+    → PublishesFree s (if b then client.Announces session else client.publishes session (slice_get s.pending (session.published - session.completed)))
+announces_free s session true free = tt
+announces_free s session false free = next_free s session (slice_get s.pending (session.published - session.completed)) free
+
+session_free : (s : ClientState) (open_one : Option ClientSession) → owes s.link ≡ false → PublishesFree s (client.in_session s open_one)
+session_free s None free = tt
+session_free s (Some session) free = announces_free s session (nat_lt session.announced session.published) free
+
+says_free : (s : ClientState) (owed : Option Message) → owes s.link ≡ false → PublishesFree s (client.says s owed)
+says_free s None free = session_free s s.session free
+says_free s (Some message) free = tt
+
+puts_free : (s : ClientState) (b : Bool) → owes s.link ≡ b → PublishesFree s (if b then client.Puts else client.says s s.shake.owed)
+puts_free s true is = tt
+puts_free s false is = says_free s s.shake.owed is
+
+takes_free : (s : ClientState) (first : Option (List ℕ)) → PublishesFree s (client.takes_first first (client.puts_first s))
+takes_free s None = puts_free s (owes s.link) refl
+takes_free s (Some packet) = tt
+
+urgent_free : (s : ClientState) (at : Seen) (b : Bool) → PublishesFree s (if b then client.puts_first s else client.takes_first at.first (client.puts_first s))
+urgent_free s at true = puts_free s (owes s.link) refl
+urgent_free s at false = takes_free s at.first
+
+completes_if : (s : ClientState) (at : Seen) (session : ClientSession) (b : Bool) → PublishesFree s (if b then client.Completes session else client.puts_or_takes s at)
+completes_if s at session true = tt
+completes_if s at session false = urgent_free s at (client.is_urgent s)
+
+completes_free : (s : ClientState) (at : Seen) (open_one : Option ClientSession) → PublishesFree s (client.completes_first open_one (client.puts_or_takes s at))
+completes_free s at None = urgent_free s at (client.is_urgent s)
+completes_free s at (Some session) = completes_if s at session (nat_lt session.completed session.acked)
+
+up_free : (s : ClientState) (at : Seen) (b : Bool) → PublishesFree s (if b then client.completes_first s.session (client.puts_or_takes s at) else client.Joins)
+up_free s at true = completes_free s at s.session
+up_free s at false = tt
+
+pub publishes_free : (s : ClientState) (at : Seen) (session : ClientSession) (request : Request) → client.client_rule s at ≡ client.Publishes session request → owes s.link ≡ false
+publishes_free s at session request rule = subst (PublishesFree s) rule (up_free s at (is_up at.state))
+
+-- THE SERVER answers a range whose descriptors are all finished, and serves one that isn't
+pub record ServesFree (s : ServerState) (session : ServerSession) : Type 0 where
+  pub free : owes s.link ≡ false
+  pub session_is : s.session ≡ Some session
+  pub unfinished : (session.finished == session.asked) ≡ false
+
+pub record TakesFree (s : ServerState) : Type 0 where
+  pub free : owes s.link ≡ false
+  pub owed : s.shake.owed ≡ None
+  pub range : (session : ServerSession) → s.session ≡ Some session → session.range ≡ None
+
+pub record AnswersFree (s : ServerState) (message : Message) : Type 0 where
+  pub session : ServerSession
+  pub range : SlotRange
+  pub owed : s.shake.owed ≡ None
+  pub session_is : s.session ≡ Some session
+  pub range_is : session.range ≡ Some range
+  pub finished : session.finished ≡ session.asked
+  pub message_is : message ≡ server.answer s range
+
+abbrev pub ServerFree : ServerState → server.ServerRule → Type 0
+ServerFree s (server.Takes packet) = TakesFree s
+ServerFree s (server.Says message) = (owes s.link ≡ false) × ((s.shake.owed ≡ Some message) ⊎ AnswersFree s message)
+ServerFree s (server.Fetches session) = ServesFree s session × (s.work ≡ None)
+ServerFree s (server.Serves session work) = ServesFree s session × (s.work ≡ Some work)
+ServerFree s _ = ⊤
+
+first_free : (s : ServerState) (first : Option (List ℕ)) → TakesFree s → ServerFree s (server.takes_first first)
+first_free s None free = tt
+first_free s (Some packet) free = free
+
+serves_free : (s : ServerState) (session : ServerSession) (work : Option Work) → ServesFree s session → s.work ≡ work → ServerFree s (server.serves session work)
+serves_free s session None free is = (free, is)
+serves_free s session (Some work) free is = (free, is)
+
+range_free : (s : ServerState) (session : ServerSession) (range : SlotRange) (b : Bool) → owes s.link ≡ false → s.shake.owed ≡ None → s.session ≡ Some session
+    → session.range ≡ Some range → (session.finished == session.asked) ≡ b → ServerFree s (if b then server.Says (server.answer s range) else server.serves session s.work)
+range_free s session range true free none is ranged test = (
+  free,
+  inr (record { session = session; range = range; owed = none; session_is = is; range_is = ranged; finished = eqb-true session.finished session.asked test; message_is = refl }),
+)
+range_free s session range false free none is ranged test = serves_free s session s.work (record { free = free; session_is = is; unfinished = test }) refl
+
+same_range : (session other : ServerSession) → Some session ≡ Some other → session.range ≡ None → other.range ≡ None
+same_range session other is none = let same : session ≡ other = cc is in subst (λ (x : ServerSession). x.range ≡ None) same none
+
+in_range_free : (s : ServerState) (at : Seen) (session : ServerSession) (range : Option SlotRange) → owes s.link ≡ false → s.shake.owed ≡ None → s.session ≡ Some session
+    → session.range ≡ range → ServerFree s (server.in_range s session range at)
+in_range_free s at session None free none is ranged =
+    first_free s at.first (record {
+      free = free;
+      owed = none;
+      range = λ other now. same_range session other (sym is ∙ now) ranged;
+    })
+in_range_free s at session (Some range) free none is ranged = range_free s session range (session.finished == session.asked) free none is ranged refl
+
+in_session_free : (s : ServerState) (at : Seen) (open_one : Option ServerSession) → owes s.link ≡ false → s.shake.owed ≡ None → s.session ≡ open_one
+    → ServerFree s (server.in_session s open_one at)
+in_session_free s at None free none is = first_free s at.first (record { free = free; owed = none; range = λ session now. let none : None ≡ Some session = sym is ∙ now in absurd (cc) })
+in_session_free s at (Some session) free none is = in_range_free s at session session.range free none is refl
+
+server_says_free : (s : ServerState) (at : Seen) (owed : Option Message) → owes s.link ≡ false → s.shake.owed ≡ owed → ServerFree s (server.says s owed at)
+server_says_free s at (Some message) free is = (free, inl is)
+server_says_free s at None free is = in_session_free s at s.session free is refl
+
+server_puts_free : (s : ServerState) (at : Seen) (b : Bool) → owes s.link ≡ b → ServerFree s (if b then server.Puts else server.says s s.shake.owed at)
+server_puts_free s at true is = tt
+server_puts_free s at false is = server_says_free s at s.shake.owed is refl
+
+server_up_free : (s : ServerState) (at : Seen) (b : Bool) → ServerFree s (if b then (if owes s.link then server.Puts else server.says s s.shake.owed at) else server.Joins)
+server_up_free s at true = server_puts_free s at (owes s.link) refl
+server_up_free s at false = tt
+
+pub server_free : (s : ServerState) (at : Seen) → ServerFree s (server.server_rule s at)
+server_free s at = server_up_free s at (is_up at.state)

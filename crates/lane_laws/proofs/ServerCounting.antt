@@ -1,0 +1,364 @@
+-- A packet that a server takes leaves its session counting what it said and heard.
+use Rattle.std.proofs.Common.{◌%◌, ◌≡◌, ℕ, ◌+◌, ◌<◌, ◌≤◌, inl, inr, Bool, true, false, Option, Some, None, List, [], ◌∷◌, ◌++◌, length, refl, sym, ap, ◌∙◌, subst, arith}
+use Rattle.std.specs.Prelude.{is_some, ◌&&◌, not, if◌then◌else◌}
+use Rattle.std.proofs.lemmas.Nat.{mod_below}
+use Rattle.ldc_link.specs.declared.phase.Role.TheVariants.{Responder}
+use Rattle.ldc_link.specs.LinkState.{LinkState, is_up}
+use Rattle.ldc_packet.specs.Spelling.{subtype_code}
+use Rattle.ldc_queue.specs.Talk.{Heard as Heard_, Turn}
+use Rattle.vio_handshake.specs.declared.handshake.Handshake.{Handshake}
+use Rattle.vio_handshake.specs.declared.handshake.Phase.{Phase}
+use Rattle.vio_handshake.specs.declared.handshake.Phase.TheVariants.{Open}
+use Rattle.vio_handshake.specs.declared.session.Offer.{Offer}
+use Rattle.vio_handshake.specs.Rules.{ShakeTake, shake_take}
+use Rattle.vio_handshake.specs.State.{shake_up}
+use Rattle.disk_model.specs.Sayings.{half_heard, half_said, heard, said}
+use Rattle.disk_model.specs.Agreement.{ServerAgrees, ServerCountsAgree, WorkAgrees}
+use Rattle.disk_model.specs.Messages.{range_ended, range_in}
+use Rattle.disk_model.specs.WorkLog.{ServerCounts, change_server, length_in, one_in, opened_counts}
+use Rattle.disk_model.specs.EndPuts.{shake_risen}
+use Rattle.disk_model.specs.LaneState.{Shape}
+use Rattle.disk_model.specs.Offering.{server_offer}
+use Rattle.disk_model.specs.Ranges.{range_length, wrapped}
+use Rattle.disk_model.specs.ServerState.{ServerSession, ServerState, SlotRange, Work, joined_server, restarted_server}
+use Rattle.lane_laws.proofs.ClientTaken.{HearsMessage, ShakesTo}
+use Rattle.lane_laws.proofs.EndUttering.{up_empty}
+use Rattle.lane_laws.proofs.Fitting.{TakesFit, joined_fits, take_fits, up_fits}
+use Rattle.lane_laws.proofs.RangeSums.{count_more, ready_more, sum_heard, sum_more}
+use Rattle.lane_laws.proofs.RangesSaid.{IsNoData, heard_no_range, heard_one, heard_range, ready_heard}
+use Rattle.lane_laws.proofs.RulesFree.{TakesFree}
+use Rattle.lane_laws.proofs.ServerTaken.{ServerAsked, ServerHearsPart, ServerShakes, ServerTook, still}
+use Rattle.lane_laws.proofs.ShakingOpen.{no_data, opens_not_open, opens_ready}
+use Rattle.lane_laws.specs.Budget.{one_range}
+use Rattle.lane_laws.specs.Counted.{HoldsEither, NothingAsked, RangeStands, ServerCounted, ServerHolds, ServerOrder, is_ready, one_where, range_count, range_sum, ready_count}
+use Rattle.vio_tag.specs.declared.message.Message.{Message}
+use Rattle.lane_laws.specs.LaneRests.{ServerRests, ServerUtters}
+use Rattle.lane_laws.specs.ShakeFits.{Fits, RingFits}
+
+-- IT BEGINS
+pub server_begins_counting : (shape : Shape) (v : ServerState) (turns : List Turn) (d : Option ServerCounts) → ServerCounted shape v turns d → ServerCounted shape (joined_server v) [] None
+server_begins_counting shape v turns d counted = record {
+  slots = counted.slots;
+  blocks = counted.blocks;
+  shake = joined_fits Responder (server_offer shape.blocks shape.slots) v.shake counted.shake;
+  holds = λ some. absurd (omega (arith, some));
+  order = record { asked = refl; answered = refl; infos = refl };
+  unit = tt;
+  ready = λ now. absurd (cc);
+  agrees = refl;
+}
+
+pub server_restarts_counting : (shape : Shape) (v : ServerState) (turns : List Turn) (d : Option ServerCounts) → ServerCounted shape v turns d → ServerCounted shape (restarted_server v) [] None
+server_restarts_counting shape v turns d counted = record {
+  slots = counted.slots;
+  blocks = counted.blocks;
+  shake = record {
+    role_is = refl;
+    offer_is = ap (λ (n : ℕ). server_offer n v.slots) counted.blocks ∙ ap (server_offer shape.blocks) counted.slots;
+    owed = tt;
+    ring = tt;
+  };
+  holds = λ some. absurd (omega (arith, some));
+  order = record { asked = refl; answered = refl; infos = refl };
+  unit = tt;
+  ready = λ now. absurd (cc);
+  agrees = refl;
+}
+
+-- THE LOG counts what is heard
+abbrev asks_more : Shape → List Turn → List ℕ → Option ServerCounts → Option ServerCounts
+asks_more shape turns packet d = change_server (λ (c : ServerCounts). record c { asked = c.asked + length_in shape.slots (range_ended 1 (half_heard turns) packet) }) d
+
+-- where no range is heard
+range_same : (slots n : ℕ) (range : Option SlotRange) (c : ServerCounts) → n ≡ 0 → RangeStands slots range c → RangeStands slots range (record c { asked = c.asked + n })
+range_same slots n None c none stands = omega (arith, none, stands)
+range_same slots n (Some range) c none stands = (omega (arith, none, stands.0), stands.1, stands.2, stands.3)
+
+order_same : (shape : Shape) (o : Option ServerSession) (d : Option ServerCounts) (turns : List Turn) (packet : List ℕ)
+    → range_sum shape.slots 1 (heard (Heard_ packet ∷ turns)) ≡ range_sum shape.slots 1 (heard turns)
+    → range_count 1 (heard (Heard_ packet ∷ turns)) ≡ range_count 1 (heard turns) → ServerOrder shape.slots o d turns
+    → ServerOrder shape.slots o (asks_more shape turns packet d) (Heard_ packet ∷ turns)
+order_same shape None d turns packet same as_many order = record { asked = same ∙ order.asked; answered = order.answered; infos = as_many ∙ order.infos }
+order_same shape (Some s) None turns packet same as_many order = absurd order
+order_same shape (Some s) (Some c) turns packet same as_many order =
+    let n = length_in shape.slots (range_ended 1 (half_heard turns) packet) in
+    let none : n ≡ 0 = omega (arith, same, sum_heard shape.slots 1 packet turns) in
+    record {
+      asked = omega (arith, order.asked, sum_heard shape.slots 1 packet turns);
+      answered = order.answered;
+      finished = order.finished;
+      descs = omega (arith, order.descs);
+      range = range_same shape.slots n s.range c none order.range;
+      seq = order.seq ∙ ap (λ (x : ℕ). wrapped (x + 1)) (sym as_many);
+      replies = omega (arith, order.replies, as_many);
+    }
+
+work_same : (w : Option Work) (c : ServerCounts) (n : ℕ) → WorkAgrees w c → WorkAgrees w (record c { asked = c.asked + n })
+work_same None c n agrees = agrees
+work_same (Some work) c n agrees = agrees
+
+agrees_same : (o : Option ServerSession) (w : Option Work) (d : Option ServerCounts) (n : ℕ) → n ≡ 0 → ServerAgrees o w d
+    → ServerAgrees o w (change_server (λ (c : ServerCounts). record c { asked = c.asked + n }) d)
+agrees_same None w None n none agrees = agrees
+agrees_same None w (Some c) n none agrees = absurd agrees
+agrees_same (Some s) w None n none agrees = absurd agrees
+agrees_same (Some s) w (Some c) n none agrees = (
+  record { asked = agrees.0.asked ∙ ap wrapped (let more : c.asked ≡ c.asked + n = omega (arith, none) in more); descs = agrees.0.descs; finished = agrees.0.finished; answered = agrees.0.answered },
+  work_same w c n agrees.1,
+)
+
+abbrev Behind : Shape → List Turn → List ℕ → ℕ → Option ServerCounts → Bool → ServerState → Type 0
+Behind shape turns packet sid d opens t = ServerCounted shape t (Heard_ packet ∷ turns) (opened_counts opens sid (asks_more shape turns packet d))
+
+-- IT TAKES a packet: a part of a message, or one of its link's handshake, with which the link may come up
+fits_risen : (b c : Bool) (offer : Offer) (h : Handshake) → Fits Responder offer h → Fits Responder offer (if b && not c then shake_up h else h)
+fits_risen true true offer h fits = fits
+fits_risen true false offer h fits = up_fits Responder offer h fits
+fits_risen false c offer h fits = fits
+
+holds_risen : (b : Bool) (v : ServerState) (k : LinkState) (turns : List Turn) → is_up v.link ≡ b → k.to_send ≡ v.link.to_send → (is_up v.link ≡ false → v.link.to_send ≡ []) → ServerHolds v turns
+    → ServerHolds (record v { link = k; shake = shake_risen v.link k v.shake }) turns
+holds_risen false v k turns is left idle holds = λ some. absurd (omega (arith, some, ap length left, ap length (idle is)))
+holds_risen true v k turns is left idle holds =
+    let same : shake_risen v.link k v.shake ≡ v.shake = still (is_up k) (is_up v.link) v.shake is in
+    subst (λ (h : Handshake). ServerHolds (record v { link = k; shake = h }) turns) (sym same)
+    (λ some. elim (subst (λ (xs : List ℕ). HoldsEither v xs) (ap (λ (xs : List ℕ). half_said turns ++ xs) (sym left)) (holds (omega (arith, some, ap length left)))) [
+      | inl owed ↦ inl owed
+      | inr answer ↦ inr (record {
+        session = answer.session;
+        range = answer.range;
+        nothing_owed = answer.nothing_owed;
+        session_is = answer.session_is;
+        range_is = answer.range_is;
+        finished = answer.finished;
+        bytes_are = answer.bytes_are;
+      })
+    ])
+
+takes_part : (shape : Shape) (v t : ServerState) (turns : List Turn) (packet : List ℕ) (sid : ℕ) (d : Option ServerCounts) (opens : Bool) → ServerUtters v turns → ServerCounted shape v turns d
+    → ServerHearsPart v turns packet t opens → Behind shape turns packet sid d opens t
+takes_part shape v t turns packet sid d opens utters counted part =
+    let same : range_sum shape.slots 1 (heard (Heard_ packet ∷ turns)) ≡ range_sum shape.slots 1 (heard turns) = ap (range_sum shape.slots 1) part.messages in
+    let none : length_in shape.slots (range_ended 1 (half_heard turns) packet) ≡ 0 = omega (arith, same, sum_heard shape.slots 1 packet turns) in
+    subst (λ (b : Bool). Behind shape turns packet sid d b t) (sym part.opens_is)
+    (subst (Behind shape turns packet sid d false) (sym part.is) (record {
+      slots = counted.slots;
+      blocks = counted.blocks;
+      shake = fits_risen (is_up part.link) (is_up v.link) (server_offer shape.blocks shape.slots) v.shake counted.shake;
+      holds = holds_risen (is_up v.link) v part.link turns refl part.left utters.idle counted.holds;
+      order = order_same shape v.session d turns packet same (ap (range_count 1) part.messages) counted.order;
+      unit = counted.unit;
+      ready = λ now. subst (λ (xs : List (List ℕ)). 1 ≤ ready_count xs) (sym part.messages) (counted.ready now);
+      agrees = agrees_same v.session v.work d (length_in shape.slots (range_ended 1 (half_heard turns) packet)) none counted.agrees;
+    }))
+
+-- a message of the handshake: its session may open by it
+fits_to : (offer : Offer) (h g : Handshake) (answer : ShakeTake) (opens : Bool) → ShakesTo h answer opens g → TakesFit Responder offer answer → Fits Responder offer g
+fits_to offer h g answer false is fits = subst (TakesFit Responder offer) is fits
+fits_to offer h g answer true is fits = subst (TakesFit Responder offer) is fits
+
+closed : (o : Option ServerSession) (phase : Phase) → (is_some o ≡ true → phase ≡ Open) → (phase ≡ Open → ⊥) → o ≡ None
+closed None phase opened never = refl
+closed (Some session) phase opened never = absurd (never (opened refl))
+
+no_work : (o : Option ServerSession) (w : Option Work) (d : Option ServerCounts) → o ≡ None → ServerAgrees o w d → w ≡ None
+no_work None w None is agrees = agrees
+no_work None w (Some c) is agrees = absurd agrees
+no_work (Some s) w d is agrees = absurd (cc is)
+
+nothing_asked : (slots : ℕ) (o : Option ServerSession) (d : Option ServerCounts) (turns : List Turn) → o ≡ None → ServerOrder slots o d turns → NothingAsked slots turns
+nothing_asked slots None d turns is order = order
+nothing_asked slots (Some s) d turns is order = absurd (cc is)
+
+opened_work : (w : Option Work) (sid : ℕ) → w ≡ None
+    → WorkAgrees w (record { sid = sid; asked = 0; descs = 0; finished = 0; answered = 0; desc = []; owed = [] })
+opened_work None sid is = (refl, refl)
+opened_work (Some work) sid is = absurd (cc is)
+
+-- a message of the handshake is no INFO
+no_more_infos : (turns : List Turn) (packet : List ℕ) (message : Message) → (hears : HearsMessage turns packet message) → IsNoData message.body
+    → range_count 1 (heard (Heard_ packet ∷ turns)) ≡ range_count 1 (heard turns)
+no_more_infos turns packet message hears apart =
+    omega (
+      arith,
+      ap (range_count 1) hears.messages,
+      count_more 1 (heard turns) hears.bytes,
+      ap one_in (heard_no_range 1 hears.bytes message hears.spells hears.form apart),
+    )
+
+takes_shake : (opens : Bool) (shape : Shape) (v t : ServerState) (turns : List Turn) (packet : List ℕ) (sid : ℕ) (d : Option ServerCounts) → ServerRests v turns → TakesFree v
+    → ServerCounted shape v turns d → ServerShakes v turns packet t opens → Behind shape turns packet sid d opens t
+takes_shake false shape v t turns packet sid d rests free counted shakes =
+    let bytes = shakes.hears.bytes in
+    let apart : IsNoData shakes.message.body = no_data v.shake shakes.message false shakes.shake shakes.takes in
+    let empty : v.link.to_send ≡ [] = up_empty v.link shakes.up free.free in
+    let same : range_sum shape.slots 1 (heard (Heard_ packet ∷ turns)) ≡ range_sum shape.slots 1 (heard turns) =
+    omega (
+      arith,
+      ap (range_sum shape.slots 1) shakes.hears.messages,
+      sum_more shape.slots 1 (heard turns) bytes,
+      ap (length_in shape.slots) (heard_no_range 1 bytes shakes.message shakes.hears.spells shakes.hears.form apart),
+    ) in
+    let as_many : range_count 1 (heard (Heard_ packet ∷ turns)) ≡ range_count 1 (heard turns) = no_more_infos turns packet shakes.message shakes.hears apart in
+    let none : length_in shape.slots (range_ended 1 (half_heard turns) packet) ≡ 0 = omega (arith, same, sum_heard shape.slots 1 packet turns) in
+    subst (Behind shape turns packet sid d false) (sym shakes.is) (record {
+      slots = counted.slots;
+      blocks = counted.blocks;
+      shake = fits_to (server_offer shape.blocks shape.slots) v.shake shakes.shake (shake_take v.shake shakes.message) false shakes.takes
+          (take_fits Responder (server_offer shape.blocks shape.slots) v.shake shakes.message free.owed counted.shake);
+      holds = λ some. absurd (omega (arith, some, ap length shakes.left, ap length empty));
+      order = order_same shape v.session d turns packet same as_many counted.order;
+      unit = counted.unit;
+      ready = λ now. omega (arith, counted.ready now, ap ready_count shakes.hears.messages, ready_more (heard turns) bytes);
+      agrees = agrees_same v.session v.work d (length_in shape.slots (range_ended 1 (half_heard turns) packet)) none counted.agrees;
+    })
+takes_shake true shape v t turns packet sid d rests free counted shakes =
+    let bytes = shakes.hears.bytes in
+    let apart : IsNoData shakes.message.body = no_data v.shake shakes.message true shakes.shake shakes.takes in
+    let empty : v.link.to_send ≡ [] = up_empty v.link shakes.up free.free in
+    let none : v.session ≡ None = closed v.session v.shake.phase rests.opened (λ (now : v.shake.phase ≡ Open). opens_not_open v.shake shakes.message shakes.shake now shakes.takes) in
+    let nothing = nothing_asked shape.slots v.session d turns none counted.order in
+    let is = opens_ready v.shake shakes.message shakes.shake shakes.takes in
+    let readies : one_where (is_ready bytes) ≡ 1 = ap one_where (ready_heard bytes shakes.message shakes.hears.spells is.0 is.1) in
+    subst (Behind shape turns packet sid d true) (sym shakes.is) (record {
+      slots = counted.slots;
+      blocks = counted.blocks;
+      shake = fits_to (server_offer shape.blocks shape.slots) v.shake shakes.shake (shake_take v.shake shakes.message) true shakes.takes
+          (take_fits Responder (server_offer shape.blocks shape.slots) v.shake shakes.message free.owed counted.shake);
+      holds = λ some. absurd (omega (arith, some, ap length shakes.left, ap length empty));
+      order = record {
+        asked = omega (
+          arith,
+          nothing.asked,
+          ap (range_sum shape.slots 1) shakes.hears.messages,
+          sum_more shape.slots 1 (heard turns) bytes,
+          ap (length_in shape.slots) (heard_no_range 1 bytes shakes.message shakes.hears.spells shakes.hears.form apart),
+        );
+        answered = sym nothing.answered;
+        finished = omega arith;
+        descs = omega arith;
+        range = refl;
+        seq = let none_yet : range_count 1 (heard (Heard_ packet ∷ turns)) ≡ 0 = no_more_infos turns packet shakes.message shakes.hears apart ∙ nothing.infos in
+            ap (λ (x : ℕ). wrapped (x + 1)) (sym none_yet);
+        replies = omega (arith, no_more_infos turns packet shakes.message shakes.hears apart, nothing.infos);
+      };
+      unit = counted.unit;
+      ready = λ now. omega (arith, ap ready_count shakes.hears.messages, ready_more (heard turns) bytes, readies);
+      agrees = (record { asked = refl; descs = refl; finished = refl; answered = refl }, opened_work v.work sid (no_work v.session v.work d none counted.agrees));
+    })
+
+-- A RANGE that it is asked for
+wraps_more : (a b n : ℕ) → a ≡ wrapped b → wrapped (a + n) ≡ wrapped (b + n)
+wraps_more a b n is = omega (arith, is)
+
+record AsksOf (slots : ℕ) (session : ServerSession) (range : SlotRange) (n : ℕ) (added : ℕ) : Type 0 where
+  none : session.range ≡ None
+  adds : added ≡ n
+  length_is : n ≡ range_length slots range.start range.end
+  begins : range.start < slots
+  ends : range.end < slots
+  place : range.start ≡ session.asked % slots
+
+asked_order : (slots added n : ℕ) (o : Option ServerSession) (d : Option ServerCounts) (turns behind : List Turn) (session next : ServerSession) (range : SlotRange) → o ≡ Some session
+    → next ≡ record session { asked = wrapped (session.asked + n); seq = wrapped (session.seq + 1); range = Some range } → AsksOf slots session range n added
+    → range_sum slots 1 (heard behind) ≡ range_sum slots 1 (heard turns) + added → range_sum slots 2 (said behind) ≡ range_sum slots 2 (said turns)
+    → range_count 1 (heard behind) ≡ range_count 1 (heard turns) + 1 → range_count 2 (said behind) ≡ range_count 2 (said turns) → (w : Option Work) → ServerAgrees o w d → ServerOrder slots o d turns
+    → ServerOrder slots (Some next) (change_server (λ (c : ServerCounts). record c { asked = c.asked + added }) d) behind
+asked_order slots added n None d turns behind session next range is same asks heard_is said_is one_more same_said w agrees order = absurd (cc is)
+asked_order slots added n (Some s) None turns behind session next range is same asks heard_is said_is one_more same_said w agrees order = absurd order
+asked_order slots added n (Some s) (Some c) turns behind session next range is same asks heard_is said_is one_more same_said w agrees order =
+    let one : s ≡ session = cc is in
+    let counts : ServerCountsAgree s c = agrees.0 in
+    let none : s.range ≡ None = ap (λ (x : ServerSession). x.range) one ∙ asks.none in
+    let all : c.answered ≡ c.asked = subst (λ (r : Option SlotRange). RangeStands slots r c) none order.range in
+    record {
+      asked = omega (arith, order.asked, heard_is);
+      answered = order.answered ∙ sym said_is;
+      finished = order.finished;
+      descs = omega (arith, order.descs);
+      range = subst (λ (r : Option SlotRange). RangeStands slots r (record c { asked = c.asked + added })) (sym (ap (λ (x : ServerSession). x.range) same)) (
+        omega (arith, all, asks.adds, asks.length_is),
+        asks.begins,
+        asks.ends,
+        asks.place ∙ ap (λ (x : ServerSession). x.asked % slots) (sym one) ∙ ap (λ (x : ℕ). x % slots) (counts.asked ∙ ap wrapped (sym all)),
+      );
+      seq = ap (λ (x : ServerSession). x.seq) same ∙ wraps_more session.seq (range_count 1 (heard turns) + 1) 1 (ap (λ (x : ServerSession). x.seq) (sym one) ∙ order.seq)
+          ∙ ap (λ (x : ℕ). wrapped (x + 1)) (sym one_more);
+      replies = omega (arith, order.replies, one_more, same_said, ap one_range none, ap (λ (x : ServerSession). one_range x.range) same);
+    }
+
+asked_agrees : (o : Option ServerSession) (w : Option Work) (d : Option ServerCounts) (session next : ServerSession) (range : SlotRange) (n added : ℕ) → o ≡ Some session
+    → next ≡ record session { asked = wrapped (session.asked + n); seq = wrapped (session.seq + 1); range = Some range } → added ≡ n → ServerAgrees o w d
+    → ServerAgrees (Some next) w (change_server (λ (c : ServerCounts). record c { asked = c.asked + added }) d)
+asked_agrees None w d session next range n added is same adds agrees = absurd (cc is)
+asked_agrees (Some s) w None session next range n added is same adds agrees = absurd agrees
+asked_agrees (Some s) w (Some c) session next range n added is same adds agrees =
+    let one : s ≡ session = cc is in (
+      record {
+        asked = ap (λ (x : ServerSession). x.asked) same ∙ wraps_more session.asked c.asked n (ap (λ (x : ServerSession). x.asked) (sym one) ∙ agrees.0.asked)
+            ∙ ap (λ (x : ℕ). wrapped (c.asked + x)) (sym adds);
+        descs = ap (λ (x : ServerSession). x.descs) same ∙ ap (λ (x : ServerSession). x.descs) (sym one) ∙ agrees.0.descs;
+        finished = ap (λ (x : ServerSession). x.finished) same ∙ ap (λ (x : ServerSession). x.finished) (sym one) ∙ agrees.0.finished;
+        answered = ap (λ (x : ServerSession). x.answered) same ∙ ap (λ (x : ServerSession). x.answered) (sym one) ∙ agrees.0.answered;
+      },
+      work_same w c added agrees.1,
+    )
+
+-- in session the server's ring has as many slots as the lane's
+pub own_slots : (shape : Shape) (v : ServerState) (turns : List Turn) (d : Option ServerCounts) → ServerRests v turns → is_some v.session ≡ true → ServerCounted shape v turns d
+    → v.shake.draft.peer_slots ≡ shape.slots
+own_slots shape v turns d rests now counted =
+    subst (λ (p : Phase). RingFits Responder p v.shake.draft (server_offer shape.blocks shape.slots)) (rests.opened now) counted.shake.ring
+
+takes_ask : (shape : Shape) (v t : ServerState) (turns : List Turn) (packet : List ℕ) (sid : ℕ) (d : Option ServerCounts) (opens : Bool) → ServerRests v turns → TakesFree v
+    → ServerCounted shape v turns d → ServerAsked v turns packet t opens → Behind shape turns packet sid d opens t
+takes_ask shape v t turns packet sid d opens rests free counted asks =
+    let bytes = asks.hears.bytes in
+    let session = asks.session in
+    let n = range_length v.shake.draft.peer_slots asks.range.start asks.range.end in
+    let added = length_in shape.slots (range_ended 1 (half_heard turns) packet) in
+    let empty : v.link.to_send ≡ [] = up_empty v.link asks.up free.free in
+    let own : v.shake.draft.peer_slots ≡ shape.slots = own_slots shape v turns d rests (ap is_some asks.session_is) counted in
+    let length_is : n ≡ range_length shape.slots asks.range.start asks.range.end = ap (λ (x : ℕ). range_length x asks.range.start asks.range.end) own in
+    let message : length_in shape.slots (range_in 1 (Some bytes)) ≡ range_length shape.slots asks.range.start asks.range.end =
+    heard_range shape.slots 1 bytes asks.message asks.range.seq asks.ident asks.range.start asks.range.end asks.range.state asks.hears.spells (ap subtype_code asks.subtype_is) asks.body_is in
+    let adds : added ≡ n =
+    omega (arith, sum_heard shape.slots 1 packet turns, ap (range_sum shape.slots 1) asks.hears.messages, sum_more shape.slots 1 (heard turns) bytes, message, length_is) in
+    let ends : asks.range.end < shape.slots = omega (arith, asks.ends, own) in
+    let begins : asks.range.start < shape.slots =
+    omega (arith, asks.begins, mod_below session.asked v.shake.draft.peer_slots (omega (arith, asks.ends)), own) in
+    let asks_of : AsksOf shape.slots session asks.range n added =
+    record { none = free.range session asks.session_is; adds = adds; length_is = length_is; begins = begins; ends = ends; place = asks.begins ∙ ap (λ (x : ℕ). session.asked % x) own } in
+    let next : ServerSession = record session { asked = wrapped (session.asked + n); seq = wrapped (session.seq + 1); range = Some asks.range } in
+    let one_more : range_count 1 (heard (Heard_ packet ∷ turns)) ≡ range_count 1 (heard turns) + 1 =
+    omega (
+      arith,
+      ap (range_count 1) asks.hears.messages,
+      count_more 1 (heard turns) bytes,
+      heard_one 1 bytes asks.message asks.range.seq asks.ident asks.range.start asks.range.end asks.range.state asks.hears.spells (ap subtype_code asks.subtype_is) asks.body_is,
+    ) in
+    subst (λ (b : Bool). Behind shape turns packet sid d b t) (sym asks.opens_is)
+    (subst (Behind shape turns packet sid d false) (sym asks.is) (record {
+      slots = counted.slots;
+      blocks = counted.blocks;
+      shake = counted.shake;
+      holds = λ some. absurd (omega (arith, some, ap length asks.left, ap length empty));
+      order = asked_order shape.slots added n v.session d turns (Heard_ packet ∷ turns) session next asks.range asks.session_is refl asks_of (sum_heard shape.slots 1 packet turns) refl one_more refl v.work counted.agrees counted.order;
+      unit = counted.unit;
+      ready = λ now. omega (arith, counted.ready (ap is_some asks.session_is), ap ready_count asks.hears.messages, ready_more (heard turns) bytes);
+      agrees = asked_agrees v.session v.work d session next asks.range n added asks.session_is refl adds counted.agrees;
+    }))
+
+pub server_takes_counting : (shape : Shape) (v t : ServerState) (turns : List Turn) (packet : List ℕ) (sid : ℕ) (d : Option ServerCounts) (opens : Bool) → ServerRests v turns → ServerUtters v turns
+    → TakesFree v → ServerCounted shape v turns d → ServerTook v turns packet t opens
+    → ServerCounted shape t (Heard_ packet ∷ turns) (opened_counts opens sid (asks_more shape turns packet d))
+server_takes_counting shape v t turns packet sid d opens rests utters free counted (inl part) = takes_part shape v t turns packet sid d opens utters counted part
+server_takes_counting shape v t turns packet sid d opens rests utters free counted (inr (inl shakes)) = takes_shake opens shape v t turns packet sid d rests free counted shakes
+server_takes_counting shape v t turns packet sid d opens rests utters free counted (inr (inr asks)) = takes_ask shape v t turns packet sid d opens rests free counted asks
+
+-- its session opens where it had none
+pub opens_new : (v t : ServerState) (turns : List Turn) (packet : List ℕ) → ServerRests v turns → ServerTook v turns packet t true → v.session ≡ None
+opens_new v t turns packet rests (inl part) = let never : true ≡ false = part.opens_is in absurd (cc)
+opens_new v t turns packet rests (inr (inl shakes)) =
+    closed v.session v.shake.phase rests.opened (λ (now : v.shake.phase ≡ Open). opens_not_open v.shake shakes.message shakes.shake now shakes.takes)
+opens_new v t turns packet rests (inr (inr asks)) = let never : true ≡ false = asks.opens_is in absurd (cc)

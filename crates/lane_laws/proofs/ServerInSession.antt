@@ -1,0 +1,161 @@
+-- A server in session, on a lane that nobody forged, hears the next range of the client, and goes on.
+use Rattle.std.proofs.Common.{◌≡◌, ℕ, ◌+◌, ◌%◌, ◌^◌, ◌<◌, ◌≤◌, inl, Bool, true, false, Option, Some, None, List, [], ◌∷◌, ◌++◌, length, refl, sym, ap, ◌∙◌, subst, arith, nat_le}
+use Rattle.std.specs.Prelude.{is_some, if◌then◌else◌, Ok}
+use Rattle.std.proofs.lemmas.Bool.{lt-leb}
+use Rattle.std.proofs.lemmas.Nat.{mod_below}
+use Rattle.runs.specs.Lawful.{log_of}
+use Rattle.runs.specs.Run.{Run}
+use Rattle.ldc_link.specs.declared.phase.Role.TheVariants.{Initiator, Responder}
+use Rattle.ldc_link.specs.LinkState.{LinkState, cleared, is_up}
+use Rattle.ldc_packet.specs.declared.packet.Subtype.TheVariants.{Info}
+use Rattle.ldc_queue.specs.declared.end.ChannelState.TheVariants.{Up}
+use Rattle.ldc_queue.specs.OneStream.{IsFront}
+use Rattle.ldc_queue.specs.Talk.{Turn}
+use Rattle.vio_bytes.specs.Place.{number_at}
+use Rattle.vio_tag.specs.declared.cause.Cause.{Cause}
+use Rattle.vio_tag.specs.declared.cause.Cause.TheVariants as the_cause
+use Rattle.vio_tag.specs.declared.message.Message.{Message}
+use Rattle.vio_tag.specs.Spelling.{SpellsMessage}
+use Rattle.vio_handshake.proofs.Places.{AllSaid, Place, shake_at}
+use Rattle.vio_handshake.specs.declared.handshake.Handshake.{Handshake}
+use Rattle.disk_model.specs.Sayings.{heard, said}
+use Rattle.disk_model.specs.WireLog.{WireLog}
+use Rattle.disk_model.specs.DiskLog.{after, nothing_yet}
+use Rattle.disk_model.specs.WorkLog.{ServerCounts}
+use Rattle.disk_model.specs.DiskEvent.{DiskEvent}
+use Rattle.disk_model.specs.EndPuts.{shake_risen}
+use Rattle.disk_model.specs.LaneState.{IsShape, LaneState, Shape, fresh}
+use Rattle.disk_model.specs.LaneStep.{LaneStep}
+use Rattle.disk_model.specs.Ranges.{is_other, wrapped}
+use Rattle.disk_model.specs.ServerState.{ServerSession, ServerState, SlotRange}
+use Rattle.disk_model.specs.ServerTaking.{GoesOn, HearsWhole, Resets, ServerTake, asked, hears_message, place_of, reads, sid_first, takes_info}
+use Rattle.lane_laws.proofs.Agreeing.{asked_within}
+use Rattle.lane_laws.proofs.ClientInSession.{no_fault, same_is, shape_of}
+use Rattle.lane_laws.proofs.DataHeard.{data_spells, decodes_to, read_data, seq_reads}
+use Rattle.lane_laws.proofs.EndHearing.{hears_data}
+use Rattle.lane_laws.proofs.EndUttering.{is_open_up}
+use Rattle.lane_laws.proofs.EndPlaced.{AtPlace, IsData, sum_of}
+use Rattle.lane_laws.proofs.LaneCounting.{Knows, run_knows}
+use Rattle.lane_laws.proofs.LanePlaces.{counted_server}
+use Rattle.lane_laws.proofs.LanePlacing.{LanePlaced, client_said}
+use Rattle.lane_laws.proofs.OpeningDeal.{deal}
+use Rattle.lane_laws.proofs.PlacedSums.{placed_count, placed_sum}
+use Rattle.lane_laws.proofs.PlacesAlong.{run_placed}
+use Rattle.lane_laws.proofs.ServerTaken.{still}
+use Rattle.lane_laws.specs.Counted.{ServerOrder, range_count, range_sum}
+
+-- IT TAKES an INFO that names the ring of the session, has the next number, and begins where the range before ended
+past : (b : Bool) (x y : ServerTake) → b ≡ false → (if b then x else y) ≡ y
+past true x y is = absurd (cc is)
+past false x y is = refl
+
+record InfoFits (s : ServerState) (session : ServerSession) (n ident : ℕ) (range : SlotRange) : Type 0 where
+  sid : s.shake.sid ≡ Some n
+  named : s.shake.draft.ident_peer ≡ ident
+  number : session.seq ≡ range.seq
+  begins : place_of s session ≡ range.start
+  ends : range.end < s.shake.draft.peer_slots
+
+takes_fitting : (s : ServerState) (session : ServerSession) (n ident : ℕ) (range : SlotRange) → InfoFits s session n ident range
+    → takes_info s session ident range ≡ GoesOn (asked s session range) false
+takes_fitting s session n ident range fits =
+    past (is_other s.shake.draft.ident_peer ident) (Resets (the_cause.Ident s.shake.draft.ident_peer ident)) _ (same_is s.shake.draft.ident_peer ident fits.named)
+    ∙ past (is_other session.seq range.seq) (Resets (the_cause.Seq session.seq range.seq)) _ (same_is session.seq range.seq fits.number)
+    ∙ past (is_other (place_of s session) range.start) (Resets (the_cause.Slot (place_of s session) range.start)) _ (same_is (place_of s session) range.start fits.begins)
+    ∙ past (nat_le s.shake.draft.peer_slots range.end) (Resets (the_cause.RangeEnd range.end)) _ (lt-leb s.shake.draft.peer_slots range.end fits.ends)
+
+-- the range that the bytes name
+abbrev range_read : ℕ → ℕ → List ℕ → SlotRange
+range_read start end bytes = record { seq = number_at 8 8 bytes; start = start; end = end; state = number_at 1 32 bytes }
+
+hears_fitting : (s : ServerState) (session : ServerSession) (n ident start end : ℕ) (bytes : List ℕ) → InfoFits s session n ident (range_read start end bytes)
+    → hears_message s (Some session) (read_data Info n ident start end bytes) ≡ GoesOn (asked s session (range_read start end bytes)) false
+hears_fitting s session n ident start end bytes fits =
+    ap (λ (f : Option Cause). sid_first f (takes_info s session ident (range_read start end bytes))) (no_fault s.shake.sid n fits.sid)
+    ∙ takes_fitting s session n ident (range_read start end bytes) fits
+
+-- so what it hears whole makes it go on
+goes_on : (s : ServerState) (session : ServerSession) (n ident start end : ℕ) (bytes : List ℕ) (take : ServerTake) → s.session ≡ Some session
+    → InfoFits s session n ident (range_read start end bytes) → SpellsMessage bytes (read_data Info n ident start end bytes) → HearsWhole s (Some bytes) take
+    → (t : ServerState) × (take ≡ GoesOn t false)
+goes_on s session n ident start end bytes take is fits spells hears =
+    let now : ServerState = record s { link = cleared s.link } in
+    let fits_now : InfoFits now session n ident (range_read start end bytes) =
+    record { sid = fits.sid; named = fits.named; number = fits.number; begins = fits.begins; ends = fits.ends } in
+    let message : Message = read_data Info n ident start end bytes in
+    let decoded : hears.0 ≡ Ok message = decodes_to bytes message hears.0 tt spells hears.1 in (
+      asked now session (range_read start end bytes),
+      hears.2 ∙ ap (reads now) decoded ∙ ap (λ (o : Option ServerSession). hears_message now o message) is ∙ hears_fitting now session n ident start end bytes fits_now,
+    )
+
+-- the number that it waits for
+number_of : (slots : ℕ) (o : Option ServerSession) (q : Option ServerCounts) (turns : List Turn) (session : ServerSession) → o ≡ Some session → ServerOrder slots o q turns
+    → session.seq ≡ wrapped (range_count 1 (heard turns) + 1)
+number_of slots None q turns session is order = absurd (cc is)
+number_of slots (Some s) None turns session is order = absurd order
+number_of slots (Some s) (Some c) turns session is order = let same : s ≡ session = cc is in ap (λ (x : ServerSession). x.seq) (sym same) ∙ order.seq
+
+-- the next range of the client is one that the server takes
+info_fits : (shape : Shape) (sid : ℕ) (v : ServerState) (session : ServerSession) (turns : List Turn) (bytes : List ℕ)
+    → (at : AtPlace (deal shape sid 0) Responder v.shake (is_some v.session) turns) → at.place ≡ AllSaid → shape.slots ≤ 256 → sid < 2 ^ 32
+    → session.seq ≡ wrapped (range_count 1 (heard turns) + 1) → session.asked ≡ range_sum shape.slots 1 (heard turns)
+    → (is : IsData Initiator (deal shape sid 0) (length at.theirs) (sum_of Initiator (deal shape sid 0) at.theirs) bytes)
+    → InfoFits v session sid sid (range_read (sum_of Initiator (deal shape sid 0) at.theirs % shape.slots) is.end bytes)
+info_fits shape sid v session turns bytes at last few small number asked_is is =
+    let d = deal shape sid 0 in
+    let sum = sum_of Initiator d at.theirs in
+    let same : session.asked ≡ sum = asked_is ∙ ap (range_sum shape.slots 1) at.heard_is ∙ placed_sum d Initiator at.place shape.slots 1 at.theirs (inl refl) in
+    let count : range_count 1 (heard turns) ≡ length at.theirs = ap (range_count 1) at.heard_is ∙ placed_count d Initiator at.place at.theirs at.theirs_are in
+    let ends = is.ends in
+    let next = is.number in
+    let start_small : sum % shape.slots < 2 ^ 32 = omega (arith, mod_below sum shape.slots (omega (arith, ends)), few) in
+    let end_small : is.end < 2 ^ 32 = omega (arith, ends, few) in
+    let fits : is.seq < 2 ^ 64 = omega (arith, next) in
+    let read : number_at 8 8 bytes ≡ is.seq =
+    ap (number_at 8 8) is.bytes_are ∙ seq_reads Info sid is.seq sid (sum % shape.slots) is.end is.state small fits (omega (arith, small)) start_small end_small in
+    let slots : v.shake.draft.peer_slots ≡ shape.slots =
+    ap (λ (h : Handshake). h.draft.peer_slots) at.shake_is ∙ ap (λ (n : Place). (shake_at false d Responder n).draft.peer_slots) last in
+    record {
+      sid = ap (λ (h : Handshake). h.sid) at.shake_is ∙ ap (λ (n : Place). (shake_at false d Responder n).sid) last;
+      named = ap (λ (h : Handshake). h.draft.ident_peer) at.shake_is ∙ ap (λ (n : Place). (shake_at false d Responder n).draft.ident_peer) last;
+      number = number ∙ ap (λ (x : ℕ). wrapped (x + 1)) count ∙ sym next ∙ sym read;
+      begins = ap (λ (n : ℕ). session.asked % n) slots ∙ ap (λ (x : ℕ). x % shape.slots) same;
+      ends = omega (arith, ends, slots);
+    }
+
+pub server_hears_in_session : (shape : Shape) (events : List DiskEvent) (s : LaneState) (session : ServerSession) (k : LinkState) (bytes : List ℕ) (take : ServerTake)
+    → IsShape shape → Run LaneStep (fresh shape) events s → (log_of after (nothing_yet shape) events).wire.forged ≡ false
+    → s.server.session ≡ Some session → s.wire.wire.end_b ≡ Up → s.wire.wire.end_a ≡ Up
+    → IsFront (heard (log_of after (nothing_yet shape) events).talk.server ++ bytes ∷ []) (said (log_of after (nothing_yet shape) events).talk.client)
+    → HearsWhole (record s.server { link = k; shake = shake_risen s.server.link k s.server.shake }) (Some bytes) take → (t : ServerState) × (take ≡ GoesOn t false)
+server_hears_in_session shape events s session k bytes take sound run clean open_is up_b up_a front hears =
+    let l = log_of after (nothing_yet shape) events in
+    let knows : Knows s l = run_knows shape events s sound run in
+    let shape_is : l.shape ≡ shape = shape_of (nothing_yet shape) events in
+    let placed : LanePlaced shape s l.talk = run_placed shape events s sound run clean in
+    let sid = placed.sid in
+    let d = deal shape sid 0 in
+    let open_one : is_some s.server.session ≡ true = ap is_some open_is in
+    let link : is_up s.server.link ≡ true = is_open_up Responder s.server.link s.server.shake (is_some s.server.session) l.talk.server knows.rests.server open_one in
+    let at = (placed.server up_b).up link in
+    let last : at.place ≡ AllSaid = at.opens open_one in
+    let peer = client_said shape sid s.client l.talk.client knows.utters.client (placed.client up_a) in
+    let is : IsData Initiator d (length at.theirs) (sum_of Initiator d at.theirs) bytes =
+    hears_data d Responder s.server.shake (is_some s.server.session) l.talk.server (said l.talk.client) bytes at last peer front in
+    let clean_s : s.wire.forged ≡ false = ap (λ (w : WireLog). w.forged) knows.all.stands.wire ∙ clean in
+    let asked_is : session.asked ≡ range_sum shape.slots 1 (heard l.talk.server) =
+    (asked_within shape events s session sound run clean_s up_b open_is).asked ∙ ap (λ (x : Shape). range_sum x.slots 1 (heard l.talk.server)) shape_is in
+    let number = number_of shape.slots s.server.session l.work.server l.talk.server session open_is (counted_server shape s l shape_is knows).order in
+    let fits = info_fits shape sid s.server session l.talk.server bytes at last sound.most_slots placed.small number asked_is is in
+    let start = sum_of Initiator d at.theirs % shape.slots in
+    let ends = is.ends in
+    let small = placed.small in
+    let below : start < 2 ^ 32 = omega (arith, mod_below (sum_of Initiator d at.theirs) shape.slots (omega (arith, ends)), sound.most_slots) in
+    let spells : SpellsMessage bytes (read_data Info sid sid start is.end bytes) =
+    subst (λ (b : List ℕ). SpellsMessage b (read_data Info sid sid start is.end b)) (sym is.bytes_are)
+    (data_spells Info sid is.seq sid start is.end is.state small (omega (arith, small)) below (omega (arith, ends, sound.most_slots))) in
+    let same : shake_risen s.server.link k s.server.shake ≡ s.server.shake = still (is_up k) (is_up s.server.link) s.server.shake link in
+    let fits_now : InfoFits (record s.server { link = k }) session sid sid (range_read start is.end bytes) =
+    record { sid = fits.sid; named = fits.named; number = fits.number; begins = fits.begins; ends = fits.ends } in
+    goes_on (record s.server { link = k }) session sid sid start is.end bytes take open_is fits_now spells
+    (subst (λ (h : Handshake). HearsWhole (record s.server { link = k; shake = h }) (Some bytes) take) same hears)

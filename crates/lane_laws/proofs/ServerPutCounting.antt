@@ -1,0 +1,296 @@
+-- A message that a server holds, and a packet that it puts, leave its session counting what it said and heard.
+use Rattle.std.proofs.Common.{◌≡◌, ℕ, ◌+◌, ◌%◌, ◌<◌, ◌≤◌, ◌⊎◌, inl, inr, true, false, Option, Some, None, List, [], ◌∷◌, ◌++◌, length, refl, sym, ap, ◌∙◌, ◌-◌, subst, arith}
+use Rattle.std.specs.Prelude.{is_none, is_some}
+use Rattle.std.proofs.lemmas.Nat.{mod_below}
+use Rattle.ldc_link.specs.declared.phase.Role.TheVariants.{Responder}
+use Rattle.ldc_link.specs.LinkState.{LinkState, is_up, offered}
+use Rattle.ldc_link.specs.Putting.{behind_put}
+use Rattle.ldc_packet.specs.declared.packet.Subtype.TheVariants.{Ack}
+use Rattle.ldc_queue.specs.Talk.{Said, Turn}
+use Rattle.vio_tag.specs.declared.message.Message.{Message}
+use Rattle.vio_tag.specs.Spelling.{canonical}
+use Rattle.disk_model.specs.Sayings.{half_said, heard, said}
+use Rattle.disk_model.specs.Agreement.{ServerAgrees, WorkAgrees}
+use Rattle.disk_model.specs.Messages.{range_ended, range_in}
+use Rattle.disk_model.specs.WorkLog.{ServerCounts, change_server, length_in, one_in}
+use Rattle.disk_model.specs.EndPuts.{ComesUp, EndsOwn, EndsShake, Goes, PutKind, shake_behind}
+use Rattle.disk_model.specs.LaneState.{Shape}
+use Rattle.disk_model.specs.Offering.{server_offer}
+use Rattle.disk_model.specs.Ranges.{range_length, wrapped}
+use Rattle.disk_model.specs.ServerPutting.{answered, server_holds, session_behind}
+use Rattle.disk_model.specs.ServerRule.{Fetches, Joins, Puts, Rests, Says, ServerRule, Serves, Takes}
+use Rattle.disk_model.specs.ServerState.{ServerSession, ServerState, SlotRange, Work}
+use Rattle.lane_laws.proofs.EndPutting.{SaysLast, SaysOn}
+use Rattle.lane_laws.proofs.EndUttering.{is_awake, is_open_up, none_half, up_empty}
+use Rattle.lane_laws.proofs.Fitting.{sent_fits, up_fits}
+use Rattle.lane_laws.proofs.RangeSums.{count_said, sum_more, sum_said}
+use Rattle.lane_laws.proofs.RangesSaid.{owed_no_range, said_range}
+use Rattle.lane_laws.proofs.RulesFree.{AnswersFree, ServerFree}
+use Rattle.lane_laws.specs.Budget.{one_range}
+use Rattle.lane_laws.specs.Counted.{HoldsAnswer, HoldsEither, HoldsOwed, RangeStands, ServerCounted, ServerOrder, range_count, range_sum}
+use Rattle.lane_laws.specs.LaneRests.{ServerRests, ServerUtters}
+use Rattle.lane_laws.specs.ShakeFits.{MayOwe, OwedFits}
+
+-- the same answer of a server with another link
+answer_with : (v : ServerState) (k : LinkState) (bytes : List ℕ) → HoldsAnswer v bytes → HoldsAnswer (record v { link = k }) bytes
+answer_with v k bytes a = record {
+  session = a.session;
+  range = a.range;
+  nothing_owed = a.nothing_owed;
+  session_is = a.session_is;
+  range_is = a.range_is;
+  finished = a.finished;
+  bytes_are = a.bytes_are;
+}
+
+either_with : (v : ServerState) (k : LinkState) (bytes : List ℕ) → HoldsEither v bytes → HoldsEither (record v { link = k }) bytes
+either_with v k bytes (inl owed) = inl owed
+either_with v k bytes (inr a) = inr (answer_with v k bytes a)
+
+-- IT HOLDS a message
+says_either : (v : ServerState) (turns : List Turn) (message : Message) → half_said turns ≡ [] → (v.shake.owed ≡ Some message) ⊎ AnswersFree v message
+    → HoldsEither v (half_said turns ++ canonical message)
+says_either v turns message half (inl owed) = inl (record { message = message; owed_is = owed; bytes_are = ap (λ (xs : List ℕ). xs ++ canonical message) half })
+says_either v turns message half (inr a) = inr (record {
+  session = a.session;
+  range = a.range;
+  nothing_owed = a.owed;
+  session_is = a.session_is;
+  range_is = a.range_is;
+  finished = a.finished;
+  bytes_are = ap (λ (xs : List ℕ). xs ++ canonical message) half ∙ ap canonical a.message_is;
+})
+
+says_up : (v : ServerState) (turns : List Turn) (message : Message) → ServerRests v turns → ServerUtters v turns → (v.shake.owed ≡ Some message) ⊎ AnswersFree v message → is_up v.link ≡ true
+says_up v turns message rests utters (inl owed) = is_awake Responder v.link v.shake turns message owed utters
+says_up v turns message rests utters (inr a) = is_open_up Responder v.link v.shake (is_some v.session) turns rests (ap is_some a.session_is)
+
+held_is : (shape : Shape) (one other : ServerState) (turns : List Turn) (d : Option ServerCounts) → Some one ≡ Some other → ServerCounted shape one turns d → ServerCounted shape other turns d
+held_is shape one other turns d is counted = let same : one ≡ other = cc is in subst (λ (x : ServerState). ServerCounted shape x turns d) same counted
+
+pub server_holds_counting : (shape : Shape) (v : ServerState) (rule : ServerRule) (held : ServerState) (turns : List Turn) (d : Option ServerCounts) → ServerRests v turns → ServerUtters v turns
+    → ServerFree v rule → server_holds rule v ≡ Some held → ServerCounted shape v turns d → ServerCounted shape held turns d
+server_holds_counting shape v Puts held turns d rests utters free is counted = held_is shape v held turns d is counted
+server_holds_counting shape v (Says message) held turns d rests utters free is counted =
+    let empty : v.link.to_send ≡ [] = up_empty v.link (says_up v turns message rests utters free.1) free.0 in
+    let half : half_said turns ≡ [] = none_half Responder v.shake.phase v.shake.offer v.shake.draft (half_said turns) v.link.to_send empty utters.utters.holds in
+    held_is shape (record v { link = offered (canonical message) v.link }) held turns d is (record {
+      slots = counted.slots;
+      blocks = counted.blocks;
+      shake = counted.shake;
+      holds = λ some. either_with v (offered (canonical message) v.link) (half_said turns ++ canonical message) (says_either v turns message half free.1);
+      order = counted.order;
+      unit = counted.unit;
+      ready = counted.ready;
+      agrees = counted.agrees;
+    })
+server_holds_counting shape v Joins held turns d rests utters free is counted = absurd (cc)
+server_holds_counting shape v (Fetches session) held turns d rests utters free is counted = absurd (cc)
+server_holds_counting shape v (Serves session work) held turns d rests utters free is counted = absurd (cc)
+server_holds_counting shape v (Takes packet) held turns d rests utters free is counted = absurd (cc)
+server_holds_counting shape v Rests held turns d rests utters free is counted = absurd (cc)
+
+-- THE LOG counts what is said
+abbrev pub answers_more : Shape → List Turn → List ℕ → Option ServerCounts → Option ServerCounts
+answers_more shape turns packet d = change_server (λ (c : ServerCounts). record c { answered = c.answered + length_in shape.slots (range_ended 2 (half_said turns) packet) }) d
+
+-- where no range is said
+range_same : (slots n : ℕ) (range : Option SlotRange) (c : ServerCounts) → n ≡ 0 → RangeStands slots range c → RangeStands slots range (record c { answered = c.answered + n })
+range_same slots n None c none stands = omega (arith, none, stands)
+range_same slots n (Some range) c none stands =
+    let same : c.answered ≡ c.answered + n = omega (arith, none) in (omega (arith, none, stands.0), stands.1, stands.2, stands.3 ∙ ap (λ (x : ℕ). wrapped x % slots) same)
+
+order_same : (shape : Shape) (o : Option ServerSession) (d : Option ServerCounts) (turns : List Turn) (packet : List ℕ)
+    → range_sum shape.slots 2 (said (Said packet ∷ turns)) ≡ range_sum shape.slots 2 (said turns) → ServerOrder shape.slots o d turns
+    → ServerOrder shape.slots o (answers_more shape turns packet d) (Said packet ∷ turns)
+order_same shape None d turns packet same order = record { asked = order.asked; answered = same ∙ order.answered; infos = order.infos }
+order_same shape (Some s) None turns packet same order = absurd order
+order_same shape (Some s) (Some c) turns packet same order =
+    let n = length_in shape.slots (range_ended 2 (half_said turns) packet) in
+    let none : n ≡ 0 = omega (arith, same, sum_said shape.slots 2 packet turns) in
+    record {
+      asked = order.asked;
+      answered = omega (arith, order.answered, sum_said shape.slots 2 packet turns);
+      finished = omega (arith, order.finished, none);
+      descs = order.descs;
+      range = range_same shape.slots n s.range c none order.range;
+      seq = order.seq;
+      replies = omega (arith, order.replies, count_said 2 packet turns);
+    }
+
+work_same : (w : Option Work) (c : ServerCounts) (n : ℕ) → WorkAgrees w c → WorkAgrees w (record c { answered = c.answered + n })
+work_same None c n agrees = agrees
+work_same (Some work) c n agrees = agrees
+
+agrees_same : (o : Option ServerSession) (w : Option Work) (d : Option ServerCounts) (n : ℕ) → n ≡ 0 → ServerAgrees o w d
+    → ServerAgrees o w (change_server (λ (c : ServerCounts). record c { answered = c.answered + n }) d)
+agrees_same None w None n none agrees = agrees
+agrees_same None w (Some c) n none agrees = absurd agrees
+agrees_same (Some s) w None n none agrees = absurd agrees
+agrees_same (Some s) w (Some c) n none agrees = (
+  record {
+    asked = agrees.0.asked;
+    descs = agrees.0.descs;
+    finished = agrees.0.finished;
+    answered = agrees.0.answered ∙ ap wrapped (let more : c.answered ≡ c.answered + n = omega (arith, none) in more);
+  },
+  work_same w c n agrees.1,
+)
+
+-- a server after a packet of this kind
+abbrev pub put_as : PutKind → ServerState → ServerState
+put_as kind v = record v { link = behind_put v.link; shake = shake_behind kind v.shake; session = session_behind kind v.session }
+
+-- A PACKET THAT GOES ON
+pub goes_counting : (shape : Shape) (v : ServerState) (turns : List Turn) (packet : List ℕ) (d : Option ServerCounts) → SaysOn v.link turns packet → ServerCounted shape v turns d
+    → ServerCounted shape (put_as Goes v) (Said packet ∷ turns) (answers_more shape turns packet d)
+goes_counting shape v turns packet d on counted =
+    let same : range_sum shape.slots 2 (said (Said packet ∷ turns)) ≡ range_sum shape.slots 2 (said turns) = ap (range_sum shape.slots 2) on.messages in
+    let none : length_in shape.slots (range_ended 2 (half_said turns) packet) ≡ 0 = omega (arith, same, sum_said shape.slots 2 packet turns) in
+    record {
+      slots = counted.slots;
+      blocks = counted.blocks;
+      shake = counted.shake;
+      holds = λ some. either_with v (behind_put v.link) (half_said (Said packet ∷ turns) ++ (behind_put v.link).to_send)
+          (subst (HoldsEither v) (sym on.whole) (counted.holds (on.some some)));
+      order = order_same shape v.session d turns packet same counted.order;
+      unit = counted.unit;
+      ready = counted.ready;
+      agrees = agrees_same v.session v.work d (length_in shape.slots (range_ended 2 (half_said turns) packet)) none counted.agrees;
+    }
+
+pub comes_counting : (shape : Shape) (v : ServerState) (turns : List Turn) (packet : List ℕ) (d : Option ServerCounts) → ServerUtters v turns → is_up v.link ≡ false → SaysOn v.link turns packet
+    → ServerCounted shape v turns d → ServerCounted shape (put_as ComesUp v) (Said packet ∷ turns) (answers_more shape turns packet d)
+comes_counting shape v turns packet d utters down on counted =
+    let same : range_sum shape.slots 2 (said (Said packet ∷ turns)) ≡ range_sum shape.slots 2 (said turns) = ap (range_sum shape.slots 2) on.messages in
+    let none : length_in shape.slots (range_ended 2 (half_said turns) packet) ≡ 0 = omega (arith, same, sum_said shape.slots 2 packet turns) in
+    record {
+      slots = counted.slots;
+      blocks = counted.blocks;
+      shake = up_fits Responder (server_offer shape.blocks shape.slots) v.shake counted.shake;
+      holds = λ some. absurd (omega (arith, on.some some, ap length (utters.idle down)));
+      order = order_same shape v.session d turns packet same counted.order;
+      unit = counted.unit;
+      ready = counted.ready;
+      agrees = agrees_same v.session v.work d (length_in shape.slots (range_ended 2 (half_said turns) packet)) none counted.agrees;
+    }
+
+-- A MESSAGE OF THE HANDSHAKE is put whole
+pub some_owed : (owed : Option Message) (v : ServerState) (bytes : List ℕ) → v.shake.owed ≡ owed → is_none owed ≡ false → HoldsEither v bytes → HoldsOwed v.shake.owed bytes
+some_owed owed v bytes is some (inl holds) = holds
+some_owed None v bytes is some (inr a) = absurd (cc)
+some_owed (Some message) v bytes is some (inr a) = let never : None ≡ Some message = sym a.nothing_owed ∙ is in absurd (cc)
+
+pub shake_counting : (shape : Shape) (v : ServerState) (turns : List Turn) (packet : List ℕ) (d : Option ServerCounts) → is_none v.shake.owed ≡ false → SaysLast v.link turns packet
+    → ServerCounted shape v turns d → ServerCounted shape (put_as EndsShake v) (Said packet ∷ turns) (answers_more shape turns packet d)
+shake_counting shape v turns packet d some last counted =
+    let bytes = half_said turns ++ v.link.to_send in
+    let holds = some_owed v.shake.owed v bytes refl some (counted.holds last.some) in
+    let may : MayOwe v.shake.phase holds.message.subtype holds.message.body = subst (OwedFits v.shake.phase) holds.owed_is counted.shake.owed in
+    let no_range : range_in 2 (Some bytes) ≡ None =
+    ap (λ (xs : List ℕ). range_in 2 (Some xs)) holds.bytes_are ∙ owed_no_range v.shake.phase 2 holds.message (inr refl) may in
+    let same : range_sum shape.slots 2 (said (Said packet ∷ turns)) ≡ range_sum shape.slots 2 (said turns) =
+    omega (arith, ap (range_sum shape.slots 2) last.messages, sum_more shape.slots 2 (said turns) bytes, ap (length_in shape.slots) no_range) in
+    let none : length_in shape.slots (range_ended 2 (half_said turns) packet) ≡ 0 = omega (arith, same, sum_said shape.slots 2 packet turns) in
+    record {
+      slots = counted.slots;
+      blocks = counted.blocks;
+      shake = sent_fits Responder (server_offer shape.blocks shape.slots) v.shake counted.shake;
+      holds = λ left. absurd (omega (arith, left, ap length last.none));
+      order = order_same shape v.session d turns packet same counted.order;
+      unit = counted.unit;
+      ready = counted.ready;
+      agrees = agrees_same v.session v.work d (length_in shape.slots (range_ended 2 (half_said turns) packet)) none counted.agrees;
+    }
+
+-- THE ANSWER to a range is put whole
+pub the_answer : (owed : Option Message) (v : ServerState) (bytes : List ℕ) → v.shake.owed ≡ owed → is_none owed ≡ true → HoldsEither v bytes → HoldsAnswer v bytes
+the_answer owed v bytes is none (inr a) = a
+the_answer None v bytes is none (inl holds) = let never : None ≡ Some holds.message = sym is ∙ holds.owed_is in absurd (cc)
+the_answer (Some message) v bytes is none (inl holds) = absurd (cc)
+
+record Answered (slots : ℕ) (session : ServerSession) (range : SlotRange) (n : ℕ) : Type 0 where
+  range_is : session.range ≡ Some range
+  finished : session.finished ≡ session.asked
+  adds : range.start < slots → range.end < slots → n ≡ range_length slots range.start range.end
+
+work_most : (w : Option Work) (c : ServerCounts) → WorkAgrees w c → c.finished ≤ c.descs
+work_most None c agrees = omega (arith, agrees.1)
+work_most (Some work) c agrees = omega (arith, agrees.2)
+
+-- counts that are as many modulo 2^64, and nearer than that, are as many
+same_wrapped : (slots a b c : ℕ) (n : ℕ) → slots ≤ 256 → wrapped a ≡ wrapped b → a ≤ b → c ≤ a → b ≡ c + n → n ≤ slots → a ≡ b
+same_wrapped slots a b c n few is most least sum short = omega (arith, few, is, most, least, sum, short)
+
+length_most : (slots start end : ℕ) → 1 ≤ slots → range_length slots start end ≤ slots
+length_most slots start end some = omega (arith, mod_below (end + slots - start % slots) slots some)
+
+answered_order : (slots n : ℕ) (o : Option ServerSession) (w : Option Work) (d : Option ServerCounts) (turns behind : List Turn) (session : ServerSession) (range : SlotRange) → slots ≤ 256
+    → o ≡ Some session → Answered slots session range n → range_sum slots 2 (said behind) ≡ range_sum slots 2 (said turns) + n
+    → (1 ≤ n → range_count 2 (said behind) ≡ range_count 2 (said turns) + 1) → heard behind ≡ heard turns → ServerOrder slots o d turns → ServerAgrees o w d
+    → ServerOrder slots (answered o) (change_server (λ (c : ServerCounts). record c { answered = c.answered + n }) d) behind
+    × ServerAgrees (answered o) w (change_server (λ (c : ServerCounts). record c { answered = c.answered + n }) d)
+answered_order slots n None w d turns behind session range few is answers said_is counted heard_is order agrees = absurd (cc is)
+answered_order slots n (Some s) w None turns behind session range few is answers said_is counted heard_is order agrees = absurd order
+answered_order slots n (Some s) w (Some c) turns behind session range few is answers said_is counted heard_is order agrees =
+    let same : s ≡ session = cc is in
+    let ranged : s.range ≡ Some range = ap (λ (x : ServerSession). x.range) same ∙ answers.range_is in
+    let stands : RangeStands slots (Some range) c = subst (λ (r : Option SlotRange). RangeStands slots r c) ranged order.range in
+    let adds : n ≡ range_length slots range.start range.end = answers.adds stands.1 stands.2 in
+    let some : 1 ≤ slots = omega (arith, stands.1) in
+    let most = work_most w c agrees.1 in
+    let finished : wrapped c.finished ≡ wrapped c.asked =
+    sym agrees.0.finished ∙ ap (λ (x : ServerSession). x.finished) same ∙ answers.finished ∙ ap (λ (x : ServerSession). x.asked) (sym same) ∙ agrees.0.asked in
+    let all : c.finished ≡ c.asked =
+    same_wrapped slots c.finished c.asked c.answered (range_length slots range.start range.end) few finished (omega (arith, most, order.descs)) order.finished stands.0
+    (length_most slots range.start range.end some) in
+    let now : c.answered + n ≡ c.asked = omega (arith, stands.0, adds) in (
+      record {
+        asked = order.asked ∙ ap (range_sum slots 1) (sym heard_is);
+        answered = omega (arith, order.answered, said_is);
+        finished = omega (arith, now, all);
+        descs = order.descs;
+        range = now;
+        seq = order.seq ∙ ap (λ (xs : List (List ℕ)). wrapped (range_count 1 xs + 1)) (sym heard_is);
+        replies = omega (arith, order.replies, counted (omega (arith, adds)), ap (range_count 1) heard_is, ap one_range ranged);
+      },
+      (
+        record {
+          asked = agrees.0.asked;
+          descs = agrees.0.descs;
+          finished = agrees.0.finished;
+          answered = agrees.0.asked ∙ ap wrapped (sym now);
+        },
+        work_same w c n agrees.1,
+      ),
+    )
+
+pub own_counting : (shape : Shape) (v : ServerState) (turns : List Turn) (packet : List ℕ) (d : Option ServerCounts) → shape.slots ≤ 256 → is_none v.shake.owed ≡ true → SaysLast v.link turns packet
+    → ServerCounted shape v turns d → ServerCounted shape (put_as EndsOwn v) (Said packet ∷ turns) (answers_more shape turns packet d)
+own_counting shape v turns packet d few none last counted =
+    let bytes = half_said turns ++ v.link.to_send in
+    let a = the_answer v.shake.owed v bytes refl none (counted.holds last.some) in
+    let n = length_in shape.slots (range_ended 2 (half_said turns) packet) in
+    let message : a.range.start < shape.slots → a.range.end < shape.slots → length_in shape.slots (range_in 2 (Some bytes)) ≡ range_length shape.slots a.range.start a.range.end =
+    λ start end. ap (λ (xs : List ℕ). length_in shape.slots (range_in 2 (Some xs))) a.bytes_are
+    ∙ said_range shape.slots 2 v.shake.draft.sid Ack a.range.seq v.shake.draft.ident_peer a.range.start a.range.end a.range.state refl
+    (omega (arith, start, few)) (omega (arith, end, few)) in
+    let whole : n ≡ length_in shape.slots (range_in 2 (Some bytes)) =
+    omega (arith, sum_said shape.slots 2 packet turns, ap (range_sum shape.slots 2) last.messages, sum_more shape.slots 2 (said turns) bytes) in
+    let both = answered_order shape.slots n v.session v.work d turns (Said packet ∷ turns) a.session a.range few a.session_is
+    (record { range_is = a.range_is; finished = a.finished; adds = λ start end. whole ∙ message start end })
+    (sum_said shape.slots 2 packet turns) (λ some. count_said 2 packet turns ∙ one_said (range_ended 2 (half_said turns) packet) some) refl counted.order counted.agrees in
+    record {
+      slots = counted.slots;
+      blocks = counted.blocks;
+      shake = counted.shake;
+      holds = λ left. absurd (omega (arith, left, ap length last.none));
+      order = both.0;
+      unit = counted.unit;
+      ready = λ now. counted.ready (ap is_some a.session_is);
+      agrees = both.1;
+    }
+  where
+    one_said : (ended : Option (List ℕ)) → 1 ≤ length_in shape.slots ended → range_count 2 (said turns) + one_in ended ≡ range_count 2 (said turns) + 1
+    one_said None some = absurd (omega (arith, some))
+    one_said (Some message) some = refl

@@ -1,0 +1,243 @@
+-- What is known of an event of a lane that nobody forged by which a session opens: both ends name it by the client's fifth message, and the
+-- server has given no status in it.
+use Rattle.std.proofs.Common.{◌≡◌, ◌≢◌, ℕ, ◌+◌, ◌-◌, ◌<◌, ◌≤◌, Bool, true, false, Option, Some, None, List, [], ◌∷◌, ◌++◌, length, refl, sym, ap, ◌∙◌, subst, arith}
+use Rattle.std.specs.Prelude.{is_some, slice_get}
+use Rattle.runs.specs.Lawful.{lawful_split, log_append, log_of}
+use Rattle.runs.specs.Run.{Run, run_push}
+use Rattle.ldc_link.specs.declared.phase.Role.{Role}
+use Rattle.ldc_link.specs.declared.phase.Role.TheVariants.{Initiator, Responder}
+use Rattle.ldc_link.specs.LinkState.{is_up}
+use Rattle.ldc_queue.specs.declared.end.ChannelState.TheVariants.{Up}
+use Rattle.ldc_queue.specs.declared.end.End.TheVariants.{A, B}
+use Rattle.ldc_queue.specs.OneStream.{IsFront}
+use Rattle.ldc_queue.specs.Talk.{Heard as Heard_, Said, Turn}
+use Rattle.vio_handshake.proofs.Places.{AllSaid, AttributesAnswered, AttributesSaid, Deal, PeerReadyAnswered, PeerReadySaid, PeerRingAnswered, PeerRingSaid, Place, ReadyAnswered, ReadySaid, RingAnswered, RingSaid, VersionAnswered, VersionSaid}
+use Rattle.vio_handshake.specs.declared.handshake.Phase.TheVariants.{Open}
+use Rattle.vio_handshake.specs.Rules.{opens_by_put}
+use Rattle.disk_model.specs.Sayings.{half_heard, half_said, heard, said}
+use Rattle.disk_model.specs.TalkLog.{TalkLog}
+use Rattle.disk_model.specs.WireEvent.{Sent, Took}
+use Rattle.disk_model.specs.WireLog.{WireLog}
+use Rattle.disk_model.specs.Agreement.{ClientAgrees}
+use Rattle.disk_model.specs.DiskLog.{DiskLog, after, nothing_yet}
+use Rattle.disk_model.specs.RingLog.{Done, Ready}
+use Rattle.disk_model.specs.WorkLaws.{IfServer}
+use Rattle.disk_model.specs.WorkLog.{ClientCounts, ServerCounts, opening_sid}
+use Rattle.disk_model.specs.ClientPutting.{client_kind}
+use Rattle.disk_model.specs.ClientRule.{client_rule}
+use Rattle.disk_model.specs.ClientState.{ClientSession, ClientState}
+use Rattle.disk_model.specs.DiskEvent.{DiskEvent, OnWire}
+use Rattle.disk_model.specs.EndPuts.{ComesUp, EndsOwn, EndsShake, Goes, PutKind, put_opens}
+use Rattle.disk_model.specs.LaneState.{IsShape, LaneState, Shape, fresh}
+use Rattle.disk_model.specs.LaneStep.{LaneStep}
+use Rattle.disk_model.specs.Seeing.{seen}
+use Rattle.disk_model.specs.ServerState.{ServerState}
+use Rattle.lane_laws.proofs.Agreeing.{client_some, server_open, talk_is}
+use Rattle.lane_laws.proofs.ClientPlacing.{ClientAt}
+use Rattle.lane_laws.proofs.ClientResting.{client_blocked_rests}
+use Rattle.lane_laws.proofs.HeardFront.{heard_messages}
+use Rattle.lane_laws.proofs.LaneCounting.{Knows, few_slots, run_knows}
+use Rattle.lane_laws.proofs.LanePlacing.{LanePlaced}
+use Rattle.lane_laws.proofs.NoOwnReset.{run_known}
+use Rattle.lane_laws.proofs.OpeningDeal.{deal}
+use Rattle.lane_laws.proofs.OpeningScript.{said_at}
+use Rattle.lane_laws.proofs.OpenRuns.{held_open}
+use Rattle.lane_laws.proofs.PlacesAlong.{run_placed}
+use Rattle.lane_laws.proofs.RingRuns.{before}
+use Rattle.lane_laws.proofs.RingWork.{Known, ids_in, turn_in}
+use Rattle.lane_laws.proofs.Ruling.{client_may}
+use Rattle.lane_laws.proofs.ServerCounting.{opens_new}
+use Rattle.lane_laws.proofs.ServerEndCounting.{server_puts_counting}
+use Rattle.lane_laws.proofs.EndUttering.{is_open_up}
+use Rattle.lane_laws.proofs.ServerPlacing.{ServerPlaced}
+use Rattle.lane_laws.proofs.ServerTaken.{server_took_what}
+use Rattle.lane_laws.proofs.SlotsAlong.{run_slots}
+use Rattle.lane_laws.proofs.TableRuns.{table_lawful}
+use Rattle.lane_laws.specs.LaneRests.{ClientRests, ClientUtters}
+use Rattle.lane_laws.specs.LaneTalks.{talk_behind}
+use Rattle.lane_laws.specs.RingAgreed.{OneRing}
+use Rattle.lane_laws.specs.RingSlots.{IdStands}
+use Rattle.lane_laws.specs.SlotsInOrder.{SlotsIn, SlotsInOrder, SlotsOf}
+use Rattle.lane_laws.specs.TableStands.{TableAt}
+use Rattle.lane_laws.proofs.StatusSteps.{NoneDone, front_named, hears_fifth, says_fifth}
+use Rattle.lane_laws.specs.Statuses.{IsNamed}
+
+-- WHAT IS KNOWN before an event and after it
+pub record Around (shape : Shape) (s : LaneState) (l : DiskLog) (event : DiskEvent) (t : LaneState) : Type 0 where
+  pub known : Known s l
+  pub knows : Knows s l
+  pub placed : LanePlaced shape s l.talk
+  pub table : TableAt l event
+  pub next : Knows t (after l event)
+  pub next_placed : LanePlaced shape t (after l event).talk
+  pub front : t.wire.wire.end_b ≡ Up → IsFront (heard (after l event).talk.server) (said (after l event).talk.client)
+  pub slots : SlotsInOrder (after l event)
+
+pub around : (shape : Shape) (events : List DiskEvent) (s : LaneState) (event : DiskEvent) (t : LaneState) → IsShape shape → Run LaneStep (fresh shape) events s → LaneStep s event t
+    → (after (log_of after (nothing_yet shape) events) event).wire.forged ≡ false → Around shape s (log_of after (nothing_yet shape) events) event t
+around shape events s event t sound run step clean =
+    let l = log_of after (nothing_yet shape) events in
+    let more : List DiskEvent = events ++ event ∷ [] in
+    let then_run : Run LaneStep (fresh shape) more t = run_push LaneStep (fresh shape) s t events event run step in
+    let behind : log_of after (nothing_yet shape) more ≡ after l event = log_append after (nothing_yet shape) events (event ∷ []) in
+    let clean_before : l.wire.forged ≡ false = before l event clean in
+    let clean_more : (log_of after (nothing_yet shape) more).wire.forged ≡ false = ap (λ (x : DiskLog). x.wire.forged) behind ∙ clean in
+    let next : Knows t (log_of after (nothing_yet shape) more) = run_knows shape more t sound then_run in
+    let clean_t : t.wire.forged ≡ false = ap (λ (w : WireLog). w.forged) next.all.stands.wire ∙ clean_more in
+    let talk : talk_behind more ≡ (after l event).talk = sym (talk_is (nothing_yet shape) more) ∙ ap (λ (x : DiskLog). x.talk) behind in
+    record {
+      known = run_known shape events s sound run clean_before;
+      knows = run_knows shape events s sound run;
+      placed = run_placed shape events s sound run clean_before;
+      table = (lawful_split TableAt after (nothing_yet shape) events (event ∷ []) (table_lawful shape more t sound then_run)).1.0;
+      next = subst (Knows t) behind next;
+      next_placed = subst (λ (x : DiskLog). LanePlaced shape t x.talk) behind (run_placed shape more t sound then_run clean_more);
+      front = λ up. subst (λ (x : TalkLog). IsFront (heard x.server) (said x.client)) talk (heard_messages shape more t B sound then_run clean_t up);
+      slots = subst SlotsInOrder behind (run_slots shape more t sound then_run clean_more);
+    }
+
+-- BEFORE THE LAST PLACE the client has said, and the server heard, at most four messages
+few_at : (d : Deal) (n : Place) → n ≢ AllSaid → length (said_at d Initiator n ++ []) ≤ 4
+few_at d VersionSaid far = omega arith
+few_at d VersionAnswered far = omega arith
+few_at d AttributesSaid far = omega arith
+few_at d AttributesAnswered far = omega arith
+few_at d RingSaid far = omega arith
+few_at d RingAnswered far = omega arith
+few_at d PeerRingSaid far = omega arith
+few_at d PeerRingAnswered far = omega arith
+few_at d ReadySaid far = omega arith
+few_at d ReadyAnswered far = omega arith
+few_at d PeerReadySaid far = omega arith
+few_at d PeerReadyAnswered far = omega arith
+few_at d AllSaid far = absurd (far refl)
+
+five_at : (d : Deal) (n : Place) (more : List (List ℕ)) → n ≡ AllSaid → 5 ≤ length (said_at d Initiator n ++ more)
+five_at d n more last = subst (λ (p : Place). 5 ≤ length (said_at d Initiator p ++ more)) (sym last) (omega arith)
+
+not_open : (b : Bool) → b ≡ false → b ≡ true → ⊥
+not_open b closed is = let never : false ≡ true = sym closed ∙ is in absurd (cc never)
+
+-- A SESSION OF THE CLIENT opens where it had none
+kind_opens : (kind : PutKind) (c : ClientState) → c.shake.phase ≡ Open → put_opens kind c.shake ≡ false
+kind_opens Goes c is = refl
+kind_opens ComesUp c is = refl
+kind_opens EndsOwn c is = refl
+kind_opens EndsShake c is = ap (opens_by_put c.shake.role) is ∙ by_role c.shake.role
+  where
+    by_role : (r : Role) → opens_by_put r Open ≡ false
+    by_role Initiator = refl
+    by_role Responder = refl
+
+none_if : (o : Option ClientSession) → (is_some o ≡ true → ⊥) → o ≡ None
+none_if None never = refl
+none_if (Some s) never = absurd (never refl)
+
+sends_new : (shape : Shape) (s : LaneState) (l : DiskLog) (packet : List ℕ) (t : LaneState) → Around shape s l (OnWire (Sent A packet true)) t → LaneStep s (OnWire (Sent A packet true)) t
+    → s.client.session ≡ None
+sends_new shape s l packet t now step =
+    let at = seen A s.shape.entries s.wire.wire in
+    let sends = step.step in
+    let held = sends.held in
+    let rests : ClientRests held l.talk.client = client_blocked_rests s.client at held l.talk.client sends.holds now.knows.rests.client in
+    let same : is_some held.session ≡ is_some s.client.session = held_open s.client at (client_rule s.client at) held (client_may s.client at) sends.holds in
+    none_if s.client.session (λ open_one.
+    let closed : put_opens (client_kind held) held.shake ≡ false = kind_opens (client_kind held) held (rests.opened (same ∙ open_one)) in
+    let never : true ≡ false = sends.opens_is ∙ closed in absurd (cc never))
+
+few_said : (shape : Shape) (sid : ℕ) (c : ClientState) (turns : List Turn) → ClientUtters c turns → ClientAt shape sid c turns → c.session ≡ None → length (said turns) ≤ 4
+few_said shape sid c turns utters placed none = by_up (is_up c.link) refl
+  where
+    by_up : (b : Bool) → is_up c.link ≡ b → length (said turns) ≤ 4
+    by_up false is = omega (arith, ap length (utters.silent is))
+    by_up true is =
+        let at = placed.up is in
+        let far : at.place ≢ AllSaid = λ last. not_open (is_some c.session) (ap is_some none) (at.opened last) in
+        omega (
+          arith,
+          ap length (at.said_is ∙ ap (λ (xs : List (List ℕ)). said_at (deal shape sid 0) Initiator at.place ++ xs) (at.only far).0),
+          few_at (deal shape sid 0) at.place far,
+        )
+
+pub names_session : (shape : Shape) (s : LaneState) (l : DiskLog) (packet : List ℕ) (t : LaneState) → Around shape s l (OnWire (Sent A packet true)) t → LaneStep s (OnWire (Sent A packet true)) t
+    → IsNamed (opening_sid (half_said l.talk.client) packet) (said (Said packet ∷ l.talk.client))
+names_session shape s l packet t now step =
+    let up : s.wire.wire.end_a ≡ Up = ap (λ (w : WireLog). w.wire.end_a) now.knows.all.stands.wire ∙ now.table.0 in
+    let up_t : t.wire.wire.end_a ≡ Up = ap (λ (x : LaneState). x.wire.wire.end_a) step.is ∙ up in
+    let few = few_said shape now.placed.sid s.client l.talk.client now.knows.utters.client (now.placed.client up) (sends_new shape s l packet t now step) in
+    let open_one : is_some t.client.session ≡ true = client_some t.client.session _ _ _ refl now.next.counted.client.agrees in
+    let at = (now.next_placed.client up_t).up (is_open_up Initiator t.client.link t.client.shake (is_some t.client.session) (Said packet ∷ l.talk.client) now.next.rests.client open_one) in
+    says_fifth packet l.talk.client few
+    (subst (λ (xs : List (List ℕ)). 5 ≤ length xs) (sym at.said_is) (five_at (deal shape now.next_placed.sid 0) at.place at.mine (at.opens open_one)))
+
+-- and no server whose end is up works
+none_server : (q : Option ServerCounts) (s : LaneState) (l : DiskLog) → s.client.session ≡ None → ClientAgrees s.client.session l.work.done l.work.client → IfServer q (OneRing s l.work) → q ≡ None
+none_server None s l none agrees ring = refl
+none_server (Some d) s l none agrees ring =
+    absurd (not_open (is_some s.client.session) (ap is_some none) (client_some s.client.session l.work.done l.work.client ring.client ring.open_is agrees))
+
+pub opens_alone : (shape : Shape) (s : LaneState) (l : DiskLog) (packet : List ℕ) (t : LaneState) → Around shape s l (OnWire (Sent A packet true)) t → LaneStep s (OnWire (Sent A packet true)) t
+    → l.wire.wire.end_b ≡ Up → l.work.server ≡ None
+opens_alone shape s l packet t now step up =
+    none_server l.work.server s l (sends_new shape s l packet t now step) now.known.agree.client (now.known.agree.ring up)
+
+-- A SESSION OF THE SERVER opens
+few_heard : (shape : Shape) (sid : ℕ) (v : ServerState) (turns : List Turn) → ServerPlaced shape sid v turns → v.session ≡ None → length (heard turns) ≤ 4
+few_heard shape sid v turns placed none = by_up (is_up v.link) refl
+  where
+    by_up : (b : Bool) → is_up v.link ≡ b → length (heard turns) ≤ 4
+    by_up false is = omega (arith, ap length (placed.down is))
+    by_up true is =
+        let at = placed.up is in
+        let far : at.place ≢ AllSaid = λ last. not_open (is_some v.session) (ap is_some none) (at.opened last) in
+        omega (
+          arith,
+          ap length (at.heard_is ∙ ap (λ (xs : List (List ℕ)). said_at (deal shape sid 0) Initiator at.place ++ xs) (at.only far).1),
+          few_at (deal shape sid 0) at.place far,
+        )
+
+pub hears_session : (shape : Shape) (s : LaneState) (l : DiskLog) (packet : List ℕ) (t : LaneState) → Around shape s l (OnWire (Took B packet true)) t → LaneStep s (OnWire (Took B packet true)) t
+    → IsNamed (opening_sid (half_heard l.talk.server) packet) (said l.talk.client)
+hears_session shape s l packet t now step =
+    let up : s.wire.wire.end_b ≡ Up = ap (λ (w : WireLog). w.wire.end_b) now.knows.all.stands.wire ∙ now.table.0 in
+    let up_t : t.wire.wire.end_b ≡ Up = ap (λ (x : LaneState). x.wire.wire.end_b) step.1.is ∙ up in
+    let took = server_took_what s.server l.talk.server packet t.server true now.knows.all.talks.follows_b now.knows.rests.server.whole step.1.step.1.1 in
+    let few = few_heard shape now.placed.sid s.server l.talk.server (now.placed.server up) (opens_new s.server t.server l.talk.server packet now.knows.rests.server took) in
+    let open_one : is_some t.server.session ≡ true = server_open t.server.session t.server.work _ _ refl now.next.counted.server.agrees in
+    let at = (now.next_placed.server up_t).up (is_open_up Responder t.server.link t.server.shake (is_some t.server.session) (Heard_ packet ∷ l.talk.server) now.next.rests.server open_one) in
+    let named = hears_fifth packet l.talk.server few
+    (subst (λ (xs : List (List ℕ)). 5 ≤ length xs) (sym at.heard_is) (five_at (deal shape now.next_placed.sid 0) at.place at.theirs (at.opens open_one))) in
+    front_named (opening_sid (half_heard l.talk.server) packet) (heard (Heard_ packet ∷ l.talk.server)) (said l.talk.client) (now.front up_t) named
+
+-- where the client's session is open no slot is DONE yet
+done_is_not : (base published j id status : ℕ) → (j < published → Done id status ≡ Ready (base + j)) → j < published → ⊥
+done_is_not base published j id status ready less = let never : Done id status ≡ Ready (base + j) = ready less in absurd (cc never)
+
+none_done : (s : LaneState) (l : DiskLog) (k : ClientCounts) (finished descs : ℕ) → Known s l → l.work.client ≡ Some k → SlotsOf l.shape.slots l.work.done k.base k.published finished descs l.ring
+    → 0 ≡ finished → 0 ≡ descs → NoneDone l.ring
+none_done s l k finished descs known is slots zero_finished zero_descs slot id status got =
+    let stands : IdStands l.shape.slots l.work.done k slot id = ids_in s l k known is slot (Done id status) got in
+    let turn = (turn_in s l k known is).turn in
+    let based = stands.based in
+    let since = stands.since in
+    let below = stands.below in
+    let j = id - k.base in
+    let of = slots.each j (Done id status) (omega (arith, based, since)) (omega (arith, based, since, below, turn))
+    (subst (λ (n : ℕ). slice_get l.ring n ≡ Some (Done id status)) stands.slot_is got) in
+    done_is_not k.base k.published j id status (λ less. of.ready (omega (arith, zero_descs)) less) (omega (arith, based, since, below))
+
+none_in : (s : LaneState) (l : DiskLog) (packet : List ℕ) (o : Option ClientCounts) → Known s l → l.work.client ≡ o → l.wire.wire.end_b ≡ Up
+    → SlotsIn l.shape.slots (after l (OnWire (Took B packet true))).work (after l (OnWire (Took B packet true))).wire.wire l.ring o → (k : ClientCounts) → o ≡ Some k → NoneDone l.ring
+none_in s l packet None known is up slots k some = absurd (cc some)
+none_in s l packet (Some c) known is up slots k some =
+    let works = slots.3.works up in none_done s l c slots.0 slots.1 known is slots.2 (sym works.0) (sym works.1)
+
+pub none_given : (shape : Shape) (s : LaneState) (l : DiskLog) (packet : List ℕ) (t : LaneState) → Around shape s l (OnWire (Took B packet true)) t → (k : ClientCounts) → l.work.client ≡ Some k → NoneDone l.ring
+none_given shape s l packet t now k is = none_in s l packet l.work.client now.known refl now.table.0 now.slots k is
+
+-- and none opens by a packet that the server puts
+pub sends_not : (shape : Shape) (s : LaneState) (l : DiskLog) (packet : List ℕ) (t : LaneState) → Around shape s l (OnWire (Sent B packet true)) t → LaneStep s (OnWire (Sent B packet true)) t → ⊥
+sends_not shape s l packet t now step =
+    let both = server_puts_counting l.shape s.server (seen B s.shape.entries s.wire.wire) packet true t.server l.talk.server l.work.server (few_slots s l now.knows) now.knows.all.talks.follows_b
+    step.1.step.1.0 now.knows.rests.server now.knows.utters.server now.knows.counted.server in
+    let never : true ≡ false = both.1 in absurd (cc never)

@@ -1,0 +1,105 @@
+-- Each step of an end of a lane that nobody forged lowers what remains, or is calm and leaves it.
+use Rattle.std.proofs.Common.{◌≡◌, ℕ, ◌≤◌, ◌<◌, ◌⊎◌, inl, inr, false, Option, List, ap, subst, arith}
+use Rattle.runs.specs.Run.{Run}
+use Rattle.ldc_queue.specs.declared.end.End.{End}
+use Rattle.ldc_queue.specs.declared.end.End.TheVariants.{A, B}
+use Rattle.vio_tag.specs.declared.cause.Cause.{Cause}
+use Rattle.disk_model.specs.WireAt.{IsUp}
+use Rattle.disk_model.specs.WireEvent.{Blocked, ByStep, Declines, Giver, Idle, Injected, Joined, Lost, Poked, Reset, Sent, Took, WireEvent, giver}
+use Rattle.disk_model.specs.ClientRule as client_rules
+use Rattle.disk_model.specs.ClientState.{ClientState}
+use Rattle.disk_model.specs.ClientStep.{ClientFails}
+use Rattle.disk_model.specs.DiskEvent.{Asks, Desc, DiskEvent, Done, Finished, Misplaced, Moved, Off, OnWire, Published, Rests, Started, Stopped, Stored, Turns, Worked, Works}
+use Rattle.disk_model.specs.LaneState.{IsShape, LaneState, Shape, fresh}
+use Rattle.disk_model.specs.LaneStep.{EndOnWire, LaneStep, ResetBy, reach}
+use Rattle.disk_model.specs.ServerRule as server_rules
+use Rattle.disk_model.specs.ServerStep.{ServerFails}
+use Rattle.lane_laws.proofs.FallsInTurn.{took_falls}
+use Rattle.lane_laws.proofs.IdleRuns.{client_same, server_same}
+use Rattle.lane_laws.proofs.RemainingBlocked.{blocked_stays}
+use Rattle.lane_laws.proofs.RemainingRuns.{resets_fall, steps_fall}
+use Rattle.lane_laws.proofs.Ruling.{client_may, server_may}
+use Rattle.lane_laws.specs.Remaining.{remaining}
+use Rattle.lane_laws.specs.RuleFacts.{ClientMay, ServerMay}
+use Rattle.lane_laws.proofs.OwnResets.{own_reset}
+use Rattle.lane_laws.proofs.WorkNumbers.{at_client, at_server}
+use Rattle.lane_laws.specs.CalmEnds.{IsCalm, IsStep, IsWireStep}
+
+-- it does nothing and leaves what remains, or lowers it
+abbrev pub FallsOrCalm : End → LaneState → DiskEvent → LaneState → Type 0
+FallsOrCalm e s event t = (IsCalm e event × (remaining t ≤ remaining s)) ⊎ (remaining t < remaining s)
+
+same_remains : (s t : LaneState) → t ≡ s → remaining t ≤ remaining s
+same_remains s t is = omega (arith, ap remaining is)
+
+pub idles : (e : End) (s t : LaneState) → LaneStep s (OnWire (Idle e)) t → t ≡ s
+idles A s t step = client_same s t step
+idles B s t step = server_same s t step
+
+-- AN END THAT RESETS ITSELF is up
+client_fails_up : (c : ClientState) (s : LaneState) (rule : client_rules.ClientRule) (cause : Cause) (packet : Option (List ℕ)) → ClientMay c (at_client s) rule → ClientFails rule c s.memory cause packet
+    → IsUp A s.wire.wire
+client_fails_up c s (client_rules.Takes bytes) cause packet may fails = may.0
+client_fails_up c s (client_rules.Completes session) cause packet may fails = may.0
+client_fails_up c s _ cause packet may fails = absurd fails
+
+server_fails_up : (s : LaneState) (rule : server_rules.ServerRule) (cause : Cause) (packet : Option (List ℕ)) (new : List ℕ) → ServerMay s.server (at_server s) rule
+    → ServerFails rule s.server (reach s (at_server s).both) cause packet new → IsUp B s.wire.wire
+server_fails_up s (server_rules.Takes bytes) cause packet new may fails = may.0
+server_fails_up s (server_rules.Fetches session) cause packet new may fails = may.0
+server_fails_up s (server_rules.Serves session work) cause packet new may fails = may.0
+server_fails_up s _ cause packet new may fails = absurd fails
+
+resets_up : (e : End) (s : LaneState) (cause : Cause) (packet : Option (List ℕ)) (lost : ℕ) (t : LaneState) → EndOnWire e s (Reset e cause packet lost) t → IsUp e s.wire.wire
+resets_up A s cause packet lost t step =
+    client_fails_up s.client s (client_rules.client_rule s.client (at_client s)) cause packet (client_may s.client (at_client s)) step.step.0
+resets_up B s cause packet lost t step =
+    server_fails_up s (server_rules.server_rule s.server (at_server s)) cause packet t.memory (server_may s.server (at_server s)) step.1.step.1.0
+
+own_falls : (shape : Shape) (events : List DiskEvent) (s : LaneState) (e : End) (cause : Cause) (packet : Option (List ℕ)) (lost : ℕ) (t : LaneState) → IsShape shape → Run LaneStep (fresh shape) events s
+    → s.wire.forged ≡ false → giver cause ≡ ByStep → LaneStep s (OnWire (Reset e cause packet lost)) t → remaining t < remaining s
+own_falls shape events s e cause packet lost t sound run clean by step =
+    resets_fall shape events s e cause packet lost t sound run (resets_up e s cause packet lost t (subst (λ (g : Giver). ResetBy g e s cause packet lost t) by step))
+    (own_reset shape events s e cause packet lost t sound run clean by step).lossy step
+
+-- EACH STEP
+wire_falls : (shape : Shape) (events : List DiskEvent) (s : LaneState) (e : End) (event : WireEvent) (t : LaneState) → IsShape shape → Run LaneStep (fresh shape) events s → s.wire.forged ≡ false
+    → LaneStep s (OnWire event) t → IsWireStep e event → FallsOrCalm e s (OnWire event) t
+wire_falls shape events s e (Joined d lost) t sound run clean step own = inr (steps_fall shape events s (OnWire (Joined d lost)) t sound run step tt)
+wire_falls shape events s e (Took d packet opens) t sound run clean step own = inr (took_falls shape events s d packet opens t sound run clean step)
+wire_falls shape events s e (Sent d packet opens) t sound run clean step own = inr (steps_fall shape events s (OnWire (Sent d packet opens)) t sound run step tt)
+wire_falls shape events s e (Idle d) t sound run clean step own = inl (own, same_remains s t (idles d s t step))
+wire_falls shape events s e (Blocked d) t sound run clean step own = inl (own, blocked_stays shape events s d t sound run step)
+wire_falls shape events s e (Reset d cause packet lost) t sound run clean step own = inr (own_falls shape events s d cause packet lost t sound run clean own.1 step)
+wire_falls shape events s e (Lost d packet) t sound run clean step own = absurd own
+wire_falls shape events s e (Injected d packet) t sound run clean step own = absurd own
+wire_falls shape events s e (Poked d at bytes) t sound run clean step own = absurd own
+wire_falls shape events s e (Declines d) t sound run clean step own = absurd own
+
+work_falls : (shape : Shape) (events : List DiskEvent) (s : LaneState) (e : End) (event : Worked) (t : LaneState) → IsShape shape → Run LaneStep (fresh shape) events s → LaneStep s (Works event) t
+    → remaining t < remaining s
+work_falls shape events s e (Published id) t sound run step = steps_fall shape events s (Works (Published id)) t sound run step tt
+work_falls shape events s e (Done id operation status bytes) t sound run step = steps_fall shape events s (Works (Done id operation status bytes)) t sound run step tt
+work_falls shape events s e (Desc slot bytes) t sound run step = steps_fall shape events s (Works (Desc slot bytes)) t sound run step tt
+work_falls shape events s e (Moved unit fault) t sound run step = steps_fall shape events s (Works (Moved unit fault)) t sound run step tt
+work_falls shape events s e (Stored operation block count failed) t sound run step = steps_fall shape events s (Works (Stored operation block count failed)) t sound run step tt
+work_falls shape events s e (Finished slot status) t sound run step = steps_fall shape events s (Works (Finished slot status)) t sound run step tt
+work_falls shape events s e Misplaced t sound run step = absurd step
+
+off_calm : (e : End) → IsStep e (Turns Off) → IsCalm e (Turns Off)
+off_calm A own = absurd own
+off_calm B own = tt
+
+pub step_falls : (shape : Shape) (events : List DiskEvent) (s : LaneState) (e : End) (event : DiskEvent) (t : LaneState) → IsShape shape → Run LaneStep (fresh shape) events s → s.wire.forged ≡ false
+    → LaneStep s event t → IsStep e event → (IsCalm e event × (remaining t ≤ remaining s)) ⊎ (remaining t < remaining s)
+step_falls shape events s e (OnWire event) t sound run clean step own = wire_falls shape events s e event t sound run clean step own
+step_falls shape events s e (Works event) t sound run clean step own = inr (work_falls shape events s e event t sound run step)
+step_falls shape events s e (Turns Off) t sound run clean step own = inl (off_calm e own, same_remains s t step.1)
+step_falls shape events s A (Turns Stopped) t sound run clean step own = absurd own
+step_falls shape events s B (Turns Stopped) t sound run clean step own = absurd own
+step_falls shape events s A (Turns Started) t sound run clean step own = absurd own
+step_falls shape events s B (Turns Started) t sound run clean step own = absurd own
+step_falls shape events s A (Asks event) t sound run clean step own = absurd own
+step_falls shape events s B (Asks event) t sound run clean step own = absurd own
+step_falls shape events s A (Rests event) t sound run clean step own = absurd own
+step_falls shape events s B (Rests event) t sound run clean step own = absurd own

@@ -1,0 +1,266 @@
+-- Along every run each event of the wire stands where the table of states and queues lets it, and an answer that changes nothing is said
+-- exactly where it is.
+use Rattle.std.proofs.Common.{◌≡◌, ℕ, ◌+◌, ◌*◌, ◌≤◌, ◌<◌, false, Option, Some, None, List, [], ◌∷◌, ◌++◌, length, drop, refl, sym, ap, ◌∙◌, subst, arith, length-append, length-drop}
+use Rattle.std.specs.Prelude.{⊤, nat_lt}
+use Rattle.std.proofs.lemmas.Bool.{ltb-false, ltb-true}
+use Rattle.runs.specs.Lawful.{Lawful, run_lawful}
+use Rattle.runs.specs.Run.{Run}
+use Rattle.ldc_queue.specs.declared.end.ChannelState.{ChannelState}
+use Rattle.ldc_queue.specs.declared.end.End.{End}
+use Rattle.ldc_queue.specs.declared.end.End.TheVariants.{A, B}
+use Rattle.ldc_queue.specs.Wire.{queue_behind}
+use Rattle.vio_tag.specs.declared.cause.Cause.{Cause}
+use Rattle.disk_model.specs.WireAt.{IsUp, MayCarry, MayReset, Sizes, WireAnswersAt, WireTableAt}
+use Rattle.disk_model.specs.WireEvent.{Blocked, ByRestart, ByScript, ByStep, ByTick, Declines, Giver, Idle, Injected, Joined, Lost, Poked, Reset, Sent, Took, WireEvent, giver}
+use Rattle.disk_model.specs.WireLog.{WireLog, wire_moved}
+use Rattle.disk_model.specs.DiskLog.{DiskLog, after, nothing_yet}
+use Rattle.disk_model.specs.May.{sizes_in}
+use Rattle.disk_model.specs.ClientRule as client_rules
+use Rattle.disk_model.specs.ClientStep.{ClientFails}
+use Rattle.disk_model.specs.DiskEvent.{Asks, DiskEvent, Off, OnWire, Rests, Started, Stopped, Switched, Turns, Works}
+use Rattle.disk_model.specs.LaneState.{IsShape, LaneState, Shape, fresh, pages_of}
+use Rattle.disk_model.specs.LaneStep.{EndOnWire, LaneStep, ResetBy, WireStep, sizes_of}
+use Rattle.disk_model.specs.Seeing.{Seen, seen}
+use Rattle.disk_model.specs.ServerRule as server_rules
+use Rattle.disk_model.specs.ServerStep.{ServerFails}
+use Rattle.disk_model.specs.ServerWork.{Reach}
+use Rattle.lane_laws.proofs.Beginning.{queue_shorter}
+use Rattle.lane_laws.proofs.CarriedRuns.{AllStand, all_step, fresh_all}
+use Rattle.lane_laws.proofs.ClientHolding.{holds_up}
+use Rattle.lane_laws.proofs.Ruling.{client_may, server_may}
+use Rattle.lane_laws.proofs.ServerSpeaking.{server_holds_up}
+use Rattle.lane_laws.proofs.StandingRuns.{lawful_by}
+use Rattle.lane_laws.specs.MemoryStands.{MemoryStands, memory_long}
+use Rattle.lane_laws.specs.RuleFacts.{ClientMay, ServerMay}
+use Rattle.lane_laws.specs.Standing.{LaneStands}
+use Rattle.lane_laws.specs.TableStands.{AnswersAt, MayOfTable, RoomStands, TableAt}
+
+abbrev at_client : LaneState → Seen
+at_client s = seen A s.shape.entries s.wire.wire
+
+abbrev at_server : LaneState → Seen
+at_server s = seen B s.shape.entries s.wire.wire
+
+-- a reset that a step makes is given by a step
+abbrev giver_steps : WireEvent → Type 0
+giver_steps (Reset e cause packet lost) = giver cause ≡ ByStep
+giver_steps _ = ⊤
+
+abbrev make_sizes : ℕ → ℕ → Sizes
+make_sizes entries memory = record { entries = entries; memory = memory }
+
+-- what a rule tells of the end
+client_known : (s : LaneState) (rule : client_rules.ClientRule) → client_rules.client_rule s.client (at_client s) ≡ rule → ClientMay s.client (at_client s) rule
+client_known s rule is = subst (ClientMay s.client (at_client s)) is (client_may s.client (at_client s))
+
+server_known : (s : LaneState) (rule : server_rules.ServerRule) → server_rules.server_rule s.server (at_server s) ≡ rule → ServerMay s.server (at_server s) rule
+server_known s rule is = subst (ServerMay s.server (at_server s)) is (server_may s.server (at_server s))
+
+-- a queue that has no room is full
+full : (n entries : ℕ) → n + 1 ≤ entries → nat_lt (n + 1) entries ≡ false → n + 1 ≡ entries
+full n entries most none = omega (arith, most, ltb-false (n + 1) entries none)
+
+-- RESETS of a step carry the packet that the end took, or none
+abbrev CarriedAt : Option (List ℕ) → End → LaneState → Type 0
+CarriedAt packet e s = IsUp e s.wire.wire × MayCarry packet e s.wire.wire
+
+carries : (e : End) (s : LaneState) (packet other : Option (List ℕ)) → packet ≡ other → CarriedAt other e s → CarriedAt packet e s
+carries e s packet other is carried = subst (λ (p : Option (List ℕ)). CarriedAt p e s) (sym is) carried
+
+client_carries : (s : LaneState) (rule : client_rules.ClientRule) (memory : List ℕ) (cause : Cause) (packet : Option (List ℕ)) → ClientMay s.client (at_client s) rule
+    → ClientFails rule s.client memory cause packet → CarriedAt packet A s
+client_carries s (client_rules.Takes bytes) memory cause packet may fails = carries A s packet (Some bytes) fails.0 may
+client_carries s (client_rules.Completes session) memory cause packet may fails = carries A s packet None fails.0 (may.0, tt)
+client_carries s client_rules.Joins memory cause packet may fails = absurd fails
+client_carries s client_rules.Puts memory cause packet may fails = absurd fails
+client_carries s (client_rules.Says message) memory cause packet may fails = absurd fails
+client_carries s (client_rules.Announces session) memory cause packet may fails = absurd fails
+client_carries s (client_rules.Publishes session request) memory cause packet may fails = absurd fails
+client_carries s client_rules.Rests memory cause packet may fails = absurd fails
+
+server_carries : (s : LaneState) (rule : server_rules.ServerRule) (r : Reach) (cause : Cause) (packet : Option (List ℕ)) (new : List ℕ) → ServerMay s.server (at_server s) rule
+    → ServerFails rule s.server r cause packet new → CarriedAt packet B s
+server_carries s (server_rules.Takes bytes) r cause packet new may fails = carries B s packet (Some bytes) fails.0 may
+server_carries s (server_rules.Fetches session) r cause packet new may fails = carries B s packet None fails.0 (may.0, tt)
+server_carries s (server_rules.Serves session work) r cause packet new may fails = carries B s packet None fails.0 (may.0, tt)
+server_carries s server_rules.Joins r cause packet new may fails = absurd fails
+server_carries s server_rules.Puts r cause packet new may fails = absurd fails
+server_carries s (server_rules.Says message) r cause packet new may fails = absurd fails
+server_carries s server_rules.Rests r cause packet new may fails = absurd fails
+
+-- THE TABLE, by the end that makes the step
+client_table : (s : LaneState) (event : WireEvent) (t : LaneState) → RoomStands (sizes_of s) s.wire → giver_steps event → EndOnWire A s event t → WireTableAt (sizes_of s) s.wire event
+client_table s (Joined A lost) t room by step = client_known s client_rules.Joins step.step.0
+client_table s (Took A packet opens) t room by step = client_known s (client_rules.Takes packet) step.step.0
+client_table s (Sent A packet opens) t room by step = (
+  holds_up s.client (at_client s) (client_rules.client_rule s.client (at_client s)) step.step.held (client_may s.client (at_client s)) step.step.holds,
+  ltb-true (length s.wire.wire.to_b + 1) s.shape.entries step.step.room,
+)
+client_table s (Blocked A) t room by step = (
+  holds_up s.client (at_client s) (client_rules.client_rule s.client (at_client s)) t.client (client_may s.client (at_client s)) step.step.0,
+  full (length s.wire.wire.to_b) s.shape.entries room.to_b step.step.1,
+)
+client_table s (Idle A) t room by step = client_known s client_rules.Rests step.step.0
+client_table s (Reset A cause packet lost) t room by step =
+    subst (λ (g : Giver). MayReset g packet A s.wire.wire) (sym by)
+    (client_carries s (client_rules.client_rule s.client (at_client s)) s.memory cause packet (client_may s.client (at_client s)) step.step.0)
+client_table s (Joined B lost) t room by step = absurd step.step
+client_table s (Took B packet opens) t room by step = absurd step.step
+client_table s (Sent B packet opens) t room by step = absurd step.step
+client_table s (Blocked B) t room by step = absurd step.step
+client_table s (Idle B) t room by step = absurd step.step
+client_table s (Reset B cause packet lost) t room by step = absurd step.step
+client_table s (Lost e packet) t room by step = absurd step.step
+client_table s (Injected e packet) t room by step = absurd step.step
+client_table s (Poked e at bytes) t room by step = absurd step.step
+client_table s (Declines d) t room by step = absurd step.step
+
+server_table : (s : LaneState) (event : WireEvent) (t : LaneState) → RoomStands (sizes_of s) s.wire → giver_steps event → EndOnWire B s event t → WireTableAt (sizes_of s) s.wire event
+server_table s (Joined B lost) t room by step = server_known s server_rules.Joins step.1.step.1.0
+server_table s (Took B packet opens) t room by step = server_known s (server_rules.Takes packet) step.1.step.1.0
+server_table s (Sent B packet opens) t room by step = (
+  server_holds_up s.server (at_server s) (server_rules.server_rule s.server (at_server s)) step.1.step.1.0.held (server_may s.server (at_server s)) step.1.step.1.0.holds,
+  ltb-true (length s.wire.wire.to_a + 1) s.shape.entries step.1.step.1.0.room,
+)
+server_table s (Blocked B) t room by step = (
+  server_holds_up s.server (at_server s) (server_rules.server_rule s.server (at_server s)) t.server (server_may s.server (at_server s)) step.1.step.1.0,
+  full (length s.wire.wire.to_a) s.shape.entries room.to_a step.1.step.1.1,
+)
+server_table s (Idle B) t room by step = server_known s server_rules.Rests step.1.step.1.0
+server_table s (Reset B cause packet lost) t room by step =
+    subst (λ (g : Giver). MayReset g packet B s.wire.wire) (sym by)
+    (server_carries s (server_rules.server_rule s.server (at_server s)) _ cause packet t.memory (server_may s.server (at_server s)) step.1.step.1.0)
+server_table s (Joined A lost) t room by step = absurd step.1.step.1
+server_table s (Took A packet opens) t room by step = absurd step.1.step.1
+server_table s (Sent A packet opens) t room by step = absurd step.1.step.1
+server_table s (Blocked A) t room by step = absurd step.1.step.1
+server_table s (Idle A) t room by step = absurd step.1.step.1
+server_table s (Reset A cause packet lost) t room by step = absurd step.1.step.1
+server_table s (Lost e packet) t room by step = absurd step.1.step.1
+server_table s (Injected e packet) t room by step = absurd step.1.step.1
+server_table s (Poked e at bytes) t room by step = absurd step.1.step.1
+server_table s (Declines d) t room by step = absurd step.1.step.1
+
+end_table : (e : End) (s : LaneState) (event : WireEvent) (t : LaneState) → RoomStands (sizes_of s) s.wire → giver_steps event → EndOnWire e s event t → WireTableAt (sizes_of s) s.wire event
+end_table A s event t room by step = client_table s event t room by step
+end_table B s event t room by step = server_table s event t room by step
+
+reset_table : (g : Giver) (e : End) (s : LaneState) (cause : Cause) (packet : Option (List ℕ)) (lost : ℕ) (t : LaneState) → RoomStands (sizes_of s) s.wire → giver cause ≡ g
+    → ResetBy g e s cause packet lost t → MayReset g packet e s.wire.wire
+reset_table ByStep e s cause packet lost t room by step =
+    subst (λ (g : Giver). MayReset g packet e s.wire.wire) by (end_table e s (Reset e cause packet lost) t room by step)
+reset_table ByScript A s cause packet lost t room by step = step.0
+reset_table ByScript B s cause packet lost t room by step = step.1.0
+reset_table ByRestart A s cause packet lost t room by step = absurd step
+reset_table ByRestart B s cause packet lost t room by step = step.1.0
+reset_table ByTick A s cause packet lost t room by step = step.1.0
+reset_table ByTick B s cause packet lost t room by step = absurd step
+
+poked_table : (e : End) (s : LaneState) (at : ℕ) (bytes : List ℕ) (t : LaneState) → WireStep s (Poked e at bytes) t → at + length bytes ≤ length s.memory
+poked_table A s at bytes t step = step.0
+poked_table B s at bytes t step = absurd step
+
+table : (s : LaneState) (event : WireEvent) (t : LaneState) → RoomStands (sizes_of s) s.wire → WireStep s event t → WireTableAt (sizes_of s) s.wire event
+table s (Joined e lost) t room step = end_table e s (Joined e lost) t room tt step
+table s (Took e packet opens) t room step = end_table e s (Took e packet opens) t room tt step
+table s (Sent e packet opens) t room step = end_table e s (Sent e packet opens) t room tt step
+table s (Idle e) t room step = end_table e s (Idle e) t room tt step
+table s (Blocked e) t room step = end_table e s (Blocked e) t room tt step
+table s (Reset e cause packet lost) t room step = reset_table (giver cause) e s cause packet lost t room refl step
+table s (Lost e packet) t room step = step.0
+table s (Injected e packet) t room step = (step.0, step.1)
+table s (Poked e at bytes) t room step = poked_table e s at bytes t step
+table s (Declines d) t room step = tt
+
+answers : (s : LaneState) (event : WireEvent) (t : LaneState) → WireStep s event t → WireAnswersAt (sizes_of s) s.wire event
+answers s (Declines d) t step = step.0
+answers s (Joined e lost) t step = tt
+answers s (Took e packet opens) t step = tt
+answers s (Sent e packet opens) t step = tt
+answers s (Idle e) t step = tt
+answers s (Blocked e) t step = tt
+answers s (Reset e cause packet lost) t step = tt
+answers s (Lost e packet) t step = tt
+answers s (Injected e packet) t step = tt
+answers s (Poked e at bytes) t step = tt
+
+-- ROOM in the queues
+drop_shorter : (waiting : List (List ℕ)) (entries : ℕ) → length waiting + 1 ≤ entries → length (drop 1 waiting) + 1 ≤ entries
+drop_shorter waiting entries most = omega (arith, length-drop 1 waiting, most)
+
+more_room : (waiting : List (List ℕ)) (packet : List ℕ) (entries : ℕ) → length waiting + 1 < entries → length (waiting ++ packet ∷ []) + 1 ≤ entries
+more_room waiting packet entries most = omega (arith, length-append waiting (packet ∷ []), most)
+
+behind_room : (e : ChannelState) (waiting : List (List ℕ)) (entries : ℕ) → length waiting + 1 ≤ entries → length (queue_behind e waiting) + 1 ≤ entries
+behind_room e waiting entries most = omega (arith, queue_shorter e waiting, most)
+
+room_moved : (n : Sizes) (w : WireLog) (event : WireEvent) → WireTableAt n w event → RoomStands n w → RoomStands n (wire_moved w event)
+room_moved n w (Joined A lost) at room = record { to_a = behind_room w.wire.end_a w.wire.to_a n.entries room.to_a; to_b = behind_room w.wire.end_a w.wire.to_b n.entries room.to_b }
+room_moved n w (Joined B lost) at room = record { to_a = behind_room w.wire.end_b w.wire.to_a n.entries room.to_a; to_b = behind_room w.wire.end_b w.wire.to_b n.entries room.to_b }
+room_moved n w (Reset A cause packet lost) at room = record { to_a = behind_room w.wire.end_a w.wire.to_a n.entries room.to_a; to_b = behind_room w.wire.end_a w.wire.to_b n.entries room.to_b }
+room_moved n w (Reset B cause packet lost) at room = record { to_a = behind_room w.wire.end_b w.wire.to_a n.entries room.to_a; to_b = behind_room w.wire.end_b w.wire.to_b n.entries room.to_b }
+room_moved n w (Took A packet opens) at room = record { to_a = drop_shorter w.wire.to_a n.entries room.to_a; to_b = room.to_b }
+room_moved n w (Took B packet opens) at room = record { to_a = room.to_a; to_b = drop_shorter w.wire.to_b n.entries room.to_b }
+room_moved n w (Lost A packet) at room = record { to_a = drop_shorter w.wire.to_a n.entries room.to_a; to_b = room.to_b }
+room_moved n w (Lost B packet) at room = record { to_a = room.to_a; to_b = drop_shorter w.wire.to_b n.entries room.to_b }
+room_moved n w (Sent A packet opens) at room = record { to_a = room.to_a; to_b = more_room w.wire.to_b packet n.entries at.1 }
+room_moved n w (Sent B packet opens) at room = record { to_a = more_room w.wire.to_a packet n.entries at.1; to_b = room.to_b }
+room_moved n w (Injected A packet) at room = record { to_a = more_room w.wire.to_a packet n.entries at.1; to_b = room.to_b }
+room_moved n w (Injected B packet) at room = record { to_a = room.to_a; to_b = more_room w.wire.to_b packet n.entries at.1 }
+room_moved n w (Poked e at_place bytes) at room = record { to_a = room.to_a; to_b = room.to_b }
+room_moved n w (Idle e) at room = room
+room_moved n w (Blocked e) at room = room
+room_moved n w (Declines d) at room = room
+
+-- ALONG EVERY RUN
+record WireStands (s : LaneState) (l : DiskLog) : Type 0 where
+  all : AllStand s l
+  room : RoomStands (sizes_in l) l.wire
+
+sizes_same : (s : LaneState) (l : DiskLog) → LaneStands s l → MemoryStands s → sizes_of s ≡ sizes_in l
+sizes_same s l stands memory =
+    let long : length s.memory ≡ 8192 * pages_of s.shape = memory.long ∙ ap memory_long stands.slots in
+    ap (λ (m : ℕ). make_sizes s.shape.entries m) long ∙ ap (λ (x : Shape). make_sizes x.entries (8192 * pages_of x)) stands.shape
+
+-- the law at the state is the law at the log
+at_log : (P : Sizes → WireLog → Type 0) (s : LaneState) (l : DiskLog) → sizes_of s ≡ sizes_in l → s.wire ≡ l.wire → P (sizes_of s) s.wire → P (sizes_in l) l.wire
+at_log P s l sizes wire holds = subst (λ (n : Sizes). P n l.wire) sizes (subst (P (sizes_of s)) wire holds)
+
+at_state : (P : Sizes → WireLog → Type 0) (s : LaneState) (l : DiskLog) → sizes_of s ≡ sizes_in l → s.wire ≡ l.wire → P (sizes_in l) l.wire → P (sizes_of s) s.wire
+at_state P s l sizes wire holds = subst (λ (n : Sizes). P n s.wire) (sym sizes) (subst (P (sizes_in l)) (sym wire) holds)
+
+wire_step : (s : LaneState) (l : DiskLog) (event : WireEvent) (t : LaneState) → WireStands s l → WireStep s event t → MayOfTable l (OnWire event) × RoomStands (sizes_in l) (wire_moved l.wire event)
+wire_step s l event t stands step =
+    let sizes = sizes_same s l stands.all.stands stands.all.memory in
+    let room = at_state RoomStands s l sizes stands.all.stands.wire stands.room in
+    let known : WireTableAt (sizes_in l) l.wire event = at_log (λ (n : Sizes) (w : WireLog). WireTableAt n w event) s l sizes stands.all.stands.wire (table s event t room step) in
+    let said : WireAnswersAt (sizes_in l) l.wire event = at_log (λ (n : Sizes) (w : WireLog). WireAnswersAt n w event) s l sizes stands.all.stands.wire (answers s event t step) in
+    (record { table = known; answers = said }, room_moved (sizes_in l) l.wire event known stands.room)
+
+turn_room : (l : DiskLog) (event : Switched) → RoomStands (sizes_in l) l.wire → RoomStands (sizes_in l) (after l (Turns event)).wire
+turn_room l Stopped room = record { to_a = omega (arith, room.to_a); to_b = omega (arith, room.to_b) }
+turn_room l Started room = room
+turn_room l Off room = room
+
+room_step : (s : LaneState) (l : DiskLog) (event : DiskEvent) (t : LaneState) → WireStands s l → LaneStep s event t → MayOfTable l event × RoomStands (sizes_in l) (after l event).wire
+room_step s l (OnWire event) t stands step = wire_step s l event t stands step
+room_step s l (Asks event) t stands step = (record { table = tt; answers = tt }, stands.room)
+room_step s l (Works event) t stands step = (record { table = tt; answers = tt }, stands.room)
+room_step s l (Turns event) t stands step = (record { table = tt; answers = tt }, turn_room l event stands.room)
+room_step s l (Rests event) t stands step = (record { table = tt; answers = tt }, stands.room)
+
+stands_more : (s : LaneState) (l : DiskLog) (event : DiskEvent) (t : LaneState) → WireStands s l → LaneStep s event t → MayOfTable l event × WireStands t (after l event)
+stands_more s l event t stands step =
+    let room = room_step s l event t stands step in
+    (room.0, record { all = (all_step s l event t stands.all step).1; room = room.1 })
+
+both_lawful : (shape : Shape) (events : List DiskEvent) (s : LaneState) → IsShape shape → Run LaneStep (fresh shape) events s → Lawful MayOfTable after (nothing_yet shape) events
+both_lawful shape events s sound run =
+    (run_lawful LaneStep MayOfTable after WireStands stands_more (fresh shape) s (nothing_yet shape) events
+    (record { all = fresh_all shape sound; room = record { to_a = omega (arith, sound.some_entries); to_b = omega (arith, sound.some_entries) } }) run).0
+
+pub table_lawful : (shape : Shape) (events : List DiskEvent) (s : LaneState) → IsShape shape → Run LaneStep (fresh shape) events s → Lawful TableAt after (nothing_yet shape) events
+table_lawful shape events s sound run = lawful_by MayOfTable TableAt (λ l e may. may.table) (nothing_yet shape) events (both_lawful shape events s sound run)
+
+pub answers_lawful : (shape : Shape) (events : List DiskEvent) (s : LaneState) → IsShape shape → Run LaneStep (fresh shape) events s → Lawful AnswersAt after (nothing_yet shape) events
+answers_lawful shape events s sound run = lawful_by MayOfTable AnswersAt (λ l e may. may.answers) (nothing_yet shape) events (both_lawful shape events s sound run)

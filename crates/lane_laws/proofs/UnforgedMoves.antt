@@ -1,0 +1,142 @@
+-- On a lane that nobody forged no copy of a unit is refused.
+use Rattle.std.proofs.Common.{◌≡◌, ℕ, zero, suc, ◌+◌, ◌-◌, ◌*◌, ◌%◌, ◌<◌, ◌≤◌, min, Bool, true, false, Option, None, List, [], ◌∷◌, length, take, refl, ap, ◌∙◌, subst, arith, nat_lt}
+use Rattle.std.specs.Prelude.{if◌then◌else◌}
+use Rattle.std.proofs.lemmas.Bool.{and_from, and_parts}
+use Rattle.std.proofs.lemmas.Bool.Decides.{nat_tests}
+use Rattle.std.specs.List.{list_all}
+use Rattle.runs.specs.Lawful.{log_of}
+use Rattle.runs.specs.Run.{Run}
+use Rattle.cookie_copy.proofs.OwnPages.{no_fault_range}
+use Rattle.cookie_copy.specs.declared.fault.Access.{Access}
+use Rattle.cookie_copy.specs.declared.fault.Access.TheVariants.{Read, Write}
+use Rattle.cookie_copy.specs.declared.fault.CopyFault.{CopyFault}
+use Rattle.cookie_copy.specs.Faults.{first_copy_fault, is_aligned, is_aligned_cookie, is_even_word}
+use Rattle.cookie_copy.specs.Identity.{IsIdentity}
+use Rattle.ldc_queue.specs.declared.end.End.TheVariants.{B}
+use Rattle.map_table.specs.declared.cookie.Cookie.{Cookie}
+use Rattle.map_table.specs.declared.table.Entry.{Entry}
+use Rattle.vdisk_msg.specs.declared.desc.DiskDesc.{DiskDesc}
+use Rattle.vdisk_msg.specs.declared.request.Request.{Request}
+use Rattle.vdisk_msg.specs.declared.request.Request.TheVariants as asks
+use Rattle.vdisk_msg.specs.Pieces.{unit_count}
+use Rattle.vdisk_msg.specs.Requested.{buffer_cookies, buffer_place, cookie_count, descriptor_of, page_cookie, size_of}
+use Rattle.disk_model.specs.DiskLog.{after, nothing_yet}
+use Rattle.disk_model.specs.DiskEvent.{DiskEvent, Moved, Works}
+use Rattle.disk_model.specs.LaneState.{IsShape, LaneState, Shape, fresh, pages_of}
+use Rattle.disk_model.specs.LaneStep.{LaneStep, reach}
+use Rattle.disk_model.specs.Seeing.{seen}
+use Rattle.disk_model.specs.ServerRule as server_rules
+use Rattle.disk_model.specs.ServerState.{Ends, Flushes, Gathers, Gives, Progress, Reads, Work, Writes}
+use Rattle.disk_model.specs.ServerWork.{MovesIn, Reach, data_cookies, desc_of, unit_length}
+use Rattle.lane_laws.proofs.LaneCounting.{run_knows}
+use Rattle.lane_laws.proofs.NoOwnReset.{Working, working}
+use Rattle.lane_laws.proofs.RingCookies.{buffer_spots}
+use Rattle.lane_laws.proofs.RingEnds.{has_work, work_below}
+use Rattle.lane_laws.proofs.RingSessions.{sizes_of}
+use Rattle.lane_laws.proofs.Ruling.{server_may}
+use Rattle.lane_laws.proofs.SlotBytes.{Sizes, fetched_cookies, reads_back, request_size, stated}
+use Rattle.lane_laws.specs.Counted.{UnitFits, UnitIn}
+use Rattle.lane_laws.specs.RingAgreed.{ring_in}
+use Rattle.lane_laws.specs.RingSlots.{HoldsIssued, RingOf}
+use Rattle.lane_laws.specs.RuleFacts.{ServerMay}
+use Rattle.lane_laws.specs.Units.{UnitIs, WorkIs}
+
+-- A BUFFER is aligned
+page_if : (place size k : ℕ) (b : Bool) → place % 8 ≡ 0 → size % 8 ≡ 0
+    → is_aligned_cookie (if b then record { address = place + 8192 * k; size = min 8192 (size - 8192 * k) } else record { address = 0; size = 0 }) ≡ true
+page_if place size k true even whole =
+    let address : (place + 8192 * k) % 8 ≡ 0 = omega (arith, even) in
+    let rest : min 8192 (size - 8192 * k) % 8 ≡ 0 = omega (arith, whole) in
+    let one : is_even_word (place + 8192 * k) ≡ true = grind (arith, nat_tests) in
+    let other : is_even_word (min 8192 (size - 8192 * k)) ≡ true = grind (arith, nat_tests) in
+    and_from (is_even_word (place + 8192 * k)) (is_even_word (min 8192 (size - 8192 * k))) one other
+page_if place size k false even whole = refl
+
+page_aligned : (place size k : ℕ) → place % 8 ≡ 0 → size % 8 ≡ 0 → is_aligned_cookie (page_cookie place size k) ≡ true
+page_aligned place size k even whole = page_if place size k (nat_lt (8192 * k) size) even whole
+
+taken_aligned : (n : ℕ) (cookies : List Cookie) → list_all is_aligned_cookie cookies ≡ true → list_all is_aligned_cookie (take n cookies) ≡ true
+taken_aligned zero cookies all = refl
+taken_aligned (suc n) [] all = refl
+taken_aligned (suc n) (cookie ∷ cookies) all =
+    let parts = and_parts (is_aligned_cookie cookie) (list_all is_aligned_cookie cookies) all in
+    and_from (is_aligned_cookie cookie) (list_all is_aligned_cookie (take n cookies)) parts.0 (taken_aligned n cookies parts.1)
+
+five_aligned : (place size : ℕ) → place % 8 ≡ 0 → size % 8 ≡ 0 → list_all is_aligned_cookie (buffer_cookies place size) ≡ true
+unfolding buffer_cookies
+five_aligned place size even whole =
+    and_from (is_aligned_cookie (page_cookie place size 0)) _ (page_aligned place size 0 even whole)
+    (and_from (is_aligned_cookie (page_cookie place size 1)) _ (page_aligned place size 1 even whole)
+    (and_from (is_aligned_cookie (page_cookie place size 2)) _ (page_aligned place size 2 even whole)
+    (and_from (is_aligned_cookie (page_cookie place size 3)) _ (page_aligned place size 3 even whole) refl)))
+
+-- so a unit of it is copied
+unit_aligned : (size unit : ℕ) (cookies : List Cookie) → size % 8 ≡ 0 → list_all is_aligned_cookie cookies ≡ true → is_aligned cookies (8192 * unit) (min 8192 (size - 8192 * unit)) ≡ true
+unit_aligned size unit cookies whole all =
+    let begins : (8192 * unit) % 8 ≡ 0 = omega arith in
+    let rest : min 8192 (size - 8192 * unit) % 8 ≡ 0 = omega (arith, whole) in
+    let one : is_even_word (8192 * unit) ≡ true = grind (arith, nat_tests) in
+    let other : is_even_word (min 8192 (size - 8192 * unit)) ≡ true = grind (arith, nat_tests) in
+    rw (one, other, all) refl
+
+unit_answered : (access : Access) (table : List (Option Entry)) (pages place size unit : ℕ) → IsIdentity table pages → place % 8 ≡ 0 → size % 8 ≡ 0 → size ≤ 32768 → place + size ≤ 8192 * pages
+    → 8192 * unit < size
+    → first_copy_fault true access table (take (cookie_count size) (buffer_cookies place size)) (8192 * unit) (min 8192 (size - 8192 * unit)) ≡ None
+unit_answered access table pages place size unit identity even whole few room below =
+    let cookies = take (cookie_count size) (buffer_cookies place size) in
+    no_fault_range access table pages cookies place size (8192 * unit) (min 8192 (size - 8192 * unit)) identity (buffer_spots place size few).0 (omega (arith, below)) room
+    (unit_aligned size unit cookies whole (taken_aligned (cookie_count size) (buffer_cookies place size) (five_aligned place size even whole)))
+
+-- THE DESCRIPTOR in work names its slot's buffer
+even_size : (request : Request) → size_of request % 8 ≡ 0
+even_size (asks.Read block count) = omega arith
+even_size (asks.Write block count fill) = omega arith
+even_size asks.Flush = refl
+
+stated_size : (id : ℕ) (request : Request) (slot slots state status : ℕ) → (stated id request slot slots state status).size ≡ size_of request
+unfolding descriptor_of
+stated_size id request slot slots state status = refl
+
+work_answered : (access : Access) (work : Work) (r : Reach) (ring : RingOf) (pages slot id unit n : ℕ) → Sizes ring slot → HoldsIssued ring slot id 2 0 work.bytes → r.both ≡ true
+    → IsIdentity r.table pages → buffer_place ring.slots slot + 32768 ≤ 8192 * pages → unit < unit_count (desc_of work).size → n ≡ unit_length (desc_of work).size unit
+    → first_copy_fault r.both access r.table (data_cookies work) (8192 * unit) n ≡ None
+work_answered access work r ring pages slot id unit n sizes holds both identity room below long =
+    let size = size_of holds.request in
+    let place = buffer_place ring.slots slot in
+    let same : (desc_of work).size ≡ size = ap (λ (d : DiskDesc). d.size) (reads_back ring slot id 2 0 work.bytes sizes (omega arith) holds) ∙ stated_size id holds.request slot ring.slots 2 0 in
+    let few = request_size ring slot id 2 0 work.bytes holds in
+    let units : unit < unit_count size = subst (λ (m : ℕ). unit < unit_count m) same below in
+    ap (λ (up : Bool). first_copy_fault up access r.table (data_cookies work) (8192 * unit) n) both
+    ∙ ap (λ (cs : List Cookie). first_copy_fault true access r.table cs (8192 * unit) n) (fetched_cookies ring slot id work.bytes sizes holds)
+    ∙ ap (λ (m : ℕ). first_copy_fault true access r.table (take (cookie_count size) (buffer_cookies place size)) (8192 * unit) m) (long ∙ ap (λ (m : ℕ). unit_length m unit) same)
+    ∙ unit_answered access r.table pages place size unit identity (omega arith) (even_size holds.request) few (omega (arith, few, room)) (omega (arith, units))
+
+moves_none : (p : Progress) (work : Work) (r : Reach) (ring : RingOf) (pages slot id unit : ℕ) (fault : Option CopyFault) (next : Progress) (new : List ℕ) → Sizes ring slot
+    → HoldsIssued ring slot id 2 0 work.bytes → r.both ≡ true → IsIdentity r.table pages → buffer_place ring.slots slot + 32768 ≤ 8192 * pages
+    → UnitIn (unit_count (desc_of work).size) p → UnitIs (desc_of work) p → MovesIn p work r unit fault next new → fault ≡ None
+moves_none (Gives u bytes) work r ring pages slot id unit fault next new sizes holds both identity room below is moves =
+    moves.1 ∙ work_answered Write work r ring pages slot id u (length bytes) sizes holds both identity room below is.1
+moves_none (Gathers u) work r ring pages slot id unit fault next new sizes holds both identity room below is moves =
+    moves.1 ∙ work_answered Read work r ring pages slot id u (unit_length (desc_of work).size u) sizes holds both identity room below refl
+moves_none (Reads u) work r ring pages slot id unit fault next new sizes holds both identity room below is moves = absurd moves
+moves_none (Writes u bytes) work r ring pages slot id unit fault next new sizes holds both identity room below is moves = absurd moves
+moves_none Flushes work r ring pages slot id unit fault next new sizes holds both identity room below is moves = absurd moves
+moves_none (Ends status) work r ring pages slot id unit fault next new sizes holds both identity room below is moves = absurd moves
+
+pub moved_answered : (shape : Shape) (events : List DiskEvent) (s t : LaneState) (unit : ℕ) (fault : Option CopyFault) → IsShape shape → Run LaneStep (fresh shape) events s → WorkIs s.server.work
+    → (log_of after (nothing_yet shape) events).wire.forged ≡ false → LaneStep s (Works (Moved unit fault)) t → fault ≡ None
+moved_answered shape events s t unit fault sound run units clean step =
+    let l = log_of after (nothing_yet shape) events in
+    let at = seen B s.shape.entries s.wire.wire in
+    let m = step.1.step.1.0 in
+    let may : ServerMay s.server at (server_rules.Serves m.session m.work) = subst (ServerMay s.server at) m.rule (server_may s.server at) in
+    let now : Working s l m.session = working shape events s m.session sound run clean may.0 may.1 in
+    let d = now.work.of.counts in
+    let has = has_work s l m.session m.work now.known now.work may.2 in
+    let slot = d.finished % l.shape.slots in
+    let below : slot < l.shape.slots = work_below s l d now.known in
+    let holds : HoldsIssued (ring_in l) slot has.inside.id 2 0 m.work.bytes = subst (HoldsIssued (ring_in l) slot has.inside.id 2 0) has.desc has.inside.fetched in
+    let within : UnitIn (unit_count (desc_of m.work).size) m.work.progress = subst UnitFits may.2 (run_knows shape events s sound run).counted.server.unit in
+    let is : UnitIs (desc_of m.work) m.work.progress = subst WorkIs may.2 units in
+    moves_none m.work.progress m.work (reach s at.both) (ring_in l) (pages_of l.shape) slot has.inside.id unit fault m.next t.memory (sizes_of s l slot now.known.pages below) holds now.both
+    now.known.pages.identity (omega (arith, below)) within is m.moves

@@ -1,0 +1,184 @@
+-- Each event of the wire leaves the near counts standing to the log.
+use Rattle.std.proofs.Common.{◌≡◌, ℕ, ◌+◌, ◌-◌, ◌≤◌, true, false, Option, Some, None, List, refl, sym, ap, ◌∙◌, subst, arith}
+use Rattle.ldc_queue.specs.declared.end.ChannelState.{ChannelState}
+use Rattle.ldc_queue.specs.declared.end.ChannelState.TheVariants.{Down, Resetting, Up}
+use Rattle.ldc_queue.specs.declared.end.End.TheVariants.{A, B}
+use Rattle.ldc_queue.specs.Wire.{peer_behind}
+use Rattle.disk_model.specs.WireEvent.{Blocked, Declines, Idle, Injected, Joined, Lost, Poked, Reset, Sent, Took, WireEvent}
+use Rattle.disk_model.specs.Agreement.{ServerAgrees}
+use Rattle.disk_model.specs.DiskLog.{DiskLog, after}
+use Rattle.disk_model.specs.WorkLaws.{IfServer}
+use Rattle.disk_model.specs.WorkLog.{ClientCounts, ServerCounts}
+use Rattle.disk_model.specs.ClientState.{ClientSession, opened_session}
+use Rattle.disk_model.specs.DiskEvent.{OnWire}
+use Rattle.disk_model.specs.LaneState.{LaneState, NearCounts}
+use Rattle.disk_model.specs.LaneStep.{WireStep, near_on_wire}
+use Rattle.disk_model.specs.Seeing.{seen}
+use Rattle.disk_model.specs.ServerState.{ServerSession, Work}
+use Rattle.lane_laws.proofs.RingLeaves.{OpensNot}
+use Rattle.lane_laws.proofs.RingWork.{turn_in}
+use Rattle.lane_laws.proofs.SlotsStepping.{StepFacts}
+use Rattle.lane_laws.proofs.StandingSteps.{wire_only, wired_keeps}
+use Rattle.lane_laws.specs.RingAgreed.{OneRing}
+use Rattle.lane_laws.specs.Standing.{LaneStands, SessionStands}
+use Rattle.lane_laws.proofs.EverStanding.{ever_left}
+use Rattle.lane_laws.proofs.Leaving.{client_opened}
+use Rattle.lane_laws.proofs.LiveCounts.{KIs, counts_while, kis_client, kis_none, kis_server, not_live, not_up, peer_not_live, zero_where}
+use Rattle.lane_laws.proofs.QuietWire.{wire_quiet}
+use Rattle.lane_laws.proofs.Standing.{Before, EverStands, NearStands, ever_count}
+
+-- A SERVER'S SESSION opens: what is done was done before it
+opened_k : (x : ChannelState) (d : ServerCounts) (o : Option ClientCounts) (done k : ℕ) → d.finished ≡ 0 → ((c : ClientCounts) → o ≡ Some c → c.base ≡ done) → k ≡ 0 → KIs (counts_while x (Some d)) o done k
+opened_k Down d o done k first based none = none
+opened_k Resetting d o done k first based none = none
+opened_k Up d None done k first based none = none
+opened_k Up d (Some c) done k first based none = omega (arith, first, based c refl, none)
+
+took_opens : (s : LaneState) (l : DiskLog) (packet : List ℕ) (t : LaneState) → Before s l → StepFacts s l (OnWire (Took B packet true)) t
+    → KIs (counts_while (after l (OnWire (Took B packet true))).wire.wire.end_b (after l (OnWire (Took B packet true))).work.server) l.work.client l.work.done s.near.k
+took_opens s l packet t before facts =
+    let one = facts.agree.ring facts.table.0 in
+    let none : counts_while l.wire.wire.end_b l.work.server ≡ None = none_live l.wire.wire.end_b l.work.server (facts.opens packet refl) in
+    opened_k l.wire.wire.end_b _ l.work.client l.work.done s.near.k refl
+    (λ c is.
+    let both : Some one.client ≡ Some c = sym one.open_is ∙ is in
+    let same : one.client ≡ c = cc both in
+    let base : c.base ≡ one.client.base = ap (λ (x : ClientCounts). x.base) (sym same) in
+    let done = one.done in
+    let turn = turn_in s l c before.known is in
+    omega (arith, base, done, turn.based))
+    (zero_where (counts_while l.wire.wire.end_b l.work.server) l.work.client l.work.done s.near.k none before.near.k)
+  where
+    none_live : (x : ChannelState) (q : Option ServerCounts) → q ≡ None → counts_while x q ≡ None
+    none_live Up q is = is
+    none_live Down q is = refl
+    none_live Resetting q is = refl
+
+-- EACH EVENT of the wire that opens no session of the client
+k_quiet : (s : LaneState) (l : DiskLog) (event : WireEvent) (t : LaneState) → Before s l → StepFacts s l (OnWire event) t → OpensNot event
+    → KIs (counts_while (after l (OnWire event)).wire.wire.end_b (after l (OnWire event)).work.server) (after l (OnWire event)).work.client (after l (OnWire event)).work.done (near_on_wire s event).k
+k_quiet s l (Joined A lost) t before facts not =
+    let none = zero_where _ l.work.client l.work.done s.near.k (not_live l.wire.wire.end_a l.wire.wire.end_b l.work.server before.alive facts.table) before.near.k in
+    let q = counts_while (peer_behind l.wire.wire.end_a l.wire.wire.end_b) l.work.server in
+    subst (λ (n : ℕ). KIs q None l.work.done n) (sym none) (kis_none q None l.work.done (peer_not_live l.wire.wire.end_a l.wire.wire.end_b l.work.server before.alive))
+k_quiet s l (Joined B lost) t before facts not =
+    zero_where _ l.work.client l.work.done s.near.k (not_up l.wire.wire.end_b l.work.server facts.table) before.near.k
+k_quiet s l (Reset A cause packet lost) t before facts not =
+    kis_none (counts_while (peer_behind l.wire.wire.end_a l.wire.wire.end_b) l.work.server) None l.work.done (peer_not_live l.wire.wire.end_a l.wire.wire.end_b l.work.server before.alive)
+k_quiet s l (Reset B cause packet lost) t before facts not = refl
+k_quiet s l (Took A packet false) t before facts not =
+    kis_client (counts_while l.wire.wire.end_b l.work.server) _ l.work.client l.work.done s.near.k (λ c. refl) before.near.k
+k_quiet s l (Took A packet true) t before facts not = absurd (cc not)
+k_quiet s l (Took B packet false) t before facts not =
+    kis_server l.wire.wire.end_b l.work.server _ l.work.client l.work.done s.near.k (λ d. refl) before.near.k
+k_quiet s l (Took B packet true) t before facts not = took_opens s l packet t before facts
+k_quiet s l (Sent A packet false) t before facts not =
+    kis_client (counts_while l.wire.wire.end_b l.work.server) _ l.work.client l.work.done s.near.k (λ c. refl) before.near.k
+k_quiet s l (Sent A packet true) t before facts not = absurd (cc not)
+k_quiet s l (Sent B packet false) t before facts not =
+    kis_server l.wire.wire.end_b l.work.server _ l.work.client l.work.done s.near.k (λ d. refl) before.near.k
+k_quiet s l (Sent B packet true) t before facts not = absurd (facts.sends packet refl)
+k_quiet s l (Lost A packet) t before facts not = before.near.k
+k_quiet s l (Lost B packet) t before facts not = before.near.k
+k_quiet s l (Injected A packet) t before facts not = before.near.k
+k_quiet s l (Injected B packet) t before facts not = before.near.k
+k_quiet s l (Poked e at bytes) t before facts not = before.near.k
+k_quiet s l (Idle e) t before facts not = before.near.k
+k_quiet s l (Blocked e) t before facts not = before.near.k
+k_quiet s l (Declines d) t before facts not = before.near.k
+
+-- THE CLIENT'S SESSION opens: no server works on it yet
+begins_k : (x : ChannelState) (q : Option ServerCounts) (o : Option ClientCounts) (new : ClientCounts) (done k : ℕ) → new.base ≡ done → ((d : ServerCounts) → x ≡ Up → q ≡ Some d → d.finished ≡ 0)
+    → ((c : ClientCounts) → o ≡ Some c → c.base ≤ done) → KIs (counts_while x q) o done k → (k ≡ 0) × KIs (counts_while x q) (Some new) done k
+begins_k Down q o new done k same nothing based is = (is, is)
+begins_k Resetting q o new done k same nothing based is = (is, is)
+begins_k Up None o new done k same nothing based is = (is, is)
+begins_k Up (Some d) None new done k same nothing based is = (is, omega (arith, same, is, nothing d refl refl))
+begins_k Up (Some d) (Some c) new done k same nothing based is =
+    let none : k ≡ 0 = omega (arith, is, nothing d refl refl, based c refl) in (none, omega (arith, same, none, nothing d refl refl))
+
+work_first : (o : Option ServerSession) (w : Option Work) (q : Option ServerCounts) (d : ServerCounts) → q ≡ Some d → ServerAgrees o w q → d.finished ≤ d.descs
+work_first None w None d is agrees = absurd (cc is)
+work_first None w (Some c) d is agrees = absurd agrees
+work_first (Some s) w None d is agrees = absurd agrees
+work_first (Some s) None (Some c) d is agrees = let same : c ≡ d = cc is in subst (λ (x : ServerCounts). x.finished ≤ x.descs) same (omega (arith, agrees.1.1))
+work_first (Some s) (Some work) (Some c) d is agrees = let same : c ≡ d = cc is in subst (λ (x : ServerCounts). x.finished ≤ x.descs) same (omega (arith, agrees.1.2))
+
+published_in : Option ClientCounts → ℕ
+published_in None = 0
+published_in (Some c) = c.published
+
+pub opens_k : (s : LaneState) (l : DiskLog) (packet : List ℕ) (t : LaneState) → Before s l → StepFacts s l (OnWire (Sent A packet true)) t
+    → (s.near.k ≡ 0) × KIs (counts_while l.wire.wire.end_b l.work.server) (after l (OnWire (Sent A packet true))).work.client l.work.done s.near.k
+unfolding published_in
+opens_k s l packet t before facts =
+    begins_k l.wire.wire.end_b l.work.server l.work.client _ l.work.done s.near.k refl
+    (λ d up is.
+    let m = after l (OnWire (Sent A packet true)) in
+    let one : OneRing t m.work d = subst (λ (q : Option ServerCounts). IfServer q (OneRing t m.work)) is (facts.agree.ring up) in
+    let nothing : 0 ≡ one.client.published = ap published_in one.open_is in
+    let descs = one.descs in
+    let asked = one.asked in
+    omega (arith, work_first t.server.session t.server.work m.work.server d is facts.agree.server, descs, asked, nothing))
+    (λ c is. (turn_in s l c before.known is).based) before.near.k
+
+-- WHAT WAS EVER PUBLISHED
+near_quiet : (s : LaneState) (l : DiskLog) (event : WireEvent) (t : LaneState) → Before s l → StepFacts s l (OnWire event) t → LaneStands t (after l (OnWire event)) → OpensNot event → WireStep s event t
+    → (near_on_wire s event).m ≤ s.client.ever_published - l.work.done → NearStands t (after l (OnWire event))
+near_quiet s l event t before facts behind not step m_few =
+    let m = after l (OnWire event) in
+    let quiet = wire_quiet s l event t before.knows not step in
+    let only = wire_only s event t before.known.sound step in
+    let done = (wired_keeps l.shape.slots l.talk l.work event).done in
+    let ever = quiet.client.ever in
+    let m_is : t.near.m ≡ (near_on_wire s event).m = ap (λ (n : NearCounts). n.m) quiet.near in
+    record {
+      k = subst (λ (n : ℕ). KIs (counts_while m.wire.wire.end_b m.work.server) m.work.client m.work.done n) (sym (ap (λ (n : NearCounts). n.k) quiet.near)) (k_quiet s l event t before facts not);
+      m = omega (arith, m_few, m_is, ever, done);
+      ever = subst (λ (n : ℕ). EverStands n t.client) (sym done)
+          (ever_left l.work.done s.client t.client quiet.client only.kept.next before.known.stands.requests.session
+          (subst (λ (n : ℕ). SessionStands n t.client.session) done behind.requests.session) before.near.ever);
+    }
+
+near_opens : (s : LaneState) (l : DiskLog) (packet : List ℕ) (t : LaneState) → Before s l → StepFacts s l (OnWire (Sent A packet true)) t → LaneStands t (after l (OnWire (Sent A packet true)))
+    → WireStep s (Sent A packet true) t → NearStands t (after l (OnWire (Sent A packet true)))
+near_opens s l packet t before facts behind step =
+    let m = after l (OnWire (Sent A packet true)) in
+    let opened = client_opened s.client (seen A s.shape.entries s.wire.wire) s.memory packet t.client t.memory step.step in
+    let only = wire_only s (Sent A packet true) t before.known.sound step in
+    let same : t.near ≡ s.near = ap (λ (x : LaneState). x.near) step.is in
+    let ever = opened.ever in
+    let m_few = before.near.m in
+    let first = before.near.ever.done_first in
+    let most = before.near.ever.most in
+    let next = only.kept.next in
+    let base : l.work.done ≡ opened.base + 0 = subst (SessionStands l.work.done) opened.session behind.requests.session in
+    record {
+      k = subst (λ (n : ℕ). KIs (counts_while m.wire.wire.end_b m.work.server) m.work.client m.work.done n) (sym (ap (λ (n : NearCounts). n.k) same)) (opens_k s l packet t before facts).1;
+      m = let m_is : t.near.m ≡ s.near.m = ap (λ (n : NearCounts). n.m) same in omega (arith, m_few, m_is, ever);
+      ever = record {
+        done_first = omega (arith, first, ever);
+        most = omega (arith, most, ever, next);
+        session = λ session is.
+            let both : Some (opened_session opened.base) ≡ Some session = sym opened.session ∙ is in
+            let one : opened_session opened.base ≡ session = cc both in
+            subst (λ (x : ClientSession). x.base + x.published ≤ t.client.ever_published) one (omega (arith, base, first, ever));
+      };
+    }
+
+pub near_wire : (s : LaneState) (l : DiskLog) (event : WireEvent) (t : LaneState) → Before s l → StepFacts s l (OnWire event) t → LaneStands t (after l (OnWire event)) → WireStep s event t
+    → NearStands t (after l (OnWire event))
+near_wire s l (Sent A packet true) t before facts behind step = near_opens s l packet t before facts behind step
+near_wire s l (Sent A packet false) t before facts behind step = near_quiet s l (Sent A packet false) t before facts behind refl step before.near.m
+near_wire s l (Sent B packet opens) t before facts behind step = near_quiet s l (Sent B packet opens) t before facts behind tt step before.near.m
+near_wire s l (Took A packet opens) t before facts behind step = near_quiet s l (Took A packet opens) t before facts behind step.step.2 step before.near.m
+near_wire s l (Took B packet opens) t before facts behind step = near_quiet s l (Took B packet opens) t before facts behind tt step before.near.m
+near_wire s l (Joined e lost) t before facts behind step = near_quiet s l (Joined e lost) t before facts behind tt step before.near.m
+near_wire s l (Reset e cause packet lost) t before facts behind step =
+    near_quiet s l (Reset e cause packet lost) t before facts behind tt step (let is = ever_count s l before.known.stands in omega (arith, is))
+near_wire s l (Lost e packet) t before facts behind step = near_quiet s l (Lost e packet) t before facts behind tt step before.near.m
+near_wire s l (Injected e packet) t before facts behind step = near_quiet s l (Injected e packet) t before facts behind tt step before.near.m
+near_wire s l (Poked e at bytes) t before facts behind step = near_quiet s l (Poked e at bytes) t before facts behind tt step before.near.m
+near_wire s l (Idle e) t before facts behind step = near_quiet s l (Idle e) t before facts behind tt step before.near.m
+near_wire s l (Blocked e) t before facts behind step = near_quiet s l (Blocked e) t before facts behind tt step before.near.m
+near_wire s l (Declines d) t before facts behind step = near_quiet s l (Declines d) t before facts behind tt step before.near.m

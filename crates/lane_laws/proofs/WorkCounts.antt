@@ -1,0 +1,280 @@
+-- Each other event of a lane leaves the near counts standing to the log.
+use Rattle.std.proofs.Common.{◌≡◌, ℕ, ◌+◌, ◌-◌, ◌<◌, ◌≤◌, ◌⊎◌, Option, Some, None, List, inl, inr, refl, sym, ap, ◌∙◌, subst, arith}
+use Rattle.std.specs.Prelude.{max}
+use Rattle.std.proofs.lemmas.Option.{slice_get_within}
+use Rattle.ldc_queue.specs.declared.end.ChannelState.{ChannelState}
+use Rattle.ldc_queue.specs.declared.end.ChannelState.TheVariants.{Down, Resetting, Up}
+use Rattle.ldc_queue.specs.declared.end.End.TheVariants.{A, B}
+use Rattle.ldc_queue.specs.Wire.{Wire}
+use Rattle.disk_model.specs.WireLog.{WireLog}
+use Rattle.disk_model.specs.DiskLog.{DiskLog, after}
+use Rattle.disk_model.specs.RingLog.{Done as IsDone}
+use Rattle.disk_model.specs.WorkLaws.{IfServer}
+use Rattle.disk_model.specs.WorkLog.{ClientCounts, ServerCounts, change_server}
+use Rattle.disk_model.specs.ClientRule as client_rules
+use Rattle.disk_model.specs.ClientState.{ClientSession, ClientState}
+use Rattle.disk_model.specs.DiskEvent.{Accepted, Admitted, Asks, Calm, CalmReset, CalmRestart, CalmStart, CalmStop, CalmTick, Desc, DiskEvent, Done, Finished, Full, Misplaced, Moved, Off, Published, Refused, Rests, Started, Stopped, Stored, Switched, Turns, Worked, Works}
+use Rattle.disk_model.specs.LaneState.{LaneState, NearCounts, risen}
+use Rattle.disk_model.specs.LaneStep.{LaneStep, RestStep, TurnStep, WorkStep}
+use Rattle.disk_model.specs.Seeing.{seen}
+use Rattle.disk_model.specs.ServerRule as server_rules
+use Rattle.lane_laws.proofs.RingClientSteps.{completes_slot, publishing}
+use Rattle.lane_laws.proofs.RingSessions.{of_client}
+use Rattle.lane_laws.proofs.RingWork.{at_work, some_slots, turn_in}
+use Rattle.lane_laws.proofs.Ruling.{client_may, server_may}
+use Rattle.lane_laws.proofs.SlotsOrdered.{finished_more}
+use Rattle.lane_laws.specs.RuleFacts.{ClientMay, ServerMay}
+use Rattle.lane_laws.specs.SlotsInOrder.{ServerAt, SlotsIn}
+use Rattle.lane_laws.proofs.LiveCounts.{KIs, counts_while, kis_client, kis_server}
+use Rattle.lane_laws.proofs.PlacedViews.{IsLive, in_order, live, live_or_not, placed}
+use Rattle.lane_laws.proofs.Standing.{Before, EverStands, NearStands, ever_count}
+
+-- THE SERVER'S WORK but for the end: what is finished stays, and so does the client
+by_server : (s : LaneState) (l : DiskLog) (event : DiskEvent) (t : LaneState) (g : ServerCounts → ServerCounts) → Before s l → (after l event).wire ≡ l.wire → (after l event).work.client ≡ l.work.client
+    → (after l event).work.done ≡ l.work.done → (after l event).work.server ≡ change_server g l.work.server → ((d : ServerCounts) → (g d).finished ≡ d.finished) → t.client ≡ s.client
+    → t.near.k ≡ s.near.k → t.near.m ≡ s.near.m → NearStands t (after l event)
+by_server s l event t g before wire client done server same client_same k m =
+    let n = after l event in
+    let first : KIs (counts_while l.wire.wire.end_b (change_server g l.work.server)) l.work.client l.work.done s.near.k =
+    kis_server l.wire.wire.end_b l.work.server g l.work.client l.work.done s.near.k same before.near.k in
+    let ever : t.client.ever_published ≡ s.client.ever_published = ap (λ (c : ClientState). c.ever_published) client_same in
+    let few = before.near.m in
+    record {
+      k = subst (λ (w : WireLog). KIs (counts_while w.wire.end_b n.work.server) n.work.client n.work.done t.near.k) (sym wire)
+          (subst (λ (q : Option ServerCounts). KIs (counts_while l.wire.wire.end_b q) n.work.client n.work.done t.near.k) (sym server)
+          (subst (λ (o : Option ClientCounts). KIs (counts_while l.wire.wire.end_b (change_server g l.work.server)) o n.work.done t.near.k) (sym client)
+          (subst (λ (d : ℕ). KIs (counts_while l.wire.wire.end_b (change_server g l.work.server)) l.work.client d t.near.k) (sym done)
+          (subst (λ (j : ℕ). KIs (counts_while l.wire.wire.end_b (change_server g l.work.server)) l.work.client l.work.done j) (sym k) first))));
+      m = omega (arith, few, m, ever, done);
+      ever = subst (λ (d : ℕ). EverStands d t.client) (sym done) (subst (EverStands l.work.done) (sym client_same) before.near.ever);
+    }
+
+-- A REQUEST IS PUBLISHED
+published_near : (s : LaneState) (l : DiskLog) (id : ℕ) (t : LaneState) → Before s l → WorkStep s (Published id) t → NearStands t (after l (Works (Published id)))
+published_near s l id t before step =
+    let at = seen A s.shape.entries s.wire.wire in
+    let p = step.step in
+    let may : ClientMay s.client at (client_rules.Publishes p.session p.request) = subst (ClientMay s.client at) p.rule (client_may s.client at) in
+    let of_k = of_client s l p.session may.1 before.known.agree in
+    let new = publishing s l id p.session p.request before.known may.1 of_k p.id_is may.2 in
+    let within = slice_get_within l.work.issued id p.request new.accepted in
+    let ever : t.client.ever_published ≡ max s.client.ever_published (id + 1) = ap (λ (c : ClientState). c.ever_published) p.is in
+    let next : t.client.next_id ≡ s.client.next_id = ap (λ (c : ClientState). c.next_id) p.is in
+    let session : t.client.session ≡ Some (record p.session { published = p.session.published + 1 }) = ap (λ (c : ClientState). c.session) p.is in
+    let near : t.near ≡ s.near = ap (λ (x : LaneState). x.near) step.is in
+    let k : t.near.k ≡ s.near.k = ap (λ (x : NearCounts). x.k) near in
+    let m : t.near.m ≡ s.near.m = ap (λ (x : NearCounts). x.m) near in
+    let few = before.near.m in
+    let first = before.near.ever.done_first in
+    let most = before.near.ever.most in
+    let issued = before.known.stands.requests.next in
+    let id_is = p.id_is in
+    record {
+      k = subst (λ (j : ℕ). KIs (counts_while l.wire.wire.end_b l.work.server) (after l (Works (Published id))).work.client l.work.done j) (sym k)
+          (kis_client (counts_while l.wire.wire.end_b l.work.server) _ l.work.client l.work.done s.near.k (λ c. refl) before.near.k);
+      m = omega (arith, few, m, ever);
+      ever = record {
+        done_first = omega (arith, first, ever);
+        most = omega (arith, most, ever, next, within, issued);
+        session = λ other is.
+            let both : Some (record p.session { published = p.session.published + 1 }) ≡ Some other = sym session ∙ is in
+            let same : record p.session { published = p.session.published + 1 } ≡ other = cc both in
+            subst (λ (x : ClientSession). x.base + x.published ≤ t.client.ever_published) same (omega (arith, ever, id_is));
+      };
+    }
+
+-- THE FIRST IS DONE: the server finished it
+rests_zero : (w : Wire) (server : Option ServerCounts) (finished descs : ℕ) → ServerAt w server finished descs → w.end_a ≡ Up → counts_while w.end_b server ≡ None → finished ≡ 0
+rests_zero w server finished descs at up none = (at.rests up (λ b. let now : counts_while Up server ≡ None = subst (λ (x : ChannelState). counts_while x server ≡ None) b none in now)).0
+
+if_some : (server : Option ServerCounts) (d : ServerCounts) (finished descs : ℕ) → server ≡ Some d → IfServer server (λ x. (finished ≡ x.finished) × (descs ≡ x.descs)) → finished ≡ d.finished
+if_some server d finished descs is holds =
+    let here : IfServer (Some d) (λ x. (finished ≡ x.finished) × (descs ≡ x.descs)) = subst (λ (q : Option ServerCounts). IfServer q (λ x. (finished ≡ x.finished) × (descs ≡ x.descs))) is holds in
+    here.0
+
+pub completed_some : (s : LaneState) (l : DiskLog) (id operation status : ℕ) (bytes : List ℕ) (t : LaneState) → Before s l → WorkStep s (Done id operation status bytes) t → 1 ≤ s.near.k
+completed_some s l id operation status bytes t before step =
+    let at = seen A s.shape.entries s.wire.wire in
+    let found = completes_slot s l id operation status bytes t before.known step in
+    let k = found.0 in
+    let n = l.shape.slots in
+    let some = some_slots s l before.known in
+    let turn = turn_in s l k before.known found.1.open_is in
+    let here : SlotsIn n l.work l.wire.wire l.ring (Some k) = subst (SlotsIn n l.work l.wire.wire l.ring) found.1.open_is before.order in
+    let first = here.2.each (l.work.done - k.base) (IsDone id status) (omega (arith, turn.based)) (omega (arith, turn.based, some)) found.1.done_is in
+    let less : l.work.done - k.base < here.0 =
+    finished_more k.base here.0 here.1 k.published (l.work.done - k.base) id status (IsDone id status) refl here.2.finished_first here.2.descs_first first in
+    let may : ClientMay s.client at (client_rules.Completes step.step.session) = subst (ClientMay s.client at) step.step.rule (client_may s.client at) in
+    let up : l.wire.wire.end_a ≡ Up = subst (λ (w : WireLog). w.wire.end_a ≡ Up) before.known.stands.wire may.0 in
+    by_live k here.0 here.1 less found.1.open_is here.3 up (live_or_not l.wire.wire.end_b l.work.server)
+  where
+    by_live : (k : ClientCounts) (finished descs : ℕ) → l.work.done - k.base < finished → l.work.client ≡ Some k → ServerAt l.wire.wire l.work.server finished descs → l.wire.wire.end_a ≡ Up
+        → (counts_while l.wire.wire.end_b l.work.server ≡ None) ⊎ IsLive l.wire.wire.end_b l.work.server → 1 ≤ s.near.k
+    by_live k finished descs less open_is at up (inl none) =
+        let zero = rests_zero l.wire.wire l.work.server finished descs at up none in absurd (omega (arith, less, zero))
+    by_live k finished descs less open_is at up (inr is) =
+        let on = live s l is.counts before is.up is.there in
+        let counts = if_some l.work.server is.counts finished descs is.there (at.works is.up) in
+        let two : Some k ≡ Some on.one.client = sym open_is ∙ on.one.open_is in
+        let one : k ≡ on.one.client = cc two in
+        let base : k.base ≡ on.one.client.base = ap (λ (c : ClientCounts). c.base) one in
+        let number = on.number in
+        let turn = turn_in s l k before.known open_is in
+        omega (arith, less, counts, base, number, turn.based)
+
+done_k : (q : Option ServerCounts) (o : Option ClientCounts) (done k : ℕ) → 1 ≤ k → KIs q o done k → KIs q o (done + 1) (k - 1)
+done_k None o done k some is = absurd (omega (arith, some, is))
+done_k (Some d) None done k some is = absurd (omega (arith, some, is))
+done_k (Some d) (Some c) done k some is = omega (arith, some, is)
+
+completed_near : (s : LaneState) (l : DiskLog) (id operation status : ℕ) (bytes : List ℕ) (t : LaneState) → Before s l → WorkStep s (Done id operation status bytes) t
+    → NearStands t (after l (Works (Done id operation status bytes)))
+completed_near s l id operation status bytes t before step =
+    let at = seen A s.shape.entries s.wire.wire in
+    let c = step.step in
+    let some = completed_some s l id operation status bytes t before step in
+    let may : ClientMay s.client at (client_rules.Completes c.session) = subst (ClientMay s.client at) c.rule (client_may s.client at) in
+    let of_k = of_client s l c.session may.1 before.known.agree in
+    let order = in_order s l c.session before.known may.1 in
+    let ever : t.client.ever_published ≡ s.client.ever_published = ap (λ (x : ClientState). x.ever_published) c.is in
+    let next : t.client.next_id ≡ s.client.next_id = ap (λ (x : ClientState). x.next_id) c.is in
+    let session : t.client.session ≡ Some (record c.session { completed = c.session.completed + 1 }) = ap (λ (x : ClientState). x.session) c.is in
+    let near : t.near ≡ record { k = s.near.k - 1; m = s.near.m - 1; u = s.near.u } = ap (λ (x : LaneState). x.near) step.is in
+    let k : t.near.k ≡ s.near.k - 1 = ap (λ (x : NearCounts). x.k) near in
+    let m : t.near.m ≡ s.near.m - 1 = ap (λ (x : NearCounts). x.m) near in
+    let few = before.near.m in
+    let most = before.near.ever.most in
+    let published = before.near.ever.session c.session may.1 in
+    let more = may.2 in
+    let acked = order.acked in
+    let announced = order.announced in
+    let done = of_k.agree.completed in
+    let base = of_k.agree.base in
+    record {
+      k = subst (λ (j : ℕ). KIs (counts_while l.wire.wire.end_b l.work.server) l.work.client (l.work.done + 1) j) (sym k)
+          (done_k (counts_while l.wire.wire.end_b l.work.server) l.work.client l.work.done s.near.k some before.near.k);
+      m = omega (arith, few, m, ever);
+      ever = record {
+        done_first = omega (arith, ever, published, more, acked, announced, done, base);
+        most = omega (arith, most, ever, next);
+        session = λ other is.
+            let both : Some (record c.session { completed = c.session.completed + 1 }) ≡ Some other = sym session ∙ is in
+            let same : record c.session { completed = c.session.completed + 1 } ≡ other = cc both in
+            subst (λ (x : ClientSession). x.base + x.published ≤ t.client.ever_published) same (omega (arith, ever, published));
+      };
+    }
+
+-- A DESCRIPTOR GETS ITS STATUS
+finished_k : (x : ChannelState) (q : Option ServerCounts) (o : Option ClientCounts) (g : ServerCounts → ServerCounts) (d : ServerCounts) (c : ClientCounts) (done k : ℕ) → x ≡ Up → q ≡ Some d → o ≡ Some c
+    → (g d).finished ≡ d.finished + 1 → KIs (counts_while x q) o done k → KIs (counts_while x (change_server g q)) o done (k + 1)
+finished_k Down q o g d c done k up there open_is more is = absurd (cc up)
+finished_k Resetting q o g d c done k up there open_is more is = absurd (cc up)
+finished_k Up q o g d c done k up there open_is more is =
+    let one : KIs (Some d) o done k = subst (λ (r : Option ServerCounts). KIs r o done k) there is in
+    let both : KIs (Some d) (Some c) done k = subst (λ (r : Option ClientCounts). KIs (Some d) r done k) open_is one in
+    let next : KIs (Some (g d)) (Some c) done (k + 1) = omega (arith, both, more) in
+    subst (λ (r : Option ServerCounts). KIs (change_server g r) o done (k + 1)) (sym there) (subst (λ (r : Option ClientCounts). KIs (Some (g d)) r done (k + 1)) (sym open_is) next)
+
+finished_near : (s : LaneState) (l : DiskLog) (slot status : ℕ) (t : LaneState) → Before s l → WorkStep s (Finished slot status) t → NearStands t (after l (Works (Finished slot status)))
+finished_near s l slot status t before step =
+    let at = seen B s.shape.entries s.wire.wire in
+    let f = step.1.step.1.0 in
+    let may : ServerMay s.server at (server_rules.Serves f.session f.work) = subst (ServerMay s.server at) f.rule (server_may s.server at) in
+    let work = at_work s l f.session before.known may.0 may.1 in
+    let near : t.near ≡ record { k = risen s.near.k 1; m = s.near.m; u = 0 } = ap (λ (x : LaneState). x.near) step.1.is in
+    let finished = (placed s l before).finished in
+    let pending = before.known.sound.pending in
+    let few = before.known.sound.slots in
+    let k_is : t.near.k ≡ risen s.near.k 1 = ap (λ (x : NearCounts). x.k) near in
+    let k : t.near.k ≡ s.near.k + 1 = omega (arith, k_is, finished, pending, few) in
+    let m : t.near.m ≡ s.near.m = ap (λ (x : NearCounts). x.m) near in
+    let client : t.client ≡ s.client = ap (λ (x : LaneState). x.client) step.1.is in
+    let ever : t.client.ever_published ≡ s.client.ever_published = ap (λ (c : ClientState). c.ever_published) client in
+    let m_few = before.near.m in
+    record {
+      k = subst (λ (j : ℕ). KIs (counts_while l.wire.wire.end_b (after l (Works (Finished slot status))).work.server) l.work.client l.work.done j) (sym k)
+          (finished_k l.wire.wire.end_b l.work.server l.work.client _ work.of.counts work.one.client l.work.done s.near.k work.up work.of.open_is work.one.open_is refl before.near.k);
+      m = omega (arith, m_few, m, ever);
+      ever = subst (EverStands l.work.done) (sym client) before.near.ever;
+    }
+
+pub near_work : (s : LaneState) (l : DiskLog) (event : Worked) (t : LaneState) → Before s l → WorkStep s event t → NearStands t (after l (Works event))
+near_work s l (Published id) t before step = published_near s l id t before step
+near_work s l (Done id operation status bytes) t before step = completed_near s l id operation status bytes t before step
+near_work s l (Desc slot bytes) t before step =
+    by_server s l (Works (Desc slot bytes)) t _ before refl refl refl refl (λ d. refl) (ap (λ (x : LaneState). x.client) step.1.is) (ap (λ (x : LaneState). x.near.k) step.1.is) (ap (λ (x : LaneState). x.near.m) step.1.is)
+near_work s l (Moved unit fault) t before step =
+    by_server s l (Works (Moved unit fault)) t _ before refl refl refl refl (λ d. refl) (ap (λ (x : LaneState). x.client) step.1.is) (ap (λ (x : LaneState). x.near.k) step.1.is) (ap (λ (x : LaneState). x.near.m) step.1.is)
+near_work s l (Stored operation block count failed) t before step =
+    by_server s l (Works (Stored operation block count failed)) t _ before refl refl refl refl (λ d. refl) (ap (λ (x : LaneState). x.client) step.1.is) (ap (λ (x : LaneState). x.near.k) step.1.is)
+    (ap (λ (x : LaneState). x.near.m) step.1.is)
+near_work s l (Finished slot status) t before step = finished_near s l slot status t before step
+near_work s l Misplaced t before step = absurd step
+
+-- REQUESTS, turns, and what changes nothing
+same_near : (s t : LaneState) (l n : DiskLog) → Before s l → t ≡ s → n.wire.wire ≡ l.wire.wire → n.work.server ≡ l.work.server → n.work.client ≡ l.work.client → n.work.done ≡ l.work.done → NearStands t n
+same_near s t l n before is wire server client done =
+    subst (λ (x : LaneState). NearStands x n) (sym is) (record {
+      k = subst (λ (w : Wire). KIs (counts_while w.end_b n.work.server) n.work.client n.work.done s.near.k) (sym wire)
+          (subst (λ (q : Option ServerCounts). KIs (counts_while l.wire.wire.end_b q) n.work.client n.work.done s.near.k) (sym server)
+          (subst (λ (o : Option ClientCounts). KIs (counts_while l.wire.wire.end_b l.work.server) o n.work.done s.near.k) (sym client)
+          (subst (λ (d : ℕ). KIs (counts_while l.wire.wire.end_b l.work.server) l.work.client d s.near.k) (sym done) before.near.k)));
+      m = subst (λ (d : ℕ). s.near.m ≤ s.client.ever_published - d) (sym done) before.near.m;
+      ever = subst (λ (d : ℕ). EverStands d s.client) (sym done) before.near.ever;
+    })
+
+pub near_asked : (s : LaneState) (l : DiskLog) (event : Admitted) (t : LaneState) → Before s l → LaneStep s (Asks event) t → NearStands t (after l (Asks event))
+near_asked s l (Refused why request) t before step =
+    let same : t ≡ s = step.1 ∙ ap (λ (c : ClientState). record s { client = c }) step.0.1 in same_near s t l (after l (Asks (Refused why request))) before same refl refl refl refl
+near_asked s l (Full request) t before step =
+    let same : t ≡ s = step.1 ∙ ap (λ (c : ClientState). record s { client = c }) step.0.2 in same_near s t l (after l (Asks (Full request))) before same refl refl refl refl
+near_asked s l (Accepted id request) t before step =
+    let near : t.near ≡ s.near = ap (λ (x : LaneState). x.near) step.1 in
+    let ever : t.client.ever_published ≡ s.client.ever_published = ap (λ (c : ClientState). c.ever_published) step.0.5 in
+    let next : t.client.next_id ≡ s.client.next_id + 1 = ap (λ (c : ClientState). c.next_id) step.0.5 in
+    let session : t.client.session ≡ s.client.session = ap (λ (c : ClientState). c.session) step.0.5 in
+    let few = before.near.m in
+    let first = before.near.ever.done_first in
+    let most = before.near.ever.most in
+    let m : t.near.m ≡ s.near.m = ap (λ (x : NearCounts). x.m) near in
+    record {
+      k = subst (λ (x : NearCounts). KIs (counts_while l.wire.wire.end_b l.work.server) l.work.client l.work.done x.k) (sym near) before.near.k;
+      m = omega (arith, few, m, ever);
+      ever = record {
+        done_first = omega (arith, first, ever);
+        most = omega (arith, most, ever, next);
+        session = λ other is. let old = before.near.ever.session other (sym session ∙ is) in omega (arith, old, ever);
+      };
+    }
+
+pub near_turned : (s : LaneState) (l : DiskLog) (event : Switched) (t : LaneState) → Before s l → TurnStep s event t → NearStands t (after l (Turns event))
+near_turned s l Stopped t before step =
+    let client : t.client ≡ s.client = ap (λ (x : LaneState). x.client) step.1 in
+    let k : t.near.k ≡ 0 = ap (λ (x : LaneState). x.near.k) step.1 in
+    let m_is = ap (λ (x : LaneState). x.near.m) step.1 in
+    let count = ever_count s l before.known.stands in
+    let ever : t.client.ever_published ≡ s.client.ever_published = ap (λ (c : ClientState). c.ever_published) client in
+    record { k = k; m = omega (arith, m_is, count, ever); ever = subst (EverStands l.work.done) (sym client) before.near.ever }
+near_turned s l Started t before step =
+    let client : t.client ≡ s.client = ap (λ (x : LaneState). x.client) step.1 in
+    let near : t.near ≡ s.near = ap (λ (x : LaneState). x.near) step.1 in
+    let m : t.near.m ≡ s.near.m = ap (λ (x : NearCounts). x.m) near in
+    let ever : t.client.ever_published ≡ s.client.ever_published = ap (λ (c : ClientState). c.ever_published) client in
+    let few = before.near.m in
+    record {
+      k = subst (λ (x : NearCounts). KIs (counts_while l.wire.wire.end_b l.work.server) l.work.client l.work.done x.k) (sym near) before.near.k;
+      m = omega (arith, few, m, ever);
+      ever = subst (EverStands l.work.done) (sym client) before.near.ever;
+    }
+near_turned s l Off t before step = same_near s t l (after l (Turns Off)) before step.1 refl refl refl refl
+
+pub calm : (s : LaneState) (event : Calm) (t : LaneState) → RestStep s event t → t ≡ s
+calm s CalmTick t step = step.1
+calm s CalmStop t step = step.1
+calm s CalmStart t step = step.1
+calm s (CalmReset A) t step = absurd step
+calm s (CalmReset B) t step = step.1
+calm s CalmRestart t step = step.1
+
+pub near_calm : (s : LaneState) (l : DiskLog) (event : Calm) (t : LaneState) → Before s l → RestStep s event t → NearStands t (after l (Rests event))
+near_calm s l event t before step = same_near s t l (after l (Rests event)) before (calm s event t step) refl refl refl refl

@@ -1,0 +1,151 @@
+-- Each event of the work has the number that the log has for it; and what ends a session without a packet has its ground in the ring.
+use Rattle.std.proofs.Common.{◌≡◌, ◌≢◌, ℕ, zero, suc, ◌-◌, ◌%◌, ◌<◌, ◌≤◌, Option, Some, None, List, [], ◌∷◌, length, sym, ap, ◌∙◌, subst, arith, length-drop}
+use Rattle.std.specs.Prelude.{is_some, slice_get}
+use Rattle.std.proofs.lemmas.Bool.Decides.{nat_tests}
+use Rattle.ldc_queue.specs.Talk.{Turn}
+use Rattle.vdisk_msg.specs.declared.request.Request.{Request}
+use Rattle.disk_model.specs.DiskLog.{DiskLog}
+use Rattle.disk_model.specs.WorkLaws.{InClient, InServer, MayComplete, MayFetch, MayPublish, WorkNumbersAt}
+use Rattle.disk_model.specs.WorkLog.{ClientCounts, ServerCounts}
+use Rattle.disk_model.specs.ClientStep.{ClientCompletes, ClientPublishes}
+use Rattle.disk_model.specs.DiskEvent.{Asks, Desc, DiskEvent, Done, Finished, Misplaced, Moved, OnWire, Published, Rests, Stored, Turns, Worked, Works}
+use Rattle.disk_model.specs.LaneState.{IsShape, LaneState}
+use Rattle.disk_model.specs.LaneStep.{LaneStep, WorkStep, reach}
+use Rattle.disk_model.specs.Seeing.{Seen, seen}
+use Rattle.disk_model.specs.Agreement.{WorkAgrees}
+use Rattle.disk_model.specs.Ranges.{wrapped}
+use Rattle.disk_model.specs.ServerState.{ServerSession, Work}
+use Rattle.disk_model.specs.ServerStep.{ServerFetches}
+use Rattle.disk_model.specs.ServerWork.{Reach}
+use Rattle.ldc_queue.specs.declared.end.End.TheVariants.{A, B}
+use Rattle.lane_laws.proofs.LaneCounting.{Knows}
+use Rattle.lane_laws.proofs.ServerCounting.{own_slots}
+use Rattle.lane_laws.specs.Counted.{InServerOrder, ServerOrder}
+use Rattle.lane_laws.proofs.Ruling.{client_may}
+use Rattle.lane_laws.proofs.RulesFree.{ServerFree, ServesFree, server_free}
+use Rattle.lane_laws.proofs.Sharing.{in_order}
+use Rattle.lane_laws.specs.RuleFacts.{ClientMay}
+use Rattle.lane_laws.specs.Sound.{InOrder}
+use Rattle.lane_laws.proofs.LinkResets.{other_number}
+use Rattle.lane_laws.proofs.Counting.{OfClient, OfServer, of_client, of_server, slot_of_count}
+
+-- what is known of a lane whose log has a sound shape
+pub record Grounded (s : LaneState) (l : DiskLog) : Type 0 where
+  pub knows : Knows s l
+  pub sound : IsShape l.shape
+
+is_within : (requests : List Request) (n : ℕ) (request : Request) → slice_get requests n ≡ Some request → n < length requests
+is_within [] n request is = absurd (cc)
+is_within (one ∷ requests) zero request is = omega arith
+is_within (one ∷ requests) (suc n) request is = omega (arith, is_within requests n request is)
+
+pub in_client : (k : Option ClientCounts) (c : ClientCounts) (P : ClientCounts → Type 0) → k ≡ Some c → P c → InClient k P
+in_client k c P is holds = subst (λ (o : Option ClientCounts). InClient o P) (sym is) holds
+
+pub in_server : (d : Option ServerCounts) (c : ServerCounts) (P : ServerCounts → Type 0) → d ≡ Some c → P c → InServer d P
+in_server d c P is holds = subst (λ (o : Option ServerCounts). InServer o P) (sym is) holds
+
+abbrev pub at_client : LaneState → Seen
+at_client s = seen A s.shape.entries s.wire.wire
+
+abbrev pub at_server : LaneState → Seen
+at_server s = seen B s.shape.entries s.wire.wire
+
+-- an id that is published
+publishes : (s t : LaneState) (l : DiskLog) (at : Seen) (id : ℕ) → Grounded s l → ClientPublishes s.client at s.memory id t.client t.memory → InClient l.work.client (MayPublish l id)
+publishes s t l at id grounded step =
+    let may = subst (ClientMay s.client at) step.rule (client_may s.client at) in
+    let open_one = may.1 in
+    let stand = grounded.knows.all.stands.requests in
+    let of : OfClient step.session l.work.done l.work.client =
+    of_client s.client.session step.session l.work.done l.work.client open_one grounded.knows.counted.client.agrees in
+    let order : InOrder (length s.client.pending) step.session =
+    in_order (length s.client.pending) s.client.session step.session open_one grounded.knows.all.talks.client.counts in
+    let within = is_within s.client.pending (step.session.published - step.session.completed) step.request may.2 in
+    in_client l.work.client of.counts (MayPublish l id) of.is (record {
+      next = omega (arith, step.id_is, of.agree.base, of.agree.published);
+      accepted = omega (arith, step.id_is, within, ap length stand.pending, length-drop l.work.done l.work.issued, stand.done, of.agree.completed, of.agree.base, order.completed, order.acked, order.announced);
+      pending = omega (arith, step.id_is, of.agree.completed, of.agree.base, order.completed, order.acked, order.announced);
+    })
+
+-- one that is done
+completes : (s t : LaneState) (l : DiskLog) (at : Seen) (id operation status : ℕ) (bytes : List ℕ) → Grounded s l
+    → ClientCompletes s.client at s.memory id operation status bytes t.client t.memory → InClient l.work.client (MayComplete id)
+completes s t l at id operation status bytes grounded step =
+    let may = subst (ClientMay s.client at) step.rule (client_may s.client at) in
+    let of : OfClient step.session l.work.done l.work.client =
+    of_client s.client.session step.session l.work.done l.work.client may.1 grounded.knows.counted.client.agrees in
+    in_client l.work.client of.counts (MayComplete id) of.is (record {
+      since = omega (arith, step.id_is, of.agree.base);
+      acked = omega (arith, step.id_is, of.agree.base, of.agree.acked, may.2);
+    })
+
+-- a descriptor that is fetched
+pub server_ring : (s : LaneState) (l : DiskLog) (session : ServerSession) → Grounded s l → s.server.session ≡ Some session → s.server.shake.draft.peer_slots ≡ l.shape.slots
+server_ring s l session grounded is =
+    own_slots l.shape s.server l.talk.server l.work.server grounded.knows.rests.server (ap is_some is) grounded.knows.counted.server
+
+pub order_of : (slots : ℕ) (o : Option ServerSession) (session : ServerSession) (d : Option ServerCounts) (c : ServerCounts) (turns : List Turn) → o ≡ Some session → d ≡ Some c
+    → ServerOrder slots o d turns → InServerOrder slots session c turns
+order_of slots o session d c turns is has order =
+    subst (λ (x : Option ServerCounts). ServerOrder slots (Some session) x turns) has (subst (λ (x : Option ServerSession). ServerOrder slots x d turns) is order)
+
+pub record Serving (s : LaneState) (l : DiskLog) (session : ServerSession) : Type 0 where
+  pub of : OfServer session s.server.work l.work.server
+  pub order : InServerOrder l.shape.slots session of.counts l.talk.server
+  pub finished : of.counts.finished ≤ of.counts.asked
+  pub unfinished : of.counts.finished ≢ of.counts.asked
+
+pub finished_descs : (work : Option Work) (c : ServerCounts) → WorkAgrees work c → c.finished ≤ c.descs
+finished_descs None c agrees = omega (arith, agrees.1)
+finished_descs (Some work) c agrees = omega (arith, agrees.2)
+
+pub serving : (s : LaneState) (l : DiskLog) (session : ServerSession) → Grounded s l → ServesFree s.server session → Serving s l session
+serving s l session grounded free =
+    let of : OfServer session s.server.work l.work.server =
+    of_server s.server.session session s.server.work l.work.server free.session_is grounded.knows.counted.server.agrees in
+    let order : InServerOrder l.shape.slots session of.counts l.talk.server =
+    order_of l.shape.slots s.server.session session l.work.server of.counts l.talk.server free.session_is of.is grounded.knows.counted.server.order in
+    record {
+      of = of;
+      order = order;
+      finished = omega (arith, finished_descs s.server.work of.counts of.work_agrees, order.descs);
+      unfinished = λ same. other_number session.finished session.asked free.unfinished (of.agree.finished ∙ ap wrapped same ∙ sym of.agree.asked);
+    }
+
+pub slot_in_log : (s : LaneState) (l : DiskLog) (session : ServerSession) (count number : ℕ) → Grounded s l → s.server.session ≡ Some session → count ≡ wrapped number
+    → count % s.server.shake.draft.peer_slots ≡ number % l.shape.slots
+slot_in_log s l session count number grounded is wraps =
+    ap (λ (n : ℕ). count % n) (server_ring s l session grounded is)
+    ∙ slot_of_count l.shape.slots count number grounded.sound.slots grounded.sound.some_slots grounded.sound.most_slots wraps
+
+fetches : (s t : LaneState) (l : DiskLog) (at : Seen) (reached : Reach) (slot : ℕ) (bytes : List ℕ) → Grounded s l
+    → ServerFetches s.server at reached slot bytes t.server t.memory → InServer l.work.server (MayFetch l slot)
+fetches s t l at reached slot bytes grounded step =
+    let free = subst (ServerFree s.server) step.rule (server_free s.server at) in
+    let now : Serving s l step.session = serving s l step.session grounded free.0 in
+    let idle : WorkAgrees None now.of.counts = subst (λ (w : Option Work). WorkAgrees w now.of.counts) free.1 now.of.work_agrees in
+    in_server l.work.server now.of.counts (MayFetch l slot) now.of.is (record {
+      nothing_owed = idle.0;
+      next = step.slot_is ∙ slot_in_log s l step.session step.session.descs now.of.counts.descs grounded free.0.session_is now.of.agree.descs;
+      asked = below now.of.counts.descs now.of.counts.asked now.order.descs (λ same. now.unfinished (sym idle.1 ∙ same));
+    })
+  where
+    below : (a b : ℕ) → a ≤ b → a ≢ b → a < b
+    below a b most other = grind (arith, nat_tests, most, other)
+
+work_numbers : (s : LaneState) (l : DiskLog) (event : Worked) (t : LaneState) → Grounded s l → WorkStep s event t → WorkNumbersAt l (Works event)
+work_numbers s l (Published id) t grounded step = publishes s t l (at_client s) id grounded step.step
+work_numbers s l (Done id operation status bytes) t grounded step = completes s t l (at_client s) id operation status bytes grounded step.step
+work_numbers s l (Desc slot bytes) t grounded step = fetches s t l (at_server s) (reach s (at_server s).both) slot bytes grounded step.1.step.1.0
+work_numbers s l (Moved unit why) t grounded step = tt
+work_numbers s l (Stored operation block count failed) t grounded step = tt
+work_numbers s l (Finished slot status) t grounded step = tt
+work_numbers s l Misplaced t grounded step = absurd step
+
+pub numbers_at : (s : LaneState) (l : DiskLog) (event : DiskEvent) (t : LaneState) → Grounded s l → LaneStep s event t → WorkNumbersAt l event
+numbers_at s l (Works event) t grounded step = work_numbers s l event t grounded step
+numbers_at s l (OnWire event) t grounded step = tt
+numbers_at s l (Asks event) t grounded step = tt
+numbers_at s l (Turns event) t grounded step = tt
+numbers_at s l (Rests event) t grounded step = tt

@@ -1,0 +1,170 @@
+-- What ends a session without a packet has its ground in the ring: an acknowledged slot that isn't DONE, or in a server's range a slot that
+-- isn't READY or a copy that was refused.
+use Rattle.std.proofs.Common.{◌≡◌, ◌≢◌, ℕ, ◌-◌, ◌%◌, ◌<◌, ◌≤◌, Option, Some, None, List, refl, sym, ap, ◌∙◌, subst, arith, inl, inr}
+use Rattle.std.proofs.lemmas.Bool.Decides.{nat_tests}
+use Rattle.cookie_copy.specs.declared.fault.CopyFault.{CopyFault}
+use Rattle.cookie_copy.specs.declared.fault.CopyFault.TheVariants as copy
+use Rattle.dring.specs.declared.peer.RingFault.{RingFault}
+use Rattle.dring.specs.declared.peer.RingFault.TheVariants as refused
+use Rattle.dring.specs.Reaching.{RefusesFetch}
+use Rattle.ldc_queue.specs.declared.end.End.{End}
+use Rattle.ldc_queue.specs.declared.end.End.TheVariants.{A, B}
+use Rattle.vio_tag.specs.declared.cause.Cause.{Cause}
+use Rattle.vio_tag.specs.declared.cause.Cause.TheVariants as the_cause
+use Rattle.disk_model.specs.WireEvent.{Blocked, Declines, Idle, Injected, Joined, Lost, Poked, Reset, Sent, Took, WireEvent}
+use Rattle.disk_model.specs.DiskLog.{DiskLog}
+use Rattle.disk_model.specs.WorkLaws.{ClientFailed, InRange, InServer, OwnReset, ResetOf, WorkResetAt}
+use Rattle.disk_model.specs.ClientRule as client
+use Rattle.disk_model.specs.ClientStep.{ClientFails}
+use Rattle.disk_model.specs.DiskEvent.{Asks, DiskEvent, OnWire, Rests, Turns, Works}
+use Rattle.disk_model.specs.LaneState.{LaneState}
+use Rattle.disk_model.specs.LaneStep.{EndOnWire, LaneStep, WireStep, reach}
+use Rattle.disk_model.specs.ServerRule as server
+use Rattle.disk_model.specs.ServerState.{Ends, Progress, ServerSession, Work}
+use Rattle.disk_model.specs.ServerStep.{ServerFails, WorkFails}
+use Rattle.disk_model.specs.ServerWork.{EndFails, FetchFails, Reach, cause_of, copy_number, fetch_fault, slot_at, slot_fetched}
+use Rattle.lane_laws.proofs.Ruling.{client_may}
+use Rattle.lane_laws.proofs.RulesFree.{ServerFree, ServesFree, server_free}
+use Rattle.lane_laws.specs.RuleFacts.{ClientMay}
+use Rattle.lane_laws.proofs.Counting.{OfClient, of_client}
+use Rattle.lane_laws.proofs.EndResets.{LiesIn}
+use Rattle.lane_laws.proofs.LaneResets.{by_giver}
+use Rattle.lane_laws.proofs.LinkResets.{LiesInPacket}
+use Rattle.lane_laws.proofs.WorkNumbers.{Grounded, Serving, at_client, at_server, in_client, in_server, serving}
+
+-- what lies in a packet
+carried_reset : (l : DiskLog) (e : End) (cause : Cause) (packet : List ℕ) → LiesInPacket cause → ResetOf l e cause (Some packet)
+carried_reset l e (the_cause.NotDone slot state) packet lies = absurd lies
+carried_reset l e _ packet lies = tt
+
+-- A CLIENT
+client_reset : (s : LaneState) (l : DiskLog) (rule : client.ClientRule) (cause : Cause) (packet : Option (List ℕ)) → Grounded s l → LiesIn packet cause
+    → ClientMay s.client (at_client s) rule → ClientFails rule s.client s.memory cause packet → ResetOf l A cause packet
+client_reset s l (client.Takes bytes) cause packet grounded lies may fails =
+    subst (λ (p : Option (List ℕ)). ResetOf l A cause p) (sym fails.0)
+    (carried_reset l A cause bytes (subst (λ (p : Option (List ℕ)). LiesIn p cause) fails.0 lies))
+client_reset s l (client.Completes session) cause packet grounded lies may fails =
+    let of : OfClient session l.work.done l.work.client =
+    of_client s.client.session session l.work.done l.work.client may.1 grounded.knows.counted.client.agrees in
+    let slots : s.client.slots ≡ l.shape.slots = grounded.knows.counted.client.slots in
+    let number : session.completed ≡ l.work.done - of.counts.base = omega (arith, of.agree.completed) in
+    subst (λ (p : Option (List ℕ)). ResetOf l A cause p) (sym fails.0)
+    (subst (λ (c : Cause). OwnReset l A c) (sym fails.2)
+    (in_client l.work.client of.counts (ClientFailed l _ _) of.is (record {
+      slot_is = ap (λ (n : ℕ). session.completed % n) slots ∙ ap (λ (n : ℕ). n % l.shape.slots) number;
+      state_is = fails.1;
+      acked = omega (arith, of.agree.completed, of.agree.acked, may.2);
+    })))
+client_reset s l _ cause packet grounded lies may fails = absurd fails
+
+-- A SERVER
+number_small : (why : CopyFault) → (1 ≤ copy_number why) × (copy_number why ≤ 6)
+number_small copy.Channel = (omega arith, omega arith)
+number_small copy.BadAlign = (omega arith, omega arith)
+number_small copy.Short = (omega arith, omega arith)
+number_small copy.BadPage = (omega arith, omega arith)
+number_small copy.NoMap = (omega arith, omega arith)
+number_small copy.NoAccess = (omega arith, omega arith)
+
+below : (a b : ℕ) → a ≤ b → a ≢ b → a < b
+below a b most other = grind (arith, nat_tests, most, other)
+
+in_range : (s : LaneState) (l : DiskLog) (session : ServerSession) → Grounded s l → ServesFree s.server session → InServer l.work.server InRange
+in_range s l session grounded free =
+    let now : Serving s l session = serving s l session grounded free in
+    in_server l.work.server now.of.counts InRange now.of.is (below now.of.counts.finished now.of.counts.asked now.finished now.unfinished)
+
+by_copy : (l : DiskLog) (why : CopyFault) (cause : Cause) → cause ≡ the_cause.Copy (copy_number why) → InServer l.work.server InRange → OwnReset l B cause
+by_copy l why cause is ranged = subst (λ (c : Cause). OwnReset l B c) (sym is) ((number_small why).0, (number_small why).1, ranged)
+
+by_ring : (l : DiskLog) (fault : Option CopyFault) (bytes : List ℕ) (slot : ℕ) (why : RingFault) → RefusesFetch fault bytes why → InServer l.work.server InRange → OwnReset l B (cause_of slot why)
+by_ring l fault bytes slot (refused.Copy why) refuses ranged = by_copy l why (the_cause.Copy (copy_number why)) refl ranged
+by_ring l fault bytes slot (refused.NotReady state) refuses ranged = (refuses.2, ranged)
+
+by_fetch : (s : LaneState) (l : DiskLog) (reached : Reach) (slot : ℕ) (cause : Cause) → FetchFails s.server reached slot cause → InServer l.work.server InRange → OwnReset l B cause
+by_fetch s l reached slot cause (inl fails) ranged = subst (λ (c : Cause). OwnReset l B c) (sym fails.2) (by_ring l (fetch_fault s.server reached slot) (slot_fetched s.server reached slot) slot fails.0 fails.1 ranged)
+by_fetch s l reached slot cause (inr fails) ranged = by_copy l fails.0 cause fails.3 ranged
+
+by_end : (s : LaneState) (l : DiskLog) (reached : Reach) (slot : ℕ) (work : Work) (status : ℕ) (cause : Cause) (new : List ℕ) → EndFails s.server reached slot work status cause new
+    → InServer l.work.server InRange → OwnReset l B cause
+by_end s l reached slot work status cause new (inl fails) ranged = by_copy l fails.0 cause fails.2 ranged
+by_end s l reached slot work status cause new (inr fails) ranged = by_copy l fails.0 cause fails.3 ranged
+
+by_work : (p : Progress) (s : LaneState) (l : DiskLog) (session : ServerSession) (work : Work) (reached : Reach) (cause : Cause) (new : List ℕ)
+    → WorkFails p s.server session work reached cause new → InServer l.work.server InRange → OwnReset l B cause
+by_work (Ends status) s l session work reached cause new fails ranged = by_end s l reached (slot_at s.server session.finished) work status cause new fails ranged
+by_work _ s l session work reached cause new fails ranged = absurd fails
+
+server_reset : (s : LaneState) (l : DiskLog) (rule : server.ServerRule) (reached : Reach) (cause : Cause) (packet : Option (List ℕ)) (new : List ℕ) → Grounded s l → LiesIn packet cause
+    → ServerFree s.server rule → ServerFails rule s.server reached cause packet new → ResetOf l B cause packet
+server_reset s l (server.Takes bytes) reached cause packet new grounded lies free fails =
+    subst (λ (p : Option (List ℕ)). ResetOf l B cause p) (sym fails.0)
+    (carried_reset l B cause bytes (subst (λ (p : Option (List ℕ)). LiesIn p cause) fails.0 lies))
+server_reset s l (server.Fetches session) reached cause packet new grounded lies free fails =
+    subst (λ (p : Option (List ℕ)). ResetOf l B cause p) (sym fails.0)
+    (by_fetch s l reached (slot_at s.server session.descs) cause fails.1 (in_range s l session grounded free.0))
+server_reset s l (server.Serves session work) reached cause packet new grounded lies free fails =
+    subst (λ (p : Option (List ℕ)). ResetOf l B cause p) (sym fails.0)
+    (by_work work.progress s l session work reached cause new fails.1 (in_range s l session grounded free.0))
+server_reset s l _ reached cause packet new grounded lies free fails = absurd fails
+
+end_reset : (e : End) (s : LaneState) (l : DiskLog) (cause : Cause) (packet : Option (List ℕ)) (lost : ℕ) (t : LaneState) → Grounded s l → LiesIn packet cause
+    → EndOnWire e s (Reset e cause packet lost) t → (lost ≡ 0) × ResetOf l e cause packet
+end_reset A s l cause packet lost t grounded lies step =
+    (step.step.1, client_reset s l (client.client_rule s.client (at_client s)) cause packet grounded lies (client_may s.client (at_client s)) step.step.0)
+end_reset B s l cause packet lost t grounded lies step = (
+  step.1.step.1.1,
+  server_reset s l (server.server_rule s.server (at_server s)) (reach s (at_server s).both) cause packet t.memory grounded lies
+      (server_free s.server (at_server s)) step.1.step.1.0,
+)
+
+-- a reset that no step gave
+asked_reset : (l : DiskLog) (e : End) (cause : Cause) (packet : Option (List ℕ)) (lost : ℕ) → packet ≡ None → lost ≡ 0 → OwnReset l e cause → (lost ≡ 0) × ResetOf l e cause packet
+asked_reset l e cause packet lost none zero own = (zero, subst (λ (p : Option (List ℕ)). ResetOf l e cause p) (sym none) own)
+
+reset_in : (e : End) (s : LaneState) (l : DiskLog) (cause : Cause) (packet : Option (List ℕ)) (lost : ℕ) (t : LaneState) → Grounded s l → LiesIn packet cause
+    → WireStep s (Reset e cause packet lost) t → (lost ≡ 0) × ResetOf l e cause packet
+reset_in A s l the_cause.Asked packet lost t grounded lies step = asked_reset l A the_cause.Asked packet lost step.0 step.1 tt
+reset_in B s l the_cause.Asked packet lost t grounded lies step = asked_reset l B the_cause.Asked packet lost step.1.0 step.1.1 tt
+reset_in A s l the_cause.Restart packet lost t grounded lies step = absurd step
+reset_in B s l the_cause.Restart packet lost t grounded lies step = asked_reset l B the_cause.Restart packet lost step.1.0 step.1.1 tt
+reset_in A s l the_cause.Tick packet lost t grounded lies step = asked_reset l A the_cause.Tick packet lost step.1.0 step.1.1 tt
+reset_in B s l the_cause.Tick packet lost t grounded lies step = absurd step
+reset_in e s l (the_cause.Packet fault) packet lost t grounded lies step = end_reset e s l (the_cause.Packet fault) packet lost t grounded lies step
+reset_in e s l (the_cause.Gap expected found) packet lost t grounded lies step = end_reset e s l (the_cause.Gap expected found) packet lost t grounded lies step
+reset_in e s l (the_cause.Mode found) packet lost t grounded lies step = end_reset e s l (the_cause.Mode found) packet lost t grounded lies step
+reset_in e s l the_cause.Version packet lost t grounded lies step = end_reset e s l the_cause.Version packet lost t grounded lies step
+reset_in e s l the_cause.Unexpected packet lost t grounded lies step = end_reset e s l the_cause.Unexpected packet lost t grounded lies step
+reset_in e s l the_cause.Fragment packet lost t grounded lies step = end_reset e s l the_cause.Fragment packet lost t grounded lies step
+reset_in e s l (the_cause.Tag fault) packet lost t grounded lies step = end_reset e s l (the_cause.Tag fault) packet lost t grounded lies step
+reset_in e s l (the_cause.Sid expected found) packet lost t grounded lies step = end_reset e s l (the_cause.Sid expected found) packet lost t grounded lies step
+reset_in e s l the_cause.Order packet lost t grounded lies step = end_reset e s l the_cause.Order packet lost t grounded lies step
+reset_in e s l the_cause.Refused packet lost t grounded lies step = end_reset e s l the_cause.Refused packet lost t grounded lies step
+reset_in e s l (the_cause.Ident expected found) packet lost t grounded lies step = end_reset e s l (the_cause.Ident expected found) packet lost t grounded lies step
+reset_in e s l (the_cause.Seq expected found) packet lost t grounded lies step = end_reset e s l (the_cause.Seq expected found) packet lost t grounded lies step
+reset_in e s l (the_cause.Slot expected found) packet lost t grounded lies step = end_reset e s l (the_cause.Slot expected found) packet lost t grounded lies step
+reset_in e s l (the_cause.RangeEnd found) packet lost t grounded lies step = end_reset e s l (the_cause.RangeEnd found) packet lost t grounded lies step
+reset_in e s l (the_cause.NotReady slot state) packet lost t grounded lies step = end_reset e s l (the_cause.NotReady slot state) packet lost t grounded lies step
+reset_in e s l (the_cause.NotDone slot state) packet lost t grounded lies step = end_reset e s l (the_cause.NotDone slot state) packet lost t grounded lies step
+reset_in e s l (the_cause.Frame size count) packet lost t grounded lies step = end_reset e s l (the_cause.Frame size count) packet lost t grounded lies step
+reset_in e s l (the_cause.Copy fault) packet lost t grounded lies step = end_reset e s l (the_cause.Copy fault) packet lost t grounded lies step
+
+wire_resets : (s : LaneState) (l : DiskLog) (event : WireEvent) (t : LaneState) → Grounded s l → WireStep s event t → WorkResetAt l (OnWire event)
+wire_resets s l (Reset e cause packet lost) t grounded step =
+    reset_in e s l cause packet lost t grounded (by_giver e s l.talk cause packet lost t (grounded.knows.all.talks, grounded.knows.rests) step).carried step
+wire_resets s l (Joined e lost) t grounded step = tt
+wire_resets s l (Took e packet opens) t grounded step = tt
+wire_resets s l (Sent e packet opens) t grounded step = tt
+wire_resets s l (Idle e) t grounded step = tt
+wire_resets s l (Blocked e) t grounded step = tt
+wire_resets s l (Lost e packet) t grounded step = tt
+wire_resets s l (Injected e packet) t grounded step = tt
+wire_resets s l (Poked e at bytes) t grounded step = tt
+wire_resets s l (Declines d) t grounded step = tt
+
+pub own_resets_at : (s : LaneState) (l : DiskLog) (event : DiskEvent) (t : LaneState) → Grounded s l → LaneStep s event t → WorkResetAt l event
+own_resets_at s l (OnWire event) t grounded step = wire_resets s l event t grounded step
+own_resets_at s l (Asks event) t grounded step = tt
+own_resets_at s l (Works event) t grounded step = tt
+own_resets_at s l (Turns event) t grounded step = tt
+own_resets_at s l (Rests event) t grounded step = tt

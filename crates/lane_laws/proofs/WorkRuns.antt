@@ -1,0 +1,82 @@
+-- Along every run the events of the work have their numbers, resets their grounds, and an idle end nothing to do.
+use Rattle.std.proofs.Common.{List, refl, ◌∙◌}
+use Rattle.std.specs.Prelude.{⊤}
+use Rattle.runs.specs.Lawful.{Lawful, log_of, run_lawful}
+use Rattle.runs.specs.Run.{Run}
+use Rattle.disk_model.specs.DiskLog.{DiskLog, after, after_talk, nothing_yet}
+use Rattle.disk_model.specs.QuietLaws.{IdleAt}
+use Rattle.disk_model.specs.WorkLaws.{PiecesAt, RangesAt, WorkNumbersAt, WorkResetAt}
+use Rattle.disk_model.specs.DiskEvent.{DiskEvent}
+use Rattle.disk_model.specs.LaneState.{IsShape, LaneState, Shape, fresh}
+use Rattle.disk_model.specs.LaneStep.{LaneStep}
+use Rattle.lane_laws.proofs.CarriedRuns.{fresh_all}
+use Rattle.lane_laws.proofs.LaneCounting.{fresh_counted, knows_step}
+use Rattle.lane_laws.proofs.LaneResting.{fresh_rests}
+use Rattle.lane_laws.proofs.LaneUttering.{fresh_utters}
+use Rattle.lane_laws.proofs.RingPages.{same_pages}
+use Rattle.lane_laws.proofs.IdleLaw.{idle_at}
+use Rattle.lane_laws.proofs.Lifting.{Both, Known, both_step}
+use Rattle.lane_laws.proofs.PieceLaw.{Working, pieces_at}
+use Rattle.lane_laws.proofs.RangeLaw.{ranges_at}
+use Rattle.lane_laws.proofs.WorkKept.{AnyClient, ServerWorks, any_client_keeps, server_keeps_works}
+use Rattle.lane_laws.proofs.WorkNumbers.{Grounded, numbers_at}
+use Rattle.lane_laws.proofs.WorkResets.{own_resets_at}
+
+pub fresh_grounded : (shape : Shape) → IsShape shape → Grounded (fresh shape) (nothing_yet shape)
+fresh_grounded shape sound = record {
+  knows = record { all = fresh_all shape sound; rests = fresh_rests shape; utters = fresh_utters shape; counted = fresh_counted shape };
+  sound = sound;
+}
+
+pub run_grounded : (shape : Shape) (events : List DiskEvent) (s : LaneState) → IsShape shape → Run LaneStep (fresh shape) events s → Grounded s (log_of after (nothing_yet shape) events)
+run_grounded shape events s sound run =
+    (run_lawful LaneStep (λ (l : DiskLog) (e : DiskEvent). ⊤) after Grounded
+    (λ (x : LaneState) (l : DiskLog) (e : DiskEvent) (y : LaneState) grounded step. (tt, record { knows = (knows_step x l e y grounded.knows step).1; sound = grounded.sound }))
+    (fresh shape) s (nothing_yet shape) events (fresh_grounded shape sound) run).1
+
+-- a law of each event of a grounded lane is one of every run
+grounded_lawful : (May : DiskLog → DiskEvent → Type 0) → ((s : LaneState) (l : DiskLog) (event : DiskEvent) (t : LaneState) → Grounded s l → LaneStep s event t → May l event)
+    → (shape : Shape) (events : List DiskEvent) (s : LaneState) → IsShape shape → Run LaneStep (fresh shape) events s → Lawful May after (nothing_yet shape) events
+grounded_lawful May may shape events s sound run =
+    (run_lawful LaneStep May after Grounded
+    (λ (x : LaneState) (l : DiskLog) (e : DiskEvent) (y : LaneState) grounded step.
+    (may x l e y grounded step, record { knows = (knows_step x l e y grounded.knows step).1; sound = grounded.sound }))
+    (fresh shape) s (nothing_yet shape) events (fresh_grounded shape sound) run).0
+
+pub numbers_lawful : (shape : Shape) (events : List DiskEvent) (s : LaneState) → IsShape shape → Run LaneStep (fresh shape) events s → Lawful WorkNumbersAt after (nothing_yet shape) events
+numbers_lawful = grounded_lawful WorkNumbersAt numbers_at
+
+pub own_resets_lawful : (shape : Shape) (events : List DiskEvent) (s : LaneState) → IsShape shape → Run LaneStep (fresh shape) events s → Lawful WorkResetAt after (nothing_yet shape) events
+own_resets_lawful = grounded_lawful WorkResetAt own_resets_at
+
+pub idle_lawful : (shape : Shape) (events : List DiskEvent) (s : LaneState) → IsShape shape → Run LaneStep (fresh shape) events s → Lawful IdleAt after (nothing_yet shape) events
+idle_lawful = grounded_lawful IdleAt idle_at
+
+-- with what its server works on, and its table
+abbrev pub Serves : LaneState → DiskLog → Type 0
+Serves s l = Working s l × Both AnyClient ServerWorks s l.talk
+
+pub serves_step : (s : LaneState) (l : DiskLog) (event : DiskEvent) (t : LaneState) → Serves s l → LaneStep s event t → Serves t (after l event)
+serves_step s l event t (working, both) step =
+    let knows = working.grounded.knows in
+    let known : Known s l.talk = record { talks = knows.all.talks; rests = knows.rests; utters = knows.utters } in
+    let next : Both AnyClient ServerWorks t (after_talk l.talk event) = both_step AnyClient ServerWorks s event t l.talk any_client_keeps server_keeps_works known both step in (
+      record {
+        grounded = record { knows = (knows_step s l event t knows step).1; sound = working.grounded.sound };
+        work = next.server;
+        table = (same_pages s event t step).table ∙ working.table;
+      },
+      next,
+    )
+
+pub fresh_serves : (shape : Shape) → IsShape shape → Serves (fresh shape) (nothing_yet shape)
+fresh_serves shape sound = (record { grounded = fresh_grounded shape sound; work = tt; table = refl }, record { client = tt; server = tt })
+
+pub pieces_lawful : (shape : Shape) (events : List DiskEvent) (s : LaneState) → IsShape shape → Run LaneStep (fresh shape) events s → Lawful PiecesAt after (nothing_yet shape) events
+pieces_lawful shape events s sound run =
+    (run_lawful LaneStep PiecesAt after Serves
+    (λ (x : LaneState) (l : DiskLog) (e : DiskEvent) (y : LaneState) serves step. (pieces_at x l e y serves.0 step, serves_step x l e y serves step))
+    (fresh shape) s (nothing_yet shape) events (fresh_serves shape sound) run).0
+
+pub ranges_lawful : (shape : Shape) (events : List DiskEvent) (s : LaneState) → IsShape shape → Run LaneStep (fresh shape) events s → Lawful RangesAt after (nothing_yet shape) events
+ranges_lawful = grounded_lawful RangesAt ranges_at

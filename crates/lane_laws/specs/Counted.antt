@@ -1,0 +1,147 @@
+-- What an end's session counts, also where somebody forges packets and memory: the ranges of slots that the end said and heard, each message
+-- of the link being the one that is owed or the end's own.
+use Rattle.std.specs.Prelude.{◌≡◌, ℕ, ◌+◌, ◌%◌, ◌<◌, ◌≤◌, ◌⊎◌, ◌&&◌, ◌==◌, Bool, true, false, is_some, List, [], ◌∷◌, ◌++◌, length, Option, Some, None, ⊤}
+use Rattle.ldc_link.specs.declared.phase.Role.TheVariants.{Initiator, Responder}
+use Rattle.ldc_queue.specs.Talk.{Turn}
+use Rattle.vdisk_msg.specs.Pieces.{unit_count}
+use Rattle.vio_bytes.specs.Place.{number_at}
+use Rattle.vio_tag.specs.declared.message.Message.{Message}
+use Rattle.vio_tag.specs.Spelling.{canonical}
+use Rattle.disk_model.specs.Sayings.{half_said, heard, said}
+use Rattle.disk_model.specs.Agreement.{ClientAgrees, ServerAgrees}
+use Rattle.disk_model.specs.DiskLog.{DiskLog}
+use Rattle.disk_model.specs.Messages.{range_in, subtype_of}
+use Rattle.disk_model.specs.WorkLog.{ClientCounts, ServerCounts, length_in, one_in}
+use Rattle.disk_model.specs.ClientPutting.{announcement, is_announcing}
+use Rattle.disk_model.specs.ClientState.{ClientSession, ClientState}
+use Rattle.disk_model.specs.LaneState.{LaneState, Shape}
+use Rattle.disk_model.specs.Offering.{client_offer, server_offer}
+use Rattle.disk_model.specs.Ranges.{range_length, wrapped}
+use Rattle.disk_model.specs.ServerRule.{answer}
+use Rattle.disk_model.specs.ServerState.{Gathers, Gives, Progress, Reads, ServerSession, ServerState, SlotRange, Work, Writes}
+use Rattle.disk_model.specs.ServerWork.{desc_of}
+use Rattle.lane_laws.specs.Budget.{one_range}
+use Rattle.lane_laws.specs.ShakeFits.{Fits}
+
+-- SUMS over messages: the slots of their ranges, INFO 1 or ACK 2, how many ranges, and how many agreements to RDX
+abbrev pub range_sum : ℕ → ℕ → List (List ℕ) → ℕ
+range_sum slots subtype [] = 0
+range_sum slots subtype (message ∷ messages) = length_in slots (range_in subtype (Some message)) + range_sum slots subtype messages
+
+abbrev pub range_count : ℕ → List (List ℕ) → ℕ
+range_count subtype [] = 0
+range_count subtype (message ∷ messages) = one_in (range_in subtype (Some message)) + range_count subtype messages
+
+abbrev pub is_ready : List ℕ → Bool
+is_ready message = number_at 2 2 message == 0x0005 && subtype_of message == 2
+
+abbrev pub one_where : Bool → ℕ
+one_where true = 1
+one_where false = 0
+
+abbrev pub ready_count : List (List ℕ) → ℕ
+ready_count [] = 0
+ready_count (message ∷ messages) = one_where (is_ready message) + ready_count messages
+
+-- bytes of the message that is owed
+pub record HoldsOwed (owed : Option Message) (bytes : List ℕ) : Type 0 where
+  pub message : Message
+  pub owed_is : owed ≡ Some message
+  pub bytes_are : bytes ≡ canonical message
+
+-- THE CLIENT: what was put of a message and what is left of it are the message that is owed, or the INFO that announces
+pub record ClientHolds (c : ClientState) (turns : List Turn) : Type 0 where
+  pub owed : is_announcing c.session ≡ false → 1 ≤ length c.link.to_send → HoldsOwed c.shake.owed (half_said turns ++ c.link.to_send)
+  pub own : (session : ClientSession) → c.session ≡ Some session → session.announcing ≡ true → half_said turns ++ c.link.to_send ≡ canonical (announcement c session)
+
+abbrev pub announced_of : Option ClientSession → ℕ
+announced_of None = 0
+announced_of (Some session) = session.announced
+
+abbrev pub infos_of : Option ClientSession → ℕ
+infos_of None = 0
+infos_of (Some session) = session.infos
+
+abbrev pub acked_of : Option ClientSession → ℕ
+acked_of None = 0
+acked_of (Some session) = session.acked
+
+-- its session counts what was said and heard, as the log does, and is open once it agreed to RDX
+pub record ClientCounted (shape : Shape) (c : ClientState) (turns : List Turn) (done : ℕ) (k : Option ClientCounts) : Type 0 where
+  pub slots : c.slots ≡ shape.slots
+  pub shake : Fits Initiator (client_offer shape.blocks shape.slots) c.shake
+  pub holds : ClientHolds c turns
+  pub announced : announced_of c.session ≡ range_sum shape.slots 1 (said turns)
+  pub infos : infos_of c.session ≡ range_count 1 (said turns)
+  pub acked : acked_of c.session ≡ range_sum shape.slots 2 (heard turns)
+  pub ready : c.session ≡ None → ready_count (said turns) ≡ 0
+  pub agrees : ClientAgrees c.session done k
+
+-- THE SERVER: the message is the one that is owed, or where none is the answer to its range, whose descriptors all are finished
+pub record HoldsAnswer (v : ServerState) (bytes : List ℕ) : Type 0 where
+  pub session : ServerSession
+  pub range : SlotRange
+  pub nothing_owed : v.shake.owed ≡ None
+  pub session_is : v.session ≡ Some session
+  pub range_is : session.range ≡ Some range
+  pub finished : session.finished ≡ session.asked
+  pub bytes_are : bytes ≡ canonical (answer v range)
+
+abbrev pub HoldsEither : ServerState → List ℕ → Type 0
+HoldsEither v bytes = HoldsOwed v.shake.owed bytes ⊎ HoldsAnswer v bytes
+
+abbrev pub ServerHolds : ServerState → List Turn → Type 0
+ServerHolds v turns = 1 ≤ length v.link.to_send → HoldsEither v (half_said turns ++ v.link.to_send)
+
+-- without a range all that was asked for is answered; a range is what isn't, and begins where so many slots went before; each range that was
+-- heard before it has its answer
+abbrev pub RangeStands : ℕ → Option SlotRange → ServerCounts → Type 0
+RangeStands slots None d = d.answered ≡ d.asked
+RangeStands slots (Some range) d =
+    (d.asked ≡ d.answered + range_length slots range.start range.end) × (range.start < slots) × (range.end < slots) × (range.start ≡ wrapped d.answered % slots)
+
+pub record InServerOrder (slots : ℕ) (session : ServerSession) (d : ServerCounts) (turns : List Turn) : Type 0 where
+  pub asked : d.asked ≡ range_sum slots 1 (heard turns)
+  pub answered : d.answered ≡ range_sum slots 2 (said turns)
+  pub finished : d.answered ≤ d.finished
+  pub descs : d.descs ≤ d.asked
+  pub range : RangeStands slots session.range d
+  pub seq : session.seq ≡ wrapped (range_count 1 (heard turns) + 1)
+  pub replies : range_count 1 (heard turns) ≤ range_count 2 (said turns) + one_range session.range
+
+pub record NothingAsked (slots : ℕ) (turns : List Turn) : Type 0 where
+  pub asked : range_sum slots 1 (heard turns) ≡ 0
+  pub answered : range_sum slots 2 (said turns) ≡ 0
+  pub infos : range_count 1 (heard turns) ≡ 0
+
+abbrev pub ServerOrder : ℕ → Option ServerSession → Option ServerCounts → List Turn → Type 0
+ServerOrder slots None d turns = NothingAsked slots turns
+ServerOrder slots (Some session) None turns = ⊥
+ServerOrder slots (Some session) (Some d) turns = InServerOrder slots session d turns
+
+-- the unit in work is one of the descriptor's
+abbrev pub UnitIn : ℕ → Progress → Type 0
+UnitIn units (Reads unit) = unit < units
+UnitIn units (Gives unit bytes) = unit < units
+UnitIn units (Gathers unit) = unit < units
+UnitIn units (Writes unit bytes) = unit < units
+UnitIn units _ = ⊤
+
+abbrev pub UnitFits : Option Work → Type 0
+UnitFits None = ⊤
+UnitFits (Some work) = UnitIn (unit_count (desc_of work).size) work.progress
+
+pub record ServerCounted (shape : Shape) (v : ServerState) (turns : List Turn) (d : Option ServerCounts) : Type 0 where
+  pub slots : v.slots ≡ shape.slots
+  pub blocks : v.blocks ≡ shape.blocks
+  pub shake : Fits Responder (server_offer shape.blocks shape.slots) v.shake
+  pub holds : ServerHolds v turns
+  pub order : ServerOrder shape.slots v.session d turns
+  pub unit : UnitFits v.work
+  pub ready : is_some v.session ≡ true → 1 ≤ ready_count (heard turns)
+  pub agrees : ServerAgrees v.session v.work d
+
+-- BOTH ENDS of a lane, and its log
+pub record LaneCounted (s : LaneState) (l : DiskLog) : Type 0 where
+  pub client : ClientCounted l.shape s.client l.talk.client l.work.done l.work.client
+  pub server : ServerCounted l.shape s.server l.talk.server l.work.server

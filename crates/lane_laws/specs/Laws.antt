@@ -1,0 +1,22 @@
+-- The laws of the wire on an event of a lane, which speak of its log.
+use Rattle.disk_model.specs.DiskLog.{DiskLog}
+use Rattle.disk_model.specs.May.{OfWire}
+use Rattle.disk_model.specs.DiskEvent.{DiskEvent}
+use Rattle.disk_model.specs.ResetSays.{WireResetAt}
+use Rattle.disk_model.specs.WireAt.{WireGapAt, WireSaidAt, WireUnforgedAt}
+
+-- what resets an end says why
+abbrev pub ResetAt : DiskLog → DiskEvent → Type 0
+ResetAt l event = OfWire (WireResetAt l.talk) event
+
+-- a gap names the number that was to come and the one that came
+abbrev pub GapAt : DiskLog → DiskEvent → Type 0
+GapAt l event = OfWire (WireGapAt l.talk) event
+
+-- what is said is cut and numbered as the log has it
+abbrev pub SaidAt : DiskLog → DiskEvent → Type 0
+SaidAt l event = OfWire (WireSaidAt l.talk) event
+
+-- where nobody forged, an end resets itself for a gap alone, and only once a packet was lost
+abbrev pub UnforgedAt : DiskLog → DiskEvent → Type 0
+UnforgedAt l event = OfWire (WireUnforgedAt l.wire) event

@@ -1,0 +1,167 @@
+-- What remains to be done on a disk's lane: a number that each step of an end lowers, where the end isn't idle, off or blocked and nothing
+-- is lost, forged or reset meanwhile. It is a sum: one for each end that isn't up, one for each packet that waits, two for each packet that
+-- an end has still to put (that it is put, and that it is taken), and for each request one that it is published, two for the INFO that
+-- announces it, one that it is done, and twelve for the server: ten that it is served and two for the ACK that answers it.
+use Rattle.std.specs.Prelude.{ℕ, ◌+◌, ◌-◌, ◌*◌, ◌/◌, ◌%◌, Bool, true, false, List, [], ◌∷◌, length, Option, Some, None}
+use Rattle.ldc_link.specs.declared.phase.LinkPhase.{LinkPhase}
+use Rattle.ldc_link.specs.declared.phase.LinkPhase.TheVariants as phase
+use Rattle.ldc_link.specs.declared.phase.Role.{Role}
+use Rattle.ldc_link.specs.declared.phase.Role.TheVariants.{Initiator, Responder}
+use Rattle.ldc_queue.specs.declared.end.ChannelState.{ChannelState}
+use Rattle.ldc_queue.specs.declared.end.ChannelState.TheVariants.{Down, Up, Resetting}
+use Rattle.ldc_queue.specs.Wire.{Wire}
+use Rattle.vdisk_msg.specs.Pieces.{unit_count}
+use Rattle.vio_handshake.specs.declared.handshake.Phase.{Phase}
+use Rattle.vio_handshake.specs.declared.handshake.Phase.TheVariants.{Version, Attributes, OwnRing, PeerRing, PeerRingTaken, OwnReady, PeerReady, PeerReadyTaken}
+use Rattle.vio_tag.specs.declared.message.Message.{Message}
+use Rattle.vio_tag.specs.Spelling.{canonical}
+use Rattle.disk_model.specs.ClientPutting.{is_announcing}
+use Rattle.disk_model.specs.ClientState.{ClientSession, ClientState}
+use Rattle.disk_model.specs.LaneState.{LaneState}
+use Rattle.disk_model.specs.ServerState.{Ends, Flushes, Gathers, Gives, Progress, Reads, ServerSession, ServerState, Work, Writes}
+use Rattle.disk_model.specs.ServerWork.{desc_of}
+use Rattle.lane_laws.specs.Budget.{range_left}
+
+-- PACKETS. Those of so many bytes, and of the message that is owed
+abbrev pub parts : ℕ → ℕ
+parts n = (n + 55) / 56
+
+abbrev pub parts_owed : Option Message → ℕ
+parts_owed None = 0
+parts_owed (Some message) = parts (length (canonical message))
+
+-- those of the handshake that follow the message which is owed; the registration of a ring, and its answer, have two
+abbrev pub later : Role → Phase → ℕ
+later Initiator Version = 5
+later Initiator Attributes = 4
+later Initiator OwnRing = 2
+later Initiator PeerRing = 3
+later Initiator PeerRingTaken = 2
+later Initiator OwnReady = 1
+later Initiator PeerReady = 1
+later Responder Version = 6
+later Responder Attributes = 5
+later Responder PeerRing = 4
+later Responder PeerRingTaken = 7
+later Responder OwnRing = 2
+later Responder PeerReady = 2
+later Responder PeerReadyTaken = 1
+later Initiator _ = 0
+later Responder _ = 0
+
+-- before the link is up: its own packets, and all of the handshake
+abbrev pub client_puts : LinkPhase → ℕ → ℕ
+client_puts phase.OwesVersInfo n = 9
+client_puts phase.AwaitsVersAck n = 8
+client_puts phase.OwesRts n = 8
+client_puts phase.AwaitsRtr n = 7
+client_puts phase.OwesRdx n = 7
+client_puts phase.Established n = n
+client_puts _ n = 9
+
+-- a server begins with the last of these; it is never in one of the first
+abbrev pub server_puts : LinkPhase → ℕ → ℕ
+server_puts phase.OwesVersInfo n = 10
+server_puts phase.AwaitsVersAck n = 9
+server_puts phase.OwesRts n = 9
+server_puts phase.AwaitsRtr n = 8
+server_puts phase.OwesRdx n = 8
+server_puts (phase.OwesVersNack major) n = 9
+server_puts phase.AwaitsVersInfo n = 8
+server_puts phase.OwesVersAck n = 8
+server_puts phase.AwaitsRts n = 7
+server_puts phase.OwesRtr n = 7
+server_puts phase.AwaitsRdx n = 6
+server_puts phase.Established n = n
+
+-- At a client the link holds the message that is owed or its own INFO, whose last packet counts with the requests that it announces.
+abbrev pub held_left : Bool → List ℕ → Option Message → ℕ
+held_left own [] owed = parts_owed owed
+held_left true (byte ∷ bytes) owed = (parts (length (byte ∷ bytes)) - 1) + parts_owed owed
+held_left false (byte ∷ bytes) owed = parts (length (byte ∷ bytes))
+
+abbrev pub client_packets : ClientState → ℕ
+client_packets c = client_puts c.link.phase (later c.shake.role c.shake.phase) + held_left (is_announcing c.session) c.link.to_send c.shake.owed
+
+-- at a server it holds the message that is owed, or the answer to a range
+abbrev pub answers_held : List ℕ → Option Message → ℕ → ℕ
+answers_held [] owed range = parts_owed owed + range
+answers_held (byte ∷ bytes) None range = parts (length (byte ∷ bytes))
+answers_held (byte ∷ bytes) (Some message) range = parts (length (byte ∷ bytes)) + range
+
+abbrev pub server_packets : ServerState → ℕ
+server_packets v = server_puts v.link.phase (later v.shake.role v.shake.phase) + answers_held v.link.to_send v.shake.owed (range_left v.session)
+
+-- REQUESTS at the client, of which so many are pending: those that aren't published, aren't announced, and aren't done
+abbrev pub total : ℕ → Option ClientSession → ℕ
+total pending None = pending
+total pending (Some s) = pending + s.completed
+
+abbrev pub requests_left : ℕ → Option ClientSession → ℕ
+requests_left pending None = 4 * pending
+requests_left pending (Some s) = ((pending + s.completed) - s.published) + 2 * ((pending + s.completed) - s.announced) + pending
+
+-- AT THE SERVER: those that it was asked for, and those of them that it didn't finish, modulo 2^64
+abbrev pub asked_in : Option ServerSession → ℕ
+asked_in None = 0
+asked_in (Some s) = s.asked
+
+abbrev pub unfinished : ServerSession → ℕ
+unfinished s = ((s.asked + 18446744073709551616) - s.finished) % 18446744073709551616
+
+-- the pieces that are left of a descriptor of so many units: two for each unit, one for a flush
+abbrev pub pieces_left : ℕ → Progress → ℕ
+pieces_left units (Reads unit) = 2 + 2 * (units - (unit + 1))
+pieces_left units (Gives unit bytes) = 1 + 2 * (units - (unit + 1))
+pieces_left units (Gathers unit) = 2 + 2 * (units - (unit + 1))
+pieces_left units (Writes unit bytes) = 1 + 2 * (units - (unit + 1))
+pieces_left units Flushes = 1
+pieces_left units (Ends status) = 0
+
+-- ten for each descriptor: that it is fetched, at most eight pieces, and that it gets its status
+abbrev pub work_left : ℕ → Option Work → ℕ
+work_left n None = 10 * n
+work_left n (Some work) = pieces_left (unit_count (desc_of work).size) work.progress + 1 + 10 * (n - 1)
+
+abbrev pub serving_left : Option Work → Option ServerSession → ℕ
+serving_left work None = 0
+serving_left work (Some s) = work_left (unfinished s) work
+
+-- THE ENDS. One that isn't up is as one that begins; the requests that the server wasn't asked for count twelve each.
+abbrev pub client_sum : ℕ → ℕ → Option ClientSession → ℕ → ℕ
+client_sum packets pending session asked = 2 * packets + requests_left pending session + 12 * (total pending session - asked)
+
+abbrev pub client_left : ChannelState → ℕ → ClientState → ℕ
+client_left Up asked c = client_sum (client_packets c) (length c.pending) c.session asked
+client_left Down asked c = 18 + 4 * length c.pending + 12 * (length c.pending - asked)
+client_left Resetting asked c = 18 + 4 * length c.pending + 12 * (length c.pending - asked)
+
+abbrev pub server_left : ChannelState → ServerState → ℕ
+server_left Up v = 2 * server_packets v + serving_left v.work v.session
+server_left Down v = 16
+server_left Resetting v = 16
+
+abbrev pub asked_by : ChannelState → ServerState → ℕ
+asked_by Up v = asked_in v.session
+asked_by Down v = 0
+asked_by Resetting v = 0
+
+abbrev pub absent : ChannelState → ℕ
+absent Up = 0
+absent Down = 1
+absent Resetting = 1
+
+-- until the requests are done, where nothing is lost any more
+abbrev pub life : Wire → ClientState → ServerState → ℕ
+life w c v =
+    absent w.end_a + absent w.end_b + length w.to_a + length w.to_b
+    + client_left w.end_a (asked_by w.end_b v) c + server_left w.end_b v
+
+-- where a packet was lost the ends may have to begin once more
+abbrev pub second_life : Bool → ℕ → ℕ
+second_life true pending = 36 + 16 * pending
+second_life false pending = 0
+
+-- THE NUMBER
+abbrev pub remaining : LaneState → ℕ
+remaining s = life s.wire.wire s.client s.server + second_life s.wire.lossy (length s.client.pending)

@@ -1,0 +1,58 @@
+-- What always holds of each end of a disk's lane by itself, also where somebody forges packets and memory.
+use Rattle.std.specs.Prelude.{◌≡◌, ℕ, ◌+◌, ◌<◌, ◌≤◌, true, length, Option, Some, None, ⊤}
+use Rattle.ldc_link.specs.declared.phase.Role.TheVariants.{Initiator, Responder}
+use Rattle.vio_handshake.specs.declared.handshake.Handshake.{Handshake}
+use Rattle.vio_tag.specs.declared.message.Message.{Message}
+use Rattle.vio_tag.specs.declared.message.MsgBody.{MsgBody}
+use Rattle.vio_tag.specs.declared.message.MsgBody.TheVariants.{Ver, Attr, DringReg, DringUnreg, Rdx, DringData, Mcast, Plain}
+use Rattle.disk_model.specs.ClientPutting.{is_announcing}
+use Rattle.disk_model.specs.ClientState.{ClientSession, ClientState}
+use Rattle.disk_model.specs.ServerState.{ServerState}
+use Rattle.lane_laws.specs.Conversation.{IsAsking}
+
+-- a message of at most 256 bytes, as a handshake of a disk owes it
+abbrev pub IsShort : MsgBody → Type 0
+IsShort (Ver major minor class) = ⊤
+IsShort (Attr bytes) = length bytes ≤ 48
+IsShort (DringReg ident slots slot_size options count cookies) = count ≤ 14
+IsShort (DringUnreg ident) = ⊤
+IsShort Rdx = ⊤
+IsShort (DringData seq ident start end state) = ⊤
+IsShort (Mcast set count addresses) = ⊥
+IsShort (Plain envelope) = ⊤
+
+abbrev pub OwedIsShort : Option Message → Type 0
+OwedIsShort None = ⊤
+OwedIsShort (Some message) = IsShort message.body
+
+pub record OwesShort (h : Handshake) : Type 0 where
+  pub offered : h.offer.count ≤ 14
+  pub owed : OwedIsShort h.owed
+
+-- THE COUNTS of a client's session stand in this order, over so many pending requests
+pub record InOrder (pending : ℕ) (s : ClientSession) : Type 0 where
+  pub completed : s.completed ≤ s.acked
+  pub acked : s.acked ≤ s.announced
+  pub announced : s.announced ≤ s.published
+  pub published : s.published ≤ s.completed + pending
+  pub own : s.announcing ≡ true → s.announced < s.published
+
+abbrev pub CountsInOrder : ℕ → Option ClientSession → Type 0
+CountsInOrder pending None = ⊤
+CountsInOrder pending (Some s) = InOrder pending s
+
+pub record ClientSound (c : ClientState) : Type 0 where
+  pub role : c.link.role ≡ Initiator
+  pub asking : IsAsking c.link.phase
+  pub short : OwesShort c.shake
+  pub held : length c.link.to_send ≤ 256
+  -- an INFO that isn't wholly put is what the link holds
+  pub own : is_announcing c.session ≡ true → 1 ≤ length c.link.to_send
+  pub slots : c.slots ≤ 256
+  pub pending : length c.pending ≤ c.slots
+  pub counts : CountsInOrder (length c.pending) c.session
+
+pub record ServerSound (s : ServerState) : Type 0 where
+  pub role : s.link.role ≡ Responder
+  pub short : OwesShort s.shake
+  pub held : length s.link.to_send ≤ 256

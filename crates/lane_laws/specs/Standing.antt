@@ -1,0 +1,34 @@
+-- How the requests of a lane and its log stand to each other, also where somebody forges packets and memory.
+use Rattle.std.specs.Prelude.{◌≡◌, ℕ, ◌+◌, ◌≤◌, drop, length, Option, Some, None, ⊤}
+use Rattle.disk_model.specs.DiskLog.{DiskLog}
+use Rattle.disk_model.specs.RequestLaws.{AdmissionAt, OnceAt, TurnsAt}
+use Rattle.disk_model.specs.WorkLog.{WorkLog}
+use Rattle.disk_model.specs.ClientState.{ClientSession, ClientState}
+use Rattle.disk_model.specs.DiskEvent.{DiskEvent}
+use Rattle.disk_model.specs.LaneState.{LaneState}
+
+-- a session counts what is done from its base on
+abbrev pub SessionStands : ℕ → Option ClientSession → Type 0
+SessionStands done None = ⊤
+SessionStands done (Some s) = done ≡ s.base + s.completed
+
+-- what is pending is what was accepted and isn't done
+pub record RequestsStand (c : ClientState) (w : WorkLog) : Type 0 where
+  pub pending : c.pending ≡ drop w.done w.issued
+  pub next : c.next_id ≡ length w.issued
+  pub done : w.done ≤ length w.issued
+  pub session : SessionStands w.done c.session
+
+pub record LaneStands (s : LaneState) (l : DiskLog) : Type 0 where
+  pub shape : s.shape ≡ l.shape
+  pub wire : s.wire ≡ l.wire
+  pub stopped : s.stopped ≡ l.work.stopped
+  pub blocks : s.client.blocks ≡ s.shape.blocks
+  pub slots : s.client.slots ≡ s.shape.slots
+  pub requests : RequestsStand s.client l.work
+
+-- three of the conditions on an event: what comes of a request, completions once and in order, and when the server may make a step
+pub record MayOfRequests (l : DiskLog) (event : DiskEvent) : Type 0 where
+  pub admission : AdmissionAt l event
+  pub once : OnceAt l event
+  pub turns : TurnsAt l event

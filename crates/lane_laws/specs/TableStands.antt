@@ -1,0 +1,22 @@
+-- The queues of a lane: each holds fewer packets than it has entries; and where an event of the wire may stand by them.
+use Rattle.std.specs.Prelude.{◌+◌, ◌≤◌, length}
+use Rattle.disk_model.specs.DiskLog.{DiskLog}
+use Rattle.disk_model.specs.May.{OfWire, sizes_in}
+use Rattle.disk_model.specs.DiskEvent.{DiskEvent}
+use Rattle.disk_model.specs.WireAt.{Sizes, WireAnswersAt, WireTableAt}
+use Rattle.disk_model.specs.WireLog.{WireLog}
+
+pub record RoomStands (n : Sizes) (l : WireLog) : Type 0 where
+  pub to_a : length l.wire.to_a + 1 ≤ n.entries
+  pub to_b : length l.wire.to_b + 1 ≤ n.entries
+
+-- two of the conditions on an event of the wire: the table of states and queues, and the answers that change nothing
+abbrev pub TableAt : DiskLog → DiskEvent → Type 0
+TableAt l event = OfWire (WireTableAt (sizes_in l) l.wire) event
+
+abbrev pub AnswersAt : DiskLog → DiskEvent → Type 0
+AnswersAt l event = OfWire (WireAnswersAt (sizes_in l) l.wire) event
+
+pub record MayOfTable (l : DiskLog) (event : DiskEvent) : Type 0 where
+  pub table : TableAt l event
+  pub answers : AnswersAt l event

@@ -1,0 +1,342 @@
+// What follows from the invariant of a lane.
+
+ghost use Rattle.std.specs.Prelude.{◌≡◌, ℕ, Bool, ◌≤◌, ◌*◌, false, true, length, List, ◌<◌, ◌+◌, Option, Some, is_some};
+ghost use Rattle.runs.specs.Lawful.{log_of, Lawful};
+ghost use Rattle.runs.specs.Run.{Run};
+ghost use Rattle.cookie_copy.specs.Identity.{IsIdentity};
+ghost use Rattle.ldc_link.specs.declared.phase.Role.TheVariants.{Initiator, Responder};
+ghost use Rattle.ldc_link.specs.Following.{Follows};
+ghost use Rattle.ldc_queue.specs.declared.end.End.TheVariants.{A};
+ghost use Rattle.ldc_queue.specs.declared.end.End.{End};
+ghost use Rattle.ldc_queue.specs.declared.end.End.TheVariants.{A, B};
+ghost use Rattle.ldc_queue.specs.OneStream.{IsFront};
+ghost use Rattle.ldc_queue.specs.Talk.{numbered_heard, numbered_said};
+ghost use Rattle.ldc_queue.specs.Wire.{peer_of};
+ghost use Rattle.disk_model.specs.Sayings.{heard, said};
+ghost use Rattle.disk_model.specs.TalkLog.{talk_of};
+ghost use Rattle.disk_model.specs.WireAt.{IsUp};
+ghost use Rattle.disk_model.specs.WireEvent.{ByTick, Sent, Reset, Took, giver};
+ghost use Rattle.vio_tag.specs.declared.cause.Cause.{Cause};
+ghost use Rattle.disk_model.specs.Agreement.{ClientAgrees, IdleAgrees, ServerAgrees};
+ghost use Rattle.disk_model.specs.DiskLog.{after, nothing_yet};
+ghost use Rattle.disk_model.specs.QuietLaws.{TickAt};
+ghost use Rattle.disk_model.specs.RequestLaws.{AdmissionAt, CarriesAt, OnceAt, TurnsAt};
+ghost use Rattle.disk_model.specs.WorkLaws.{Unforged};
+ghost use Rattle.disk_model.specs.WorkLog.{ClientCounts};
+ghost use Rattle.disk_model.specs.DiskEvent.{Desc, DiskEvent, Done, OnWire, Published, Works};
+ghost use Rattle.disk_model.specs.LaneState.{fresh, pages_of, IsShape, LaneState, Shape};
+ghost use Rattle.disk_model.specs.LaneStep.{LaneStep};
+ghost use Rattle.disk_model.specs.Offering.{client_offer};
+ghost use Rattle.lane_laws.specs.CompletedIds.{done_ids, CountsFrom};
+ghost use Rattle.lane_laws.specs.CompletesSlot.{CompletesSlot};
+ghost use Rattle.lane_laws.specs.RingAgreed.{AlwaysAgree, RingStands};
+ghost use Rattle.lane_laws.specs.Grounds.{OpenRests};
+ghost use Rattle.lane_laws.specs.HeardStands.{HeardAt};
+ghost use Rattle.lane_laws.specs.LaneTalks.{talk_behind};
+ghost use Rattle.lane_laws.specs.SlotsInOrder.{RingInOrder};
+ghost use Rattle.lane_laws.specs.SlotsWritten.{SlotFreed, SlotPublished, SlotsCleared};
+ghost use Rattle.lane_laws.specs.Remaining.{remaining};
+ghost use Rattle.lane_laws.specs.RemainingSteps.{AllDo, TakesNothing};
+ghost use Rattle.lane_laws.specs.OneSession.{AreOneSession};
+ghost use Rattle.lane_laws.specs.TickBegins.{TickBegins};
+ghost use Rattle.lane_laws.specs.Sound.{CountsInOrder};
+ghost use Rattle.lane_laws.specs.TableStands.{AnswersAt, TableAt};
+ghost use Rattle.lane_laws.specs.Utterances.{SaysEach};
+
+/// On a lane that nobody forged, whatever was lost, reset, stopped or restarted on the way there: what an end that is
+/// up has heard since it last began is a front of what the other end has said since it last began, packet by packet of
+/// those with numbers, and message by message. At each moment: a front of a run is a run.
+pub fn heard_is_a_front_of_said_on_a_lane()
+    ensures packets { (shape : Shape) (events : List DiskEvent) (s : LaneState) (e : End)
+        → IsShape shape → Run LaneStep (fresh shape) events s
+        → s.wire.forged ≡ false → IsUp e s.wire.wire
+        → IsFront (numbered_heard (talk_of e (talk_behind events)))
+        (numbered_said (talk_of (peer_of e) (talk_behind events))) }
+    ensures messages { (shape : Shape) (events : List DiskEvent) (s : LaneState) (e : End)
+        → IsShape shape → Run LaneStep (fresh shape) events s
+        → s.wire.forged ≡ false → IsUp e s.wire.wire
+        → IsFront (heard (talk_of e (talk_behind events))) (said (talk_of (peer_of e) (talk_behind events))) }
+{}
+
+/// Along every run of a lane, also where somebody forges packets and memory: a request is refused for its defect, finds
+/// as many pending as the ring has slots, or is accepted with the number of those before it; each completion has the
+/// number of those before it, and is of the request that was accepted with that number, so that the completions have
+/// the numbers 0, 1, 2 and so on; and a server makes a step, is reset or is stopped only where it runs.
+pub fn requests_complete_once_in_order_on_a_lane()
+    ensures admission { (shape : Shape) (events : List DiskEvent) (s : LaneState)
+        → IsShape shape → Run LaneStep (fresh shape) events s
+        → Lawful AdmissionAt after (nothing_yet shape) events }
+    ensures once { (shape : Shape) (events : List DiskEvent) (s : LaneState)
+        → IsShape shape → Run LaneStep (fresh shape) events s
+        → Lawful OnceAt after (nothing_yet shape) events }
+    ensures ids { (shape : Shape) (events : List DiskEvent) (s : LaneState)
+        → IsShape shape → Run LaneStep (fresh shape) events s
+        → CountsFrom 0 (done_ids events) }
+    ensures turns { (shape : Shape) (events : List DiskEvent) (s : LaneState)
+        → IsShape shape → Run LaneStep (fresh shape) events s
+        → Lawful TurnsAt after (nothing_yet shape) events }
+{}
+
+/// Along every run of a lane, also where somebody forges packets and memory: a completion of a read with the status 0
+/// carries 512 bytes a block, and every other completion none.
+pub fn completions_carry_their_blocks()
+    ensures { (shape : Shape) (events : List DiskEvent) (s : LaneState)
+        → IsShape shape → Run LaneStep (fresh shape) events s
+        → Lawful CarriesAt after (nothing_yet shape) events }
+{}
+
+/// Along every run of a lane, also where somebody forges packets and memory: each event of the wire stands where the
+/// states of the ends and what waits for them let it, and an answer that changes nothing is said exactly where it is.
+pub fn events_stand_by_states_and_queues()
+    ensures table { (shape : Shape) (events : List DiskEvent) (s : LaneState)
+        → IsShape shape → Run LaneStep (fresh shape) events s
+        → Lawful TableAt after (nothing_yet shape) events }
+    ensures answers { (shape : Shape) (events : List DiskEvent) (s : LaneState)
+        → IsShape shape → Run LaneStep (fresh shape) events s
+        → Lawful AnswersAt after (nothing_yet shape) events }
+{}
+
+/// Along every run of a lane, also where somebody forges packets and memory: each packet that an end takes and doesn't
+/// reset itself for is 64 bytes that spell a packet; where it has a number, it is one more than how many with numbers
+/// the end heard before; and a part of a message has START exactly where nothing of a message had come, and makes no
+/// message above 256 bytes.
+pub fn what_is_heard_may_come()
+    ensures { (shape : Shape) (events : List DiskEvent) (s : LaneState)
+        → IsShape shape → Run LaneStep (fresh shape) events s
+        → Lawful HeardAt after (nothing_yet shape) events }
+{}
+
+/// Along every run of a lane, also where somebody forges packets and memory: a tick changes nothing exactly where the
+/// client's session is open and nothing is pending, and else resets the client.
+pub fn ticks_are_calm_where_all_is_done()
+    ensures { (shape : Shape) (events : List DiskEvent) (s : LaneState)
+        → IsShape shape → Run LaneStep (fresh shape) events s
+        → Lawful TickAt after (nothing_yet shape) events }
+{}
+
+/// What always holds of a lane's ends, also where somebody forges packets and memory: each link's numbers and half
+/// message are those of what its end said and heard since it last began; the counts of the client's session stand in
+/// their order, completed, acknowledged, announced and published, none beyond what is pending; no more is pending than
+/// the ring has slots; and the client's memory keeps its length.
+pub fn ends_of_a_lane_stand()
+    ensures client_link { (shape : Shape) (events : List DiskEvent) (s : LaneState)
+        → IsShape shape → Run LaneStep (fresh shape) events s
+        → Follows s.client.link (talk_behind events).client }
+    ensures server_link { (shape : Shape) (events : List DiskEvent) (s : LaneState)
+        → IsShape shape → Run LaneStep (fresh shape) events s
+        → Follows s.server.link (talk_behind events).server }
+    ensures counts { (shape : Shape) (events : List DiskEvent) (s : LaneState)
+        → IsShape shape → Run LaneStep (fresh shape) events s
+        → CountsInOrder (length s.client.pending) s.client.session }
+    ensures pending { (shape : Shape) (events : List DiskEvent) (s : LaneState)
+        → IsShape shape → Run LaneStep (fresh shape) events s
+        → length s.client.pending ≤ s.client.slots }
+    ensures memory { (shape : Shape) (events : List DiskEvent) (s : LaneState)
+        → IsShape shape → Run LaneStep (fresh shape) events s
+        → length s.memory ≡ 8192 * pages_of s.shape }
+{}
+
+/// Where the last event of a run of a lane was an idle step of an end, resting is still that end's next step: the lane
+/// is as it was.
+pub fn an_idle_end_has_nothing_to_do()
+    ensures { (shape : Shape) (events : List DiskEvent) (s : LaneState)
+        → IsShape shape → Run LaneStep (fresh shape) events s
+        → IdleAgrees s (log_of after (nothing_yet shape) events).last_idle }
+{}
+
+/// At each moment of a lane, also where somebody forges packets and memory: the table grants to the server each page of
+/// the client's memory at the page's own index, with both rights, and nothing else.
+pub fn pages_of_a_lane_stay_granted()
+    ensures { (shape : Shape) (events : List DiskEvent) (s : LaneState)
+        → IsShape shape → Run LaneStep (fresh shape) events s
+        → IsIdentity s.table (pages_of s.shape) }
+{}
+
+/// What a client writes into its ring at a step of a lane, also where somebody forges packets and memory: as its
+/// session opens each slot holds nothing; a request that is published stands, READY, in the slot of its number; the
+/// slot of a request that is done was DONE, with the status that the completion carries, and is FREE. No other slot
+/// changes, though a write's bytes are put into its buffer in the same step.
+pub fn a_client_writes_one_slot()
+    ensures opens { (shape : Shape) (events : List DiskEvent) (s t : LaneState) (packet : List ℕ)
+        → IsShape shape → Run LaneStep (fresh shape) events s → LaneStep s (OnWire (Sent A packet true)) t
+        → SlotsCleared t }
+    ensures publishes { (shape : Shape) (events : List DiskEvent) (s t : LaneState) (id : ℕ)
+        → IsShape shape → Run LaneStep (fresh shape) events s → LaneStep s (Works (Published id)) t
+        → SlotPublished s id t }
+    ensures frees { (shape : Shape) (events : List DiskEvent) (s t : LaneState)
+        (id operation status : ℕ) (bytes : List ℕ)
+        → IsShape shape → Run LaneStep (fresh shape) events s → LaneStep s (Works (Done id operation status bytes)) t
+        → SlotFreed s status t }
+{}
+
+/// What remains to be done on a lane, along every run, also where somebody forges packets and memory. A fresh lane has
+/// 36 before it. Each step of an end that takes nothing lowers it: that an end joins or puts a packet, that the client
+/// publishes or completes a request, and that the server fetches a descriptor, does a piece of it or ends it. After a
+/// reset of an end that was up exactly 35 remain, and 16 for each pending request; where a packet was lost before, that
+/// is less than remained. Where nobody forged, a packet that an end takes lowers it too; so of the steps by which an
+/// end does something no more follow one another than remain.
+pub fn what_remains_falls_by_what_an_end_does()
+    ensures fresh { (shape : Shape) → remaining (fresh shape) ≡ 36 }
+    ensures steps { (shape : Shape) (events : List DiskEvent) (s : LaneState) (event : DiskEvent) (t : LaneState)
+        → IsShape shape → Run LaneStep (fresh shape) events s
+        → LaneStep s event t → TakesNothing event → remaining t < remaining s }
+    ensures resets { (shape : Shape) (events : List DiskEvent) (s : LaneState) (e : End) (cause : Cause)
+        (packet : Option (List ℕ)) (lost : ℕ) (t : LaneState)
+        → IsShape shape → Run LaneStep (fresh shape) events s → IsUp e s.wire.wire
+        → LaneStep s (OnWire (Reset e cause packet lost)) t
+        → remaining t ≡ 35 + 16 * length s.client.pending }
+    ensures again { (shape : Shape) (events : List DiskEvent) (s : LaneState) (e : End) (cause : Cause)
+        (packet : Option (List ℕ)) (lost : ℕ) (t : LaneState)
+        → IsShape shape → Run LaneStep (fresh shape) events s → IsUp e s.wire.wire → s.wire.lossy ≡ true
+        → LaneStep s (OnWire (Reset e cause packet lost)) t → remaining t < remaining s }
+    ensures takes { (shape : Shape) (events : List DiskEvent) (s : LaneState) (e : End)
+        (packet : List ℕ) (opens : Bool) (t : LaneState)
+        → IsShape shape → Run LaneStep (fresh shape) events s → s.wire.forged ≡ false
+        → LaneStep s (OnWire (Took e packet opens)) t → remaining t < remaining s }
+    ensures many { (shape : Shape) (events : List DiskEvent) (s : LaneState) (more : List DiskEvent) (t : LaneState)
+        → IsShape shape → Run LaneStep (fresh shape) events s → s.wire.forged ≡ false
+        → Run LaneStep s more t → AllDo more → remaining t + length more ≤ remaining s }
+{}
+
+/// Along every run of a lane, also where somebody forges packets and memory: where an end's session is open, the end
+/// heard since it last began the messages by which it agreed on what it holds: the client the agreements to its version
+/// and to its ring, with the number that the server has for it; the server the offer of a version, of which it took the
+/// smaller minor, and the registration of the client's ring. All have the session's sid.
+pub fn open_sessions_rest_on_what_was_heard()
+    ensures client { (shape : Shape) (events : List DiskEvent) (s : LaneState)
+        → IsShape shape → Run LaneStep (fresh shape) events s
+        → is_some s.client.session ≡ true
+        → OpenRests Initiator s.client.shake (heard (talk_behind events).client) }
+    ensures server { (shape : Shape) (events : List DiskEvent) (s : LaneState)
+        → IsShape shape → Run LaneStep (fresh shape) events s
+        → is_some s.server.session ≡ true
+        → OpenRests Responder s.server.shake (heard (talk_behind events).server) }
+{}
+
+/// Along every run of a lane, also where somebody forges packets and memory: each message that an end said since it
+/// last began is as its handshake has it. The client's have its sid, offer its version and register its ring; the
+/// server's agree to the minor that its session holds, and give the client's ring the number by which it knows it.
+pub fn ends_say_what_their_handshakes_hold()
+    ensures client { (shape : Shape) (events : List DiskEvent) (s : LaneState)
+        → IsShape shape → Run LaneStep (fresh shape) events s
+        → SaysEach Initiator s.client.shake.phase s.client.shake.offer s.client.shake.draft (said (talk_behind events).client) }
+    ensures server { (shape : Shape) (events : List DiskEvent) (s : LaneState)
+        → IsShape shape → Run LaneStep (fresh shape) events s
+        → SaysEach Responder s.server.shake.phase s.server.shake.offer s.server.shake.draft (said (talk_behind events).server) }
+{}
+
+/// On a lane that nobody forged, each message that an end that is up has heard since it last began is as the other
+/// end's handshake has it now, whatever was lost, reset, stopped or restarted on the way there.
+pub fn what_is_heard_is_as_the_other_end_has_it()
+    ensures client { (shape : Shape) (events : List DiskEvent) (s : LaneState)
+        → IsShape shape → Run LaneStep (fresh shape) events s
+        → s.wire.forged ≡ false → IsUp A s.wire.wire
+        → SaysEach Responder s.server.shake.phase s.server.shake.offer s.server.shake.draft (heard (talk_behind events).client) }
+    ensures server { (shape : Shape) (events : List DiskEvent) (s : LaneState)
+        → IsShape shape → Run LaneStep (fresh shape) events s
+        → s.wire.forged ≡ false → IsUp B s.wire.wire
+        → SaysEach Initiator s.client.shake.phase s.client.shake.offer s.client.shake.draft (heard (talk_behind events).server) }
+{}
+
+/// On a lane that nobody forged, whatever was lost, reset, stopped or restarted on the way there: where both sessions
+/// are open both ends are up, and the sessions are one. They have one sid and one minor; the server knows the client's
+/// ring by the sid, which is the number that the client has for it; and that ring has the slots and the cookies that
+/// the client offers.
+pub fn open_sessions_are_one()
+    ensures up { (shape : Shape) (events : List DiskEvent) (s : LaneState)
+        → IsShape shape → Run LaneStep (fresh shape) events s
+        → s.wire.forged ≡ false → is_some s.client.session ≡ true → is_some s.server.session ≡ true
+        → IsUp A s.wire.wire × IsUp B s.wire.wire }
+    ensures one { (shape : Shape) (events : List DiskEvent) (s : LaneState)
+        → IsShape shape → Run LaneStep (fresh shape) events s
+        → s.wire.forged ≡ false → is_some s.client.session ≡ true → is_some s.server.session ≡ true
+        → AreOneSession s.client.shake s.server.shake }
+    ensures offer { (shape : Shape) (events : List DiskEvent) (s : LaneState)
+        → IsShape shape → Run LaneStep (fresh shape) events s
+        → s.client.shake.offer ≡ client_offer s.client.blocks s.client.slots }
+{}
+
+/// What the log of a run counts of the two sessions is what the ends count, also where somebody forges packets and
+/// memory: each range that an end says or hears whole counts its slots, and a server's counts are those of the log
+/// modulo 2^64. Where nobody forged and the server's end is up with its session open, the client's session is open too,
+/// of the same ring, and the counts stand in their order: what is done was finished, what was fetched was asked for,
+/// and what was asked for was published, less than 2^64 in all.
+pub fn sessions_count_alike()
+    ensures client { (shape : Shape) (events : List DiskEvent) (s : LaneState)
+        → IsShape shape → Run LaneStep (fresh shape) events s
+        → ClientAgrees s.client.session (log_of after (nothing_yet shape) events).work.done
+        (log_of after (nothing_yet shape) events).work.client }
+    ensures server { (shape : Shape) (events : List DiskEvent) (s : LaneState)
+        → IsShape shape → Run LaneStep (fresh shape) events s
+        → ServerAgrees s.server.session s.server.work (log_of after (nothing_yet shape) events).work.server }
+    ensures agree { (shape : Shape) → IsShape shape → AlwaysAgree shape }
+{}
+
+/// On a lane that nobody forged: a completion is of the first request that isn't done, and carries the status with
+/// which the server ended the descriptor in its slot.
+pub fn a_completion_carries_the_servers_status()
+    ensures { (shape : Shape) (events : List DiskEvent) (s t : LaneState) (id operation status : ℕ) (bytes : List ℕ)
+        → IsShape shape → Run LaneStep (fresh shape) events s
+        → LaneStep s (Works (Done id operation status bytes)) t
+        → (log_of after (nothing_yet shape) events).wire.forged ≡ false
+        → (k : ClientCounts) × CompletesSlot s (log_of after (nothing_yet shape) events) id status k }
+{}
+
+/// On a lane that nobody forged: each descriptor that the server fetches is that of the request with the next number of
+/// the client's session.
+pub fn a_server_fetches_the_next_request()
+    ensures { (shape : Shape) (events : List DiskEvent) (s t : LaneState) (slot : ℕ) (bytes : List ℕ)
+        → IsShape shape → Run LaneStep (fresh shape) events s → LaneStep s (Works (Desc slot bytes)) t
+        → (log_of after (nothing_yet shape) events).wire.forged ≡ false
+        → Unforged (log_of after (nothing_yet shape) events) (Works (Desc slot bytes)) }
+{}
+
+/// At each moment of a lane the table grants each page at its own index. On one that nobody forged, the bytes of each
+/// slot of the ring are what the log says of the slot: zeros before the first session, FREE, or the descriptor of a
+/// request, READY, ACCEPTED, or DONE with its status; each number in a slot was published in the open session and isn't
+/// done, and stands in the slot of its number; and the descriptor in work stands ACCEPTED.
+pub fn the_ring_is_as_its_log_says()
+    ensures { (shape : Shape) (events : List DiskEvent) (s : LaneState)
+        → IsShape shape → Run LaneStep (fresh shape) events s
+        → RingStands s (log_of after (nothing_yet shape) events) }
+{}
+
+/// The slots of the ring in order, on a lane that nobody forged, where the client's session is open: around the ring
+/// from the first request that isn't done, the slots of those that the server finished are DONE with their statuses; at
+/// most one is ACCEPTED; the published ones that it hasn't fetched are READY; all others are FREE. Each has the bytes
+/// of its request's descriptor. The counts are those of the server's session where it has one; where it has none and
+/// the client's end is up, nothing is finished or fetched; and of a session that is over they are as they were.
+pub fn slots_stand_in_order()
+    ensures { (shape : Shape) (events : List DiskEvent) (s : LaneState) (k : ClientCounts)
+        → IsShape shape → Run LaneStep (fresh shape) events s
+        → (log_of after (nothing_yet shape) events).wire.forged ≡ false
+        → (log_of after (nothing_yet shape) events).work.client ≡ Some k
+        → RingInOrder s (log_of after (nothing_yet shape) events) k }
+{}
+
+/// A tick resets the client only where its session isn't open or something is pending, and so it is after it: no
+/// request is lost, nobody has forged by it, and the server runs as before. Where the client's end is up no packet is
+/// lost of those that are put from then on, 35 remain and 16 for each pending request, and where a packet was lost
+/// before, that is less than remained.
+pub fn a_tick_begins_a_lane_anew()
+    ensures { (shape : Shape) (events : List DiskEvent) (s : LaneState) (e : End) (cause : Cause)
+        (packet : Option (List ℕ)) (lost : ℕ) (t : LaneState)
+        → IsShape shape → Run LaneStep (fresh shape) events s → giver cause ≡ ByTick
+        → LaneStep s (OnWire (Reset e cause packet lost)) t → TickBegins s t }
+{}
+
+/// What remains to be done on a lane that nobody forged, whatever was lost, reset, stopped or restarted on the way
+/// there, is at most 36 and 16 for each pending request where no packet was lost since the queues were last emptied,
+/// and else at most 69 and 32 for each. Both are reached: the first by a fresh lane, the second where the first packet
+/// of a lane is lost. The count of a settling allows 192 for a lane and 64 for each pending request.
+pub fn little_remains_where_nobody_forged()
+    ensures whole { (shape : Shape) (events : List DiskEvent) (s : LaneState)
+        → IsShape shape → Run LaneStep (fresh shape) events s → s.wire.forged ≡ false → s.wire.lossy ≡ false
+        → remaining s ≤ 36 + 16 * length s.client.pending }
+    ensures lossy { (shape : Shape) (events : List DiskEvent) (s : LaneState)
+        → IsShape shape → Run LaneStep (fresh shape) events s → s.wire.forged ≡ false
+        → remaining s ≤ 69 + 32 * length s.client.pending }
+    ensures reached { (shape : Shape) → IsShape shape
+        → (events : List DiskEvent) × (s : LaneState) × Run LaneStep (fresh shape) events s
+        × (s.wire.forged ≡ false) × (remaining s ≡ 69 + 32 * length s.client.pending) }
+{}

@@ -1,0 +1,194 @@
+// What follows from what always holds of a lane, for the log of its events.
+
+ghost use Rattle.std.specs.Prelude.{◌≡◌, ◌≤◌, ◌<◌, ◌⊎◌, ℕ, false, List, Option};
+ghost use Rattle.runs.specs.Lawful.{log_of, Lawful};
+ghost use Rattle.runs.specs.Run.{Run};
+ghost use Rattle.ldc_queue.specs.declared.end.End.{End};
+ghost use Rattle.vio_tag.specs.declared.cause.Cause.{Cause};
+ghost use Rattle.disk_model.specs.WireAt.{IsOwnReset};
+ghost use Rattle.ldc_queue.specs.Wire.{peer_of};
+ghost use Rattle.disk_model.specs.WireEvent.{ByStep, Idle, Reset, giver};
+ghost use Rattle.disk_model.specs.Agreement.{AgreesWithLog};
+ghost use Rattle.disk_model.specs.DiskLog.{after, nothing_yet};
+ghost use Rattle.disk_model.specs.May.{IsLawful};
+ghost use Rattle.disk_model.specs.QuietLaws.{IdleAt, TwoIdleAt};
+ghost use Rattle.disk_model.specs.WorkLaws.{OpeningsAt, PiecesAt, RangesAt, WorkNumbersAt, WorkResetAt, WorkUnforgedAt};
+ghost use Rattle.disk_model.specs.DiskEvent.{DiskEvent, OnWire};
+ghost use Rattle.disk_model.specs.LaneState.{fresh, IsShape, LaneState, Shape};
+ghost use Rattle.disk_model.specs.LaneStep.{LaneStep};
+ghost use Rattle.lane_laws.specs.Remaining.{remaining};
+ghost use Rattle.lane_laws.specs.CalmEnds.{AreStill, HaveFinished, IsCalm, IsStep, StepKeeps};
+ghost use Rattle.lane_laws.specs.Laws.{GapAt, ResetAt, SaidAt, UnforgedAt};
+
+/// Along every run of a lane, also where somebody forges packets and memory: the packet that a reset carries says why,
+/// by its own bytes or by those of the message that it ends; a reset without a packet has a cause that lies in none. A
+/// gap names the number that was to come, one more than how many with numbers the end heard, and that of the packet,
+/// which is another.
+pub fn resets_say_why()
+    ensures says { (shape : Shape) (events : List DiskEvent) (s : LaneState)
+        → IsShape shape → Run LaneStep (fresh shape) events s
+        → Lawful ResetAt after (nothing_yet shape) events }
+    ensures gap { (shape : Shape) (events : List DiskEvent) (s : LaneState)
+        → IsShape shape → Run LaneStep (fresh shape) events s
+        → Lawful GapAt after (nothing_yet shape) events }
+{}
+
+/// Along every run of a lane, also where somebody forges packets and memory: each packet that an end puts is the
+/// canonical spelling of a packet; where it has a number, it is one more than how many with numbers the end put before;
+/// a part of a message has START exactly where nothing of one was put, 56 bytes where another part follows, and makes no
+/// message above 256 bytes.
+pub fn what_is_said_is_cut_and_numbered()
+    ensures { (shape : Shape) (events : List DiskEvent) (s : LaneState)
+        → IsShape shape → Run LaneStep (fresh shape) events s
+        → Lawful SaidAt after (nothing_yet shape) events }
+{}
+
+/// Along every run of a lane, also where somebody forges packets and memory: an id that is published is the next of its
+/// session, accepted and not done; one that is done was acknowledged in it; a descriptor is fetched where nothing of
+/// another is owed, from the slot of its number, and is one of those asked for.
+pub fn work_has_its_numbers()
+    ensures { (shape : Shape) (events : List DiskEvent) (s : LaneState)
+        → IsShape shape → Run LaneStep (fresh shape) events s
+        → Lawful WorkNumbersAt after (nothing_yet shape) events }
+{}
+
+/// Along every run of a lane, also where somebody forges packets and memory: no reset loses frames; and what resets an
+/// end without a packet is, but for those that a script, a restart or a tick asks for, at a client an acknowledged slot
+/// that isn't DONE, and at a server, in a range that isn't finished, a slot that isn't READY or a copy that was refused.
+pub fn resets_without_a_packet_have_their_ground()
+    ensures { (shape : Shape) (events : List DiskEvent) (s : LaneState)
+        → IsShape shape → Run LaneStep (fresh shape) events s
+        → Lawful WorkResetAt after (nothing_yet shape) events }
+{}
+
+/// Along every run of a lane, also where somebody forges packets and memory: where an end makes an idle step nothing
+/// waits for it; a client in session has published all that was accepted, announced all that it published and completed
+/// all that was acknowledged; and a server in session owes nothing of a descriptor, and has fetched and answered all
+/// that it was asked for.
+pub fn an_idle_end_has_done_all()
+    ensures { (shape : Shape) (events : List DiskEvent) (s : LaneState)
+        → IsShape shape → Run LaneStep (fresh shape) events s
+        → Lawful IdleAt after (nothing_yet shape) events }
+{}
+
+/// Along every run of a lane, also where somebody forges packets and memory: what a server does of a descriptor is the
+/// next piece that the descriptor owes. A unit that is copied is refused for the first fault of its own bytes, over the
+/// pages that the client grants; a unit that is read or written has the descriptor's operation, and its own place and
+/// number of blocks; the status is the one that is owed, and its slot that of the descriptor's number.
+pub fn what_is_done_is_the_next_piece()
+    ensures { (shape : Shape) (events : List DiskEvent) (s : LaneState)
+        → IsShape shape → Run LaneStep (fresh shape) events s
+        → Lawful PiecesAt after (nothing_yet shape) events }
+{}
+
+/// Along every run of a lane, also where somebody forges packets and memory: an INFO that a client says has the next
+/// number, begins at the slot after the range before it, and names published requests alone; an acknowledgement that a
+/// client hears, and goes on with, names announced requests alone; and one that a server says finished descriptors
+/// alone.
+pub fn ranges_name_what_was_done()
+    ensures { (shape : Shape) (events : List DiskEvent) (s : LaneState)
+        → IsShape shape → Run LaneStep (fresh shape) events s
+        → Lawful RangesAt after (nothing_yet shape) events }
+{}
+
+/// On a lane that nobody forged, whatever was lost, reset, stopped or restarted on the way there: a step by which an
+/// end resets itself has a gap in the numbers of packets as its cause, and a packet was lost since the queues were last
+/// emptied. So each other packet is one that the end may take, each message one that it accepts, and each slot of the
+/// ring and each copy is as the end expects.
+pub fn an_end_resets_itself_behind_a_loss_alone()
+    ensures step { (shape : Shape) (events : List DiskEvent) (s : LaneState) (e : End) (cause : Cause)
+        (packet : Option (List ℕ)) (lost : ℕ) (t : LaneState)
+        → IsShape shape → Run LaneStep (fresh shape) events s → s.wire.forged ≡ false
+        → giver cause ≡ ByStep → LaneStep s (OnWire (Reset e cause packet lost)) t
+        → IsOwnReset s.wire cause }
+    ensures run { (shape : Shape) (events : List DiskEvent) (s : LaneState)
+        → IsShape shape → Run LaneStep (fresh shape) events s
+        → Lawful UnforgedAt after (nothing_yet shape) events }
+{}
+
+/// Along every run of a lane, where nobody forged until then: a descriptor that the server fetches is that of the
+/// request with the next number of the client's session; no copy of a unit is refused; and the status of a completion is
+/// the one that the server gave to that number in the last session of the client's sid.
+pub fn work_is_done_as_it_was_asked()
+    ensures { (shape : Shape) (events : List DiskEvent) (s : LaneState)
+        → IsShape shape → Run LaneStep (fresh shape) events s
+        → Lawful WorkUnforgedAt after (nothing_yet shape) events }
+{}
+
+/// Along every run of a lane, also where somebody forges packets and memory: a session opens in the handshake's order.
+/// What the end said and heard since it last began, up to the packet by which its session opens, is the row of its link's
+/// handshake and of its messages, one after the other and all of one sid; between them stand only refusals, parts of
+/// messages, and what was heard once the link was up.
+pub fn sessions_open_in_order()
+    ensures { (shape : Shape) (events : List DiskEvent) (s : LaneState)
+        → IsShape shape → Run LaneStep (fresh shape) events s
+        → Lawful OpeningsAt after (nothing_yet shape) events }
+{}
+
+/// At each moment of a lane, also where somebody forges packets and memory, its state and its log agree: the shape, the
+/// wire and whether the server is stopped are the same; each link counts what its end said and heard, and holds what
+/// came of a message; the client's last sid is how often its link came up; what is pending was accepted and isn't done;
+/// the sessions' counts are those of the log, and so is what a descriptor in work owes yet; and an end whose idle step
+/// was the last event has nothing to do yet. Where nobody forged, the near counts and the slots of the ring are those of
+/// the log too.
+pub fn a_lane_agrees_with_its_log()
+    ensures { (shape : Shape) (events : List DiskEvent) (s : LaneState)
+        → IsShape shape → Run LaneStep (fresh shape) events s
+        → AgreesWithLog s (log_of after (nothing_yet shape) events) }
+{}
+
+/// Along every run of a lane, where nobody forged until then and no packet was lost since the queues were last emptied:
+/// where an end makes an idle step directly after an idle step of the other, all requests that were accepted are done,
+/// and both sessions are open.
+pub fn two_idle_ends_have_finished()
+    ensures { (shape : Shape) (events : List DiskEvent) (s : LaneState)
+        → IsShape shape → Run LaneStep (fresh shape) events s
+        → Lawful TwoIdleAt after (nothing_yet shape) events }
+{}
+
+/// Of two steps of a lane, one of each end and one after the other, in either order, that are calm: each idles, finds
+/// no room for its packet, or is that of a stopped server. After them both ends are still, but for a stopped
+/// server's, also where somebody forges packets and memory: each is up, and has nothing to take and nothing to do, or
+/// the other's queue has no room. Where nobody forged and the server runs, both idle, and the lane is as it was:
+/// never is there no room. And where moreover no packet was lost since the queues were last emptied, all is done:
+/// nothing is pending, both sessions are open, and nothing waits for either end.
+pub fn calm_ends_have_finished()
+    ensures still { (shape : Shape) (events : List DiskEvent) (s : LaneState)
+        (e : End) (one : DiskEvent) (m : LaneState) (next : DiskEvent) (t : LaneState)
+        → IsShape shape → Run LaneStep (fresh shape) events s
+        → LaneStep s one m → IsCalm e one → LaneStep m next t → IsCalm (peer_of e) next
+        → AreStill t (after (after (log_of after (nothing_yet shape) events) one) next) }
+    ensures idle { (shape : Shape) (events : List DiskEvent) (s : LaneState)
+        (e : End) (one : DiskEvent) (m : LaneState) (next : DiskEvent) (t : LaneState)
+        → IsShape shape → Run LaneStep (fresh shape) events s → s.wire.forged ≡ false → s.stopped ≡ false
+        → LaneStep s one m → IsCalm e one → LaneStep m next t → IsCalm (peer_of e) next
+        → (one ≡ OnWire (Idle e)) × (next ≡ OnWire (Idle (peer_of e))) × (t ≡ s) }
+    ensures finished { (shape : Shape) (events : List DiskEvent) (s : LaneState)
+        (e : End) (one : DiskEvent) (m : LaneState) (next : DiskEvent) (t : LaneState)
+        → IsShape shape → Run LaneStep (fresh shape) events s
+        → s.wire.forged ≡ false → s.wire.lossy ≡ false → s.stopped ≡ false
+        → LaneStep s one m → IsCalm e one → LaneStep m next t → IsCalm (peer_of e) next
+        → HaveFinished t }
+{}
+
+/// Each step of an end of a lane that nobody forged, whatever was lost, reset, stopped or restarted on the way there,
+/// lowers what remains to be done, also one by which the end resets itself; or it is calm, and doesn't raise it. On any
+/// lane a step forges nothing, loses no packet, and neither stops nor starts the server; and an idle one leaves the
+/// lane as it was.
+pub fn a_step_lowers_what_remains_or_is_calm()
+    ensures falls { (shape : Shape) (events : List DiskEvent) (s : LaneState)
+        (e : End) (event : DiskEvent) (t : LaneState)
+        → IsShape shape → Run LaneStep (fresh shape) events s → s.wire.forged ≡ false
+        → LaneStep s event t → IsStep e event
+        → (IsCalm e event × (remaining t ≤ remaining s)) ⊎ (remaining t < remaining s) }
+    ensures keeps { (s : LaneState) (e : End) (event : DiskEvent) (t : LaneState)
+        → LaneStep s event t → IsStep e event → StepKeeps s t }
+    ensures idles { (e : End) (s t : LaneState) → LaneStep s (OnWire (Idle e)) t → t ≡ s }
+{}
+
+/// Every run of a lane is lawful, also where somebody forges packets and memory: each of its events may stand in the log
+/// of those before it, by all the laws of the wire, of requests, of work and of rest.
+pub fn every_run_of_a_lane_is_lawful()
+    ensures { (shape : Shape) (events : List DiskEvent) (s : LaneState)
+        → IsShape shape → Run LaneStep (fresh shape) events s → IsLawful shape events }
+{}

@@ -1,5 +1,0 @@
-use Rattle.lanes_settle.proofs.Behind.{all_still}
-use Rattle.lanes_settle.proofs.laws.all_ends_are_still_behind_a_quiet_round.Goals as goal
-
-pub returns : goal.returns
-returns c = all_still

@@ -1,8 +1,0 @@
-pub mod Rounds
-pub mod Ticks
-pub mod Settle
-pub mod Sums
-pub mod Ended
-pub mod Moves
-pub mod Along
-pub mod Begun

@@ -1,9 +1,0 @@
-pub mod LawFacts
-pub mod Telling
-pub mod StatusLaws
-pub mod Fives
-pub mod Counted
-pub mod FailedStays
-pub mod EntryCounts
-pub mod ImageFaults
-pub mod WorldLaws

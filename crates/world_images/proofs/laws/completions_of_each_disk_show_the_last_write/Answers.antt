@@ -1,9 +1,0 @@
-use Rattle.world_images.proofs.Contents.{own_completion}
-use Rattle.world_images.proofs.Fronts.{front_completion}
-use Rattle.world_images.proofs.laws.completions_of_each_disk_show_the_last_write.Goals as goal
-
-pub returns-clause-steps : goal.returns-clause-steps
-returns-clause-steps c = own_completion
-
-pub returns-clause-fronts : goal.returns-clause-fronts
-returns-clause-fronts c = front_completion

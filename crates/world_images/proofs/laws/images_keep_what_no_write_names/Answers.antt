@@ -1,5 +1,0 @@
-use Rattle.world_images.proofs.NamedRuns.{stays_at}
-use Rattle.world_images.proofs.laws.images_keep_what_no_write_names.Goals as goal
-
-pub returns : goal.returns
-returns c = stays_at

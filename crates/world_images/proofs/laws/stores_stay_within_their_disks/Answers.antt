@@ -1,9 +1,0 @@
-use Rattle.world_images.proofs.BehindDisks.{world_around}
-use Rattle.world_images.proofs.LaneStores.{moves_around}
-use Rattle.world_images.proofs.laws.stores_stay_within_their_disks.Goals as goal
-
-pub returns-clause-lane : goal.returns-clause-lane
-returns-clause-lane c = moves_around
-
-pub returns-clause-world : goal.returns-clause-world
-returns-clause-world c = world_around

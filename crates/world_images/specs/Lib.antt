@@ -1,3 +1,0 @@
-pub mod Stays
-pub mod NamesNo
-pub mod OwnImage

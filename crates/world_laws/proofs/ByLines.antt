@@ -1,0 +1,174 @@
+-- A script forges no lane, and where none of its lines stops a server, all run.
+use Rattle.std.proofs.Common.{ℕ, List, [], ◌∷◌, map, refl, sym, subst}
+use Rattle.runs.specs.Run.{Run}
+use Rattle.ldc_queue.specs.declared.end.End.{End}
+use Rattle.ldc_queue.specs.declared.end.End.TheVariants.{A, B}
+use Rattle.vdisk_msg.specs.declared.request.Request.{Request}
+use Rattle.disk_model.specs.WireEvent.{Blocked, Declines, Idle, Injected, Joined, Lost, Poked, Reset, Sent, Took, WireEvent}
+use Rattle.disk_law.specs.ListState.{ImageState}
+use Rattle.disk_model.specs.DiskEvent.{Asks, DiskEvent, Off, OnWire, Rests, Started, Stopped, Turns, Works}
+use Rattle.disk_model.specs.LaneState.{LaneState, Shape, fresh}
+use Rattle.disk_model.specs.LaneStep.{LaneStep}
+use Rattle.lane_laws.specs.CalmEnds.{IsStep}
+use Rattle.world_laws.specs.Rounds.{Each}
+use Rattle.world_laws.specs.Settle.{OfLane, SettleEntry, Settled, Unsettled}
+use Rattle.world_laws.specs.Sums.{IsUnforged}
+use Rattle.world_laws.proofs.Along.{lane_step}
+use Rattle.world_laws.proofs.LaneLists.{each_set, each_there}
+use Rattle.world_laws.specs.Lines.{AnswersCall, AnswersRequest, Call, Calls, Line, LineBegins, LineMoves, LineStep, Loses, Resets, Restarts, Starts, Stops, Ticks}
+use Rattle.world_laws.specs.World.{WorldState, WorldStep, fresh_world}
+use Rattle.world_laws.proofs.RequestKeeping.{IsHonest, IsOnWireHonest, KeepsOn, stays_running, stays_unforged}
+use Rattle.world_laws.proofs.LineEntries.{AllEvents, line_all, line_begun}
+use Rattle.world_laws.specs.Running.{AllLeaveRunning, IsRunning, LeavesRunning}
+
+-- STEPS of an end
+wire_honest : (e : End) (event : WireEvent) → IsStep e (OnWire event) → IsOnWireHonest event
+wire_honest e (Joined d lost) own = tt
+wire_honest e (Took d packet opens) own = tt
+wire_honest e (Sent d packet opens) own = tt
+wire_honest e (Idle d) own = tt
+wire_honest e (Blocked d) own = tt
+wire_honest e (Reset d cause packet lost) own = tt
+wire_honest e (Lost d packet) own = absurd own
+wire_honest e (Injected d packet) own = absurd own
+wire_honest e (Poked d at bytes) own = absurd own
+wire_honest e (Declines d) own = absurd own
+
+step_honest : (e : End) (event : DiskEvent) → IsStep e event → IsHonest event
+step_honest e (OnWire event) own = wire_honest e event own
+step_honest e (Asks event) own = tt
+step_honest e (Works event) own = tt
+step_honest e (Turns event) own = tt
+step_honest e (Rests event) own = tt
+
+step_on : (e : End) (event : DiskEvent) → IsStep e event → KeepsOn event
+step_on e (OnWire event) own = tt
+step_on e (Asks event) own = tt
+step_on e (Works event) own = tt
+step_on A (Turns Stopped) own = absurd own
+step_on B (Turns Stopped) own = absurd own
+step_on e (Turns Started) own = tt
+step_on e (Turns Off) own = tt
+step_on e (Rests event) own = tt
+
+-- REQUESTS
+asked_honest : (request : Request) (event : DiskEvent) → AnswersRequest request event → IsHonest event
+asked_honest request (OnWire event) answers = absurd answers
+asked_honest request (Asks event) answers = tt
+asked_honest request (Works event) answers = tt
+asked_honest request (Turns event) answers = tt
+asked_honest request (Rests event) answers = tt
+
+asked_on : (request : Request) (event : DiskEvent) → AnswersRequest request event → KeepsOn event
+asked_on request (OnWire event) answers = tt
+asked_on request (Asks event) answers = tt
+asked_on request (Works event) answers = tt
+asked_on request (Turns event) answers = absurd answers
+asked_on request (Rests event) answers = tt
+
+-- CALLS
+injects_none : (call : Call) (e : End) (packet : List ℕ) → AnswersCall call (OnWire (Injected e packet)) → ⊥
+injects_none (Resets d) e packet answers = answers
+injects_none Restarts e packet answers = answers
+injects_none Stops e packet answers = answers
+injects_none Starts e packet answers = answers
+injects_none (Loses d) e packet answers = answers
+injects_none Ticks e packet answers = answers
+
+pokes_none : (call : Call) (e : End) (at : ℕ) (bytes : List ℕ) → AnswersCall call (OnWire (Poked e at bytes)) → ⊥
+pokes_none (Resets d) e at bytes answers = answers
+pokes_none Restarts e at bytes answers = answers
+pokes_none Stops e at bytes answers = answers
+pokes_none Starts e at bytes answers = answers
+pokes_none (Loses d) e at bytes answers = answers
+pokes_none Ticks e at bytes answers = answers
+
+call_wire_honest : (call : Call) (event : WireEvent) → AnswersCall call (OnWire event) → IsOnWireHonest event
+call_wire_honest call (Injected e packet) answers = absurd (injects_none call e packet answers)
+call_wire_honest call (Poked e at bytes) answers = absurd (pokes_none call e at bytes answers)
+call_wire_honest call (Joined e lost) answers = tt
+call_wire_honest call (Took e packet opens) answers = tt
+call_wire_honest call (Sent e packet opens) answers = tt
+call_wire_honest call (Idle e) answers = tt
+call_wire_honest call (Blocked e) answers = tt
+call_wire_honest call (Reset e cause packet lost) answers = tt
+call_wire_honest call (Lost e packet) answers = tt
+call_wire_honest call (Declines d) answers = tt
+
+call_honest : (call : Call) (event : DiskEvent) → AnswersCall call event → IsHonest event
+call_honest call (OnWire event) answers = call_wire_honest call event answers
+call_honest call (Asks event) answers = tt
+call_honest call (Works event) answers = tt
+call_honest call (Turns event) answers = tt
+call_honest call (Rests event) answers = tt
+
+call_on : (k : ℕ) (call : Call) (event : DiskEvent) → LeavesRunning (Calls k call) → AnswersCall call event → KeepsOn event
+call_on k call (OnWire event) leaves answers = tt
+call_on k call (Asks event) leaves answers = tt
+call_on k call (Works event) leaves answers = tt
+call_on k (Resets e) (Turns Stopped) leaves answers = absurd answers
+call_on k Restarts (Turns Stopped) leaves answers = absurd answers
+call_on k Stops (Turns Stopped) leaves answers = absurd leaves
+call_on k Starts (Turns Stopped) leaves answers = absurd answers
+call_on k (Loses e) (Turns Stopped) leaves answers = absurd answers
+call_on k Ticks (Turns Stopped) leaves answers = absurd answers
+call_on k call (Turns Started) leaves answers = tt
+call_on k call (Turns Off) leaves answers = tt
+call_on k call (Rests event) leaves answers = tt
+
+-- A RUN keeps of each lane what each of its events keeps
+entries_keep : (P : DiskEvent → Type 0) (Q : LaneState → Type 0) → ((s : LaneState) (event : DiskEvent) (t : LaneState) → P event → LaneStep s event t → Q s → Q t)
+    → (w : WorldState) (entries : List SettleEntry) (v : WorldState) → AllEvents P entries → Run WorldStep w entries v → Each Q w.lanes → Each Q v.lanes
+entries_keep P Q keeps w [] v events run all = subst (λ (x : WorldState). Each Q x.lanes) run all
+entries_keep P Q keeps w (OfLane k event ∷ entries) v events run all =
+    let moves = run.1 in
+    let holds = keeps moves.lane event moves.after events.0 (lane_step moves.lane w.image event moves.after run.0.image moves.moves) (each_there Q w.lanes k moves.lane all moves.there) in
+    entries_keep P Q keeps run.0 entries v events.1 run.2 (subst (λ (l : List LaneState). Each Q l) (sym moves.lanes) (each_set Q w.lanes k moves.after all holds))
+entries_keep P Q keeps w (Settled ∷ entries) v events run all = entries_keep P Q keeps run.0 entries v events run.2 (subst (λ (x : WorldState). Each Q x.lanes) (sym run.1) all)
+entries_keep P Q keeps w (Unsettled k ∷ entries) v events run all = entries_keep P Q keeps run.0 entries v events run.2 (subst (λ (x : WorldState). Each Q x.lanes) (sym run.1) all)
+
+-- NOBODY FORGES
+line_clean : (w : WorldState) (line : Line) (part : List SettleEntry) (v : WorldState) → LineMoves w line part v → Each IsUnforged w.lanes → Each IsUnforged v.lanes
+line_clean w line part v moves all =
+    entries_keep IsHonest IsUnforged stays_unforged w part v
+    (line_all IsHonest step_honest tt asked_honest line (λ k call event is answers. call_honest call event answers) w.lanes part v.lanes moves.part_of) moves.run all
+
+lines_clean : (w : WorldState) (lines : List (Line × List SettleEntry)) (v : WorldState) → Run LineStep w lines v → Each IsUnforged w.lanes → Each IsUnforged v.lanes
+lines_clean w [] v run all = subst (λ (x : WorldState). Each IsUnforged x.lanes) run all
+lines_clean w (line ∷ lines) v run all = lines_clean run.0 lines v run.2 (line_clean w line.0 line.1 run.0 run.1 all)
+
+fresh_clean : (shapes : List Shape) → Each IsUnforged (map fresh shapes)
+fresh_clean [] = tt
+fresh_clean (shape ∷ shapes) = (refl, fresh_clean shapes)
+
+pub unforged_behind : (shapes : List Shape) (image : ImageState) (lines : List (Line × List SettleEntry)) (w : WorldState) → Run LineStep (fresh_world shapes image) lines w → Each IsUnforged w.lanes
+unforged_behind shapes image lines w run = lines_clean (fresh_world shapes image) lines w run (fresh_clean shapes)
+
+pub unforged_begun : (shapes : List Shape) (image : ImageState) (lines : List (Line × List SettleEntry)) (w : WorldState) (line : Line) (part : List SettleEntry) (v : WorldState)
+    → Run LineStep (fresh_world shapes image) lines w → LineBegins w line part v → Each IsUnforged v.lanes
+unforged_begun shapes image lines w line part v run begun =
+    entries_keep IsHonest IsUnforged stays_unforged w part v (line_begun IsHonest step_honest tt line w.lanes part v.lanes begun.begins) begun.run (unforged_behind shapes image lines w run)
+
+-- ALL RUN
+line_runs : (w : WorldState) (line : Line) (part : List SettleEntry) (v : WorldState) → LeavesRunning line → LineMoves w line part v → Each IsRunning w.lanes → Each IsRunning v.lanes
+line_runs w line part v leaves moves all =
+    entries_keep KeepsOn IsRunning stays_running w part v
+    (line_all KeepsOn step_on tt asked_on line (λ k call event is answers. call_on k call event (subst LeavesRunning is leaves) answers) w.lanes part v.lanes moves.part_of) moves.run all
+
+lines_all_run : (w : WorldState) (lines : List (Line × List SettleEntry)) (v : WorldState) → AllLeaveRunning lines → Run LineStep w lines v → Each IsRunning w.lanes → Each IsRunning v.lanes
+lines_all_run w [] v leave run all = subst (λ (x : WorldState). Each IsRunning x.lanes) run all
+lines_all_run w (line ∷ lines) v leave run all = lines_all_run run.0 lines v leave.1 run.2 (line_runs w line.0 line.1 run.0 leave.0 run.1 all)
+
+fresh_runs : (shapes : List Shape) → Each IsRunning (map fresh shapes)
+fresh_runs [] = tt
+fresh_runs (shape ∷ shapes) = (refl, fresh_runs shapes)
+
+pub running_behind : (shapes : List Shape) (image : ImageState) (lines : List (Line × List SettleEntry)) (w : WorldState) → AllLeaveRunning lines → Run LineStep (fresh_world shapes image) lines w
+    → Each IsRunning w.lanes
+running_behind shapes image lines w leave run = lines_all_run (fresh_world shapes image) lines w leave run (fresh_runs shapes)
+
+-- a front of a line is none of a call's, so that it stops nothing, whatever the line
+pub running_begun : (shapes : List Shape) (image : ImageState) (lines : List (Line × List SettleEntry)) (w : WorldState) (line : Line) (part : List SettleEntry) (v : WorldState) → AllLeaveRunning lines
+    → Run LineStep (fresh_world shapes image) lines w → LineBegins w line part v → Each IsRunning v.lanes
+running_begun shapes image lines w line part v leave run begun =
+    entries_keep KeepsOn IsRunning stays_running w part v (line_begun KeepsOn step_on tt line w.lanes part v.lanes begun.begins) begun.run (running_behind shapes image lines w leave run)

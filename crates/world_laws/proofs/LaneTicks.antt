@@ -1,0 +1,53 @@
+-- One lane at the tick after a quiet round: what remains falls where nobody forged, and nothing is lost any more after it.
+use Rattle.std.proofs.Common.{◌≡◌, ◌<◌, ◌⊎◌, inl, inr, Bool, true, false, None, refl, sym, ap, ◌∙◌}
+use Rattle.std.specs.Prelude.{if◌then◌else◌}
+use Rattle.ldc_queue.specs.declared.end.End.TheVariants.{A}
+use Rattle.vio_tag.specs.declared.cause.Cause.TheVariants as the_cause
+use Rattle.disk_model.specs.ClientState.{is_finished}
+use Rattle.disk_model.specs.LaneState.{LaneState}
+use Rattle.disk_model.specs.LaneStep.{LaneStep}
+use Rattle.disk_model.specs.Reached.{IsReached}
+use Rattle.lane_laws.proofs.TickSteps.{tick_begins}
+use Rattle.lane_laws.specs.Remaining.{remaining}
+use Rattle.lane_laws.specs.TickBegins.{TickBegins}
+use Rattle.lane_laws.specs.CalmEnds.{HaveFinished, StepKeeps}
+use Rattle.world_laws.proofs.LaneRounds.{quiet_finished, quiet_same, quiet_up, round_keeps, round_reached}
+use Rattle.world_laws.specs.Rounds.{LaneRound, MakesRound, is_quiet}
+use Rattle.world_laws.specs.Sums.{IsUnforged}
+use Rattle.world_laws.specs.Ticks.{tick, waits_on}
+
+pub either : (b : Bool) → (b ≡ true) ⊎ (b ≡ false)
+either true = inl refl
+either false = inr refl
+
+pub waits_where : (finished stopped : Bool) → (if finished then false else if stopped then false else true) ≡ true → (finished ≡ false) × (stopped ≡ false)
+waits_where true stopped waits = absurd (cc waits)
+waits_where false true waits = absurd (cc waits)
+waits_where false false waits = (refl, refl)
+
+pub rests_where : (finished stopped : Bool) → (if finished then false else if stopped then false else true) ≡ false → stopped ≡ false → finished ≡ true
+rests_where true stopped rests runs = refl
+rests_where false true rests runs = sym runs
+rests_where false false rests runs = absurd (cc rests)
+
+pub tick_at : (s t : LaneState) → IsReached s → LaneStep s tick t → TickBegins s t
+tick_at s t at step = tick_begins at.shape at.events s A the_cause.Tick None 0 t at.sound at.run refl step
+
+-- a quiet lane that waits lost a packet
+waits_lossy : (s : LaneState) (r : LaneRound) (t : LaneState) → IsReached s → IsUnforged s → MakesRound s r t → is_quiet r ≡ true → s.stopped ≡ false → is_finished t.client ≡ false
+    → (s.wire.lossy ≡ true) ⊎ (s.wire.lossy ≡ false) → t.wire.lossy ≡ true
+waits_lossy s r t at clean made quiet runs unfinished (inl lossy) = ap (λ (x : LaneState). x.wire.lossy) (quiet_same s r t at clean runs made quiet) ∙ lossy
+waits_lossy s r t at clean made quiet runs unfinished (inr whole) =
+    let done : HaveFinished t = quiet_finished s r t at clean whole runs made quiet in
+    let never : true ≡ false = sym done.finished ∙ unfinished in
+    absurd (cc never)
+
+pub tick_falls : (s : LaneState) (r : LaneRound) (t u : LaneState) → IsReached s → IsUnforged s → MakesRound s r t → is_quiet r ≡ true → waits_on t ≡ true → LaneStep t tick u → remaining u < remaining t
+tick_falls s r t u at clean made quiet waits step =
+    let keeps : StepKeeps s t = round_keeps s r t made in
+    let both = waits_where (is_finished t.client) t.stopped waits in
+    (tick_at t u (round_reached s r t at made) step).falls (quiet_up s r t at made quiet)
+    (waits_lossy s r t at clean made quiet (sym keeps.stopped ∙ both.1) both.0 (either s.wire.lossy))
+
+pub tick_whole : (s : LaneState) (r : LaneRound) (t u : LaneState) → IsReached s → MakesRound s r t → is_quiet r ≡ true → LaneStep t tick u → u.wire.lossy ≡ false
+tick_whole s r t u at made quiet step = (tick_at t u (round_reached s r t at made) step).whole (quiet_up s r t at made quiet)

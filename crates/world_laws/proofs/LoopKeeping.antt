@@ -1,0 +1,187 @@
+-- What each event keeps of a lane: its shape; and the client's next id, but where a request is accepted.
+use Rattle.std.proofs.Common.{◌≡◌, ℕ, ◌+◌, Bool, true, false, Option, Some, None, List, [], ◌∷◌, slice_get, slice_set, Result, Ok, Err, refl, sym, ap, ◌∙◌, subst, arith}
+use Rattle.std.specs.Prelude.{zero, suc, nat_le, nat_lt, ◌&&◌, if◌then◌else◌, ⊤}
+use Rattle.ldc_link.specs.LinkState.{cleared}
+use Rattle.ldc_link.specs.Taking.{Heard, LinkTake, Unheard}
+use Rattle.ldc_packet.specs.declared.packet.Subtype.{Subtype}
+use Rattle.ldc_packet.specs.declared.packet.Subtype.TheVariants.{Ack, Nack}
+use Rattle.ldc_queue.specs.declared.end.End.{End}
+use Rattle.ldc_queue.specs.declared.end.End.TheVariants.{A, B}
+use Rattle.vio_tag.specs.declared.cause.Cause.{Cause}
+use Rattle.vio_tag.specs.declared.cause.Cause.TheVariants as the_cause
+use Rattle.vio_tag.specs.declared.message.Message.{Message}
+use Rattle.vio_tag.specs.declared.message.MsgBody.{MsgBody}
+use Rattle.vio_tag.specs.declared.message.MsgBody.TheVariants.{DringData}
+use Rattle.vio_tag.specs.declared.message.TagFault.{TagFault}
+use Rattle.lane_laws.specs.Rules.{Faults, Goes, GoesOpen, ShakeTake, shake_take, sid_fault}
+use Rattle.disk_model.specs.WireEvent.{Blocked, ByRestart, ByScript, ByStep, ByTick, Declines, Giver, Idle, Injected, Joined, Lost, Poked, Reset, Sent, Took, WireEvent, giver}
+use Rattle.disk_model.specs.ClientRule.{client_rule}
+use Rattle.disk_model.specs.ClientState.{ClientSession, ClientState, slot_in}
+use Rattle.disk_model.specs.ClientTaking as taking
+use Rattle.disk_model.specs.DiskEvent.{Accepted, Admitted, Asks, Calm, CalmReset, CalmRestart, CalmStart, CalmStop, CalmTick, Desc, DiskEvent, Done, Finished, Full, Misplaced, Moved, Off, OnWire, Published, Refused, Rests, Started, Stopped, Stored, Switched, Turns, Worked, Works}
+use Rattle.disk_model.specs.LaneState.{LaneState}
+use Rattle.disk_model.specs.LaneStep.{EndOnWire, LaneStep, ResetBy, RestStep, TurnStep, WireStep, WorkStep}
+use Rattle.disk_model.specs.Ranges.{is_other, range_length}
+use Rattle.disk_model.specs.Seeing.{seen}
+use Rattle.lane_laws.proofs.Requesting.{held_kept, sent_kept}
+use Rattle.lane_laws.proofs.RingPages.{same_pages}
+use Rattle.lane_laws.proofs.Ruling.{client_may}
+pub use Rattle.world_laws.proofs.Places.{get_other, get_set}
+use Rattle.world_laws.specs.Issued.{issued_on, next_behind}
+
+-- THE SHAPE stays
+pub keeps_shape : (s : LaneState) (event : DiskEvent) (t : LaneState) → LaneStep s event t → t.shape ≡ s.shape
+keeps_shape s event t step = (same_pages s event t step).shape
+
+-- WHAT A CLIENT TAKES gives no id
+abbrev KeepsNext : ℕ → taking.ClientTake → Type 0
+KeepsNext n (taking.GoesOn t) = t.next_id ≡ n
+KeepsNext n (taking.Resets cause) = ⊤
+
+next_if : (n : ℕ) (b : Bool) (one other : taking.ClientTake) → KeepsNext n one → KeepsNext n other → KeepsNext n (if b then one else other)
+next_if n true one other first second = first
+next_if n false one other first second = second
+
+next_shake : (s : ClientState) (take : ShakeTake) → KeepsNext s.next_id (taking.by_handshake s take)
+next_shake s (Goes h) = refl
+next_shake s (GoesOpen h) = refl
+next_shake s (Faults cause) = tt
+
+next_ack : (s : ClientState) (session : ClientSession) (ident start end : ℕ) → KeepsNext s.next_id (taking.takes_ack s session ident start end)
+next_ack s session ident start end =
+    next_if s.next_id (is_other s.shake.draft.ident_own ident) (taking.Resets (the_cause.Ident s.shake.draft.ident_own ident)) _ tt
+    (next_if s.next_id (is_other (slot_in s session.acked) start) (taking.Resets (the_cause.Slot (slot_in s session.acked) start)) _ tt
+    (next_if s.next_id (nat_lt end s.slots && nat_le (session.acked + range_length s.slots start end) session.announced)
+    (taking.GoesOn (taking.acknowledged s session (range_length s.slots start end))) (taking.Resets (the_cause.RangeEnd end)) refl tt))
+
+next_in : (s : ClientState) (session : ClientSession) (message : Message) (subtype : Subtype) (b : MsgBody) → KeepsNext s.next_id (taking.in_session s session message subtype b)
+next_in s session message Ack (DringData seq ident start end state) = next_ack s session ident start end
+next_in s session message Nack (DringData seq ident start end state) = tt
+next_in s session message _ _ = next_shake s (shake_take s.shake message)
+
+next_or : (n : ℕ) (fault : Option Cause) (rest : taking.ClientTake) → KeepsNext n rest → KeepsNext n (taking.sid_first fault rest)
+next_or n None rest keeps = keeps
+next_or n (Some cause) rest keeps = tt
+
+next_hears : (s : ClientState) (session : Option ClientSession) (message : Message) → KeepsNext s.next_id (taking.hears_message s session message)
+next_hears s None message = next_shake s (shake_take s.shake message)
+next_hears s (Some session) message =
+    next_or s.next_id (sid_fault s.shake.sid message.sid) (taking.in_session s session message message.subtype message.body) (next_in s session message message.subtype message.body)
+
+next_reads : (s : ClientState) (decoded : Result Message TagFault) → KeepsNext s.next_id (taking.reads s decoded)
+next_reads s (Ok message) = next_hears s s.session message
+next_reads s (Err fault) = tt
+
+next_whole : (s : ClientState) (whole : Option (List ℕ)) (take : taking.ClientTake) → taking.HearsWhole s whole take → KeepsNext s.next_id take
+next_whole s None take is = subst (λ (x : taking.ClientTake). KeepsNext s.next_id x) (sym is) refl
+next_whole s (Some bytes) take is = subst (λ (x : taking.ClientTake). KeepsNext s.next_id x) (sym is.2) (next_reads (record s { link = cleared s.link }) is.0)
+
+next_link : (s : ClientState) (link : LinkTake) (take : taking.ClientTake) → taking.HearsLink s link take → KeepsNext s.next_id take
+next_link s (Heard k) take hears = next_whole (record s { link = k }) k.whole take hears
+next_link s (Unheard cause) take is = subst (λ (x : taking.ClientTake). KeepsNext s.next_id x) (sym is) tt
+
+next_takes : (s : ClientState) (packet : List ℕ) (t : ClientState) → taking.ClientTakes s packet (taking.GoesOn t) → t.next_id ≡ s.next_id
+next_takes s packet t takes = next_link s takes.link (taking.GoesOn t) takes.hears
+
+-- NO EVENT ON THE WIRE gives one
+next_joined : (e : End) (s : LaneState) (lost : ℕ) (t : LaneState) → EndOnWire e s (Joined e lost) t → t.client.next_id ≡ s.client.next_id
+next_joined A s lost t step = ap (λ (x : ClientState). x.next_id) step.step.2
+next_joined B s lost t step = ap (λ (x : LaneState). x.client.next_id) step.1.is
+
+next_took : (e : End) (s : LaneState) (packet : List ℕ) (opens : Bool) (t : LaneState) → EndOnWire e s (Took e packet opens) t → t.client.next_id ≡ s.client.next_id
+next_took A s packet opens t step = next_takes s.client packet t.client step.step.1
+next_took B s packet opens t step = ap (λ (x : LaneState). x.client.next_id) step.1.is
+
+next_sent : (e : End) (s : LaneState) (packet : List ℕ) (opens : Bool) (t : LaneState) → EndOnWire e s (Sent e packet opens) t → t.client.next_id ≡ s.client.next_id
+next_sent A s packet opens t step = (sent_kept s.client (seen A s.shape.entries s.wire.wire) s.memory packet opens t.client t.memory step.step).next
+next_sent B s packet opens t step = ap (λ (x : LaneState). x.client.next_id) step.1.is
+
+next_idle : (e : End) (s : LaneState) (t : LaneState) → EndOnWire e s (Idle e) t → t.client.next_id ≡ s.client.next_id
+next_idle A s t step = ap (λ (x : ClientState). x.next_id) step.step.1
+next_idle B s t step = ap (λ (x : LaneState). x.client.next_id) step.1.is
+
+next_blocked : (e : End) (s : LaneState) (t : LaneState) → EndOnWire e s (Blocked e) t → t.client.next_id ≡ s.client.next_id
+next_blocked A s t step =
+    let at = seen A s.shape.entries s.wire.wire in
+    (held_kept s.client at (client_rule s.client at) t.client (client_may s.client at) step.step.0).next
+next_blocked B s t step = ap (λ (x : LaneState). x.client.next_id) step.1.is
+
+next_reset : (e : End) (s : LaneState) (cause : Cause) (packet : Option (List ℕ)) (lost : ℕ) (t : LaneState) → EndOnWire e s (Reset e cause packet lost) t → t.client.next_id ≡ s.client.next_id
+next_reset A s cause packet lost t step = ap (λ (x : ClientState). x.next_id) step.step.2
+next_reset B s cause packet lost t step = ap (λ (x : LaneState). x.client.next_id) step.1.is
+
+next_reset_by : (by : Giver) (e : End) (s : LaneState) (cause : Cause) (packet : Option (List ℕ)) (lost : ℕ) (t : LaneState) → ResetBy by e s cause packet lost t → t.client.next_id ≡ s.client.next_id
+next_reset_by ByStep e s cause packet lost t step = next_reset e s cause packet lost t step
+next_reset_by ByScript A s cause packet lost t step = ap (λ (x : LaneState). x.client.next_id) step.2
+next_reset_by ByScript B s cause packet lost t step = ap (λ (x : LaneState). x.client.next_id) step.1.2
+next_reset_by ByRestart A s cause packet lost t step = absurd step
+next_reset_by ByRestart B s cause packet lost t step = ap (λ (x : LaneState). x.client.next_id) step.1.2
+next_reset_by ByTick A s cause packet lost t step = ap (λ (x : LaneState). x.client.next_id) step.1.2
+next_reset_by ByTick B s cause packet lost t step = absurd step
+
+next_poked : (e : End) (s : LaneState) (at : ℕ) (bytes : List ℕ) (t : LaneState) → WireStep s (Poked e at bytes) t → t.client.next_id ≡ s.client.next_id
+next_poked A s at bytes t step = ap (λ (x : LaneState). x.client.next_id) step.1
+next_poked B s at bytes t step = absurd step
+
+next_on_wire : (s : LaneState) (event : WireEvent) (t : LaneState) → WireStep s event t → t.client.next_id ≡ s.client.next_id
+next_on_wire s (Joined e lost) t step = next_joined e s lost t step
+next_on_wire s (Took e packet opens) t step = next_took e s packet opens t step
+next_on_wire s (Sent e packet opens) t step = next_sent e s packet opens t step
+next_on_wire s (Idle e) t step = next_idle e s t step
+next_on_wire s (Blocked e) t step = next_blocked e s t step
+next_on_wire s (Reset e cause packet lost) t step = next_reset_by (giver cause) e s cause packet lost t step
+next_on_wire s (Lost e packet) t step = ap (λ (x : LaneState). x.client.next_id) step.1
+next_on_wire s (Injected e packet) t step = ap (λ (x : LaneState). x.client.next_id) step.2
+next_on_wire s (Poked e at bytes) t step = next_poked e s at bytes t step
+next_on_wire s (Declines d) t step = ap (λ (x : LaneState). x.client.next_id) step.1
+
+-- nor any work, call or refusal
+next_works : (s : LaneState) (event : Worked) (t : LaneState) → WorkStep s event t → t.client.next_id ≡ s.client.next_id
+next_works s (Published id) t step = ap (λ (x : ClientState). x.next_id) step.step.is
+next_works s (Done id operation status bytes) t step = ap (λ (x : ClientState). x.next_id) step.step.is
+next_works s (Desc slot bytes) t step = ap (λ (x : LaneState). x.client.next_id) step.1.is
+next_works s (Moved unit fault) t step = ap (λ (x : LaneState). x.client.next_id) step.1.is
+next_works s (Stored operation block count failed) t step = ap (λ (x : LaneState). x.client.next_id) step.1.is
+next_works s (Finished slot status) t step = ap (λ (x : LaneState). x.client.next_id) step.1.is
+next_works s Misplaced t step = absurd step
+
+next_turns : (s : LaneState) (event : Switched) (t : LaneState) → TurnStep s event t → t.client.next_id ≡ s.client.next_id
+next_turns s Stopped t step = ap (λ (x : LaneState). x.client.next_id) step.1
+next_turns s Started t step = ap (λ (x : LaneState). x.client.next_id) step.1
+next_turns s Off t step = ap (λ (x : LaneState). x.client.next_id) step.1
+
+next_rests : (s : LaneState) (event : Calm) (t : LaneState) → RestStep s event t → t.client.next_id ≡ s.client.next_id
+next_rests s CalmTick t step = ap (λ (x : LaneState). x.client.next_id) step.1
+next_rests s CalmStop t step = ap (λ (x : LaneState). x.client.next_id) step.1
+next_rests s CalmStart t step = ap (λ (x : LaneState). x.client.next_id) step.1
+next_rests s (CalmReset A) t step = absurd step
+next_rests s (CalmReset B) t step = ap (λ (x : LaneState). x.client.next_id) step.1
+next_rests s CalmRestart t step = ap (λ (x : LaneState). x.client.next_id) step.1
+
+next_asks : (s : LaneState) (event : Admitted) (t : LaneState) → LaneStep s (Asks event) t → t.client.next_id ≡ next_behind (Asks event) s.client.next_id
+next_asks s (Accepted id request) t step = ap (λ (x : ClientState). x.next_id) step.0.5
+next_asks s (Full request) t step = ap (λ (x : ClientState). x.next_id) step.0.2
+next_asks s (Refused why request) t step = ap (λ (x : ClientState). x.next_id) step.0.1
+
+-- THE NEXT ID after an event
+pub next_is : (s : LaneState) (event : DiskEvent) (t : LaneState) → LaneStep s event t → t.client.next_id ≡ next_behind event s.client.next_id
+next_is s (OnWire event) t step = next_on_wire s event t step
+next_is s (Asks event) t step = next_asks s event t step
+next_is s (Works event) t step = next_works s event t step
+next_is s (Turns event) t step = next_turns s event t step
+next_is s (Rests event) t step = next_rests s event t step
+
+-- AND OF ALL LANES, where one is set
+set_here : (new old rest : ℕ) → (new + rest) + old ≡ (old + rest) + new
+set_here new old rest = omega (arith)
+
+set_later : (first new old before now : ℕ) → now + old ≡ before + new → (first + now) + old ≡ (first + before) + new
+set_later first new old before now is = omega (arith, is)
+
+pub issued_set : (lanes : List LaneState) (k : ℕ) (s t : LaneState) → slice_get lanes k ≡ Some s → issued_on (slice_set lanes k t) + s.client.next_id ≡ issued_on lanes + t.client.next_id
+issued_set [] k s t there = absurd (cc there)
+issued_set (x ∷ lanes) zero s t there =
+    let same : x ≡ s = cc there in
+    set_here t.client.next_id s.client.next_id (issued_on lanes) ∙ ap (λ (y : LaneState). (y.client.next_id + issued_on lanes) + t.client.next_id) (sym same)
+issued_set (x ∷ lanes) (suc k) s t there =
+    set_later x.client.next_id t.client.next_id s.client.next_id (issued_on lanes) (issued_on (slice_set lanes k t)) (issued_set lanes k s t there)

@@ -1,0 +1,214 @@
+-- Each lane is run by what the part of a settle says happened to it: a step that leaves no entry left the lane as it was.
+use Rattle.std.proofs.Common.{◌≡◌, ℕ, ◌+◌, ◌≤◌, ◌<◌, inl, inr, Bool, true, false, List, [], ◌∷◌, ◌++◌, refl, sym, ap, ◌∙◌, subst, arith}
+use Rattle.std.proofs.lemmas.Bool.{eq-eqb, eqb-true}
+use Rattle.std.proofs.lemmas.List.{append_assoc}
+use Rattle.std.specs.Prelude.{◌&&◌, ◌==◌, if◌then◌else◌}
+use Rattle.runs.specs.Run.{Run, run_append}
+use Rattle.disk_model.specs.WireEvent.{Idle}
+use Rattle.disk_model.specs.DiskEvent.{DiskEvent, Off, OnWire, Turns}
+use Rattle.disk_model.specs.LaneState.{LaneState}
+use Rattle.disk_model.specs.LaneStep.{LaneStep}
+use Rattle.lane_laws.proofs.StepFalls.{idles}
+use Rattle.world_laws.proofs.RoundCounts.{tick_entry}
+use Rattle.world_laws.specs.Along.{LanesMove, event_at, happened}
+use Rattle.world_laws.specs.Rounds.{LaneRound, MakeRound, MakesRound, are_quiet, is_quiet}
+use Rattle.world_laws.specs.Settle.{GoesOn, OfLane, SettleEntry, SettlePart, SettleRound, Settled, Settling, TicksBehind, Unsettled, begin, entries_of, entry_of, left_over, round_entries, tick_entries}
+use Rattle.world_laws.specs.Ticks.{TickLanes, TicksWhere, gets_tick, tick, waits_on}
+
+pub happened_both : (k : ℕ) (before behind : List SettleEntry) → happened k (before ++ behind) ≡ happened k before ++ happened k behind
+happened_both k [] behind = refl
+happened_both k (x ∷ before) behind =
+    ap (λ (l : List DiskEvent). event_at k x ++ l) (happened_both k before behind) ∙ sym (append_assoc (event_at k x) (happened k before) (happened k behind))
+
+-- ONE PART BEHIND ANOTHER
+pub moves_on : (j : ℕ) (lanes between behind : List LaneState) (before part : List SettleEntry) → LanesMove j lanes before between → LanesMove j between part behind
+    → LanesMove j lanes (before ++ part) behind
+moves_on j [] [] [] before part one two = tt
+moves_on j (s ∷ lanes) (m ∷ between) (t ∷ behind) before part one two = (
+  subst (λ (l : List DiskEvent). Run LaneStep s l t) (sym (happened_both j before part)) (run_append LaneStep s m t (happened j before) (happened j part) one.0 two.0),
+  moves_on (j + 1) lanes between behind before part one.1 two.1,
+)
+moves_on j [] [] (t ∷ behind) before part one two = absurd two
+moves_on j [] (m ∷ between) behind before part one two = absurd one
+moves_on j (s ∷ lanes) [] behind before part one two = absurd one
+moves_on j (s ∷ lanes) (m ∷ between) [] before part one two = absurd two
+
+-- NOTHING HAPPENED to a lane of this number or a later one
+abbrev pub IsBelow : ℕ → List SettleEntry → Type 0
+IsBelow j part = (k : ℕ) → j ≤ k → happened k part ≡ []
+
+pub weaken : (j k : ℕ) → j + 1 ≤ k → j ≤ k
+weaken j k less = omega (arith, less)
+
+itself : (j : ℕ) → j ≤ j
+itself j = omega (arith)
+
+pub behind_others : (j : ℕ) (lanes behind : List LaneState) (front part : List SettleEntry) → IsBelow j front → LanesMove j lanes part behind → LanesMove j lanes (front ++ part) behind
+behind_others j [] [] front part others move = tt
+behind_others j (s ∷ lanes) (t ∷ behind) front part others move = (
+  subst (λ (l : List DiskEvent). Run LaneStep s l t) (sym (happened_both j front part ∙ ap (λ (l : List DiskEvent). l ++ happened j part) (others j (itself j)))) move.0,
+  behind_others (j + 1) lanes behind front part (λ k less. others k (weaken j k less)) move.1,
+)
+behind_others j [] (t ∷ behind) front part others move = absurd move
+behind_others j (s ∷ lanes) [] front part others move = absurd move
+
+-- ENTRIES OF ONE LANE
+other_lane : (c : Bool) (j k : ℕ) (event : DiskEvent) → (c ≡ true → j ≡ k) → j + 1 ≤ k → (if c then event ∷ [] else []) ++ [] ≡ []
+other_lane true j k event same less = absurd (omega (arith, same refl, less))
+other_lane false j k event same less = refl
+
+one_below : (j : ℕ) (event : DiskEvent) (k : ℕ) → j + 1 ≤ k → happened k (OfLane j event ∷ []) ≡ []
+one_below j event k less = other_lane (j == k) j k event (eqb-true j k) less
+
+pub entry_below : (j : ℕ) (event : DiskEvent) → IsBelow (j + 1) (entry_of j event)
+entry_below j (OnWire (Idle e)) k less = refl
+entry_below j (Turns Off) k less = refl
+entry_below j event k less = one_below j event k less
+
+pub both_below : (j : ℕ) (one two : List SettleEntry) → IsBelow j one → IsBelow j two → IsBelow j (one ++ two)
+both_below j one two first second k less = happened_both k one two ∙ ap (λ (l : List DiskEvent). l ++ happened k two) (first k less) ∙ second k less
+
+-- AND OF LATER LANES: none of this one
+before_lane : (c : Bool) (j k : ℕ) (event : DiskEvent) → (c ≡ true → j ≡ k) → k < j → (if c then event ∷ [] else []) ++ [] ≡ []
+before_lane true j k event same less = absurd (omega (arith, same refl, less))
+before_lane false j k event same less = refl
+
+one_above : (j : ℕ) (event : DiskEvent) (k : ℕ) → k < j → happened k (OfLane j event ∷ []) ≡ []
+one_above j event k less = before_lane (j == k) j k event (eqb-true j k) less
+
+pub entry_above : (j : ℕ) (event : DiskEvent) (k : ℕ) → k < j → happened k (entry_of j event) ≡ []
+entry_above j (OnWire (Idle e)) k less = refl
+entry_above j (Turns Off) k less = refl
+entry_above j event k less = one_above j event k less
+
+pub below_next : (j k : ℕ) → k < j → k < j + 1
+below_next j k less = omega (arith, less)
+
+pub next : (j : ℕ) → j < j + 1
+next j = omega (arith)
+
+pub both_none : (k : ℕ) (one two : List SettleEntry) → happened k one ≡ [] → happened k two ≡ [] → happened k (one ++ two) ≡ []
+both_none k one two first second = happened_both k one two ∙ ap (λ (l : List DiskEvent). l ++ happened k two) first ∙ second
+
+rounds_above : (j : ℕ) (rounds : List LaneRound) (k : ℕ) → k < j → happened k (round_entries j rounds) ≡ []
+rounds_above j [] k less = refl
+rounds_above j (r ∷ rounds) k less =
+    both_none k (entry_of j r.client ++ entry_of j r.server) (round_entries (j + 1) rounds)
+    (both_none k (entry_of j r.client) (entry_of j r.server) (entry_above j r.client k less) (entry_above j r.server k less)) (rounds_above (j + 1) rounds k (below_next j k less))
+
+-- A STEP
+its_own : (j : ℕ) (event : DiskEvent) → happened j (OfLane j event ∷ []) ≡ event ∷ []
+its_own j event = ap (λ (c : Bool). (if c then event ∷ [] else []) ++ []) (eq-eqb j j refl)
+
+one_run : (j : ℕ) (s : LaneState) (event : DiskEvent) (t : LaneState) → LaneStep s event t → Run LaneStep s (happened j (OfLane j event ∷ [])) t
+one_run j s event t step = subst (λ (l : List DiskEvent). Run LaneStep s l t) (sym (its_own j event)) (t, step, refl)
+
+pub step_run : (j : ℕ) (s : LaneState) (event : DiskEvent) (t : LaneState) → LaneStep s event t → Run LaneStep s (happened j (entry_of j event)) t
+step_run j s (OnWire (Idle e)) t step = sym (idles e s t step)
+step_run j s (Turns Off) t step = sym step.1
+step_run j s event t step = one_run j s event t step
+
+pub round_run : (j : ℕ) (s : LaneState) (r : LaneRound) (t : LaneState) → MakesRound s r t → Run LaneStep s (happened j (entry_of j r.client ++ entry_of j r.server)) t
+round_run j s r t made =
+    subst (λ (l : List DiskEvent). Run LaneStep s l t) (sym (happened_both j (entry_of j r.client) (entry_of j r.server)))
+    (run_append LaneStep s made.between t (happened j (entry_of j r.client)) (happened j (entry_of j r.server)) (step_run j s r.client made.between made.first)
+    (step_run j made.between r.server t made.second))
+
+nothing_more : (l more : List DiskEvent) → more ≡ [] → l ++ more ≡ l
+nothing_more [] more none = none
+nothing_more (x ∷ l) more none = ap (λ (rest : List DiskEvent). x ∷ rest) (nothing_more l more none)
+
+pub own_front : (j : ℕ) (s : LaneState) (front part : List SettleEntry) (t : LaneState) → happened j part ≡ [] → Run LaneStep s (happened j front) t → Run LaneStep s (happened j (front ++ part)) t
+own_front j s front part t none run =
+    subst (λ (l : List DiskEvent). Run LaneStep s l t) (sym (happened_both j front part ∙ nothing_more (happened j front) (happened j part) none)) run
+
+-- A ROUND
+pub round_moves_lanes : (j : ℕ) (lanes : List LaneState) (rounds : List LaneRound) (behind : List LaneState) → MakeRound lanes rounds behind → LanesMove j lanes (round_entries j rounds) behind
+round_moves_lanes j [] [] [] made = tt
+round_moves_lanes j (s ∷ lanes) (r ∷ rounds) (t ∷ behind) made = (
+  own_front j s (entry_of j r.client ++ entry_of j r.server) (round_entries (j + 1) rounds) t (rounds_above (j + 1) rounds j (next j)) (round_run j s r t made.0),
+  behind_others (j + 1) lanes behind (entry_of j r.client ++ entry_of j r.server) (round_entries (j + 1) rounds)
+      (both_below (j + 1) (entry_of j r.client) (entry_of j r.server) (entry_below j r.client) (entry_below j r.server)) (round_moves_lanes (j + 1) lanes rounds behind made.1),
+)
+round_moves_lanes j _ _ _ made = absurd made
+
+-- THE TICKS
+pub tick_below : (j : ℕ) (get : Bool) → IsBelow (j + 1) (tick_entry j get)
+tick_below j true k less = one_below j tick k less
+tick_below j false k less = refl
+
+pub tick_above : (j : ℕ) (get : Bool) (k : ℕ) → k < j → happened k (tick_entry j get) ≡ []
+tick_above j true k less = one_above j tick k less
+tick_above j false k less = refl
+
+ticks_above : (j : ℕ) (lanes : List LaneState) (marks : List Bool) (k : ℕ) → k < j → happened k (tick_entries j lanes marks) ≡ []
+ticks_above j [] marks k less = refl
+ticks_above j (s ∷ lanes) [] k less = refl
+ticks_above j (s ∷ lanes) (had ∷ marks) k less =
+    both_none k (tick_entry j (gets_tick s had)) (tick_entries (j + 1) lanes marks) (tick_above j (gets_tick s had) k less) (ticks_above (j + 1) lanes marks k (below_next j k less))
+
+pub tick_run : (j : ℕ) (get : Bool) (s t : LaneState) → TicksWhere get s t → Run LaneStep s (happened j (tick_entry j get)) t
+tick_run j true s t step = one_run j s tick t step
+tick_run j false s t same = sym same
+
+pub ticks_move_lanes : (j : ℕ) (lanes : List LaneState) (marks : List Bool) (behind : List LaneState) → TickLanes lanes marks behind → LanesMove j lanes (tick_entries j lanes marks) behind
+ticks_move_lanes j [] [] [] ticks = tt
+ticks_move_lanes j (s ∷ lanes) (had ∷ marks) (t ∷ behind) ticks = (
+  own_front j s (tick_entry j (gets_tick s had)) (tick_entries (j + 1) lanes marks) t (ticks_above (j + 1) lanes marks j (next j)) (tick_run j (gets_tick s had) s t ticks.0),
+  behind_others (j + 1) lanes behind (tick_entry j (gets_tick s had)) (tick_entries (j + 1) lanes marks) (tick_below j (gets_tick s had))
+      (ticks_move_lanes (j + 1) lanes marks behind ticks.1),
+)
+ticks_move_lanes j _ _ _ ticks = absurd ticks
+
+-- THE ANSWER moves none
+pub stay : (j : ℕ) (lanes : List LaneState) → LanesMove j lanes [] lanes
+stay j [] = tt
+stay j (s ∷ lanes) = (refl, stay (j + 1) lanes)
+
+pub settled_moves : (j : ℕ) (lanes : List LaneState) → LanesMove j lanes (Settled ∷ []) lanes
+settled_moves j [] = tt
+settled_moves j (s ∷ lanes) = (refl, settled_moves (j + 1) lanes)
+
+name_none : (k j : ℕ) (c : Bool) → happened k (if c then [] else Unsettled j ∷ []) ≡ []
+name_none k j true = refl
+name_none k j false = refl
+
+pub left_none : (k j : ℕ) (steps : List LaneRound) (lanes : List LaneState) → happened k (left_over j steps lanes) ≡ []
+left_none k j [] lanes = refl
+left_none k j (r ∷ steps) [] = refl
+left_none k j (r ∷ steps) (s ∷ lanes) =
+    both_none k (if is_quiet r && (if waits_on s then false else true) then [] else Unsettled j ∷ []) (left_over (j + 1) steps lanes)
+    (name_none k j (is_quiet r && (if waits_on s then false else true))) (left_none k (j + 1) steps lanes)
+
+pub nothing_moves : (j : ℕ) (lanes : List LaneState) (part : List SettleEntry) → ((k : ℕ) → happened k part ≡ []) → LanesMove j lanes part lanes
+nothing_moves j [] part none = tt
+nothing_moves j (s ∷ lanes) part none = (subst (λ (l : List DiskEvent). Run LaneStep s l s) (sym (none j)) refl, nothing_moves (j + 1) lanes part none)
+
+-- ALL ROUNDS
+goes_moves : (quiet : Bool) (w : Settling) (steps : List LaneRound) (between : List LaneState) (entries : List SettleEntry) (v : Settling) → MakeRound w.lanes steps between
+    → TicksBehind quiet w steps between entries v → LanesMove 0 w.lanes entries v.lanes
+goes_moves false w steps between entries v made behind =
+    subst (λ (l : List SettleEntry). LanesMove 0 w.lanes l v.lanes) (sym behind.1)
+    (subst (λ (l : List LaneState). LanesMove 0 w.lanes (round_entries 0 steps) l) (sym (ap (λ (x : Settling). x.lanes) behind.0)) (round_moves_lanes 0 w.lanes steps between made))
+goes_moves true w steps between entries v made behind =
+    subst (λ (l : List SettleEntry). LanesMove 0 w.lanes l v.lanes) (sym behind.3)
+    (moves_on 0 w.lanes between v.lanes (round_entries 0 steps) (tick_entries 0 between w.marks) (round_moves_lanes 0 w.lanes steps between made)
+    (ticks_move_lanes 0 between w.marks v.lanes behind.1))
+
+pub rounds_move_lanes : (w : Settling) (rounds : List SettleRound) (v : Settling) → Run GoesOn w rounds v → LanesMove 0 w.lanes (entries_of rounds) v.lanes
+rounds_move_lanes w [] v run = subst (λ (x : Settling). LanesMove 0 w.lanes [] x.lanes) run (stay 0 w.lanes)
+rounds_move_lanes w (round ∷ rounds) v run =
+    moves_on 0 w.lanes run.0.lanes v.lanes round.entries (entries_of rounds)
+    (goes_moves (are_quiet round.steps) w round.steps run.1.between round.entries run.0 run.1.made run.1.behind) (rounds_move_lanes run.0 rounds v run.2)
+
+pub part_moves : (start : List LaneState) (part : List SettleEntry) (behind : List LaneState) → SettlePart start part behind → LanesMove 0 start part behind
+part_moves start part behind (inl at) =
+    subst (λ (l : List SettleEntry). LanesMove 0 start l behind) (sym at.is)
+    (moves_on 0 start behind behind (entries_of at.rounds ++ round_entries 0 at.steps) (Settled ∷ [])
+    (moves_on 0 start at.now.lanes behind (entries_of at.rounds) (round_entries 0 at.steps) (rounds_move_lanes (begin start) at.rounds at.now at.run)
+    (round_moves_lanes 0 at.now.lanes at.steps behind at.last.made)) (settled_moves 0 behind))
+part_moves start part behind (inr out) =
+    subst (λ (l : List SettleEntry). LanesMove 0 start l behind) (sym out.is)
+    (moves_on 0 start behind behind (entries_of (out.rounds ++ out.last ∷ [])) (left_over 0 out.last.steps behind)
+    (subst (λ (l : List LaneState). LanesMove 0 start (entries_of (out.rounds ++ out.last ∷ [])) l) (sym out.lanes)
+    (rounds_move_lanes (begin start) (out.rounds ++ out.last ∷ []) out.now out.run)) (nothing_moves 0 behind (left_over 0 out.last.steps behind) (λ k. left_none k 0 out.last.steps behind)))

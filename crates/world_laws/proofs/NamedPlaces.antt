@@ -1,0 +1,169 @@
+-- A place of the image that no accepted write names keeps its byte where nobody forged, whether stores failed or not.
+use Rattle.std.proofs.Common.{◌≡◌, ◌⊎◌, ℕ, zero, suc, ◌+◌, ◌*◌, ◌<◌, ◌≤◌, Bool, true, false, Option, Some, List, [], ◌∷◌, ◌++◌, slice_get, slice_index, inl, inr, refl, sym, ap, ◌∙◌, subst, arith}
+use Rattle.std.specs.Prelude.{◌==◌, if◌then◌else◌, ⊤}
+use Rattle.std.proofs.lemmas.Bool.{eqb-true}
+use Rattle.runs.specs.Lawful.{log_of}
+use Rattle.runs.specs.Run.{Run}
+use Rattle.vdisk_msg.specs.declared.desc.DiskDesc.{DiskDesc}
+use Rattle.vdisk_msg.specs.declared.request.Request.{Request}
+use Rattle.vdisk_msg.specs.declared.request.Request.TheVariants.{Flush, Read, Write}
+use Rattle.vdisk_msg.specs.Requested.{block_of, size_of}
+use Rattle.vdisk_msg.specs.Requests.{operation_of}
+use Rattle.disk_model.specs.DiskEvent.{Accepted, Asks, Desc, DiskEvent, Done, Finished, Full, Misplaced, Moved, Off, OnWire, Published, Refused, Rests, Started, Stopped, Stored, Turns, Works}
+use Rattle.disk_model.specs.LaneState.{IsShape, LaneState, Shape, fresh}
+use Rattle.disk_model.specs.LaneStep.{LaneStep}
+use Rattle.disk_model.specs.ServerState.{Work}
+use Rattle.disk_model.specs.ServerWork.{desc_of}
+use Rattle.disk_model.specs.DiskLog.{DiskLog, after, nothing_yet}
+use Rattle.ldc_queue.specs.declared.end.ChannelState.TheVariants.{Up}
+use Rattle.ldc_queue.specs.declared.end.End.TheVariants.{B}
+use Rattle.disk_model.specs.Seeing.{seen}
+use Rattle.disk_model.specs.ServerRule as server_rules
+use Rattle.disk_model.specs.WireLog.{WireLog}
+use Rattle.lane_laws.proofs.Ruling.{server_may}
+use Rattle.lane_laws.proofs.StandingSteps.{wired_keeps}
+use Rattle.lane_laws.proofs.RingClientSteps.{got_at}
+use Rattle.lane_laws.specs.RuleFacts.{ServerMay}
+use Rattle.lane_laws.proofs.LaneRuns.{before_of, run_contents}
+use Rattle.lane_laws.proofs.ServerChanges.{ServesNow, serves_now}
+use Rattle.lane_laws.proofs.Standing.{Before}
+use Rattle.world_laws.specs.Along.{happened}
+use Rattle.world_laws.specs.Settle.{OfLane, SettleEntry, Settled, Unsettled}
+use Rattle.world_laws.specs.NamesNo.{IsApart, NamesNo, NamesNot}
+use Rattle.world_laws.specs.Stays.{StaysAt}
+use Rattle.world_laws.proofs.ImageKeeping.{byte_before, byte_behind}
+use Rattle.world_laws.proofs.LaneStores.{UnitStored}
+use Rattle.world_laws.proofs.UnitPlaces.{Stores, Wrote}
+
+-- EACH REQUEST that a disk accepted lies apart from the place
+abbrev pub AllApart : ℕ → ℕ → List Request → Type 0
+AllApart place first [] = ⊤
+AllApart place first (request ∷ requests) = IsApart place first request × AllApart place first requests
+
+pub apart_at : (place first : ℕ) (requests : List Request) (k : ℕ) (request : Request) → AllApart place first requests → slice_get requests k ≡ Some request → IsApart place first request
+apart_at place first [] k request all got = absurd (cc got)
+apart_at place first (x ∷ requests) zero request all got = let same : x ≡ request = cc got in subst (IsApart place first) same all.0
+apart_at place first (x ∷ requests) (suc k) request all got = apart_at place first requests k request all.1 got
+
+apart_push : (place first : ℕ) (requests : List Request) (request : Request) → AllApart place first requests → IsApart place first request → AllApart place first (requests ++ request ∷ [])
+apart_push place first [] request all one = (one, tt)
+apart_push place first (x ∷ requests) request all one = (all.0, apart_push place first requests request all.1 one)
+
+-- those that the log of a lane has as accepted
+abbrev pub NamesNotOf : ℕ → ℕ → DiskEvent → Type 0
+NamesNotOf place first (Asks (Accepted id request)) = IsApart place first request
+NamesNotOf place first _ = ⊤
+
+abbrev pub NamesNoOf : ℕ → ℕ → List DiskEvent → Type 0
+NamesNoOf place first [] = ⊤
+NamesNoOf place first (event ∷ events) = NamesNotOf place first event × NamesNoOf place first events
+
+apart_behind : (place first : ℕ) (l : DiskLog) (event : DiskEvent) → NamesNotOf place first event → AllApart place first l.work.issued → AllApart place first (after l event).work.issued
+apart_behind place first l (OnWire event) named all = subst (AllApart place first) (sym (wired_keeps l.shape.slots l.talk l.work event).issued) all
+apart_behind place first l (Asks (Accepted id request)) named all = apart_push place first l.work.issued request all named
+apart_behind place first l (Asks (Full request)) named all = all
+apart_behind place first l (Asks (Refused why request)) named all = all
+apart_behind place first l (Works (Published id)) named all = all
+apart_behind place first l (Works (Done id operation status bytes)) named all = all
+apart_behind place first l (Works (Desc slot bytes)) named all = all
+apart_behind place first l (Works (Moved unit fault)) named all = all
+apart_behind place first l (Works (Stored operation block count failed)) named all = all
+apart_behind place first l (Works (Finished slot status)) named all = all
+apart_behind place first l (Works Misplaced) named all = all
+apart_behind place first l (Turns Stopped) named all = all
+apart_behind place first l (Turns Started) named all = all
+apart_behind place first l (Turns Off) named all = all
+apart_behind place first l (Rests event) named all = all
+
+issued_apart : (place first : ℕ) (l : DiskLog) (events : List DiskEvent) → NamesNoOf place first events → AllApart place first l.work.issued → AllApart place first (log_of after l events).work.issued
+issued_apart place first l [] named all = all
+issued_apart place first l (event ∷ events) named all = issued_apart place first (after l event) events named.1 (apart_behind place first l event named.0 all)
+
+-- WHAT HAPPENED TO A LANE names no more than the journal
+names_at : (shapes : List Shape) (place k j : ℕ) (shape : Shape) (event : DiskEvent) (c : Bool) → (c ≡ true → j ≡ k) → slice_get shapes k ≡ Some shape → NamesNot shapes place (OfLane j event)
+    → (more : List DiskEvent) → NamesNoOf place shape.first more → NamesNoOf place shape.first ((if c then event ∷ [] else []) ++ more)
+names_at shapes place k j shape event false same there named more later = later
+names_at shapes place k j shape event true same there named more later =
+    (names_one event (subst (λ (n : ℕ). NamesNot shapes place (OfLane n event)) (same refl) named), later)
+  where
+    names_one : (event : DiskEvent) → NamesNot shapes place (OfLane k event) → NamesNotOf place shape.first event
+    names_one (Asks (Accepted id request)) named = named shape there
+    names_one (Asks (Full request)) named = tt
+    names_one (Asks (Refused why request)) named = tt
+    names_one (OnWire event) named = tt
+    names_one (Works event) named = tt
+    names_one (Turns event) named = tt
+    names_one (Rests event) named = tt
+
+pub names_of : (shapes : List Shape) (place k : ℕ) (shape : Shape) (entries : List SettleEntry) → slice_get shapes k ≡ Some shape → NamesNo shapes place entries
+    → NamesNoOf place shape.first (happened k entries)
+names_of shapes place k shape [] there named = tt
+names_of shapes place k shape (OfLane j event ∷ entries) there named =
+    names_at shapes place k j shape event (j == k) (eqb-true j k) there named.0 (happened k entries) (names_of shapes place k shape entries there named.1)
+names_of shapes place k shape (Settled ∷ entries) there named = names_of shapes place k shape entries there named.1
+names_of shapes place k shape (Unsettled j ∷ entries) there named = names_of shapes place k shape entries there named.1
+
+-- THE REQUEST of a unit that is stored was accepted
+record OfRequest (s : LaneState) (l : DiskLog) (work : Work) : Type 0 where
+  request : Request
+  place : ℕ
+  accepted : slice_get l.work.issued place ≡ Some request
+  size : (desc_of work).size ≡ size_of request
+  offset : (desc_of work).offset ≡ block_of request
+  operation : (desc_of work).operation ≡ operation_of request
+
+of_request : (shape : Shape) (events : List DiskEvent) (s : LaneState) (work : Work) → IsShape shape → Run LaneStep (fresh shape) events s → s.wire.forged ≡ false → s.wire.wire.end_b ≡ Up
+    → s.server.work ≡ Some work → OfRequest s (log_of after (nothing_yet shape) events) work
+of_request shape events s work sound run unforged up is =
+    let l = log_of after (nothing_yet shape) events in
+    let holds = run_contents shape events s sound run in
+    let stands = holds.along.all.stands in
+    let clean : l.wire.forged ≡ false = sym (ap (λ (w : WireLog). w.forged) stands.wire) ∙ unforged in
+    let before : Before s l = before_of shape events s sound run clean (holds.near clean) in
+    let serves : ServesNow s l work = serves_now s l work before up is in
+    let says = serves.facts.says in
+    record {
+      request = serves.on.request;
+      place = l.work.done + s.near.k;
+      accepted = sym (got_at l.work.issued l.work.done s.near.k) ∙ ap (λ (xs : List Request). slice_get xs s.near.k) (sym stands.requests.pending) ∙ serves.on.next;
+      size = says.size;
+      offset = says.offset;
+      operation = says.operation;
+    }
+
+-- WHERE A WRITE is apart from the place, the byte stays
+apart_byte : (place first : ℕ) (desc : DiskDesc) (request : Request) (store : List ℕ) (told : Option (List ℕ)) → desc.size ≡ size_of request → desc.offset ≡ block_of request
+    → desc.operation ≡ operation_of request → IsApart place first request → Wrote desc first store told → StaysAt place store told
+apart_byte place first desc (Read block count) store told size offset operation apart wrote = let two = wrote.writes in absurd (omega (arith, two, operation))
+apart_byte place first desc Flush store told size offset operation apart wrote = let two = wrote.writes in absurd (omega (arith, two, operation))
+apart_byte place first desc (Write block count fill) store told size offset operation apart wrote =
+    record { now = wrote.now; told_is = wrote.told_is; long = wrote.long; byte = by_side apart }
+  where
+    by_side : (place < 512 * (first + block)) ⊎ (512 * (first + block + count) ≤ place) → slice_index wrote.now place ≡ slice_index store place
+    by_side (inl below) =
+        let begins = wrote.begins in
+        byte_before place wrote.at wrote.now store (omega (arith, below, begins, offset)) wrote.before
+    by_side (inr above) =
+        let ends = wrote.ends in
+        byte_behind place wrote.past wrote.now store (omega (arith, above, ends, offset, size)) wrote.behind
+
+pub same_byte : (place : ℕ) (store : List ℕ) (told : Option (List ℕ)) → told ≡ Some store → StaysAt place store told
+same_byte place store told is = record { now = store; told_is = is; long = refl; byte = refl }
+
+stores_byte : (place first : ℕ) (desc : DiskDesc) (request : Request) (store : List ℕ) (told : Option (List ℕ)) → desc.size ≡ size_of request → desc.offset ≡ block_of request
+    → desc.operation ≡ operation_of request → IsApart place first request → Stores desc first store told → StaysAt place store told
+stores_byte place first desc request store told size offset operation apart (inl same) = same_byte place store told same
+stores_byte place first desc request store told size offset operation apart (inr wrote) = apart_byte place first desc request store told size offset operation apart wrote
+
+pub unit_byte : (place : ℕ) (shape : Shape) (events : List DiskEvent) (s : LaneState) (operation block count : ℕ) (failed : Bool) (t : LaneState) (store : List ℕ) (told : Option (List ℕ))
+    → IsShape shape → Run LaneStep (fresh shape) events s → s.wire.forged ≡ false → NamesNoOf place shape.first events → UnitStored shape s operation block count failed t store told
+    → StaysAt place store told
+unit_byte place shape events s operation block count failed t store told sound run unforged named unit =
+    let at = seen B s.shape.entries s.wire.wire in
+    let m = unit.at.step in
+    let may : ServerMay s.server at (server_rules.Serves m.session m.work) = subst (ServerMay s.server at) m.rule (server_may s.server at) in
+    let of = of_request shape events s m.work sound run unforged may.0 unit.at.serves in
+    let all = issued_apart place shape.first (nothing_yet shape) events named tt in
+    stores_byte place shape.first (desc_of m.work) of.request store told of.size of.offset of.operation
+    (apart_at place shape.first (log_of after (nothing_yet shape) events).work.issued of.place of.request all of.accepted)
+    (subst (λ (n : ℕ). Stores (desc_of m.work) n store told) unit.first unit.at.stores)

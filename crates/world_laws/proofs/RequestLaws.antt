@@ -1,0 +1,149 @@
+-- The requests of a lane, and of each disk of a world, are admitted by the rules and complete once and in order.
+use Rattle.std.proofs.Common.{◌≡◌, ℕ, ◌-◌, ◌<◌, List, ◌∷◌, length, drop, slice_get, Some, None, ap, ◌∙◌, subst, arith}
+use Rattle.runs.specs.Lawful.{Lawful, lawful_split, log_of}
+use Rattle.runs.specs.Run.{Run}
+use Rattle.disk_law.specs.Issued.{Admission, Admits, CompletesNext, CompletesOnceInOrder, completed, issued}
+use Rattle.disk_law.specs.ListState.{ImageState}
+use Rattle.disk_law.specs.ListStep as plain
+use Rattle.disk_model.specs.DiskLog.{DiskLog, after, nothing_yet}
+use Rattle.disk_model.specs.RequestLaws.{AdmissionAt, IsNext, OnceAt}
+use Rattle.disk_model.specs.DiskEvent.{Accepted, Asks, Desc, DiskEvent, Done, Finished, Full, Misplaced, Moved, OnWire, Published, Refused, Rests, Stored, Turns, Works}
+use Rattle.disk_model.specs.LaneState.{IsShape, LaneState, Shape, fresh}
+use Rattle.disk_model.specs.LaneStep.{LaneStep}
+use Rattle.lane_laws.proofs.ClientInSession.{shape_of}
+use Rattle.lane_laws.proofs.StandingRuns.{admission_lawful, once_lawful}
+use Rattle.world_laws.specs.Along.{happened}
+use Rattle.world_laws.specs.Settle.{SettleEntry}
+use Rattle.world_laws.proofs.Along.{lane_at, lanes_run, shape_at}
+use Rattle.world_laws.specs.World.{AreShapes, WorldState, WorldStep, fresh_world}
+use Rattle.vdisk_msg.specs.declared.request.Request.{Request}
+use Rattle.vdisk_msg.specs.Requests.{defect}
+use Rattle.world_laws.proofs.Filtered.{ComesOf, comes_of}
+use Rattle.world_laws.proofs.RequestLog.{done_behind, issued_behind, next_is, pending_are}
+use Rattle.world_laws.specs.Requests.{request_event, requests_of}
+
+-- A COMPLETION comes of one
+same_done : (i o s id operation status : ℕ) (b bytes : List ℕ) → plain.Done i o s b ≡ plain.Done id operation status bytes → Works (Done i o s b) ≡ Works (Done id operation status bytes)
+same_done i o s id operation status b bytes is = cc is
+
+done_of : (event : DiskEvent) (id operation status : ℕ) (bytes : List ℕ) → request_event event ≡ Some (plain.Done id operation status bytes) → event ≡ Works (Done id operation status bytes)
+done_of (Works (Done i o s b)) id operation status bytes is =
+    let same : plain.Done i o s b ≡ plain.Done id operation status bytes = cc is in
+    same_done i o s id operation status b bytes same
+done_of (OnWire event) id operation status bytes is = absurd (cc is)
+done_of (Asks (Accepted i request)) id operation status bytes is = absurd (cc is)
+done_of (Asks (Full request)) id operation status bytes is = absurd (cc is)
+done_of (Asks (Refused why request)) id operation status bytes is = absurd (cc is)
+done_of (Works (Published i)) id operation status bytes is = absurd (cc is)
+done_of (Works (Desc slot said)) id operation status bytes is = absurd (cc is)
+done_of (Works (Moved unit fault)) id operation status bytes is = absurd (cc is)
+done_of (Works (Stored o block count failed)) id operation status bytes is = absurd (cc is)
+done_of (Works (Finished slot s)) id operation status bytes is = absurd (cc is)
+done_of (Works Misplaced) id operation status bytes is = absurd (cc is)
+done_of (Turns event) id operation status bytes is = absurd (cc is)
+done_of (Rests event) id operation status bytes is = absurd (cc is)
+
+once_here : (l : DiskLog) (event : DiskEvent) (before : List plain.DiskEvent) (id operation status : ℕ) (bytes : List ℕ) → request_event event ≡ Some (plain.Done id operation status bytes)
+    → l.work.issued ≡ issued before → l.work.done ≡ length (completed before) → OnceAt l event → CompletesNext before id operation
+once_here l event before id operation status bytes is issued_is done_is at =
+    let next : IsNext l.work id operation = subst (λ (e : DiskEvent). OnceAt l e) (done_of event id operation status bytes is) at in
+    record {
+      next = next.next ∙ done_is;
+      request = next.request;
+      accepted_before = subst (λ (r : List Request). slice_get r id ≡ Some next.request) issued_is next.accepted;
+      operation_is = next.operation_is;
+    }
+
+-- AND WHAT COMES OF A REQUEST of what came of it
+room_for : (i d n m x y : ℕ) → i ≡ n → d ≡ m → x ≡ y → i - d < x → n - m < y
+room_for i d n m x y one two three less = omega (arith, one, two, three, less)
+
+no_room : (i d n m x y : ℕ) → i ≡ n → d ≡ m → x ≡ y → i - d ≡ x → n - m ≡ y
+no_room i d n m x y one two three full = omega (arith, one, two, three, full)
+
+admitted_here : (blocks slots : ℕ) (l : DiskLog) (before : List plain.DiskEvent) → l.shape.blocks ≡ blocks → l.shape.slots ≡ slots → l.work.issued ≡ issued before
+    → l.work.done ≡ length (completed before) → (event : DiskEvent) (seen : plain.DiskEvent) → request_event event ≡ Some seen → AdmissionAt l event → Admits blocks slots before seen
+admitted_here blocks slots l before blocks_are slots_are issued_is done_is (Asks (Accepted id request)) seen is at =
+    let same : plain.Accepted id request ≡ seen = cc is in
+    subst (λ (e : plain.DiskEvent). Admits blocks slots before e) same (
+      subst (λ (b : ℕ). defect b request ≡ None) blocks_are at.0,
+      room_for (length l.work.issued) l.work.done (length (issued before)) (length (completed before)) l.shape.slots slots (ap (λ (r : List Request). length r) issued_is) done_is slots_are at.1,
+      at.2 ∙ ap (λ (r : List Request). length r) issued_is,
+    )
+admitted_here blocks slots l before blocks_are slots_are issued_is done_is (Asks (Full request)) seen is at =
+    let same : plain.Full request ≡ seen = cc is in
+    subst (λ (e : plain.DiskEvent). Admits blocks slots before e) same (
+      subst (λ (b : ℕ). defect b request ≡ None) blocks_are at.0,
+      no_room (length l.work.issued) l.work.done (length (issued before)) (length (completed before)) l.shape.slots slots (ap (λ (r : List Request). length r) issued_is) done_is slots_are at.1,
+    )
+admitted_here blocks slots l before blocks_are slots_are issued_is done_is (Asks (Refused why request)) seen is at =
+    let same : plain.Refused why request ≡ seen = cc is in
+    subst (λ (e : plain.DiskEvent). Admits blocks slots before e) same (subst (λ (b : ℕ). defect b request ≡ Some why) blocks_are at)
+admitted_here blocks slots l before blocks_are slots_are issued_is done_is (Works (Done id operation status bytes)) seen is at =
+    let same : plain.Done id operation status bytes ≡ seen = cc is in
+    subst (λ (e : plain.DiskEvent). Admits blocks slots before e) same tt
+admitted_here blocks slots l before blocks_are slots_are issued_is done_is (OnWire event) seen is at = absurd (cc is)
+admitted_here blocks slots l before blocks_are slots_are issued_is done_is (Works (Published id)) seen is at = absurd (cc is)
+admitted_here blocks slots l before blocks_are slots_are issued_is done_is (Works (Desc slot bytes)) seen is at = absurd (cc is)
+admitted_here blocks slots l before blocks_are slots_are issued_is done_is (Works (Moved unit fault)) seen is at = absurd (cc is)
+admitted_here blocks slots l before blocks_are slots_are issued_is done_is (Works (Stored operation block count failed)) seen is at = absurd (cc is)
+admitted_here blocks slots l before blocks_are slots_are issued_is done_is (Works (Finished slot status)) seen is at = absurd (cc is)
+admitted_here blocks slots l before blocks_are slots_are issued_is done_is (Works Misplaced) seen is at = absurd (cc is)
+admitted_here blocks slots l before blocks_are slots_are issued_is done_is (Turns event) seen is at = absurd (cc is)
+admitted_here blocks slots l before blocks_are slots_are issued_is done_is (Rests event) seen is at = absurd (cc is)
+
+-- WHERE THE EVENT STANDS in a lawful run
+lawful_here : (May : DiskLog → DiskEvent → Type 0) (shape : Shape) (events : List DiskEvent) (before : List plain.DiskEvent) (seen : plain.DiskEvent)
+    (found : ComesOf request_event events before seen) → Lawful May after (nothing_yet shape) events → May (log_of after (nothing_yet shape) found.front) found.one
+lawful_here May shape events before seen found lawful =
+    (lawful_split May after (nothing_yet shape) found.front (found.one ∷ found.rest) (subst (λ (es : List DiskEvent). Lawful May after (nothing_yet shape) es) found.is lawful)).1.0
+
+issued_at : (shape : Shape) (events : List DiskEvent) (before : List plain.DiskEvent) (seen : plain.DiskEvent) (found : ComesOf request_event events before seen)
+    → (log_of after (nothing_yet shape) found.front).work.issued ≡ issued before
+issued_at shape events before seen found = issued_behind shape found.front ∙ ap issued found.so_far
+
+done_at : (shape : Shape) (events : List DiskEvent) (before : List plain.DiskEvent) (seen : plain.DiskEvent) (found : ComesOf request_event events before seen)
+    → (log_of after (nothing_yet shape) found.front).work.done ≡ length (completed before)
+done_at shape events before seen found = done_behind shape found.front ∙ ap (λ (es : List plain.DiskEvent). length (completed es)) found.so_far
+
+-- A LANE
+pub lane_completes : (shape : Shape) (events : List DiskEvent) (s : LaneState) → IsShape shape → Run LaneStep (fresh shape) events s → CompletesOnceInOrder (requests_of events)
+lane_completes shape events s sound run = λ before behind id operation status bytes is.
+    let found : ComesOf request_event events before (plain.Done id operation status bytes) = comes_of request_event events before (plain.Done id operation status bytes) behind is in
+    once_here (log_of after (nothing_yet shape) found.front) found.one before id operation status bytes found.gives (issued_at shape events before (plain.Done id operation status bytes) found)
+    (done_at shape events before (plain.Done id operation status bytes) found)
+    (lawful_here OnceAt shape events before (plain.Done id operation status bytes) found (once_lawful shape events s sound run))
+
+pub lane_admits : (shape : Shape) (events : List DiskEvent) (s : LaneState) → IsShape shape → Run LaneStep (fresh shape) events s → Admission shape.blocks shape.slots (requests_of events)
+lane_admits shape events s sound run = λ before behind seen is.
+    let found : ComesOf request_event events before seen = comes_of request_event events before seen behind is in
+    let stays = shape_of (nothing_yet shape) found.front in
+    admitted_here shape.blocks shape.slots (log_of after (nothing_yet shape) found.front) before (ap (λ (x : Shape). x.blocks) stays) (ap (λ (x : Shape). x.slots) stays)
+    (issued_at shape events before seen found) (done_at shape events before seen found) found.one seen found.gives
+    (lawful_here AdmissionAt shape events before seen found (admission_lawful shape events s sound run))
+
+-- EACH DISK of a world
+pub disk_completes : (shapes : List Shape) (image : ImageState) (entries : List SettleEntry) (w : WorldState) (k : ℕ) (shape : Shape) → AreShapes 0 shapes
+    → Run WorldStep (fresh_world shapes image) entries w → slice_get shapes k ≡ Some shape → CompletesOnceInOrder (requests_of (happened k entries))
+disk_completes shapes image entries w k shape are run there =
+    let lane = lane_at shapes image entries w k shape run there in
+    lane_completes shape (happened k entries) lane.0 (shape_at 0 shapes k shape are there) ((lanes_run shapes image entries w run).each k shape lane.0 there lane.1)
+
+pub disk_admits : (shapes : List Shape) (image : ImageState) (entries : List SettleEntry) (w : WorldState) (k : ℕ) (shape : Shape) → AreShapes 0 shapes
+    → Run WorldStep (fresh_world shapes image) entries w → slice_get shapes k ≡ Some shape → Admission shape.blocks shape.slots (requests_of (happened k entries))
+disk_admits shapes image entries w k shape are run there =
+    let lane = lane_at shapes image entries w k shape run there in
+    lane_admits shape (happened k entries) lane.0 (shape_at 0 shapes k shape are there) ((lanes_run shapes image entries w run).each k shape lane.0 there lane.1)
+
+-- and what its client holds
+pub disk_pending : (shapes : List Shape) (image : ImageState) (entries : List SettleEntry) (w : WorldState) (k : ℕ) (shape : Shape) (s : LaneState) → AreShapes 0 shapes
+    → Run WorldStep (fresh_world shapes image) entries w → slice_get shapes k ≡ Some shape → slice_get w.lanes k ≡ Some s
+    → s.client.pending ≡ drop (length (completed (requests_of (happened k entries)))) (issued (requests_of (happened k entries)))
+disk_pending shapes image entries w k shape s are run there lane =
+    pending_are shape (happened k entries) s (shape_at 0 shapes k shape are there) ((lanes_run shapes image entries w run).each k shape s there lane)
+
+pub disk_next : (shapes : List Shape) (image : ImageState) (entries : List SettleEntry) (w : WorldState) (k : ℕ) (shape : Shape) (s : LaneState) → AreShapes 0 shapes
+    → Run WorldStep (fresh_world shapes image) entries w → slice_get shapes k ≡ Some shape → slice_get w.lanes k ≡ Some s
+    → s.client.next_id ≡ length (issued (requests_of (happened k entries)))
+disk_next shapes image entries w k shape s are run there lane =
+    next_is shape (happened k entries) s (shape_at 0 shapes k shape are there) ((lanes_run shapes image entries w run).each k shape s there lane)

@@ -1,0 +1,243 @@
+-- In the log of a lane that nobody forged each status that is owed, and that of each slot that is DONE, is 0 or 5; and each request was
+-- accepted without a defect.
+use Rattle.std.proofs.Common.{◌≡◌, ◌⊎◌, inl, inr, ℕ, zero, suc, ◌+◌, ◌-◌, ◌%◌, Bool, true, false, Option, Some, None, List, [], ◌∷◌, ◌++◌, set, refl, sym, ap, ◌∙◌, subst}
+use Rattle.std.specs.Prelude.{⊤, ◌==◌, if◌then◌else◌, slice_get, replicate}
+use Rattle.cookie_copy.specs.declared.fault.CopyFault.{CopyFault}
+use Rattle.ldc_queue.specs.declared.end.End.TheVariants.{A, B}
+use Rattle.vdisk_msg.proofs.Written.{requested_is_sound, sound_pieces}
+use Rattle.vdisk_msg.specs.Check.{first_defect}
+use Rattle.vdisk_msg.specs.declared.desc.DiskDesc.{DiskDesc}
+use Rattle.vdisk_msg.specs.declared.request.Request.{Request}
+use Rattle.vdisk_msg.specs.Descriptor as slot_says
+use Rattle.vdisk_msg.specs.Pieces.{Finishes, Moves, Piece, Stores, operation_pieces, pieces, read_pieces, unit_count, write_pieces}
+use Rattle.vdisk_msg.specs.Requests.{defect}
+use Rattle.disk_model.specs.WireEvent.{Blocked, Declines, Idle, Injected, Joined, Lost, Poked, Reset, Sent, Took, WireEvent}
+use Rattle.disk_model.specs.DiskLog.{DiskLog, after, nothing_yet}
+use Rattle.disk_model.specs.RequestLaws.{Admits}
+use Rattle.disk_model.specs.RingLog.{Accepted as IsAccepted, Done as IsDone, Free, Ready, SlotLog, Zeros, cleared_if, fetched_at, finished_at, freed_at, published_at}
+use Rattle.disk_model.specs.WorkLaws.{FetchesRequest, FinishesPiece, InClient, InServer, Owes, Unforged}
+use Rattle.disk_model.specs.WorkLog.{ClientCounts, ServerCounts, WorkLog, change_server, moved_rest, opened_counts, rest_of, stored_rest}
+use Rattle.disk_model.specs.DiskEvent.{Accepted, Admitted, Asks, Desc, DiskEvent, Done, Finished, Full, Misplaced, Moved, Off, OnWire, Published, Refused, Rests, Started, Stopped, Stored, Switched, Turns, Worked, Works}
+use Rattle.disk_model.specs.LaneState.{Shape}
+use Rattle.world_laws.proofs.LawFacts.{Facts}
+use Rattle.world_laws.specs.Statuses.{TellsStore}
+
+abbrev pub OwedTell : List Piece → Type 0
+OwedTell [] = ⊤
+OwedTell (Finishes status ∷ owed) = TellsStore status × OwedTell owed
+OwedTell (Moves unit ∷ owed) = OwedTell owed
+OwedTell (Stores unit ∷ owed) = OwedTell owed
+
+abbrev pub ServerTells : Option ServerCounts → Type 0
+ServerTells None = ⊤
+ServerTells (Some c) = OwedTell c.owed
+
+abbrev pub SlotTells : SlotLog → Type 0
+SlotTells Zeros = ⊤
+SlotTells Free = ⊤
+SlotTells (Ready id) = ⊤
+SlotTells (IsAccepted id) = ⊤
+SlotTells (IsDone id status) = TellsStore status
+
+abbrev pub RingTells : List SlotLog → Type 0
+RingTells [] = ⊤
+RingTells (slot ∷ ring) = SlotTells slot × RingTells ring
+
+abbrev pub WithoutDefect : ℕ → List Request → Type 0
+WithoutDefect blocks issued = (n : ℕ) (request : Request) → slice_get issued n ≡ Some request → defect blocks request ≡ None
+
+pub record LogTells (l : DiskLog) : Type 0 where
+  pub issued : WithoutDefect l.shape.blocks l.work.issued
+  pub owed : ServerTells l.work.server
+  pub ring : RingTells l.ring
+
+-- WHAT IS OWED
+zero_tells : TellsStore 0
+zero_tells = inl refl
+
+five_tells : TellsStore 5
+five_tells = inr refl
+
+rest_tells : (owed : List Piece) → OwedTell owed → OwedTell (rest_of owed)
+rest_tells [] tells = tt
+rest_tells (Finishes status ∷ rest) tells = tells.1
+rest_tells (Moves unit ∷ rest) tells = tells
+rest_tells (Stores unit ∷ rest) tells = tells
+
+moved_tells : (fault : Option CopyFault) (owed : List Piece) → fault ≡ None → OwedTell owed → OwedTell (moved_rest fault owed)
+moved_tells None owed none tells = rest_tells owed tells
+moved_tells (Some why) owed none tells = absurd (cc none)
+
+stored_tells : (failed : Bool) (owed : List Piece) → OwedTell owed → OwedTell (stored_rest failed owed)
+stored_tells false owed tells = rest_tells owed tells
+stored_tells true owed tells = (five_tells, tt)
+
+end_tells : (owed : List Piece) → OwedTell owed → OwedTell (owed ++ Finishes 0 ∷ [])
+end_tells [] tells = (zero_tells, tt)
+end_tells (Finishes status ∷ rest) tells = (tells.0, end_tells rest tells.1)
+end_tells (Moves unit ∷ rest) tells = end_tells rest tells
+end_tells (Stores unit ∷ rest) tells = end_tells rest tells
+
+read_tells : (unit n : ℕ) → OwedTell (read_pieces unit n)
+read_tells unit zero = tt
+read_tells unit (suc n) = read_tells (unit + 1) n
+
+write_tells : (unit n : ℕ) → OwedTell (write_pieces unit n)
+write_tells unit zero = tt
+write_tells unit (suc n) = write_tells (unit + 1) n
+
+operation_tells : (read write : Bool) (units : ℕ) → OwedTell (if read then read_pieces 0 units else if write then write_pieces 0 units else Stores 0 ∷ [])
+operation_tells true write units = read_tells 0 units
+operation_tells false true units = write_tells 0 units
+operation_tells false false units = tt
+
+sound_tells : (desc : DiskDesc) (blocks : ℕ) → first_defect desc blocks 0x0e ≡ None → OwedTell (pieces desc blocks 0x0e)
+sound_tells desc blocks sound =
+    subst OwedTell (sym (sound_pieces desc blocks 0x0e sound))
+    (end_tells (operation_pieces desc.operation (unit_count desc.size)) (operation_tells (desc.operation == 1) (desc.operation == 2) (unit_count desc.size)))
+
+-- a descriptor that is fetched is that of a request without a defect
+request_tells : (l : DiskLog) (slot : ℕ) (bytes : List ℕ) (base number : ℕ) → WithoutDefect l.shape.blocks l.work.issued → FetchesRequest l slot bytes base number
+    → OwedTell (pieces (slot_says.disk_desc_of bytes) l.shape.blocks 0x0e)
+request_tells l slot bytes base number sound fetches =
+    sound_tells (slot_says.disk_desc_of bytes) l.shape.blocks
+    (ap (λ (d : DiskDesc). first_defect d l.shape.blocks 0x0e) fetches.bytes_are
+    ∙ requested_is_sound l.shape.blocks (base + number) fetches.request slot l.shape.slots (sound (base + number) fetches.request fetches.accepted))
+
+fetched_tells : (l : DiskLog) (slot : ℕ) (bytes : List ℕ) (o : Option ClientCounts) (q : Option ServerCounts) → WithoutDefect l.shape.blocks l.work.issued
+    → InClient o (λ (c : ClientCounts). InServer q (λ (d : ServerCounts). FetchesRequest l slot bytes c.base d.descs)) → OwedTell (pieces (slot_says.disk_desc_of bytes) l.shape.blocks 0x0e)
+fetched_tells l slot bytes None q sound fetches = absurd fetches
+fetched_tells l slot bytes (Some c) None sound fetches = absurd fetches
+fetched_tells l slot bytes (Some c) (Some d) sound fetches = request_tells l slot bytes c.base d.descs sound fetches
+
+changed_tells : (f : ServerCounts → ServerCounts) (o : Option ServerCounts) → ((c : ServerCounts) → OwedTell c.owed → OwedTell (f c).owed) → ServerTells o → ServerTells (change_server f o)
+changed_tells f None keeps tells = tt
+changed_tells f (Some c) keeps tells = keeps c tells
+
+opened_tells : (b : Bool) (sid : ℕ) (o : Option ServerCounts) → ServerTells o → ServerTells (opened_counts b sid o)
+opened_tells true sid o tells = tt
+opened_tells false sid o tells = tells
+
+-- the status that is owed first
+owes_tells : (owed : List Piece) (status : ℕ) → Owes owed (Finishes status) → OwedTell owed → TellsStore status
+owes_tells [] status owes tells = absurd owes
+owes_tells (Finishes first ∷ rest) status owes tells = let same : first ≡ status = cc owes in subst TellsStore same tells.0
+owes_tells (Moves unit ∷ rest) status owes tells = absurd (cc owes)
+owes_tells (Stores unit ∷ rest) status owes tells = absurd (cc owes)
+
+pub ends_tells : (l : DiskLog) (slot status : ℕ) (o : Option ServerCounts) → InServer o (FinishesPiece l slot status) → ServerTells o → TellsStore status
+ends_tells l slot status None ends tells = absurd ends
+ends_tells l slot status (Some c) ends tells = owes_tells c.owed status ends.owed tells
+
+-- THE RING
+set_tells : (ring : List SlotLog) (k : ℕ) (e : SlotLog) → SlotTells e → RingTells ring → RingTells (set ring k e)
+set_tells [] k e here tells = tells
+set_tells (x ∷ ring) zero e here tells = (here, tells.1)
+set_tells (x ∷ ring) (suc k) e here tells = (tells.0, set_tells ring k e here tells.1)
+
+pub got_tells : (ring : List SlotLog) (k : ℕ) (is : SlotLog) → RingTells ring → slice_get ring k ≡ Some is → SlotTells is
+got_tells [] k is tells got = absurd (cc got)
+got_tells (x ∷ ring) zero is tells got = let same : x ≡ is = cc got in subst SlotTells same tells.0
+got_tells (x ∷ ring) (suc k) is tells got = got_tells ring k is tells.1 got
+
+many_tell : (n : ℕ) (e : SlotLog) → SlotTells e → RingTells (replicate n e)
+many_tell zero e here = tt
+many_tell (suc n) e here = (here, many_tell n e here)
+
+cleared_tells : (b : Bool) (slots : ℕ) (ring : List SlotLog) → RingTells ring → RingTells (cleared_if b slots ring)
+cleared_tells true slots ring tells = many_tell slots Free tt
+cleared_tells false slots ring tells = tells
+
+published_tells : (slots : ℕ) (o : Option ClientCounts) (id : ℕ) (ring : List SlotLog) → RingTells ring → RingTells (published_at slots o id ring)
+published_tells slots None id ring tells = tells
+published_tells slots (Some c) id ring tells = set_tells ring (c.published % slots) (Ready id) tt tells
+
+freed_tells : (slots : ℕ) (w : WorkLog) (o : Option ClientCounts) (ring : List SlotLog) → RingTells ring → RingTells (freed_at slots w o ring)
+freed_tells slots w None ring tells = tells
+freed_tells slots w (Some c) ring tells = set_tells ring ((w.done - c.base) % slots) Free tt tells
+
+marked_tells : (slots : ℕ) (w : WorkLog) (o : Option ServerCounts) (slot : ℕ) (ring : List SlotLog) → RingTells ring → RingTells (fetched_at slots w o slot ring)
+marked_tells slots w None slot ring tells = tells
+marked_tells slots w (Some d) slot ring tells = set_tells ring slot _ tt tells
+
+finished_tells : (slots : ℕ) (w : WorkLog) (o : Option ServerCounts) (slot status : ℕ) (ring : List SlotLog) → TellsStore status → RingTells ring → RingTells (finished_at slots w o slot status ring)
+finished_tells slots w None slot status ring here tells = tells
+finished_tells slots w (Some d) slot status ring here tells = set_tells ring slot _ here tells
+
+-- THE REQUESTS
+got_newest : (issued : List Request) (request : Request) (n : ℕ) (is : Request) → slice_get (issued ++ request ∷ []) n ≡ Some is → (slice_get issued n ≡ Some is) ⊎ (request ≡ is)
+got_newest [] request zero is got = inr (cc got)
+got_newest [] request (suc n) is got = absurd (cc got)
+got_newest (x ∷ issued) request zero is got = inl got
+got_newest (x ∷ issued) request (suc n) is got = got_newest issued request n is got
+
+one_more_sound : (blocks : ℕ) (issued : List Request) (request : Request) → defect blocks request ≡ None → WithoutDefect blocks issued → WithoutDefect blocks (issued ++ request ∷ [])
+one_more_sound blocks issued request sound all = λ n is got. elim (got_newest issued request n is got) [
+  | inl old ↦ all n is old
+  | inr same ↦ subst (λ (r : Request). defect blocks r ≡ None) same sound
+]
+
+-- EACH EVENT
+wire_tells : (l : DiskLog) (event : WireEvent) → LogTells l → LogTells (after l (OnWire event))
+wire_tells l (Joined A lost) tells = record { issued = tells.issued; owed = tells.owed; ring = tells.ring }
+wire_tells l (Joined B lost) tells = record { issued = tells.issued; owed = tt; ring = tells.ring }
+wire_tells l (Reset A cause packet lost) tells = record { issued = tells.issued; owed = tells.owed; ring = tells.ring }
+wire_tells l (Reset B cause packet lost) tells = record { issued = tells.issued; owed = tt; ring = tells.ring }
+wire_tells l (Took A packet opens) tells = record { issued = tells.issued; owed = tells.owed; ring = tells.ring }
+wire_tells l (Took B packet opens) tells =
+    record { issued = tells.issued; owed = opened_tells opens _ _ (changed_tells _ l.work.server (λ c owed. owed) tells.owed); ring = tells.ring }
+wire_tells l (Sent A packet opens) tells = record { issued = tells.issued; owed = tells.owed; ring = cleared_tells opens l.shape.slots l.ring tells.ring }
+wire_tells l (Sent B packet opens) tells =
+    record { issued = tells.issued; owed = opened_tells opens _ _ (changed_tells _ l.work.server (λ c owed. owed) tells.owed); ring = tells.ring }
+wire_tells l (Lost e packet) tells = record { issued = tells.issued; owed = tells.owed; ring = tells.ring }
+wire_tells l (Injected e packet) tells = record { issued = tells.issued; owed = tells.owed; ring = tells.ring }
+wire_tells l (Poked e at bytes) tells = record { issued = tells.issued; owed = tells.owed; ring = tells.ring }
+wire_tells l (Idle e) tells = record { issued = tells.issued; owed = tells.owed; ring = tells.ring }
+wire_tells l (Blocked e) tells = record { issued = tells.issued; owed = tells.owed; ring = tells.ring }
+wire_tells l (Declines d) tells = record { issued = tells.issued; owed = tells.owed; ring = tells.ring }
+
+asked_tells : (l : DiskLog) (event : Admitted) → Admits l event → LogTells l → LogTells (after l (Asks event))
+asked_tells l (Accepted id request) admits tells =
+    record { issued = one_more_sound l.shape.blocks l.work.issued request admits.0 tells.issued; owed = tells.owed; ring = tells.ring }
+asked_tells l (Full request) admits tells = record { issued = tells.issued; owed = tells.owed; ring = tells.ring }
+asked_tells l (Refused why request) admits tells = record { issued = tells.issued; owed = tells.owed; ring = tells.ring }
+
+work_tells : (l : DiskLog) (event : Worked) → Facts l (Works event) → Unforged l (Works event) → LogTells l → LogTells (after l (Works event))
+work_tells l (Published id) facts unforged tells =
+    record { issued = tells.issued; owed = tells.owed; ring = published_tells l.shape.slots l.work.client id l.ring tells.ring }
+work_tells l (Done id operation status bytes) facts unforged tells =
+    record { issued = tells.issued; owed = tells.owed; ring = freed_tells l.shape.slots l.work l.work.client l.ring tells.ring }
+work_tells l (Desc slot bytes) facts unforged tells = record {
+  issued = tells.issued;
+  owed = changed_tells _ l.work.server (λ c owed. fetched_tells l slot bytes l.work.client l.work.server tells.issued unforged) tells.owed;
+  ring = marked_tells l.shape.slots l.work l.work.server slot l.ring tells.ring;
+}
+work_tells l (Moved unit fault) facts unforged tells =
+    record { issued = tells.issued; owed = changed_tells _ l.work.server (λ c owed. moved_tells fault c.owed unforged owed) tells.owed; ring = tells.ring }
+work_tells l (Stored operation block count failed) facts unforged tells =
+    record { issued = tells.issued; owed = changed_tells _ l.work.server (λ c owed. stored_tells failed c.owed owed) tells.owed; ring = tells.ring }
+work_tells l (Finished slot status) facts unforged tells = record {
+  issued = tells.issued;
+  owed = changed_tells _ l.work.server (λ c owed. rest_tells c.owed owed) tells.owed;
+  ring = finished_tells l.shape.slots l.work l.work.server slot status l.ring (ends_tells l slot status l.work.server facts.may.pieces tells.owed) tells.ring;
+}
+work_tells l Misplaced facts unforged tells = record { issued = tells.issued; owed = tells.owed; ring = tells.ring }
+
+turn_tells : (l : DiskLog) (event : Switched) → LogTells l → LogTells (after l (Turns event))
+turn_tells l Stopped tells = record { issued = tells.issued; owed = tt; ring = tells.ring }
+turn_tells l Started tells = record { issued = tells.issued; owed = tells.owed; ring = tells.ring }
+turn_tells l Off tells = record { issued = tells.issued; owed = tells.owed; ring = tells.ring }
+
+pub event_tells : (l : DiskLog) (event : DiskEvent) → Facts l event → l.wire.forged ≡ false → LogTells l → LogTells (after l event)
+event_tells l (OnWire event) facts clean tells = wire_tells l event tells
+event_tells l (Asks event) facts clean tells = asked_tells l event facts.may.admission tells
+event_tells l (Works event) facts clean tells = work_tells l event facts (facts.may.unforged_work clean) tells
+event_tells l (Turns event) facts clean tells = turn_tells l event tells
+event_tells l (Rests event) facts clean tells = record { issued = tells.issued; owed = tells.owed; ring = tells.ring }
+
+-- BEFORE ANYTHING HAPPENED
+none_issued : (blocks : ℕ) → WithoutDefect blocks []
+none_issued blocks = λ n request got. absurd (cc got)
+
+pub nothing_tells : (shape : Shape) → LogTells (nothing_yet shape)
+nothing_tells shape = record { issued = none_issued shape.blocks; owed = tt; ring = many_tell shape.slots Zeros tt }

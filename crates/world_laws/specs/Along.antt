@@ -1,0 +1,22 @@
+-- What a part of a journal says happened to each lane.
+use Rattle.std.specs.Prelude.{ℕ, ◌+◌, ◌==◌, if◌then◌else◌, List, [], ◌∷◌, ◌++◌, ⊤}
+use Rattle.runs.specs.Run.{Run}
+use Rattle.disk_model.specs.DiskEvent.{DiskEvent}
+use Rattle.disk_model.specs.LaneState.{LaneState}
+use Rattle.disk_model.specs.LaneStep.{LaneStep}
+use Rattle.world_laws.specs.Settle.{OfLane, SettleEntry, Settled, Unsettled}
+
+abbrev pub event_at : ℕ → SettleEntry → List DiskEvent
+event_at k (OfLane j event) = if j == k then event ∷ [] else []
+event_at k Settled = []
+event_at k (Unsettled j) = []
+
+abbrev pub happened : ℕ → List SettleEntry → List DiskEvent
+happened k [] = []
+happened k (x ∷ part) = event_at k x ++ happened k part
+
+-- EACH LANE, from this number on, was run by what happened to it
+abbrev pub LanesMove : ℕ → List LaneState → List SettleEntry → List LaneState → Type 0
+LanesMove j [] part [] = ⊤
+LanesMove j (s ∷ lanes) part (t ∷ behind) = Run LaneStep s (happened j part) t × LanesMove (j + 1) lanes part behind
+LanesMove j _ part _ = ⊥

@@ -1,0 +1,128 @@
+-- What a line of a script asks of a world, and the part of the journal that it gives.
+use Rattle.std.specs.Prelude.{◌≡◌, ℕ, zero, suc, ◌+◌, List, [], ◌∷◌, ◌++◌, flat_map, length, replicate, ⊤}
+use Rattle.runs.specs.Run.{Run}
+use Rattle.ldc_queue.specs.declared.end.End.{End}
+use Rattle.ldc_queue.specs.declared.end.End.TheVariants.{A, B}
+use Rattle.vdisk_msg.specs.declared.request.Request.{Request}
+use Rattle.vio_tag.specs.declared.cause.Cause.TheVariants as the_cause
+use Rattle.disk_model.specs.WireEvent.{Declines, Lost, NothingLost, Reset}
+use Rattle.disk_model.specs.DiskEvent.{Accepted, Asks, CalmReset, CalmRestart, CalmStart, CalmStop, CalmTick, DiskEvent, Full, OnWire, Refused, Rests, Started, Stopped, Turns}
+use Rattle.disk_model.specs.LaneState.{LaneState}
+use Rattle.lane_laws.specs.CalmEnds.{IsStep}
+use Rattle.world_laws.specs.Begun.{SettleFront}
+use Rattle.world_laws.specs.Settle.{OfLane, SettleEntry, SettlePart}
+use Rattle.world_laws.specs.World.{WorldState, WorldStep}
+
+-- what a script may do to a lane, beside asking and stepping it
+pub data Call : Type 0 where
+  Resets : (e : End) → Call
+  Restarts : Call
+  Stops : Call
+  Starts : Call
+  Loses : (e : End) → Call
+  Ticks : Call
+
+pub data Line : Type 0 where
+  -- a blank line or a declaration
+  Nothing : Line
+  -- a guest asks the disk with this number
+  Asked : (lane : ℕ) (request : Request) → Line
+  -- so many steps of an end of a lane, and so many rounds over all lanes
+  Steps : (lane : ℕ) (e : End) (count : ℕ) → Line
+  Rounds : (count : ℕ) → Line
+  Settles : Line
+  Calls : (lane : ℕ) (call : Call) → Line
+
+-- WHAT MAY COME of a request, and of a call
+abbrev pub AnswersRequest : Request → DiskEvent → Type 0
+AnswersRequest request (Asks (Accepted id asked)) = asked ≡ request
+AnswersRequest request (Asks (Full asked)) = asked ≡ request
+AnswersRequest request (Asks (Refused why asked)) = asked ≡ request
+AnswersRequest request _ = ⊥
+
+abbrev pub AnswersCall : Call → DiskEvent → Type 0
+AnswersCall (Resets e) (OnWire (Reset d the_cause.Asked packet lost)) = d ≡ e
+AnswersCall (Resets e) (Rests (CalmReset d)) = d ≡ e
+AnswersCall Restarts (OnWire (Reset B the_cause.Restart packet lost)) = ⊤
+AnswersCall Restarts (Rests CalmRestart) = ⊤
+AnswersCall Stops (Turns Stopped) = ⊤
+AnswersCall Stops (Rests CalmStop) = ⊤
+AnswersCall Starts (Turns Started) = ⊤
+AnswersCall Starts (Rests CalmStart) = ⊤
+AnswersCall (Loses e) (OnWire (Lost d packet)) = d ≡ e
+AnswersCall (Loses e) (OnWire (Declines (NothingLost d))) = d ≡ e
+AnswersCall Ticks (OnWire (Reset A the_cause.Tick packet lost)) = ⊤
+AnswersCall Ticks (Rests CalmTick) = ⊤
+AnswersCall call _ = ⊥
+
+-- one event of one lane
+pub record OneEntry (k : ℕ) (Answers : DiskEvent → Type 0) (part : List SettleEntry) : Type 0 where
+  pub event : DiskEvent
+  pub answers : Answers event
+  pub is : part ≡ OfLane k event ∷ []
+
+-- STEPS, by whose turn it is: a lane's number and its end
+pub record Turn : Type 0 where
+  pub lane : ℕ
+  pub side : End
+
+abbrev pub turn : ℕ → End → Turn
+turn k e = record { lane = k; side = e }
+
+-- those of a round over so many lanes, from this number on: the client's turn, and then the server's
+abbrev pub round_turns : ℕ → ℕ → List Turn
+round_turns k zero = []
+round_turns k (suc many) = turn k A ∷ turn k B ∷ round_turns (k + 1) many
+
+abbrev pub turns_of : ℕ → ℕ → List Turn
+turns_of zero many = []
+turns_of (suc count) many = round_turns 0 many ++ turns_of count many
+
+-- each turn gave the entry of a step, in their order
+abbrev pub AreSteps : List Turn → List SettleEntry → Type 0
+AreSteps [] [] = ⊤
+AreSteps (next ∷ turns) (OfLane k event ∷ part) = (k ≡ next.lane) × IsStep next.side event × AreSteps turns part
+AreSteps _ _ = ⊥
+
+-- and so far a front of them
+pub record AreFirstSteps (turns : List Turn) (part : List SettleEntry) : Type 0 where
+  pub made : List Turn
+  pub left : List Turn
+  pub turns_are : turns ≡ made ++ left
+  pub steps : AreSteps made part
+
+-- THE PART OF A LINE, over the lanes before it and those after it
+abbrev pub PartOf : Line → List LaneState → List SettleEntry → List LaneState → Type 0
+PartOf Nothing lanes part behind = part ≡ []
+PartOf (Asked k request) lanes part behind = OneEntry k (AnswersRequest request) part
+PartOf (Steps k e count) lanes part behind = AreSteps (replicate count (turn k e)) part
+PartOf (Rounds count) lanes part behind = AreSteps (turns_of count (length lanes)) part
+PartOf Settles lanes part behind = SettlePart lanes part behind
+PartOf (Calls k call) lanes part behind = OneEntry k (AnswersCall call) part
+
+-- A FRONT OF IT, where memory was wanted
+abbrev pub BeginsPart : Line → List LaneState → List SettleEntry → List LaneState → Type 0
+BeginsPart Nothing lanes part behind = part ≡ []
+BeginsPart (Asked k request) lanes part behind = part ≡ []
+BeginsPart (Steps k e count) lanes part behind = AreFirstSteps (replicate count (turn k e)) part
+BeginsPart (Rounds count) lanes part behind = AreFirstSteps (turns_of count (length lanes)) part
+BeginsPart Settles lanes part behind = SettleFront lanes part behind
+BeginsPart (Calls k call) lanes part behind = part ≡ []
+
+-- A LINE with its part leads the world from one state to another
+pub record LineMoves (w : WorldState) (line : Line) (part : List SettleEntry) (v : WorldState) : Type 0 where
+  pub part_of : PartOf line w.lanes part v.lanes
+  pub run : Run WorldStep w part v
+
+-- and a front of it
+pub record LineBegins (w : WorldState) (line : Line) (part : List SettleEntry) (v : WorldState) : Type 0 where
+  pub begins : BeginsPart line w.lanes part v.lanes
+  pub run : Run WorldStep w part v
+
+-- A SCRIPT: line by line, each with its part of the journal
+abbrev pub LineStep : WorldState → Line × List SettleEntry → WorldState → Type 0
+LineStep w line v = LineMoves w line.0 line.1 v
+
+-- the journal of a script: the parts of its lines, one after the other
+abbrev pub entries_of : List (Line × List SettleEntry) → List SettleEntry
+entries_of lines = flat_map (λ (line : Line × List SettleEntry). line.1) lines

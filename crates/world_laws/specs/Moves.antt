@@ -1,0 +1,47 @@
+-- Counts over the part of a settle: entries that are steps other than Blocked, or ticks; how often an end found no room with nothing but
+-- Blocked between; and how many ticks a lane got.
+use Rattle.std.specs.Prelude.{ℕ, ◌+◌, ◌≤◌, Bool, true, false, ◌&&◌, ◌==◌, if◌then◌else◌, List, [], ◌∷◌, ⊤}
+use Rattle.ldc_queue.specs.declared.end.End.{End}
+use Rattle.ldc_queue.specs.declared.end.End.TheVariants.{A, B}
+use Rattle.vio_tag.specs.declared.cause.Cause.TheVariants as the_cause
+use Rattle.disk_model.specs.WireEvent.{Blocked, Reset}
+use Rattle.disk_model.specs.DiskEvent.{DiskEvent, OnWire}
+use Rattle.world_laws.specs.Settle.{OfLane, SettleEntry, Settled, Unsettled}
+
+abbrev pub moves : SettleEntry → ℕ
+moves (OfLane j (OnWire (Blocked e))) = 0
+moves (OfLane j event) = 1
+moves Settled = 0
+moves (Unsettled j) = 0
+
+abbrev pub moves_in : List SettleEntry → ℕ
+moves_in [] = 0
+moves_in (x ∷ part) = moves x + moves_in part
+
+-- how often this end of this lane found no room since the last entry that isn't Blocked
+abbrev pub is_end : End → End → Bool
+is_end A A = true
+is_end B B = true
+is_end _ _ = false
+
+abbrev pub stuck : ℕ → End → ℕ → SettleEntry → ℕ
+stuck k e n (OfLane j (OnWire (Blocked d))) = if (j == k) && is_end d e then n + 1 else n
+stuck k e n _ = 0
+
+abbrev pub NeverThree : ℕ → End → ℕ → List SettleEntry → Type 0
+NeverThree k e n [] = ⊤
+NeverThree k e n (x ∷ part) = (stuck k e n x ≤ 2) × NeverThree k e (stuck k e n x) part
+
+-- the ticks of this lane
+abbrev pub is_tick : DiskEvent → Bool
+is_tick (OnWire (Reset e the_cause.Tick packet lost)) = true
+is_tick _ = false
+
+abbrev pub ticks : ℕ → SettleEntry → ℕ
+ticks k (OfLane j event) = if (j == k) && is_tick event then 1 else 0
+ticks k Settled = 0
+ticks k (Unsettled j) = 0
+
+abbrev pub ticks_in : ℕ → List SettleEntry → ℕ
+ticks_in k [] = 0
+ticks_in k (x ∷ part) = ticks k x + ticks_in k part

@@ -1,0 +1,78 @@
+-- A PLAIN LIST of requests over an image: what each line does to it, and what is shown of that.
+use Rattle.std.specs.Prelude.{ℕ, ◌+◌, ◌*◌, Bool, true, false, nat_le, List, [], ◌∷◌, ◌++◌, length, take, drop, Option, Some, None}
+use Rattle.vdisk_msg.specs.declared.request.Request.{Request}
+use Rattle.vdisk_msg.specs.declared.request.Request.TheVariants.{Flush, Read, Write}
+use Rattle.vdisk_msg.specs.Requests.{Defect, after_request, defect, operation_of}
+use Rattle.disk_model.specs.DiskEvent.{Asks, Done, Full, Refused, Works}
+use Rattle.disk_model.specs.LaneState.{Shape}
+use Rattle.world_laws.specs.Settle.{OfLane, SettleEntry, Settled}
+use Rattle.world_laws.specs.Lines.{Asked, Line, Settles}
+
+pub record Plain : Type 0 where
+  -- the bytes of the whole image
+  pub content : List ℕ
+  -- the requests that wait, in order
+  pub waiting : List Request
+  -- how many were completed: the id of the first that waits
+  pub completed : ℕ
+
+-- nothing was asked yet
+abbrev pub untouched : List ℕ → Plain
+untouched content = record { content = content; waiting = []; completed = 0 }
+
+-- A REQUEST is refused for its defect, or else finds the ring full, or else it waits and nothing is shown
+abbrev pub answer : Request → Option Defect → Bool → List SettleEntry
+answer request (Some why) full = OfLane 0 (Asks (Refused why request)) ∷ []
+answer request None true = OfLane 0 (Asks (Full request)) ∷ []
+answer request None false = []
+
+abbrev pub asked : Plain → Request → Option Defect → Bool → Plain
+asked p request (Some why) full = p
+asked p request None true = p
+asked p request None false = record p { waiting = p.waiting ++ request ∷ [] }
+
+-- as many wait as the ring has slots
+abbrev pub is_full : Shape → Plain → Bool
+is_full shape p = nat_le shape.slots (length p.waiting)
+
+-- A COMPLETION gives the blocks that its request reads from the content, which has the writes before it
+abbrev pub given : List ℕ → Request → List ℕ
+given content (Read block count) = take (512 * count) (drop (512 * block) content)
+given content (Write block count fill) = []
+given content Flush = []
+
+abbrev pub completion : Plain → Request → SettleEntry
+completion p request = OfLane 0 (Works (Done p.completed (operation_of request) 0 (given p.content request)))
+
+-- the first request that waits is completed, and these wait after it
+abbrev pub complete : Plain → Request → List Request → Plain
+complete p request behind = record { content = after_request p.content request; waiting = behind; completed = p.completed + 1 }
+
+-- one after another, these are completed
+abbrev pub complete_all : Plain → List Request → Plain
+complete_all p [] = p
+complete_all p (request ∷ behind) = complete_all (complete p request behind) behind
+
+abbrev pub completions : Plain → List Request → List SettleEntry
+completions p [] = []
+completions p (request ∷ behind) = completion p request ∷ completions (complete p request behind) behind
+
+-- WHAT A LINE DOES, and what it shows
+abbrev pub plain_line : Shape → Plain → Line → Plain
+plain_line shape p (Asked k request) = asked p request (defect shape.blocks request) (is_full shape p)
+plain_line shape p Settles = complete_all p p.waiting
+plain_line shape p _ = p
+
+abbrev pub plain_shows : Shape → Plain → Line → List SettleEntry
+plain_shows shape p (Asked k request) = answer request (defect shape.blocks request) (is_full shape p)
+plain_shows shape p Settles = completions p p.waiting ++ Settled ∷ []
+plain_shows shape p _ = []
+
+-- and so lines one after another
+abbrev pub plain_run : Shape → Plain → List Line → Plain
+plain_run shape p [] = p
+plain_run shape p (line ∷ lines) = plain_run shape (plain_line shape p line) lines
+
+abbrev pub plain_journal : Shape → Plain → List Line → List SettleEntry
+plain_journal shape p [] = []
+plain_journal shape p (line ∷ lines) = plain_shows shape p line ++ plain_journal shape (plain_line shape p line) lines

@@ -1,0 +1,57 @@
+-- A WORLD: the lanes of disks, by their numbers, and the one image that all of them are served from; and what each entry of its journal does.
+use Rattle.std.specs.Prelude.{◌≡◌, ℕ, ◌+◌, ◌*◌, ◌≤◌, Bool, true, false, List, [], ◌∷◌, length, map, Some, slice_get, slice_set, IfSome, ⊤}
+use Rattle.vio_io.specs.Causes.{next_count}
+use Rattle.disk_law.specs.ListState.{ImageState}
+use Rattle.disk_model.specs.DiskEvent.{DiskEvent, Stored, Works}
+use Rattle.disk_model.specs.LaneState.{IsShape, LaneState, Shape, fresh}
+use Rattle.disk_model.specs.LaneStep.{LaneStep}
+use Rattle.disk_model.specs.Served.{Served}
+use Rattle.world_laws.specs.Settle.{OfLane, SettleEntry, Settled, Unsettled}
+
+pub record WorldState : Type 0 where
+  pub lanes : List LaneState
+  pub image : ImageState
+
+-- the image's count of faults after a call of the store
+abbrev pub FaultsAfter : Bool → ℕ → ℕ → Type 0
+FaultsAfter true before now = now ≡ next_count before
+FaultsAfter false before now = now ≡ before
+
+-- AN EVENT OF A LANE over the image: a unit that is stored, or a flush, is one call of the image; by every other event the image stays
+abbrev pub LaneMoves : LaneState → ImageState → DiskEvent → LaneState → ImageState → Type 0
+LaneMoves s i (Works (Stored operation block count failed)) t j =
+    Served s i.told (Works (Stored operation block count failed)) t j.told × FaultsAfter failed i.faults j.faults
+LaneMoves s i event t j = LaneStep s event t × (j ≡ i)
+
+-- the lane with this number moved by this event, and all others stayed
+pub record OneMoves (w : WorldState) (k : ℕ) (event : DiskEvent) (v : WorldState) : Type 0 where
+  pub lane : LaneState
+  pub there : slice_get w.lanes k ≡ Some lane
+  pub after : LaneState
+  pub moves : LaneMoves lane w.image event after v.image
+  pub lanes : v.lanes ≡ slice_set w.lanes k after
+
+-- AN ENTRY of the journal: an event of a lane, or that a settle ended
+abbrev pub WorldStep : WorldState → SettleEntry → WorldState → Type 0
+WorldStep w (OfLane k event) v = OneMoves w k event v
+WorldStep w Settled v = v ≡ w
+WorldStep w (Unsettled k) v = v ≡ w
+
+-- the disks of a world stand in its image one after another, from this block on
+abbrev pub AreShapes : ℕ → List Shape → Type 0
+AreShapes first [] = ⊤
+AreShapes first (shape ∷ shapes) = IsShape shape × (shape.first ≡ first) × AreShapes (first + shape.blocks) shapes
+
+-- how many blocks they have together
+abbrev pub blocks_in : List Shape → ℕ
+blocks_in [] = 0
+blocks_in (shape ∷ shapes) = shape.blocks + blocks_in shapes
+
+-- before anything was asked
+abbrev pub fresh_world : List Shape → ImageState → WorldState
+fresh_world shapes image = record { lanes = map fresh shapes; image = image }
+
+-- the disks of these shapes over an image that holds all of them, where it tells its bytes
+pub record IsWorld (shapes : List Shape) (image : ImageState) : Type 0 where
+  pub shapes_are : AreShapes 0 shapes
+  pub holds : IfSome image.told (λ bytes. 512 * blocks_in shapes ≤ length bytes)

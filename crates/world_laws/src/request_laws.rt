@@ -1,0 +1,85 @@
+// What follows for the requests of a world's disks.
+
+ghost use Rattle.std.specs.Prelude.{◌≡◌, ◌≤◌, ℕ, List, Some, drop, length, slice_get};
+ghost use Rattle.runs.specs.Run.{Run};
+ghost use Rattle.disk_law.specs.Issued.{completed, issued, Admission, CompletesOnceInOrder};
+ghost use Rattle.disk_law.specs.ListState.{ImageState};
+ghost use Rattle.disk_model.specs.DiskEvent.{DiskEvent};
+ghost use Rattle.disk_model.specs.LaneState.{fresh, IsShape, LaneState, Shape};
+ghost use Rattle.disk_model.specs.LaneStep.{LaneStep};
+ghost use Rattle.world_laws.specs.Along.{happened};
+ghost use Rattle.world_laws.specs.Rounds.{Each};
+ghost use Rattle.world_laws.specs.Settle.{SettleEntry};
+ghost use Rattle.world_laws.specs.Sums.{IsUnforged};
+ghost use Rattle.world_laws.specs.Lines.{Line, LineBegins, LineStep};
+ghost use Rattle.world_laws.specs.World.{AreShapes, WorldState, WorldStep, fresh_world};
+ghost use Rattle.world_laws.specs.Accepted.{accepted_in, next_ids};
+ghost use Rattle.world_laws.specs.Requests.{requests_of};
+ghost use Rattle.world_laws.specs.Running.{AllLeaveRunning, IsRunning};
+
+/// In every run of a world, also where somebody forges packets and memory and where the store fails: what the journal
+/// says of the requests of a disk is what a disk with a plain list of requests does. A request is refused for its
+/// defect, else finds no room where as many are pending as the ring has slots, else is accepted with the number of
+/// those before it; and each is completed at most once, in the order in which they were accepted.
+pub fn requests_of_each_disk_are_admitted_and_complete_once()
+    ensures once { (shapes : List Shape) (image : ImageState) (entries : List SettleEntry) (w : WorldState)
+        (k : ℕ) (shape : Shape)
+        → AreShapes 0 shapes → Run WorldStep (fresh_world shapes image) entries w → slice_get shapes k ≡ Some shape
+        → CompletesOnceInOrder (requests_of (happened k entries)) }
+    ensures admission { (shapes : List Shape) (image : ImageState) (entries : List SettleEntry) (w : WorldState)
+        (k : ℕ) (shape : Shape)
+        → AreShapes 0 shapes → Run WorldStep (fresh_world shapes image) entries w → slice_get shapes k ≡ Some shape
+        → Admission shape.blocks shape.slots (requests_of (happened k entries)) }
+{}
+
+/// Along every run of a lane, and so of each disk of a world: the client holds the requests that were accepted and
+/// aren't completed, in their order, and its next id is how many were accepted.
+pub fn requests_of_a_lane_are_pending_in_order()
+    ensures pending { (shape : Shape) (events : List DiskEvent) (s : LaneState)
+        → IsShape shape → Run LaneStep (fresh shape) events s
+        → s.client.pending ≡ drop (length (completed (requests_of events))) (issued (requests_of events)) }
+    ensures next { (shape : Shape) (events : List DiskEvent) (s : LaneState)
+        → IsShape shape → Run LaneStep (fresh shape) events s
+        → s.client.next_id ≡ length (issued (requests_of events)) }
+    ensures of_disk { (shapes : List Shape) (image : ImageState) (entries : List SettleEntry) (w : WorldState)
+        (k : ℕ) (shape : Shape) (s : LaneState)
+        → AreShapes 0 shapes → Run WorldStep (fresh_world shapes image) entries w
+        → slice_get shapes k ≡ Some shape → slice_get w.lanes k ≡ Some s
+        → s.client.pending ≡ drop (length (completed (requests_of (happened k entries))))
+        (issued (requests_of (happened k entries))) }
+    ensures next_of_disk { (shapes : List Shape) (image : ImageState) (entries : List SettleEntry) (w : WorldState)
+        (k : ℕ) (shape : Shape) (s : LaneState)
+        → AreShapes 0 shapes → Run WorldStep (fresh_world shapes image) entries w
+        → slice_get shapes k ≡ Some shape → slice_get w.lanes k ≡ Some s
+        → s.client.next_id ≡ length (issued (requests_of (happened k entries))) }
+{}
+
+/// The lines of a script forge no packet and write into no memory, so that nobody forged any lane of the world that
+/// they lead to, also where want of memory cut a line; and where no line stops a server, each runs.
+pub fn nobody_forges_by_lines()
+    ensures unforged { (shapes : List Shape) (image : ImageState) (lines : List (Line × List SettleEntry))
+        (w : WorldState)
+        → Run LineStep (fresh_world shapes image) lines w → Each IsUnforged w.lanes }
+    ensures begun { (shapes : List Shape) (image : ImageState) (lines : List (Line × List SettleEntry))
+        (w : WorldState) (line : Line) (part : List SettleEntry) (v : WorldState)
+        → Run LineStep (fresh_world shapes image) lines w → LineBegins w line part v → Each IsUnforged v.lanes }
+    ensures running { (shapes : List Shape) (image : ImageState) (lines : List (Line × List SettleEntry))
+        (w : WorldState)
+        → AllLeaveRunning lines → Run LineStep (fresh_world shapes image) lines w → Each IsRunning w.lanes }
+    ensures running_begun { (shapes : List Shape) (image : ImageState) (lines : List (Line × List SettleEntry))
+        (w : WorldState) (line : Line) (part : List SettleEntry) (v : WorldState)
+        → AllLeaveRunning lines → Run LineStep (fresh_world shapes image) lines w → LineBegins w line part v
+        → Each IsRunning v.lanes }
+{}
+
+/// The next ids of a world's clients together are as many as the requests that its journal says were accepted; so each
+/// is at most the journal's length.
+pub fn accepted_counts()
+    ensures sum { (shapes : List Shape) (image : ImageState) (entries : List SettleEntry) (w : WorldState)
+        → AreShapes 0 shapes → Run WorldStep (fresh_world shapes image) entries w
+        → next_ids w.lanes ≡ accepted_in entries }
+    ensures each { (shapes : List Shape) (image : ImageState) (entries : List SettleEntry) (w : WorldState)
+        (k : ℕ) (s : LaneState)
+        → AreShapes 0 shapes → Run WorldStep (fresh_world shapes image) entries w → slice_get w.lanes k ≡ Some s
+        → s.client.next_id ≤ length entries }
+{}

@@ -1,0 +1,69 @@
+// What follows for the entries of a world's journal, one by one, and for all that it says of a disk.
+
+ghost use Rattle.std.specs.Prelude.{◌≡◌, ◌<◌, ℕ, false, true, is_some, length, List, Some, ◌∷◌, ◌++◌, slice_get};
+ghost use Rattle.runs.specs.Lawful.{log_of};
+ghost use Rattle.runs.specs.Run.{Run};
+ghost use Rattle.ldc_queue.specs.declared.end.End.TheVariants.{A, B};
+ghost use Rattle.disk_model.specs.WireAt.{IsUp};
+ghost use Rattle.disk_law.specs.ListState.{ImageState};
+ghost use Rattle.disk_model.specs.Agreement.{AgreesWithLog};
+ghost use Rattle.disk_model.specs.DiskLog.{after, nothing_yet};
+ghost use Rattle.disk_model.specs.May.{IsLawful};
+ghost use Rattle.disk_model.specs.DiskEvent.{DiskEvent};
+ghost use Rattle.disk_model.specs.LaneState.{LaneState, Shape};
+ghost use Rattle.lane_laws.specs.OneSession.{AreOneSession};
+ghost use Rattle.world_laws.specs.Along.{happened};
+ghost use Rattle.world_laws.specs.Settle.{OfLane, SettleEntry, Unsettled};
+ghost use Rattle.world_laws.specs.Lines.{Line, LineBegins, LineStep, entries_of};
+ghost use Rattle.world_laws.specs.World.{AreShapes, fresh_world, WorldState, WorldStep};
+ghost use Rattle.world_laws.specs.Words.{HasWords};
+
+/// Along every run of a world, also where somebody forges packets and memory and where the store fails: each event is
+/// one of a disk that the world has, and can be told in words. An operation is a read, a write or a flush; what a read
+/// carries that succeeded is whole blocks, and at least one; a copy was refused for one of its six faults; and no end
+/// loses frames by being configured. The disks that a settle of a script leaves over are the world's too, also where
+/// want of memory cut its line.
+pub fn events_have_their_words()
+    ensures lanes { (shapes : List Shape) (image : ImageState) (entries : List SettleEntry) (w : WorldState)
+        (before : List SettleEntry) (k : ℕ) (event : DiskEvent) (behind : List SettleEntry)
+        → AreShapes 0 shapes → Run WorldStep (fresh_world shapes image) entries w
+        → before ++ OfLane k event ∷ behind ≡ entries → k < length shapes }
+    ensures words { (shapes : List Shape) (image : ImageState) (entries : List SettleEntry) (w : WorldState)
+        (before : List SettleEntry) (k : ℕ) (event : DiskEvent) (behind : List SettleEntry)
+        → AreShapes 0 shapes → Run WorldStep (fresh_world shapes image) entries w
+        → before ++ OfLane k event ∷ behind ≡ entries → HasWords event }
+    ensures unsettled { (shapes : List Shape) (image : ImageState) (lines : List (Line × List SettleEntry))
+        (w : WorldState) (before : List SettleEntry) (k : ℕ) (behind : List SettleEntry)
+        → Run LineStep (fresh_world shapes image) lines w
+        → before ++ Unsettled k ∷ behind ≡ entries_of lines → k < length shapes }
+    ensures unsettled_begun { (shapes : List Shape) (image : ImageState) (lines : List (Line × List SettleEntry))
+        (w : WorldState) (line : Line) (part : List SettleEntry) (v : WorldState)
+        (before : List SettleEntry) (k : ℕ) (behind : List SettleEntry)
+        → Run LineStep (fresh_world shapes image) lines w → LineBegins w line part v
+        → before ++ Unsettled k ∷ behind ≡ entries_of lines ++ part → k < length shapes }
+{}
+
+/// Along every run of a world, also where somebody forges packets and memory and where the store fails: what its
+/// journal says of a disk is lawful, each event in the log of those before it, and the disk's lane agrees with the log
+/// of them all. Where nobody forged it and both sessions are open, both ends are up, and the sessions are one.
+pub fn lanes_are_lawful()
+    ensures lawful { (shapes : List Shape) (image : ImageState) (entries : List SettleEntry) (w : WorldState)
+        (k : ℕ) (shape : Shape)
+        → AreShapes 0 shapes → Run WorldStep (fresh_world shapes image) entries w → slice_get shapes k ≡ Some shape
+        → IsLawful shape (happened k entries) }
+    ensures agrees { (shapes : List Shape) (image : ImageState) (entries : List SettleEntry) (w : WorldState)
+        (k : ℕ) (shape : Shape) (s : LaneState)
+        → AreShapes 0 shapes → Run WorldStep (fresh_world shapes image) entries w
+        → slice_get shapes k ≡ Some shape → slice_get w.lanes k ≡ Some s
+        → AgreesWithLog s (log_of after (nothing_yet shape) (happened k entries)) }
+    ensures up { (shapes : List Shape) (image : ImageState) (entries : List SettleEntry) (w : WorldState)
+        (k : ℕ) (s : LaneState)
+        → AreShapes 0 shapes → Run WorldStep (fresh_world shapes image) entries w → slice_get w.lanes k ≡ Some s
+        → s.wire.forged ≡ false → is_some s.client.session ≡ true → is_some s.server.session ≡ true
+        → IsUp A s.wire.wire × IsUp B s.wire.wire }
+    ensures one { (shapes : List Shape) (image : ImageState) (entries : List SettleEntry) (w : WorldState)
+        (k : ℕ) (s : LaneState)
+        → AreShapes 0 shapes → Run WorldStep (fresh_world shapes image) entries w → slice_get w.lanes k ≡ Some s
+        → s.wire.forged ≡ false → is_some s.client.session ≡ true → is_some s.server.session ≡ true
+        → AreOneSession s.client.shake s.server.shake }
+{}

@@ -1,3 +1,0 @@
-pub mod EventWords
-pub mod LeftOver
-pub mod WorldWords
