@@ -19,10 +19,10 @@ ghost use Rattle.lane_laws.specs.LaterDisturbed.{LaterDisturbed};
 ghost use Rattle.lane_laws.specs.Near.{FrontShows, ImageHolds, IsNear};
 ghost use Rattle.lane_laws.specs.ZeroStatuses.{StatusesZero};
 
-/// On a lane that nobody forged and whose store didn't fail, whatever was lost, reset, stopped or restarted: the buffer
-/// of each write that is published in the client's session holds what it writes; and a descriptor in work goes on as
-/// its request has it: as many blocks of a write are stored as come before its unit, the bytes that are held of the
-/// unit are the write's own, and it ends with the status 0.
+/// On a lane that nobody forged and whose store didn't fail, the buffer of each write that is published in the
+/// client's session holds what it writes. So it is whatever was lost, reset, stopped or restarted. And a descriptor
+/// in work goes on as its request has it: as many blocks of a write are stored as come before its unit. The bytes
+/// that are held of the unit are the write's own, and it ends with the status 0.
 pub fn buffers_hold_what_was_asked()
     ensures written { (shape : Shape) (events : List DiskEvent) (s : LaneState)
         → IsShape shape → Run LaneStep (fresh shape) events s
@@ -35,10 +35,10 @@ pub fn buffers_hold_what_was_asked()
         → s.wire.forged ≡ false → s.failed ≡ false → WorkHeld (view_of s) }
 {}
 
-/// The image of a disk is near the content of its requests that are done: on a fresh lane the image is the content; and
-/// each event of a lane leaves it so where nobody forged and no store failed, a unit that is stored, a completion, a
-/// reset of either end, a stop and a restart included. A completion applies its request to the content, and no other
-/// event changes it.
+/// The image of a disk is near the content of its requests that are done: on a fresh lane the image is the content;
+/// and each event leaves it so where nobody forged and no store failed. A unit that is stored, a completion, a
+/// reset of either end, a stop and a restart are among these events. A completion applies its request to the
+/// content, and no other event changes it.
 pub fn images_stay_near()
     ensures fresh { (shape : Shape) (image : List ℕ)
         → length image ≡ 512 * shape.blocks → IsNear image (fresh shape) image }
@@ -95,8 +95,8 @@ pub fn near_images_hold_the_content()
         → IsNear content s image → s.client.pending ≡ [] → image ≡ content }
 {}
 
-/// On a lane that nobody forged: the pending requests that were published in an earlier session, whose writes a read
-/// before them may show, are among those that were issued before the last reset of an end or stop of the server.
+/// On a lane that nobody forged, pending requests that were published in an earlier session were issued before the
+/// last reset of an end or stop of the server. Their writes are those that a read before them may show.
 pub fn later_writes_were_disturbed()
     ensures { (shape : Shape) (events : List DiskEvent) (s : LaneState)
         → IsShape shape → Run LaneStep (fresh shape) events s → s.wire.forged ≡ false
@@ -104,8 +104,8 @@ pub fn later_writes_were_disturbed()
 {}
 
 /// On a lane that nobody forged and whose store didn't fail: a server's step with a store that tells its bytes is a
-/// step of the disk's image, which is the disk's region of the store, and leaves what lies before the region and after
-/// it.
+/// step of the disk's image. That is the disk's region of the store, and the step leaves what lies before the
+/// region and after it.
 pub fn a_store_has_the_image_as_its_region()
     ensures image { (shape : Shape) (events : List DiskEvent) (s : LaneState) (event : DiskEvent) (t : LaneState)
         (store new : List ℕ)
@@ -129,10 +129,11 @@ pub fn near_counts_are_the_logs()
         → NearAgrees s (log_of after (nothing_yet shape) events).near }
 {}
 
-/// Along every run of a lane with the image of its disk, from a first content on, that nobody forged and whose store
-/// didn't fail, whatever was lost, reset, stopped or restarted: each completion is of the first request that isn't
-/// done, with status 0; that of a read shows for each block the last earlier write, or the first content where there is
-/// none; or else a write that was issued after it, where both were disturbed by a reset or a stop.
+/// Along every run of a lane with the image of its disk, each completion is of the first request that isn't done,
+/// with status 0; that of a read shows for each block the last earlier write, or the first content where there is
+/// none; or else a write that was issued after it, where both were disturbed by a reset or a stop. The run begins
+/// with a first content, nobody forged the lane and its store didn't fail, whatever was lost, reset, stopped or
+/// restarted.
 pub fn completions_show_the_last_write()
     ensures { (shape : Shape) (first : List ℕ) (events : List DiskEvent) (a : Imaged)
         (id operation status : ℕ) (bytes : List ℕ) (b : Imaged)
@@ -142,9 +143,9 @@ pub fn completions_show_the_last_write()
         → CompletionShows first (log_of after (nothing_yet shape) events) status bytes }
 {}
 
-/// At each moment of such a run each block of the image is that of the first content with the requests that are done,
-/// in their order, or that of a write that was accepted and isn't done; and where all are done the image is the first
-/// content with all of them, once each.
+/// At each moment of such a run each block of the image is that of the first content with the requests that are
+/// done; or it is that of a write that was accepted and isn't done; and where all are done the image is the first
+/// content with all of them, once each. Those that are done are applied in their order.
 pub fn an_image_holds_what_is_done()
     ensures holds { (shape : Shape) (first : List ℕ) (events : List DiskEvent) (a : Imaged)
         → IsShape shape → length first ≡ 512 * shape.blocks → Run ImagedStep (fresh_image shape first) events a

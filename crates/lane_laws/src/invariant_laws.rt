@@ -43,9 +43,9 @@ ghost use Rattle.lane_laws.specs.Sound.{CountsInOrder};
 ghost use Rattle.lane_laws.specs.TableStands.{AnswersAt, TableAt};
 ghost use Rattle.lane_laws.specs.Utterances.{SaysEach};
 
-/// On a lane that nobody forged, whatever was lost, reset, stopped or restarted on the way there: what an end that is
-/// up has heard since it last began is a front of what the other end has said since it last began, packet by packet of
-/// those with numbers, and message by message. At each moment: a front of a run is a run.
+/// On a lane that nobody forged, what an end that is up has heard is a front of what the other end has said, each
+/// since it last began: packet by packet of those with numbers, and message by message. So it is whatever was lost,
+/// reset, stopped or restarted on the way there. At each moment: a front of a run is a run.
 pub fn heard_is_a_front_of_said_on_a_lane()
     ensures packets { (shape : Shape) (events : List DiskEvent) (s : LaneState) (e : End)
         → IsShape shape → Run LaneStep (fresh shape) events s
@@ -58,10 +58,10 @@ pub fn heard_is_a_front_of_said_on_a_lane()
         → IsFront (heard (talk_of e (talk_behind events))) (said (talk_of (peer_of e) (talk_behind events))) }
 {}
 
-/// Along every run of a lane, also where somebody forges packets and memory: a request is refused for its defect, finds
-/// as many pending as the ring has slots, or is accepted with the number of those before it; each completion has the
-/// number of those before it, and is of the request that was accepted with that number, so that the completions have
-/// the numbers 0, 1, 2 and so on; and a server makes a step, is reset or is stopped only where it runs.
+/// Along every run of a lane, also where somebody forges packets and memory: a request is refused for its defect,
+/// finds as many pending as the ring has slots, or is accepted with the number of those before it; each completion
+/// has the number of those before it, and is of the request that was accepted with that number; and a server makes
+/// a step, is reset or is stopped only where it runs. So the completions have the numbers 0, 1, 2 and so on.
 pub fn requests_complete_once_in_order_on_a_lane()
     ensures admission { (shape : Shape) (events : List DiskEvent) (s : LaneState)
         → IsShape shape → Run LaneStep (fresh shape) events s
@@ -85,8 +85,9 @@ pub fn completions_carry_their_blocks()
         → Lawful CarriesAt after (nothing_yet shape) events }
 {}
 
-/// Along every run of a lane, also where somebody forges packets and memory: each event of the wire stands where the
-/// states of the ends and what waits for them let it, and an answer that changes nothing is said exactly where it is.
+/// Along every run of a lane, also where somebody forges packets and memory: each event of the wire stands where
+/// the states of the ends and what waits for them let it. An answer that changes nothing is said exactly where it
+/// is so.
 pub fn events_stand_by_states_and_queues()
     ensures table { (shape : Shape) (events : List DiskEvent) (s : LaneState)
         → IsShape shape → Run LaneStep (fresh shape) events s
@@ -169,12 +170,12 @@ pub fn a_client_writes_one_slot()
         → SlotFreed s status t }
 {}
 
-/// What remains to be done on a lane, along every run, also where somebody forges packets and memory. A fresh lane has
-/// 36 before it. Each step of an end that takes nothing lowers it: that an end joins or puts a packet, that the client
-/// publishes or completes a request, and that the server fetches a descriptor, does a piece of it or ends it. After a
-/// reset of an end that was up exactly 35 remain, and 16 for each pending request; where a packet was lost before, that
-/// is less than remained. Where nobody forged, a packet that an end takes lowers it too; so of the steps by which an
-/// end does something no more follow one another than remain.
+/// What remains to be done on a lane, along every run, also where somebody forges packets and memory. A fresh lane
+/// has 36 before it. Each step of an end that takes nothing lowers it: that an end joins or puts a packet; that the
+/// client publishes or completes a request; and that the server fetches a descriptor, does a piece of it or ends
+/// it. After a reset of an end that was up exactly 35 remain, and 16 for each pending request; where a packet was
+/// lost before, that is less than remained. Where nobody forged, a packet that an end takes lowers it too; so of
+/// the steps by which an end does something no more follow one another than remain.
 pub fn what_remains_falls_by_what_an_end_does()
     ensures fresh { (shape : Shape) → remaining (fresh shape) ≡ 36 }
     ensures steps { (shape : Shape) (events : List DiskEvent) (s : LaneState) (event : DiskEvent) (t : LaneState)
@@ -226,7 +227,7 @@ pub fn ends_say_what_their_handshakes_hold()
 {}
 
 /// On a lane that nobody forged, each message that an end that is up has heard since it last began is as the other
-/// end's handshake has it now, whatever was lost, reset, stopped or restarted on the way there.
+/// end's handshake has it now. So it is whatever was lost, reset, stopped or restarted on the way there.
 pub fn what_is_heard_is_as_the_other_end_has_it()
     ensures client { (shape : Shape) (events : List DiskEvent) (s : LaneState)
         → IsShape shape → Run LaneStep (fresh shape) events s
@@ -315,9 +316,9 @@ pub fn slots_stand_in_order()
 {}
 
 /// A tick resets the client only where its session isn't open or something is pending, and so it is after it: no
-/// request is lost, nobody has forged by it, and the server runs as before. Where the client's end is up no packet is
-/// lost of those that are put from then on, 35 remain and 16 for each pending request, and where a packet was lost
-/// before, that is less than remained.
+/// request is lost, nobody has forged by it, and the server runs as before. Where the client's end is up no packet
+/// is lost of those that are put from then on; 35 remain and 16 for each pending request; and where a packet was
+/// lost before, that is less than remained.
 pub fn a_tick_begins_a_lane_anew()
     ensures { (shape : Shape) (events : List DiskEvent) (s : LaneState) (e : End) (cause : Cause)
         (packet : Option (List ℕ)) (lost : ℕ) (t : LaneState)
@@ -325,10 +326,10 @@ pub fn a_tick_begins_a_lane_anew()
         → LaneStep s (OnWire (Reset e cause packet lost)) t → TickBegins s t }
 {}
 
-/// What remains to be done on a lane that nobody forged, whatever was lost, reset, stopped or restarted on the way
-/// there, is at most 36 and 16 for each pending request where no packet was lost since the queues were last emptied,
-/// and else at most 69 and 32 for each. Both are reached: the first by a fresh lane, the second where the first packet
-/// of a lane is lost. The count of a settling allows 192 for a lane and 64 for each pending request.
+/// What remains to be done on a lane that nobody forged is at most 36 and 16 for each pending request; where a
+/// packet was lost since the queues were last emptied it is at most 69 and 32 for each. So it is whatever was lost,
+/// reset, stopped or restarted on the way there. Both are reached: the first by a fresh lane, the second where the
+/// first packet of a lane is lost. The count of a settling allows 192 for a lane and 64 for each pending request.
 pub fn little_remains_where_nobody_forged()
     ensures whole { (shape : Shape) (events : List DiskEvent) (s : LaneState)
         → IsShape shape → Run LaneStep (fresh shape) events s → s.wire.forged ≡ false → s.wire.lossy ≡ false

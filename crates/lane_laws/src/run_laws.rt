@@ -52,9 +52,10 @@ pub fn work_has_its_numbers()
         → Lawful WorkNumbersAt after (nothing_yet shape) events }
 {}
 
-/// Along every run of a lane, also where somebody forges packets and memory: no reset loses frames; and what resets an
-/// end without a packet is, but for those that a script, a restart or a tick asks for, at a client an acknowledged slot
-/// that isn't DONE, and at a server, in a range that isn't finished, a slot that isn't READY or a copy that was refused.
+/// Along every run of a lane, also where somebody forges packets and memory: no reset loses frames; and one without
+/// a packet has its ground in the ring, but where a script, a restart or a tick asks for it. At a client that is an
+/// acknowledged slot that isn't DONE. At a server it is, in a range that isn't finished, a slot that isn't READY or
+/// a copy that was refused.
 pub fn resets_without_a_packet_have_their_ground()
     ensures { (shape : Shape) (events : List DiskEvent) (s : LaneState)
         → IsShape shape → Run LaneStep (fresh shape) events s
@@ -91,10 +92,10 @@ pub fn ranges_name_what_was_done()
         → Lawful RangesAt after (nothing_yet shape) events }
 {}
 
-/// On a lane that nobody forged, whatever was lost, reset, stopped or restarted on the way there: a step by which an
-/// end resets itself has a gap in the numbers of packets as its cause, and a packet was lost since the queues were last
-/// emptied. So each other packet is one that the end may take, each message one that it accepts, and each slot of the
-/// ring and each copy is as the end expects.
+/// On a lane that nobody forged, whatever was lost, reset, stopped or restarted on the way there: a step by which
+/// an end resets itself has a gap in the numbers of packets as its cause, and a packet was lost since the queues
+/// were last emptied. So each other packet is one that the end may take, and each message one that it accepts. Each
+/// slot of the ring and each copy is as the end expects.
 pub fn an_end_resets_itself_behind_a_loss_alone()
     ensures step { (shape : Shape) (events : List DiskEvent) (s : LaneState) (e : End) (cause : Cause)
         (packet : Option (List ℕ)) (lost : ℕ) (t : LaneState)
@@ -115,10 +116,10 @@ pub fn work_is_done_as_it_was_asked()
         → Lawful WorkUnforgedAt after (nothing_yet shape) events }
 {}
 
-/// Along every run of a lane, also where somebody forges packets and memory: a session opens in the handshake's order.
-/// What the end said and heard since it last began, up to the packet by which its session opens, is the row of its link's
-/// handshake and of its messages, one after the other and all of one sid; between them stand only refusals, parts of
-/// messages, and what was heard once the link was up.
+/// Along every run of a lane, also where somebody forges packets and memory: a session opens in the handshake's
+/// order. That is about what the end said and heard since it last began, up to the packet by which its session
+/// opens. It is the row of its link's handshake and of its messages, one after the other and all of one sid;
+/// between them stand only refusals, parts of messages, and what was heard once the link was up.
 pub fn sessions_open_in_order()
     ensures { (shape : Shape) (events : List DiskEvent) (s : LaneState)
         → IsShape shape → Run LaneStep (fresh shape) events s
@@ -171,10 +172,10 @@ pub fn calm_ends_have_finished()
         → HaveFinished t }
 {}
 
-/// Each step of an end of a lane that nobody forged, whatever was lost, reset, stopped or restarted on the way there,
-/// lowers what remains to be done, also one by which the end resets itself; or it is calm, and doesn't raise it. On any
-/// lane a step forges nothing, loses no packet, and neither stops nor starts the server; and an idle one leaves the
-/// lane as it was.
+/// Each step of an end of a lane that nobody forged lowers what remains to be done, also one by which the end
+/// resets itself; or it is calm, and doesn't raise it. So it is whatever was lost, reset, stopped or restarted on
+/// the way there. On any lane a step forges nothing, loses no packet, and neither stops nor starts the server; and
+/// an idle one leaves the lane as it was.
 pub fn a_step_lowers_what_remains_or_is_calm()
     ensures falls { (shape : Shape) (events : List DiskEvent) (s : LaneState)
         (e : End) (event : DiskEvent) (t : LaneState)

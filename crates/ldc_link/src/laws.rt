@@ -13,8 +13,9 @@ ghost use Rattle.ldc_link.specs.Following.{Follows};
 ghost use Rattle.ldc_link.specs.LinkState.{cleared, is_up, joined_link, offered, LinkState};
 ghost use Rattle.ldc_link.specs.Taking.{Heard, TakesBytes};
 
-/// A link that is up, and has heard nothing of a message, takes data packets and hears messages exactly where the packets have the
-/// next numbers, one after the other, and are the fragments of the messages, and of the front of one more.
+/// A link that is up hears messages exactly where the data packets that it takes are their fragments, and those of
+/// the front of one more, with the next numbers. The packets come one after the other, and the link has heard
+/// nothing of a message before.
 pub fn messages_are_heard_by_their_fragments()
     ensures { (k : LinkState) (packets : List Packet) (messages : List (List ℕ)) (half : List ℕ) → is_up k ≡ true → k.half_heard ≡ [] → AreData packets
         → ((t : LinkState) × Hears k packets messages t × (t.half_heard ≡ half))
@@ -31,9 +32,10 @@ pub fn messages_are_said_as_their_fragments()
         → (packets : List Packet) × (t : LinkState) × Says (offered message k) packets t × (t.to_send ≡ []) }
 {}
 
-/// A link follows what its end said and heard since it joined: so what it puts and what it takes counts up from 1, as
-/// the law asks by which what an end has heard is a front of what the other end said. An offer and a message that was
-/// seen change nothing of it, and each part that it takes is one that may come after those that it took.
+/// A link follows what its end said and heard since it joined: so what it puts and what it takes counts up from 1.
+/// That is what the law asks by which what an end has heard is a front of what the other end said. An offer and a
+/// message that was seen change nothing of it, and each part that it takes is one that may come after those that it
+/// took.
 pub fn links_follow_what_their_ends_say()
     ensures joins { (k : LinkState) → Follows (joined_link k) [] }
     ensures puts { (k : LinkState) (turns : List Turn) (bytes : List ℕ) (m : LinkState) → Follows k turns → Puts k bytes m

@@ -12,13 +12,13 @@ ghost use Rattle.world_parts.specs.Declared.{bytes_needed, world_of};
 ghost use Rattle.world_parts.specs.Endings.{Ending, JournalEnds};
 
 /// For every script over at most eight disks, whatever it resets, stops, restarts and loses, and wherever its run
-/// ended: each disk's lane is lawful and stands as its log says, and an end that is up heard in order what the other
-/// said; after each settle both its ends are still and, where its server runs, all its accepted requests have
-/// completed. Each settle, also one that want of memory cut off, has at most one tick of a lane, where its server runs,
-/// a packet was lost and both ends are still. Over an image that tells its bytes, where no call of the store failed for
-/// the disk, as where the image counts no fault: each completed read shows the last earlier write, and each block of the
-/// disk is that of its completed writes or of one that isn't completed; where all are completed, the disk holds exactly
-/// the accepted ones applied once in order. Outside of all disks the image stays.
+/// ended: each disk's lane is lawful and stands as its log says, and an end that is up heard in order what the
+/// other said; after each settle both its ends are still and, where its server runs, all its accepted requests have
+/// completed. Each settle, also one that want of memory cut off, has at most one tick of a lane: where its server
+/// runs, a packet was lost and both ends are still. Over an image that tells its bytes, where no call of the store
+/// failed for the disk, as where the image counts no fault: each completed read shows the last earlier write; each
+/// block of the disk is that of its completed writes or of one that isn't completed; where all are completed, the
+/// disk holds exactly the accepted ones applied once in order. Outside of all disks the image stays.
 pub fn the_headline_holds()
     ensures { (ending : Ending) (disks : List DiskDecl) (image : ImageState) (events : List Event)
         (journal : List Entry) (v : WorldState)

@@ -17,9 +17,9 @@ ghost use Rattle.script_laws.specs.Outside.{IsOutsideDisks, KeepsOthers};
 ghost use Rattle.world_parts.specs.Declared.{bytes_needed, world_of};
 ghost use Rattle.world_parts.specs.Script.{FitsCutOff, FitsScript, cut_lines};
 
-/// In the parts of all lines of a script each request is refused for its defect, finds no room where as many are
-/// pending as its disk's ring has slots, or else is accepted with the next id: also where want of memory cut off the
-/// last line.
+/// In the parts of all lines of a script each request is refused for its defect, finds no room or is accepted with
+/// the next id: also where want of memory cut off the last line. It finds no room where as many are pending as its
+/// disk's ring has slots.
 pub fn requests_are_admitted()
     ensures script { (disks : List DiskDecl) (image : ImageState) (entries : ℕ) (events : List Event)
         (journal : List Entry) (v : WorldState)
@@ -44,8 +44,9 @@ pub fn requests_complete_once_in_order()
         → (x : ℕ) → CompletesOnceInOrder (history x journal) }
 {}
 
-/// An image that tells its bytes goes on to tell as many, and outside of the blocks that the accepted requests write,
-/// each to its own disk, they stay as they were: also where an image failed, and where memory was wanted within a line.
+/// An image that tells its bytes goes on to tell as many, and outside of the blocks that accepted requests write
+/// they stay as they were: also where an image failed, and where memory was wanted within a line. Each request
+/// writes to its own disk.
 pub fn bytes_outside_of_writes_stay()
     ensures script { (disks : List DiskDecl) (faults : ℕ) (content : List ℕ) (entries : ℕ) (events : List Event)
         (journal : List Entry) (v : WorldState)

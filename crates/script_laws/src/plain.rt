@@ -15,8 +15,8 @@ ghost use Rattle.script_laws.specs.Completed.{completed_ids};
 ghost use Rattle.world_parts.specs.Declared.{world_of};
 ghost use Rattle.world_parts.specs.Script.{FitsScript};
 
-/// A quiet script that its journal fits, over an image that tells its bytes, is long enough and never failed, has the
-/// text, leaves the content and completes the ids that the plain run gives.
+/// A quiet script that its journal fits has the text, leaves the content and completes the ids that the plain run
+/// gives: over an image that tells its bytes, is long enough and never failed.
 pub fn a_quiet_script_runs_plainly()
     ensures text { (disk : DiskDecl) (content : List ℕ) (events : List Event) (journal : List Entry) (v : WorldState)
         → IsDisk disk → 512 * disk.blocks ≤ length content → IsQuiet disk events

@@ -36,7 +36,7 @@ pub fn stores_stay_within_their_disks()
         → StaysAround shape store v.image.told }
 {}
 
-/// After all disks of a world a told image is as it was at the start, and it is as long, also where somebody forges
+/// After all disks of a world a told image is as it was at the start, and it is as long: also where somebody forges
 /// packets and memory, and where the store fails.
 pub fn images_outside_all_disks_stay()
     ensures { (shapes : List Shape) (image : ImageState) (first : List ℕ)
@@ -78,9 +78,10 @@ pub fn completions_of_each_disk_show_the_last_write()
         → CompletionShows (region_of shape first) (log_of after (nothing_yet shape) (happened k before)) status bytes }
 {}
 
-/// At each moment of a world each block of a disk that nobody forged and whose store didn't fail is that of the first
-/// image with the disk's requests that are done, in their order, or that of a write that it accepted and that isn't
-/// done; and where all are done its region is the first content with all of them, once each.
+/// At each moment of a world each block of a disk is that of the first image with the requests that are done; or it
+/// is that of a write that the disk accepted and that isn't done; and where all are done its region is the first
+/// content with all of them, once each. That is so where nobody forged the disk's lane and its store didn't fail,
+/// and those that are done are applied in their order.
 pub fn each_disk_holds_what_is_done()
     ensures holds { (shapes : List Shape) (image : ImageState) (first : List ℕ) (k : ℕ) (shape : Shape)
         → IsWorld shapes image → image.told ≡ Some first → slice_get shapes k ≡ Some shape

@@ -57,8 +57,8 @@ pub fn all_ends_are_still_behind_a_quiet_round()
 {}
 
 /// In the part of a settle no end of a lane finds no room three times with nothing but Blocked between. Where the
-/// rounds ran out, the steps other than Blocked and the ticks in it are at least as many as the most rounds, since each
-/// round that isn't the last leaves one; and at least one lane is named.
+/// rounds ran out, the steps other than Blocked and the ticks in it are at least as many as the most rounds; for
+/// each round that isn't the last leaves one. Then at least one lane is named.
 pub fn each_round_of_a_settle_moves()
     ensures stuck { (start : List LaneState) (part : List SettleEntry) (behind : List LaneState) (k : ℕ) (e : End)
         → SettlePart start part behind → NeverThree k e 0 part }
