@@ -2,7 +2,7 @@ use Rattle.std.proofs.Common.{refl, false, sym, subst, [], lit<, lit≤}
 use Rattle.domain_script.specs.declared.event.DiskDecl.{DiskDecl}
 use Rattle.domain_script.specs.Declarations.{IsDisk}
 use Rattle.domain_script.specs.NamesState.{NamesState, CanDeclare}
-use Rattle.journal_tests.proofs.reports.one_disk.Goals as goal
+use Rattle.unit_tests.proofs.reports.one_disk.Goals as goal
 
 -- the first disk of a script, within the limits
 first_disk : (disk : DiskDecl) → IsDisk disk → CanDeclare (record { disks = []; ended = false }) disk

@@ -1,48 +1,15 @@
-use cookie_copy::CopyFault;
-use domain_script::{EndName, Lane, Side};
-use kept_journal::Journal;
-use ldom_entries::{Bytes, Entry, EntryRef, KeptRequest, Who, Why};
+// A journal of each kind of entry, and what is read of it.
+
+use ldom_journal::{
+    Bytes, Cause, CopyFault, EndName, Entry, EntryRef, Journal, KeptRequest, Lane, NoMemory,
+    Request, Side, VD_OP_BREAD, VD_OP_BWRITE, VD_OP_FLUSH, Who, Why,
+};
 use std::alloc::Global;
 use std::test::Fail;
 use trimmed_arrays::TrimmedArray;
-use vdisk_msg::{Request, VD_OP_BREAD, VD_OP_BWRITE, VD_OP_FLUSH};
-use vio_bytes::NoMemory;
-use vio_tag::Cause;
 
 /// What is looked at of an entry: its kind, whom it is about, and one of its numbers or the length of its bytes.
 type Row = (&'static str, u64, u64);
-
-/// The rows of `of_lines`, `of_ends` and `of_servers`.
-const ROWS: [Row; 25] = [
-    ("accepted", 3, 2),
-    ("full", 13, 0),
-    ("refused", 13, 0),
-    ("refused", 13, 1),
-    ("stopped", 3, 0),
-    ("started", 3, 0),
-    ("calm", 31, 0),
-    ("settled", 0, 0),
-    ("unsettled", 30, 0),
-    ("done", 3, 5),
-    ("read", 3, 512),
-    ("idle", 30, 0),
-    ("off", 31, 0),
-    ("blocked", 30, 0),
-    ("joined", 30, 4),
-    ("lost", 31, 64),
-    ("took", 30, 0),
-    ("sent", 31, 3),
-    ("published", 30, 6),
-    ("reset", 31, 0),
-    ("reset", 30, 3),
-    ("desc", 31, 1),
-    ("moved", 31, 1),
-    ("stored", 31, 8),
-    ("finished", 31, 5),
-];
-
-/// The places of those that a user of the disks may see.
-const MAY_BE_SEEN: [usize; 10] = [1, 2, 3, 7, 8, 9, 10, 15, 19, 20];
 
 const CLIENT: EndName = EndName {
     lane: Lane::Disk(3),
@@ -55,6 +22,37 @@ const SERVER: EndName = EndName {
 };
 
 const LANE: Who = Who::Lane(Lane::Disk(3));
+
+/// The rows of `of_lines`, `of_ends` and `of_servers`, and whether a user of the disks may see the entry.
+fn rows() -> [(Row, bool); 25] {
+    [
+        (("accepted", 3, 2), false),
+        (("full", 13, 0), true),
+        (("refused", 13, 0), true),
+        (("refused", 13, 1), true),
+        (("stopped", 3, 0), false),
+        (("started", 3, 0), false),
+        (("calm", 31, 0), false),
+        (("settled", 0, 0), true),
+        (("unsettled", 30, 0), true),
+        (("done", 3, 5), true),
+        (("read", 3, 512), true),
+        (("idle", 30, 0), false),
+        (("off", 31, 0), false),
+        (("blocked", 30, 0), false),
+        (("joined", 30, 4), false),
+        (("lost", 31, 64), true),
+        (("took", 30, 0), false),
+        (("sent", 31, 3), false),
+        (("published", 30, 6), false),
+        (("reset", 31, 0), true),
+        (("reset", 30, 3), true),
+        (("desc", 31, 1), false),
+        (("moved", 31, 1), false),
+        (("stored", 31, 8), false),
+        (("finished", 31, 5), false),
+    ]
+}
 
 /// A packet that begins with three bytes, and has zeros after them.
 fn short_packet() -> [u8; 64] {
@@ -185,7 +183,7 @@ fn note(journal: &mut Journal, entry: Entry) -> Result<(), NoMemory> {
 }
 
 /// A journal of an entry of each kind.
-fn journal_of_all(alloc: Global) -> Result<Journal, NoMemory> {
+pub(crate) fn journal_of_all(alloc: Global) -> Result<Journal, NoMemory> {
     let mut journal = Journal::new(alloc);
     for entry in of_lines(alloc)? {
         note(&mut journal, entry)?;
@@ -276,39 +274,33 @@ fn whole_row(entry: &Entry) -> Row {
 #[test]
 fn each_kind_is_read_as_it_was_put(rt: HostRuntime) -> Result<(), Fail> {
     let journal = journal_of_all(rt.alloc())?;
-    let mut rest = journal.entries();
-    for (k, expected) in ROWS.iter().enumerate() {
-        assert_eq!(rt; row(rest.next_entry()), *expected);
+    let mut all = journal.entries();
+    let mut seen = journal.entries();
+    for (k, (expected, may_be_seen)) in rows().iter().enumerate() {
+        assert_eq!(rt; row(all.next_entry()), *expected);
         assert_eq!(rt; row(journal.get(k)), *expected);
+        if *may_be_seen {
+            seen.pass_unseen();
+            assert_eq!(rt; row(seen.next_entry()), *expected);
+        }
     }
-    assert!(rt; rest.next_entry().is_none());
-    assert!(rt; journal.get(ROWS.len()).is_none());
-    Ok(())
-}
-
-#[test]
-fn entries_that_nobody_may_see_are_passed_over(rt: HostRuntime) -> Result<(), Fail> {
-    let journal = journal_of_all(rt.alloc())?;
-    let mut rest = journal.entries();
-    for place in MAY_BE_SEEN {
-        rest.pass_unseen();
-        assert_eq!(rt; Some(&row(rest.next_entry())), ROWS.get(place));
-    }
-    rest.pass_unseen();
-    assert!(rt; rest.next_entry().is_none());
+    seen.pass_unseen();
+    assert!(rt; all.next_entry().is_none() && seen.next_entry().is_none());
+    assert!(rt; journal.get(25).is_none());
     Ok(())
 }
 
 #[test]
 fn a_journal_is_counted(rt: HostRuntime) -> Result<(), Fail> {
-    let alloc = rt.alloc();
-    assert!(rt; Journal::new(alloc).is_empty());
-    let journal = journal_of_all(alloc)?;
-    assert!(rt; !journal.is_empty());
-    assert_eq!(rt; journal.len(), ROWS.len());
-    assert_eq!(rt; journal.accepted(), 1);
-    assert_eq!(rt; journal.done(), 2);
-    assert_eq!(rt; journal.resets(), 2);
+    let journal = journal_of_all(rt.alloc())?;
+    let counts = [
+        journal.accepted(),
+        journal.done(),
+        journal.resets(),
+        journal.len(),
+    ];
+    assert_eq!(rt; counts, [1, 2, 2, 25]);
+    assert!(rt; !journal.is_empty() && Journal::new(rt.alloc()).is_empty());
     Ok(())
 }
 
@@ -320,6 +312,16 @@ fn room_is_made_for_many_entries(rt: HostRuntime) -> Result<(), Fail> {
     for _ in 0..1000 {
         note(&mut journal, Entry::Settled)?;
     }
-    assert_eq!(rt; journal.len(), 1000);
+    note(&mut journal, Entry::Full { who: LANE })?;
+    assert_eq!(rt; journal.len(), 1001);
+    let read = [
+        row(journal.get(0)),
+        row(journal.get(1000)),
+        row(journal.get(1001)),
+    ];
+    assert_eq!(rt;
+        read,
+        [("settled", 0, 0), ("full", 13, 0), ("nothing", 0, 0)]
+    );
     Ok(())
 }

@@ -1,4 +1,8 @@
+// Arrays and bytes as a journal keeps them.
+
+use ldom_journal::Bytes;
 use std::alloc::Global;
+use std::test::Fail;
 use trimmed_arrays::{NoMemory, TrimmedArray, TrimmedArrays};
 
 /// How many bytes are kept of an array.
@@ -44,5 +48,19 @@ fn arrays_are_read_in_the_order_of_their_pushes(rt: HostRuntime) -> Result<(), N
         assert_eq!(rt; read(rest.next_array()), (front, 4));
     }
     assert!(rt; rest.next_array().is_none());
+    Ok(())
+}
+
+#[test]
+fn bytes_fill_into_their_room(rt: HostRuntime) -> Result<(), Fail> {
+    let alloc = rt.alloc();
+    let mut bytes = Bytes::with_room(alloc, 1029)?;
+    let mut all = [0xab; 1029];
+    all[500..505].copy_from_slice(b"abcde");
+    bytes.fill(&all[..512]);
+    bytes.fill(&all[512..514]);
+    bytes.fill(&all[514..]);
+    assert!(rt; bytes.to_vec(alloc)?.as_slice() == all.as_slice() && bytes.len() == 1029);
+    assert!(rt; !bytes.is_empty() && Bytes::empty(alloc).is_empty());
     Ok(())
 }

@@ -3,7 +3,7 @@ use Rattle.std.proofs.lemmas.List.Elements.{All-append, All-cons, All-nil}
 use Rattle.domain_script.specs.declared.event.DiskDecl.{DiskDecl}
 use Rattle.ldom_entries.specs.declared.entry.Entry.{Entry}
 use Rattle.ldom_journal.specs.HasWords.{HasWords}
-use Rattle.journal_tests.proofs.reports.note.Goals as goal
+use Rattle.unit_tests.proofs.reports.note.Goals as goal
 
 one_more : (disks : List DiskDecl) (old new : List Entry) (entry : Entry) → All (HasWords disks) old → HasWords disks entry → new ≡ old ++ entry ∷ [] → All (HasWords disks) new
 one_more disks old new entry words has is =
