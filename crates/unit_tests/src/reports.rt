@@ -90,7 +90,7 @@ fn reset(cause: Cause, packet: Option<[u8; 64]>, lost: u32) -> Entry
     }
 }
 
-/// Completions and work that failed, and a settle that ran out of rounds.
+/// Completions and work that failed or found no room, and a settle that ran out of rounds.
 fn note_failures(alloc: Global, journal: &mut Journal) -> Result<(), NoMemory>
     requires { (disks : List DiskDecl) → length disks ≡ 1 → All (HasWords disks) journal.old.entries }
     ensures { OnOk result ((disks : List DiskDecl) → length disks ≡ 1 → All (HasWords disks) journal.new.entries) }
@@ -100,6 +100,7 @@ fn note_failures(alloc: Global, journal: &mut Journal) -> Result<(), NoMemory>
     note(journal, done(VD_OP_BWRITE, 5, Bytes::empty(alloc)))?;
     note(journal, done(VD_OP_BREAD, 5, Bytes::empty(alloc)))?;
     let end = SERVER;
+    note(journal, Entry::Blocked { end })?;
     let (unit, fault) = (2, Some(CopyFault::BadPage));
     note(journal, Entry::Moved { end, unit, fault })?;
     let stored = Entry::Stored {
@@ -133,6 +134,7 @@ fn unreached(alloc: Global) -> Result<Journal, NoMemory>
 const TRACED: &str = "unsettled d0
 done d0 0 write 5
 done d0 0 read 5
+blocked d0.s
 moved d0.s 2 badpage
 stored d0.s write 16 2 failed
 finished d0.s 3 22
