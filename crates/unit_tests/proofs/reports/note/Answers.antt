@@ -1,0 +1,16 @@
+use Rattle.std.proofs.Common.{◌≡◌, All, List, [], ◌∷◌, ◌++◌, subst, sym, ap, ◌∙◌}
+use Rattle.std.proofs.lemmas.List.Elements.{All-append, All-cons, All-nil}
+use Rattle.ldom_journal.specs.HasWords.{HasWords}
+use Rattle.unit_tests.proofs.reports.note.Goals as goal
+
+put_last : {A : Type 0} → A → List A → List A
+put_last entry entries = entries ++ entry ∷ []
+
+one_more : {A : Type 0} (P : A → Type 0) (old new : List A) (entry : A) → All P old → P entry → new ≡ put_last entry old → All P new
+one_more P old new entry words has is =
+    subst (All P) (sym is) (All-append P old (entry ∷ []) words (All-cons P entry [] has (All-nil P)))
+
+pub returns : goal.returns
+returns c = λ disks one.
+    one_more (HasWords disks) _ _ _ (c.requires.words disks one) (c.requires.fits disks one)
+    (c.push.ensures.entries ∙ ap (put_last c.args.entry) c.reserve.ensures.entries)

@@ -1,0 +1,258 @@
+// Images and hosts: in memory, of the program, and over files.
+ghost use Rattle.std.specs.Prelude.{◌≡◌, ◌≤◌, if◌then◌else◌, IfOk};
+ghost use Rattle.flat_store.specs.Files.{after_fault, after_move};
+ghost use Rattle.flat_store.specs.declared.image_file.FileFault.TheVariants.{Interrupted};
+
+use flat_store::{
+    CallCounts, FileFault, FileStore, HostDisk, ImageFile, ListHost, MemStore, StdHost,
+};
+use infallible_io::InfallibleHost;
+use std::alloc::Global;
+use std::fs;
+use std::test::Fail;
+use vio_io::{AttachFault, Host, Store};
+
+/// A file whose calls are interrupted so often, and then answer so: how many bytes they move, or their fault.
+#[derive(Drop)]
+struct AnsweringFile {
+    interruptions: u32,
+    answer: Result<usize, FileFault>,
+    calls: CallCounts,
+}
+
+impl AnsweringFile {
+    // Whether the next call is interrupted.
+    fn interrupts(&mut self) -> bool
+        ensures calls { self.new.calls ≡ (if result then after_fault Interrupted self.old.calls else self.old.calls) }
+        ensures answer { self.new.answer ≡ self.old.answer }
+    {
+        if self.interruptions == 0 {
+            return false;
+        }
+        self.interruptions -= 1;
+        self.calls.note_fault(FileFault::Interrupted);
+        true
+    }
+
+    // Answers a call that is asked to move so many bytes, and counts it.
+    fn moves(&mut self, wanted: usize) -> Result<usize, FileFault>
+        ensures within { IfOk result (λ n. n ≤ wanted) }
+        ensures calls { self.new.calls ≡ after_move wanted result self.old.calls }
+    {
+        if self.interrupts() {
+            return Err(FileFault::Interrupted);
+        }
+        match self.answer {
+            Ok(most) => {
+                let moved = most.min(wanted);
+                self.calls.note_move(moved == wanted);
+                Ok(moved)
+            }
+            Err(fault) => {
+                self.calls.note_fault(fault);
+                Err(fault)
+            }
+        }
+    }
+}
+
+impl ImageFile for AnsweringFile {
+    ghost use Rattle.std.specs.Prelude.{None};
+
+    ghost content = { λ _. None };
+
+    ghost size = { λ _. 8192 };
+
+    ghost calls = { λ f. f.calls };
+
+    ghost told_size = { λ _. tt };
+
+    fn len(&self) -> u64 {
+        8192
+    }
+
+    fn read_some(&mut self, _: u64, buf: &mut [u8]) -> Result<usize, FileFault> {
+        self.moves(buf.len())
+    }
+
+    fn write_some(&mut self, _: u64, bytes: &[u8]) -> Result<usize, FileFault> {
+        self.moves(bytes.len())
+    }
+
+    fn sync(&mut self) -> Result<(), FileFault> {
+        if self.interrupts() {
+            return Err(FileFault::Interrupted);
+        }
+        match self.answer {
+            Ok(_) => {
+                self.calls.note_sync();
+                Ok(())
+            }
+            Err(fault) => {
+                self.calls.note_fault(fault);
+                Err(fault)
+            }
+        }
+    }
+}
+
+/// A call of a disk.
+#[derive(Clone, Copy)]
+enum Call {
+    Read,
+    Write,
+    Flush,
+}
+
+/// Whether a disk's first call succeeds. It counts a fault where it doesn't.
+fn succeeds<D: Store>(mut disk: D, call: Call) -> Option<bool> {
+    if disk.len() < 1024 {
+        return None;
+    }
+    let answer = match call {
+        Call::Read => disk.read_at(512, &mut [0; 512]),
+        Call::Write => disk.write_at(512, &[0; 512]),
+        Call::Flush => disk.flush(),
+    };
+    (answer.is_ok() != disk.faulty()).then_some(answer.is_ok())
+}
+
+/// A disk of the program over a file that answers so.
+fn over(interruptions: u32, answer: Result<usize, FileFault>) -> HostDisk<AnsweringFile> {
+    HostDisk::File(FileStore::new(AnsweringFile {
+        interruptions,
+        answer,
+        calls: CallCounts::new(),
+    }))
+}
+
+/// How a file answers, and whether moving a block and flushing succeed over it.
+fn answers() -> [(u32, Result<usize, FileFault>, bool, bool); 7] {
+    [
+        (0, Ok(512), true, true),
+        (0, Ok(511), false, true),
+        (0, Ok(0), false, true),
+        (0, Err(FileFault::Other), false, false),
+        (9_999, Ok(512), true, true),
+        (9_999, Ok(511), false, true),
+        (10_000, Ok(512), false, false),
+    ]
+}
+
+#[test]
+fn a_short_call_of_a_file_is_a_fault_and_an_interrupted_one_is_tried_again(rt: HostRuntime) {
+    for (interruptions, answer, moves, flushes) in answers() {
+        let found = [
+            succeeds(over(interruptions, answer), Call::Read),
+            succeeds(over(interruptions, answer), Call::Write),
+            succeeds(over(interruptions, answer), Call::Flush),
+        ];
+        assert_eq!(rt; found, [Some(moves), Some(moves), Some(flushes)]);
+    }
+}
+
+/// Whether a disk of this length, whose first block has this byte, is read as it was written. A write of its first
+/// block comes last and may fail: then that block stays as it was.
+fn keeps<D: Store>(disk: &mut D, length: u64, byte: u8) -> bool {
+    let mut first = [0u8; 512];
+    let mut second = [0u8; 512];
+    let mut last = [0u8; 512];
+    if disk.len() != length || length < 1024 {
+        return false;
+    }
+    let calls = [
+        disk.write_at(512, &[9; 512]),
+        disk.read_at(0, &mut first),
+        disk.read_at(512, &mut second),
+        disk.flush(),
+    ];
+    let sound = calls == [Ok(()); 4] && !disk.faulty();
+    let wrote = disk.write_at(0, &[8; 512]).is_ok();
+    let read = disk.read_at(0, &mut last).is_ok() && wrote != disk.faulty();
+    let behind = if wrote { 8 } else { byte };
+    sound && read && first == [byte; 512] && second == [9; 512] && last == [behind; 512]
+}
+
+#[test]
+fn disks_are_read_as_they_were_written_and_fail_as_told(rt: HostRuntime) -> Result<(), Fail> {
+    let alloc = rt.alloc();
+    let mut failing = MemStore::new(alloc, &[7; 1024], &[4])?;
+    assert!(rt; keeps(&mut failing, 1024, 7) && failing.faulty());
+    match InfallibleHost::new().attach(alloc, "any", 1024) {
+        Ok(mut disk) => assert!(rt; keeps(&mut disk, 1024, 0) && !disk.faulty()),
+        Err(fault) => panic!(rt; "{fault:?}"),
+    }
+    Ok(())
+}
+
+/// Whether a host answers so where an image of a name is asked for, of so many bytes at least: with one so long that
+/// never failed, or with a fault.
+fn gives<H: Host>(
+    alloc: Global,
+    host: &mut H,
+    asked: &[(&str, u64, Result<u64, AttachFault>)],
+) -> bool {
+    for (name, least, answer) in asked {
+        let found = match host.attach(alloc, name, *least) {
+            Ok(disk) if disk.faulty() => return false,
+            Ok(disk) => Ok(disk.len()),
+            Err(fault) => Err(fault),
+        };
+        if found != *answer {
+            return false;
+        }
+    }
+    true
+}
+
+#[test]
+fn hosts_give_what_they_have(rt: HostRuntime) -> Result<(), Fail> {
+    let alloc = rt.alloc();
+    let none = Err(AttachFault::Failed);
+    let mut list = ListHost::new(alloc, "img", &[5; 512], &[], false)?;
+    let asked = [
+        ("img", 1024, Ok(512)),
+        ("-", 1024, Ok(1024)),
+        ("other", 1024, none),
+    ];
+    assert!(rt; gives(alloc, &mut list, &asked) && list.faults() == 1);
+    let mut failing = ListHost::new(alloc, "img", &[5; 512], &[], true)?;
+    assert!(rt; gives(alloc, &mut failing, &[("-", 1024, none)]));
+    let mut program = StdHost::new(&rt);
+    assert!(rt; gives(alloc, &mut program, &[("-", 512, Ok(512))]));
+    for name in ["", "/", "/no such folder/x", "/dev"] {
+        assert!(rt; gives(alloc, &mut program, &[(name, 0, none)]), "{name}");
+    }
+    Ok(())
+}
+
+// A name for a file of this process in the temporary folder.
+fn name_of_a_file(rt: &HostRuntime) -> Result<String, Fail> {
+    let folder = std::env::temp_dir(rt)?;
+    let id = std::process::id(rt.process());
+    Ok(format!(in rt.alloc(); "{}/unit_tests.{id}.img", folder.as_str())?)
+}
+
+/// Whether a host's disk of this name has 1,500 bytes, the first 5, and is read as it was written.
+fn keeps_file<H: Host>(alloc: Global, host: &mut H, name: &str) -> bool {
+    match host.attach(alloc, name, 512) {
+        Ok(mut disk) => keeps(&mut disk, 1500, 5) && !disk.faulty(),
+        Err(_) => false,
+    }
+}
+
+#[test]
+fn a_file_keeps_what_was_written_and_its_length(rt: HostRuntime) -> Result<(), Fail> {
+    let alloc = rt.alloc();
+    let name = name_of_a_file(&rt)?;
+    let mut host = StdHost::new(&rt);
+    assert!(rt; !keeps_file(alloc, &mut host, name.as_str()));
+    fs::write(&rt, name.as_str(), [5u8; 1500].as_slice())?;
+    assert!(rt; keeps_file(alloc, &mut host, name.as_str()));
+    let mut wanted = [5u8; 1500];
+    wanted[..512].fill(8);
+    wanted[512..1024].fill(9);
+    assert!(rt; fs::read(&rt, name.as_str())?.as_slice() == wanted.as_slice());
+    fs::remove_file(&rt, name.as_str())?;
+    Ok(())
+}

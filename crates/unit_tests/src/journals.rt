@@ -1,0 +1,327 @@
+// A journal of each kind of entry, and what is read of it.
+
+use ldom_journal::{
+    Bytes, Cause, CopyFault, EndName, Entry, EntryRef, Journal, KeptRequest, Lane, NoMemory,
+    Request, Side, VD_OP_BREAD, VD_OP_BWRITE, VD_OP_FLUSH, Who, Why,
+};
+use std::alloc::Global;
+use std::test::Fail;
+use trimmed_arrays::TrimmedArray;
+
+/// What is looked at of an entry: its kind, whom it is about, and one of its numbers or the length of its bytes.
+type Row = (&'static str, u64, u64);
+
+const CLIENT: EndName = EndName {
+    lane: Lane::Disk(3),
+    side: Side::Client,
+};
+
+const SERVER: EndName = EndName {
+    lane: Lane::Disk(3),
+    side: Side::Server,
+};
+
+const LANE: Who = Who::Lane(Lane::Disk(3));
+
+/// The rows of `of_lines`, `of_ends` and `of_servers`, and whether a user of the disks may see the entry.
+fn rows() -> [(Row, bool); 25] {
+    [
+        (("accepted", 3, 2), false),
+        (("full", 13, 0), true),
+        (("refused", 13, 0), true),
+        (("refused", 13, 1), true),
+        (("stopped", 3, 0), false),
+        (("started", 3, 0), false),
+        (("calm", 31, 0), false),
+        (("settled", 0, 0), true),
+        (("unsettled", 30, 0), true),
+        (("done", 3, 5), true),
+        (("read", 3, 512), true),
+        (("idle", 30, 0), false),
+        (("off", 31, 0), false),
+        (("blocked", 30, 0), false),
+        (("joined", 30, 4), false),
+        (("lost", 31, 64), true),
+        (("took", 30, 0), false),
+        (("sent", 31, 3), false),
+        (("published", 30, 6), false),
+        (("reset", 31, 0), true),
+        (("reset", 30, 3), true),
+        (("desc", 31, 1), false),
+        (("moved", 31, 1), false),
+        (("stored", 31, 8), false),
+        (("finished", 31, 5), false),
+    ]
+}
+
+/// A packet that begins with three bytes, and has zeros after them.
+fn short_packet() -> [u8; 64] {
+    let mut packet = [0; 64];
+    packet[..3].copy_from_slice(b"abc");
+    packet
+}
+
+/// A descriptor that begins with a byte, and has zeros after it.
+fn short_descriptor() -> [u8; 128] {
+    let mut descriptor = [0; 128];
+    descriptor[0] = 1;
+    descriptor
+}
+
+/// What lines ask for, and what becomes of it.
+fn of_lines(alloc: Global) -> Result<[Entry; 11], NoMemory> {
+    let read = Request::Read { block: 2, count: 1 };
+    Ok([
+        Entry::Accepted {
+            disk: 3,
+            id: 7,
+            request: KeptRequest::new(alloc, &read)?,
+        },
+        Entry::Full { who: LANE },
+        refused(Why::Count),
+        refused(Why::Range),
+        Entry::Stopped { disk: 3 },
+        Entry::Started { disk: 3 },
+        Entry::Calm {
+            who: Who::End(SERVER),
+        },
+        Entry::Settled,
+        Entry::Unsettled {
+            who: Who::End(CLIENT),
+        },
+        done(8, VD_OP_FLUSH, 5, Bytes::empty(alloc)),
+        done(9, VD_OP_BREAD, 0, Bytes::from_slice(alloc, &[7; 512])?),
+    ])
+}
+
+fn refused(why: Why) -> Entry {
+    Entry::Refused { who: LANE, why }
+}
+
+fn done(id: u64, operation: u8, status: u32, bytes: Bytes) -> Entry {
+    Entry::Done {
+        disk: 3,
+        id,
+        operation,
+        status,
+        bytes,
+    }
+}
+
+/// What ends do.
+fn of_ends() -> [Entry; 10] {
+    [
+        Entry::Idle { end: CLIENT },
+        Entry::Off { end: SERVER },
+        Entry::Blocked { end: CLIENT },
+        Entry::Joined {
+            end: CLIENT,
+            lost: 4,
+        },
+        Entry::Lost {
+            end: SERVER,
+            packet: [1; 64],
+        },
+        Entry::Took {
+            end: CLIENT,
+            packet: [0; 64],
+            opens: true,
+        },
+        Entry::Sent {
+            end: SERVER,
+            packet: short_packet(),
+            opens: false,
+        },
+        Entry::Published { end: CLIENT, id: 6 },
+        reset(SERVER, None, 5),
+        reset(CLIENT, Some(short_packet()), 2),
+    ]
+}
+
+fn reset(end: EndName, packet: Option<[u8; 64]>, lost: u32) -> Entry {
+    Entry::Reset {
+        end,
+        cause: Cause::Asked,
+        packet,
+        lost,
+    }
+}
+
+/// What servers alone do.
+fn of_servers() -> [Entry; 4] {
+    [
+        Entry::Desc {
+            end: SERVER,
+            slot: 2,
+            bytes: short_descriptor(),
+        },
+        Entry::Moved {
+            end: SERVER,
+            unit: 1,
+            fault: Some(CopyFault::NoMap),
+        },
+        Entry::Stored {
+            end: SERVER,
+            operation: VD_OP_BWRITE,
+            block: 16,
+            count: 8,
+            failed: true,
+        },
+        Entry::Finished {
+            end: SERVER,
+            slot: 2,
+            status: 5,
+        },
+    ]
+}
+
+/// Puts an entry last.
+fn note(journal: &mut Journal, entry: Entry) -> Result<(), NoMemory> {
+    journal.reserve(1)?;
+    journal.push(entry);
+    Ok(())
+}
+
+/// A journal of an entry of each kind.
+pub(crate) fn journal_of_all(alloc: Global) -> Result<Journal, NoMemory> {
+    let mut journal = Journal::new(alloc);
+    for entry in of_lines(alloc)? {
+        note(&mut journal, entry)?;
+    }
+    for entry in of_ends() {
+        note(&mut journal, entry)?;
+    }
+    for entry in of_servers() {
+        note(&mut journal, entry)?;
+    }
+    Ok(journal)
+}
+
+/// An end's disk and its side, as a number of two digits.
+fn at(end: EndName) -> u64 {
+    let Lane::Disk(disk) = end.lane;
+    let side = match end.side {
+        Side::Client => 0,
+        Side::Server => 1,
+    };
+    10 * u64::from(disk) + side
+}
+
+/// An end as its number, or a lane's disk with a 1 before it.
+fn whom(who: Who) -> u64 {
+    match who {
+        Who::Lane(Lane::Disk(disk)) => 10 + u64::from(disk),
+        Who::End(end) => at(end),
+    }
+}
+
+/// How long the front of an array is, where there is one.
+fn front(array: Option<TrimmedArray<'_>>) -> u64 {
+    match array {
+        Some(array) => array.front().len() as u64,
+        None => 0,
+    }
+}
+
+/// The first block of a request, where it has one.
+fn block(request: &KeptRequest) -> u64 {
+    match request.get() {
+        Request::Read { block, .. } | Request::Write { block, .. } => block,
+        Request::Flush => 0,
+    }
+}
+
+/// The row of an entry.
+fn row(entry: Option<EntryRef<'_>>) -> Row {
+    let Some(entry) = entry else {
+        return ("nothing", 0, 0);
+    };
+    match entry {
+        EntryRef::Accepted { disk, request, .. } => ("accepted", disk.into(), block(request)),
+        EntryRef::Full { who } => ("full", whom(who), 0),
+        EntryRef::Refused { who, why } => ("refused", whom(who), (why == Why::Range).into()),
+        EntryRef::Stopped { disk } => ("stopped", disk.into(), 0),
+        EntryRef::Started { disk } => ("started", disk.into(), 0),
+        EntryRef::Calm { who } => ("calm", whom(who), 0),
+        EntryRef::Settled => ("settled", 0, 0),
+        EntryRef::Unsettled { who } => ("unsettled", whom(who), 0),
+        EntryRef::Idle { end } => ("idle", at(end), 0),
+        EntryRef::Off { end } => ("off", at(end), 0),
+        EntryRef::Blocked { end } => ("blocked", at(end), 0),
+        EntryRef::Joined { end, lost } => ("joined", at(end), lost),
+        EntryRef::Took { end, packet, .. } => ("took", at(end), front(Some(packet))),
+        EntryRef::Sent { end, packet, .. } => ("sent", at(end), front(Some(packet))),
+        EntryRef::Published { end, id } => ("published", at(end), id),
+        EntryRef::Done { disk, status, .. } => ("done", disk.into(), status),
+        EntryRef::Read { disk, bytes, .. } => ("read", disk.into(), bytes.len() as u64),
+        EntryRef::Desc { end, bytes, .. } => ("desc", at(end), front(Some(bytes))),
+        EntryRef::Moved { end, unit, .. } => ("moved", at(end), unit),
+        EntryRef::Stored { end, count, .. } => ("stored", at(end), count),
+        EntryRef::Finished { end, status, .. } => ("finished", at(end), status),
+        EntryRef::Reset { end, packet, .. } => ("reset", at(end), front(packet)),
+        EntryRef::Whole(whole) => whole_row(whole.entry()),
+    }
+}
+
+/// The row of an entry that is kept whole.
+fn whole_row(entry: &Entry) -> Row {
+    match entry {
+        Entry::Lost { end, packet } => ("lost", at(*end), packet.len() as u64),
+        _ => ("other", 0, 0),
+    }
+}
+
+#[test]
+fn each_kind_is_read_as_it_was_put(rt: HostRuntime) -> Result<(), Fail> {
+    let journal = journal_of_all(rt.alloc())?;
+    let mut all = journal.entries();
+    let mut seen = journal.entries();
+    for (k, (expected, may_be_seen)) in rows().iter().enumerate() {
+        assert_eq!(rt; row(all.next_entry()), *expected);
+        assert_eq!(rt; row(journal.get(k)), *expected);
+        if *may_be_seen {
+            seen.pass_unseen();
+            assert_eq!(rt; row(seen.next_entry()), *expected);
+        }
+    }
+    seen.pass_unseen();
+    assert!(rt; all.next_entry().is_none() && seen.next_entry().is_none());
+    assert!(rt; journal.get(25).is_none());
+    Ok(())
+}
+
+#[test]
+fn a_journal_is_counted(rt: HostRuntime) -> Result<(), Fail> {
+    let journal = journal_of_all(rt.alloc())?;
+    let counts = [
+        journal.accepted(),
+        journal.done(),
+        journal.resets(),
+        journal.len(),
+    ];
+    assert_eq!(rt; counts, [1, 2, 2, 25]);
+    assert!(rt; !journal.is_empty() && Journal::new(rt.alloc()).is_empty());
+    Ok(())
+}
+
+#[test]
+fn room_is_made_for_many_entries(rt: HostRuntime) -> Result<(), Fail> {
+    let mut journal = Journal::new(rt.alloc());
+    journal.reserve(1000)?;
+    assert_eq!(rt; journal.reserve(usize::MAX), Err(NoMemory));
+    for _ in 0..1000 {
+        note(&mut journal, Entry::Settled)?;
+    }
+    note(&mut journal, Entry::Full { who: LANE })?;
+    assert_eq!(rt; journal.len(), 1001);
+    let read = [
+        row(journal.get(0)),
+        row(journal.get(1000)),
+        row(journal.get(1001)),
+    ];
+    assert_eq!(rt;
+        read,
+        [("settled", 0, 0), ("full", 13, 0), ("nothing", 0, 0)]
+    );
+    Ok(())
+}

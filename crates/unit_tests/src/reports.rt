@@ -1,0 +1,240 @@
+// Lines of a report that no script reaches, and a sink that fails.
+ghost use Rattle.std.specs.Prelude.{◌≡◌, ◌%◌, ◌≤◌, ◌<◌, ◌++◌, All, List, length, IfOk, OnOk};
+ghost use Rattle.domain_script.specs.declared.event.DiskDecl.{DiskDecl};
+ghost use Rattle.ldom_journal.specs.HasWords.{HasFault, HasWords, IsEnd};
+
+use crate::journals::journal_of_all;
+use domain_script::{DiskDecl, Event, Name};
+use ldom_journal::{
+    Bytes, Cause, CopyFault, EndName, Entry, Journal, Lane, LimitKind, Mode, Names, NoMemory, Side,
+    Status, VD_OP_BREAD, VD_OP_BWRITE, Who, write_end, write_text,
+};
+use std::alloc::Global;
+use std::test::Fail;
+use vio_io::ListSink;
+
+const SERVER: EndName = EndName {
+    lane: Lane::Disk(0),
+    side: Side::Server,
+};
+
+/// One disk, `d0`.
+fn one_disk() -> Names
+    ensures { length result.disks ≡ 1 }
+{
+    let mut names = Names::new();
+    names.note(&Event::Disk(DiskDecl {
+        name: Name {
+            len: 2,
+            bytes: *b"d0\0\0\0\0\0\0",
+        },
+        blocks: 64,
+        ring: 8,
+        queue: 16,
+    }));
+    names
+}
+
+/// Puts an entry of the disk last.
+fn note(journal: &mut Journal, entry: Entry) -> Result<(), NoMemory>
+    requires words { (disks : List DiskDecl) → length disks ≡ 1 → All (HasWords disks) journal.old.entries }
+    requires fits { (disks : List DiskDecl) → length disks ≡ 1 → HasWords disks entry }
+    ensures { OnOk result ((disks : List DiskDecl) → length disks ≡ 1 → All (HasWords disks) journal.new.entries) }
+{
+    journal.reserve(1)?;
+    journal.push(entry);
+    Ok(())
+}
+
+/// Whether the text of a journal of the disk was written, in a mode, and the sink, some of whose calls fail.
+fn shown(
+    alloc: Global,
+    mode: Mode,
+    journal: &Journal,
+    failing: &[u64],
+) -> Result<(bool, ListSink), NoMemory>
+    requires { (disks : List DiskDecl) → length disks ≡ 1 → All (HasWords disks) journal.now.entries }
+{
+    let mut sink = ListSink::new(alloc, 200_000, failing)?;
+    let told = write_text(journal, mode, &one_disk(), &mut sink).is_ok();
+    Ok((told, sink))
+}
+
+/// A completion of the disk's request 0.
+fn done(operation: u8, status: u32, bytes: Bytes) -> Entry
+    requires least { 1 ≤ operation }
+    requires most { operation ≤ 3 }
+    requires some { operation ≡ 1 → status ≡ 0 → 0 < length bytes.items }
+    requires blocks { operation ≡ 1 → status ≡ 0 → length bytes.items % 512 ≡ 0 }
+    ensures { (disks : List DiskDecl) → length disks ≡ 1 → HasWords disks result }
+{
+    Entry::Done {
+        disk: 0,
+        id: 0,
+        operation,
+        status,
+        bytes,
+    }
+}
+
+/// A reset of the server.
+fn reset(cause: Cause, packet: Option<[u8; 64]>, lost: u32) -> Entry
+    requires { HasFault cause }
+    ensures { (disks : List DiskDecl) → length disks ≡ 1 → HasWords disks result }
+{
+    Entry::Reset {
+        end: SERVER,
+        cause,
+        packet,
+        lost,
+    }
+}
+
+/// Completions and work that failed or found no room, and a settle that ran out of rounds.
+fn note_failures(alloc: Global, journal: &mut Journal) -> Result<(), NoMemory>
+    requires { (disks : List DiskDecl) → length disks ≡ 1 → All (HasWords disks) journal.old.entries }
+    ensures { OnOk result ((disks : List DiskDecl) → length disks ≡ 1 → All (HasWords disks) journal.new.entries) }
+{
+    let who = Who::Lane(Lane::Disk(0));
+    note(journal, Entry::Unsettled { who })?;
+    note(journal, done(VD_OP_BWRITE, 5, Bytes::empty(alloc)))?;
+    note(journal, done(VD_OP_BREAD, 5, Bytes::empty(alloc)))?;
+    let end = SERVER;
+    note(journal, Entry::Blocked { end })?;
+    let (unit, fault) = (2, Some(CopyFault::BadPage));
+    note(journal, Entry::Moved { end, unit, fault })?;
+    let stored = Entry::Stored {
+        end,
+        operation: VD_OP_BWRITE,
+        block: 16,
+        count: 2,
+        failed: true,
+    };
+    note(journal, stored)?;
+    let (slot, status) = (3, 22);
+    note(journal, Entry::Finished { end, slot, status })
+}
+
+/// Entries that no script reaches, some of them only over an image that fails.
+fn unreached(alloc: Global) -> Result<Journal, NoMemory>
+    ensures { IfOk result (λ journal. (disks : List DiskDecl) → length disks ≡ 1 → All (HasWords disks) journal.entries) }
+{
+    let mut journal = Journal::new(alloc);
+    note_failures(alloc, &mut journal)?;
+    note(&mut journal, reset(Cause::Copy(5), None, 4))?;
+    let cause = Cause::Gap {
+        expected: 7,
+        found: 9,
+    };
+    note(&mut journal, reset(cause, Some([0xab; 64]), 1))?;
+    Ok(journal)
+}
+
+/// What a trace shows of them.
+const TRACED: &str = "unsettled d0
+done d0 0 write 5
+done d0 0 read 5
+blocked d0.s
+moved d0.s 2 badpage
+stored d0.s write 16 2 failed
+finished d0.s 3 22
+reset d0.s copy nomap lost=4
+reset d0.s gap expected=7 found=9 lost=1 took=\
+abababababababababababababababababababababababababababababababab\
+abababababababababababababababababababababababababababababababab
+";
+
+/// What a run shows of them.
+const RUN: &str = "unsettled d0
+done d0 0 write 5
+done d0 0 read 5
+reset d0.s copy nomap lost=4
+reset d0.s gap expected=7 found=9 lost=1
+";
+
+#[test]
+fn entries_that_no_script_reaches_have_their_lines(rt: HostRuntime) -> Result<(), Fail> {
+    let alloc = rt.alloc();
+    let journal = unreached(alloc)?;
+    for (mode, text) in [(Mode::Trace, TRACED), (Mode::Run, RUN), (Mode::EndOnly, "")] {
+        assert_eq!(rt;
+            shown(alloc, mode, &journal, &[])?.1.bytes(),
+            text.as_bytes()
+        );
+    }
+    Ok(())
+}
+
+/// 128 blocks, none of which repeats a shorter word.
+fn without_repetition() -> [u8; 65536] {
+    let mut bytes = [0; 65536];
+    for (k, byte) in bytes.iter_mut().enumerate() {
+        *byte = (k / 2 % 256) as u8;
+    }
+    bytes
+}
+
+/// A journal of a read that gave these bytes.
+fn read_of(alloc: Global, bytes: &[u8]) -> Result<Journal, NoMemory>
+    requires some { 0 < length bytes.now }
+    requires blocks { length bytes.now % 512 ≡ 0 }
+    ensures { IfOk result (λ journal. (disks : List DiskDecl) → length disks ≡ 1 → All (HasWords disks) journal.entries) }
+{
+    let mut journal = Journal::new(alloc);
+    let bytes = Bytes::from_slice(alloc, bytes)?;
+    note(&mut journal, done(VD_OP_BREAD, 0, bytes))?;
+    Ok(journal)
+}
+
+/// How many bytes of the lines are written at least, before a call of the sink with this number.
+const WRITTEN: [(u64, usize); 3] = [(0, 0), (1, 61_440), (2, 122_880)];
+
+#[test]
+fn a_failing_sink_gets_a_front_of_the_lines(rt: HostRuntime) -> Result<(), Fail> {
+    let alloc = rt.alloc();
+    let journal = read_of(alloc, &without_repetition())?;
+    let (told, whole) = shown(alloc, Mode::Run, &journal, &[])?;
+    // A block without repetition has 1,024 digits.
+    assert!(rt; told && whole.bytes().len() == 16 + 128 * (2 + 1024) + 1);
+    for (call, least) in WRITTEN {
+        let (told, front) = shown(alloc, Mode::Run, &journal, &[call])?;
+        let len = front.bytes().len();
+        assert!(rt; !told && len >= least && whole.bytes().starts_with(front.bytes()));
+        assert!(rt; len < whole.bytes().len());
+    }
+    Ok(())
+}
+
+/// The last line over the journal of all kinds, which has one request that was taken up, two completions and two resets.
+fn ended(alloc: Global, lines: u32, status: &Status) -> Result<ListSink, Fail> {
+    let mut sink = ListSink::new(alloc, 4096, &[])?;
+    write_end(&journal_of_all(alloc)?, lines, status, &mut sink)?;
+    Ok(sink)
+}
+
+/// How many lines were taken up, how the run ended, and the last line.
+fn ends() -> [(u32, Status, &'static str); 3] {
+    let (need, have) = (u64::MAX, 0);
+    let (line, kind) = (3, LimitKind::Entries);
+    [
+        (
+            2,
+            Status::Limit { line, kind },
+            "end lines=2 accepted=1 done=2 pending=0 resets=2 frames=0 status=8 at=3 limit=entries\n",
+        ),
+        (
+            20000,
+            Status::ImageSize { need, have },
+            "end lines=20000 accepted=1 done=2 pending=0 resets=2 frames=0 status=7 need=18446744073709551615 have=0\n",
+        ),
+        (0, Status::Usage, "usage: ldom COMMAND [WORD]\n"),
+    ]
+}
+
+#[test]
+fn last_lines_that_no_script_reaches(rt: HostRuntime) -> Result<(), Fail> {
+    for (lines, status, line) in ends() {
+        assert_eq!(rt; ended(rt.alloc(), lines, &status)?.bytes(), line.as_bytes());
+    }
+    Ok(())
+}
