@@ -1,5 +1,6 @@
 //! The reader's example: how a client uses what `ldom_replay` proves. The script is known, byte for byte, and runs over
-//! objects in memory that can't fail: so its report, its image and its completions are known before it runs.
+//! objects in memory that can't fail: so its report, its image and its completions are known before it runs. The program
+//! prints the report.
 #![tactic(auto)]
 
 ghost use Rattle.std.specs.Prelude.{◌≡◌, [], ◌∷◌, IfOk, IsSomeAnd, map, codes, string_bytes};
@@ -9,7 +10,20 @@ ghost use Rattle.ldom_example.specs.Known.{image, report, script};
 use infallible_io::{GrowingSink, InfallibleDisk, InfallibleHost, InfallibleSource};
 use ldom_replay::{Outcome, Status, replay};
 use std::alloc::Global;
+use std::io;
+use std::process::ExitCode;
 use vio_bytes::NoMemory;
+
+fn main(rt: HostRuntime) -> io::Result<ExitCode> {
+    let Ok(example) = one_write_and_one_read(rt.alloc()) else {
+        return Ok(ExitCode::from(9));
+    };
+    match str::from_utf8(example.report.bytes()) {
+        Ok(report) => print!(rt; "{report}")?,
+        Err(_) => return Ok(ExitCode::FAILURE),
+    }
+    Ok(ExitCode::SUCCESS)
+}
 
 /// Why the script did not come to its end.
 #[derive(Clone, Copy, Debug, PartialEq, Eq)]
@@ -84,6 +98,3 @@ fn run_words(alloc: Global) -> Result<Vec<String>, NoMemory>
     words.push(String::from_str(alloc, "-")?)?;
     Ok(words)
 }
-
-#[cfg(test)]
-mod tests;
