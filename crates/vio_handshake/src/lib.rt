@@ -21,6 +21,3 @@ mod version;
 pub use handshake::Handshake;
 pub use laws::{handshakes_agree, opens_where_it_is_told, what_is_owed_is_well_formed};
 pub use session::{HsOut, Offer, Session};
-
-#[cfg(test)]
-mod tests;
