@@ -1,7 +1,5 @@
-//! Tests of a disk's client against packets that are written out, and of its whole lane.
+//! Tests of a disk's client against packets that are written out.
 #![tactic(auto)]
 
 #[cfg(test)]
 mod clients;
-#[cfg(test)]
-mod lanes;

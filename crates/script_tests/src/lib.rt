@@ -1,11 +1,5 @@
-//! Tests of the lines of a script, of the words of a command line and of a dump.
+//! Tests of a script's lines that no script can show: what a reader gives after a fault, and how much it asks for.
 #![tactic(auto)]
 
 #[cfg(test)]
-mod dumps;
-#[cfg(test)]
 mod lines;
-#[cfg(test)]
-mod rows;
-#[cfg(test)]
-mod words;
