@@ -1,3 +1,4 @@
+// A reader of lines: what it gives after a fault, and how much it asks for.
 ghost use Rattle.std.specs.Prelude.{◌<◌};
 
 use domain_script::{Lines, LinesFault};
@@ -39,69 +40,24 @@ fn reads(
 }
 
 #[test]
-fn lines_come_whole_in_any_pieces(rt: HostRuntime) -> Result<(), Fail> {
-    let script = b"disk d0 64 8 16\n\nsettle\nlast";
-    let wanted = [
-        Given::Line(b"disk d0 64 8 16"),
-        Given::Line(b""),
-        Given::Line(b"settle"),
-        Given::Line(b"last"),
-        Given::End,
-        Given::End,
-    ];
-    reads(&rt, rt.alloc(), script, 1, &[], &wanted)?;
-    reads(&rt, rt.alloc(), script, 5, &[], &wanted)?;
-    reads(&rt, rt.alloc(), script, 4096, &[], &wanted)
-}
-
-#[test]
 fn a_source_that_fails_keeps_what_was_taken(rt: HostRuntime) -> Result<(), Fail> {
     let wanted = [
         Given::Fault(LinesFault::Source),
         Given::Fault(LinesFault::Source),
         Given::Line(b"settle"),
         Given::End,
+        Given::End,
     ];
     reads(&rt, rt.alloc(), b"settle\n", 4, &[0, 2], &wanted)
 }
 
 #[test]
-fn a_line_has_at_most_3100_bytes(rt: HostRuntime) -> Result<(), Fail> {
-    let mut script = [b'#'; 3103];
-    script[3100] = b'\n';
-    let wanted = [Given::Line(&script[..3100]), Given::Line(b"##"), Given::End];
-    reads(&rt, rt.alloc(), &script, 4096, &[], &wanted)?;
-    script[3100] = b'#';
+fn a_line_past_its_limit_stays_a_fault(rt: HostRuntime) -> Result<(), Fail> {
     let wanted = [
         Given::Fault(LinesFault::Long),
         Given::Fault(LinesFault::Long),
     ];
-    reads(&rt, rt.alloc(), &script, 1000, &[], &wanted)?;
-    reads(&rt, rt.alloc(), &script[..3101], 4096, &[], &wanted)
-}
-
-/// How many lines a script of so many line feeds gives, and what comes after them.
-fn count_lines(alloc: Global, feeds: usize) -> Result<(u32, Result<bool, LinesFault>), Fail> {
-    let script = vec![in alloc; b'\n'; feeds]?;
-    let mut source = ListSource::new(alloc, &script, 4096, &[])?;
-    let mut lines = Lines::new(alloc)?;
-    for _ in 0..feeds {
-        if lines.advance(&mut source) != Ok(true) {
-            break;
-        }
-    }
-    let last = lines.advance(&mut source);
-    Ok((lines.number(), last))
-}
-
-#[test]
-fn there_are_at_most_20000_lines(rt: HostRuntime) -> Result<(), Fail> {
-    assert_eq!(rt; count_lines(rt.alloc(), 20_000)?, (20_000, Ok(false)));
-    assert_eq!(rt;
-        count_lines(rt.alloc(), 20_001)?,
-        (20_000, Err(LinesFault::Many))
-    );
-    Ok(())
+    reads(&rt, rt.alloc(), &[b'#'; 3101], 1000, &[], &wanted)
 }
 
 /// A source of empty lines, which keeps how many bytes a call asked for at most.

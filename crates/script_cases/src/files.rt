@@ -1,0 +1,64 @@
+use crate::case::Case;
+use crate::fault::Fault;
+use crate::filling::{filled, numbers_of, values_of};
+use crate::looking::look_at;
+use crate::replaying::replay_case;
+use std::alloc::Global;
+use std::rt::Files;
+use std::{fs, io};
+
+/// Runs the cases of a file, prints what differs, and answers how many ran.
+pub fn run_file<R: Files + Print + AllocGlobal>(rt: &R, file: &str) -> io::Result<u64> {
+    let text = fs::read_to_string(rt, file)?;
+    let mut cases = text.as_str().split("\ncase ");
+    let head = cases.next().unwrap_or("");
+    if !head.starts_with('#') {
+        println!(rt; "{file}: no comment at its head")?;
+    }
+    let mut count = 0u64;
+    for case in cases {
+        count = count.saturating_add(run_case(rt, file, case)?);
+    }
+    Ok(count)
+}
+
+/// Runs a case for each of its values, and prints what differs.
+fn run_case<R: Print + AllocGlobal>(rt: &R, file: &str, case: &str) -> io::Result<u64> {
+    let (name, text) = case.split_once('\n').unwrap_or((case, ""));
+    let mut count = 0u64;
+    for values in values_of(rt.alloc(), text)? {
+        count = count.saturating_add(run_numbers(rt, file, name, text, values)?);
+    }
+    if count == 0 {
+        println!(rt; "{file}: {name}: no case")?;
+    }
+    Ok(count)
+}
+
+/// Runs a case with these values for each of its numbers.
+fn run_numbers<R: Print + AllocGlobal>(
+    rt: &R,
+    file: &str,
+    name: &str,
+    text: &str,
+    values: Option<&str>,
+) -> io::Result<u64> {
+    let mut count = 0u64;
+    for number in numbers_of(text) {
+        if let Err(fault) = run_one(rt.alloc(), text, values, number) {
+            let values = values.unwrap_or("");
+            let fault = fault.text();
+            println!(rt; "{file}: {name} ({values}, {number}): {fault}")?;
+        }
+        count = count.saturating_add(1);
+    }
+    Ok(count)
+}
+
+/// Runs a case, and looks at what came of it.
+fn run_one(alloc: Global, text: &str, values: Option<&str>, number: u32) -> Result<(), Fault> {
+    let text = filled(alloc, text, values, number)?;
+    let case = Case::read(alloc, text.as_str())?;
+    let (outcome, report) = replay_case(alloc, &case)?;
+    look_at(alloc, &case, &outcome, report.as_str())
+}
