@@ -1,0 +1,180 @@
+// A domain that grants pages of its memory, and the other, which copies by cookies.
+
+ghost use Rattle.std.specs.Prelude.{◌+◌, ◌≤◌, IsTrue, length};
+ghost use Rattle.cookie_copy.specs.Faults.{PagesWithin};
+
+use crate::texts::{bytes_of, digits, numbers, shown, shown_with};
+use cookie_copy::{CopyFault, copy_in, copy_out};
+use dom_memory::{Memory, PAGE};
+use ldc_queue::{Channel, End};
+use map_table::{Cookie, MapTable, Rights, TableFull};
+use std::alloc::Global;
+use vio_bytes::NoMemory;
+
+/// The domain: each page that it grants lies in its memory. The cookies are the other's.
+#[derive(Drop)]
+pub struct Domain {
+    pub channel: Channel,
+    pub table: MapTable,
+    pub memory: Memory,
+    cookies: Vec<Cookie>,
+    ghost within: { PagesWithin table (length memory) },
+}
+
+impl Domain {
+    /// Ends that are down, so many entries with nothing granted, so many pages of zeros, and no cookie.
+    #[tactic(auto, using(cookie_copy::proofs::Granting::within_new))]
+    pub fn new(alloc: Global, entries: u32, pages: u32) -> Result<Domain, NoMemory>
+        requires some_entries { 1 ≤ entries }
+        requires few_entries { entries ≤ 1028 }
+        requires some_pages { 1 ≤ pages }
+        requires few_pages { pages ≤ 1028 }
+    {
+        let channel = Channel::new(alloc, 8)?;
+        let table = MapTable::new(alloc, entries)?;
+        let memory = Memory::new(alloc, pages)?;
+        Ok(Domain {
+            channel,
+            table,
+            memory,
+            cookies: Vec::new(alloc),
+        })
+    }
+
+    fn begin(&mut self, alloc: Global, [entries, pages]: [u64; 2]) -> Option<()> {
+        if entries == 0 || entries > 1028 || pages == 0 || pages > 1028 {
+            return None;
+        }
+        *self = Domain::new(alloc, entries as u32, pages as u32).ok()?;
+        Some(())
+    }
+
+    /// What comes of a command, an empty text for a step.
+    pub fn answer(&mut self, alloc: Global, command: &str, words: &str) -> Option<String> {
+        match command {
+            "new" => self.begin(alloc, numbers(words)?)?,
+            "configure" => self.channel.configure(end_of(words)?),
+            "cookies" => self.cookies = cookies_of(alloc, words)?,
+            "write" => self.write(alloc, words)?,
+            "read" => return self.read(alloc, numbers(words)?),
+            "pages" => return shown(alloc, self.memory.pages()),
+            "in" => return self.copied_in(alloc, numbers(words)?),
+            "out" => return shown(alloc, self.copied_out(alloc, words)?),
+            _ => return self.entries_answer(alloc, command, words),
+        }
+        Some(String::new(alloc))
+    }
+
+    fn entries_answer(&mut self, alloc: Global, command: &str, words: &str) -> Option<String> {
+        match command {
+            "grant" => shown(alloc, self.grant(words)?),
+            "look" => shown(alloc, self.table.look(words.parse::<u64>().ok()?)),
+            "revoke" => shown(alloc, self.table.revoke(words.parse::<u32>().ok()?)),
+            "entry" => match self.table.entry_bytes(words.parse::<u32>().ok()?) {
+                Some(bytes) => digits(alloc, &bytes),
+                None => shown(alloc, None::<()>),
+            },
+            _ => None,
+        }
+    }
+
+    fn grant(&mut self, words: &str) -> Option<Result<u32, TableFull>> {
+        let (page, rights) = words.split_once(' ')?;
+        let page = page.parse::<u32>().ok()?;
+        let rights = rights_of(rights)?;
+        if page >= self.memory.pages() {
+            return None;
+        }
+        Some(self.table.grant(page, rights))
+    }
+
+    // Whether so many bytes from a place on lie in the memory.
+    fn has(&self, place: u64, count: u64) -> bool
+        ensures { IsTrue result → place + count ≤ length self.now.memory }
+    {
+        let size = self.memory.pages() as u64 * PAGE as u64;
+        count <= size && place <= size - count
+    }
+
+    fn write(&mut self, alloc: Global, words: &str) -> Option<()> {
+        let (place, words) = words.split_once(' ')?;
+        let place = place.parse::<u64>().ok()?;
+        let bytes = bytes_of(alloc, words)?;
+        if !self.has(place, bytes.len() as u64) {
+            return None;
+        }
+        self.memory.write(place, &bytes);
+        Some(())
+    }
+
+    fn read(&self, alloc: Global, [place, count]: [u64; 2]) -> Option<String> {
+        if !self.has(place, count) {
+            return None;
+        }
+        let mut bytes = vec![in alloc; 0xee; count as usize].ok()?;
+        self.memory.read(place, &mut bytes);
+        digits(alloc, &bytes)
+    }
+
+    // The answer of a copy, and the buffer of bytes ee that the bytes were to come to.
+    fn copied_in(&self, alloc: Global, [offset, count]: [u64; 2]) -> Option<String> {
+        let mut bytes = vec![in alloc; 0xee; u16::try_from(count).ok()? as usize].ok()?;
+        let (table, memory) = (&self.table, &self.memory);
+        let answer = copy_in(
+            &self.channel,
+            End::B,
+            table,
+            memory,
+            &self.cookies,
+            offset,
+            &mut bytes,
+        );
+        shown_with(alloc, answer, &bytes)
+    }
+
+    fn copied_out(&mut self, alloc: Global, words: &str) -> Option<Result<(), CopyFault>> {
+        let (offset, words) = words.split_once(' ')?;
+        let offset = offset.parse::<u64>().ok()?;
+        let bytes = bytes_of(alloc, words)?;
+        let (table, memory) = (&self.table, &mut self.memory);
+        Some(copy_out(
+            &self.channel,
+            End::B,
+            table,
+            memory,
+            &self.cookies,
+            offset,
+            &bytes,
+        ))
+    }
+}
+
+fn end_of(word: &str) -> Option<End> {
+    match word {
+        "A" => Some(End::A),
+        "B" => Some(End::B),
+        _ => None,
+    }
+}
+
+fn rights_of(word: &str) -> Option<Rights> {
+    let (read, write) = match word {
+        "read" => (true, false),
+        "write" => (false, true),
+        "both" => (true, true),
+        _ => return None,
+    };
+    Some(Rights { read, write })
+}
+
+// Cookies, each its address and its size with a `+` between.
+fn cookies_of(alloc: Global, words: &str) -> Option<Vec<Cookie>> {
+    let mut cookies = Vec::new(alloc);
+    for word in words.split(' ') {
+        let (address, size) = word.split_once('+')?;
+        let address = address.parse::<u64>().ok()?;
+        let size = size.parse::<u64>().ok()?;
+        cookies.push(Cookie { address, size }).ok()?;
+    }
+    Some(cookies)
+}

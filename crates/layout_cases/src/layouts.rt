@@ -1,0 +1,84 @@
+// Rows of bytes: what they decode to, and what that encodes to.
+
+use crate::texts::{array, bytes_of, digits, filled, shown, shown_with};
+use ldc_packet::{encode_part, part_head, part_within};
+use map_table::{Cookie, get_cookies, put_cookies};
+use std::alloc::Global;
+use vio_tag::{disk_attr, net_attr, put_disk_attr, put_net_attr};
+
+/// The answer to a command whose words are bytes.
+pub fn answer(alloc: Global, command: &str, words: &str) -> Option<String> {
+    match command {
+        "packet" => packet(alloc, &array(alloc, words)?),
+        "packet_says" => shown(alloc, ldc_packet::decode(&array(alloc, words)?)),
+        "part" => part(alloc, &array(alloc, words)?),
+        "message" => message(alloc, &bytes_of(alloc, words)?),
+        "message_says" => shown(alloc, vio_tag::decode(&bytes_of(alloc, words)?)),
+        "disk_attr" => disk(alloc, &array(alloc, words)?),
+        "net_attr" => net(alloc, &array(alloc, words)?),
+        "descriptor" => descriptor(alloc, &array(alloc, words)?),
+        "cookie" => cookie(alloc, &array(alloc, words)?),
+        _ => None,
+    }
+}
+
+// A packet as it is written over bytes ff.
+fn packet(alloc: Global, bytes: &[u8; 64]) -> Option<String> {
+    match ldc_packet::decode(bytes) {
+        Ok(packet) => {
+            let mut out = filled(0xff);
+            ldc_packet::encode(&packet, &mut out);
+            digits(alloc, &out)
+        }
+        Err(fault) => shown(alloc, Err::<(), _>(fault)),
+    }
+}
+
+// The length of the part that a packet carries, and the packet as it is written over bytes ff.
+fn part(alloc: Global, bytes: &[u8; 64]) -> Option<String> {
+    let Some(head) = part_head(bytes) else {
+        return shown(alloc, None::<()>);
+    };
+    let part = part_within(bytes, head.len);
+    let mut out = filled(0xff);
+    encode_part(head, part, &mut out);
+    shown_with(alloc, part.len(), &out)
+}
+
+// The length of a message, and the buffer of bytes a5 that it was written to.
+fn message(alloc: Global, bytes: &[u8]) -> Option<String> {
+    match vio_tag::decode(bytes) {
+        Ok(message) => {
+            let mut out = filled(0xa5);
+            let length = vio_tag::encode(&message, &mut out);
+            shown_with(alloc, length, &out)
+        }
+        Err(fault) => shown(alloc, Err::<(), _>(fault)),
+    }
+}
+
+fn disk(alloc: Global, bytes: &[u8; 48]) -> Option<String> {
+    let attr = disk_attr(bytes);
+    shown_with(alloc, attr, &put_disk_attr(&attr))
+}
+
+fn net(alloc: Global, bytes: &[u8; 48]) -> Option<String> {
+    let attr = net_attr(bytes);
+    shown_with(alloc, attr, &put_net_attr(&attr))
+}
+
+// A descriptor, and the buffer of bytes a5 that it was written to.
+fn descriptor(alloc: Global, bytes: &[u8; 128]) -> Option<String> {
+    let desc = vdisk_msg::decode(bytes);
+    let mut out = filled(0xa5);
+    vdisk_msg::encode(&desc, &mut out);
+    shown_with(alloc, desc, &out)
+}
+
+fn cookie(alloc: Global, bytes: &[u8; 16]) -> Option<String> {
+    let mut cookies = [Cookie::NONE];
+    get_cookies(bytes, 0, &mut cookies);
+    let mut out = filled::<16>(0);
+    put_cookies(&mut out, 0, &cookies);
+    shown_with(alloc, cookies, &out)
+}

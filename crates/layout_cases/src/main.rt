@@ -1,0 +1,82 @@
+//! Holds layouts, tables, copies and rings against files of cases: `layout_cases FILE..`.
+//!
+//! A row is a command and, behind ` = `, the answer that it must have. A line that begins with two blanks goes on with
+//! the row before it, and one that begins with `#` is a comment. Blanks don't count in an answer, and `UNIT*COUNT`
+//! stands for that many units. A row without an answer, as `configure A`, is a step and no case. What differs is
+//! printed, and how many cases each file has.
+#![tactic(auto)]
+
+mod causes;
+mod domain;
+mod layouts;
+mod numbers;
+mod rings;
+mod texts;
+
+use domain::Domain;
+use std::alloc::{AllocError, Global};
+use std::rt::{Env, Files};
+use std::{env, fs, io};
+use texts::expanded;
+
+fn main(rt: HostRuntime) -> io::Result<()> {
+    run_files(&rt)
+}
+
+fn run_files(rt: &(impl AllocGlobal + Env + Files + Print)) -> io::Result<()> {
+    let mut cases = 0u64;
+    for file in env::args(rt)?.skip(1) {
+        let found = run_file(rt, file.as_str())?;
+        println!(rt; "{file}: {found} cases")?;
+        cases = cases.saturating_add(found);
+    }
+    println!(rt; "{cases} cases")
+}
+
+fn run_file(rt: &(impl AllocGlobal + Files + Print), file: &str) -> io::Result<u64> {
+    let text = fs::read_to_string(rt, file)?;
+    let rows = text.as_str().replace(rt.alloc(), "\n  ", " ")?;
+    let mut domain = Domain::new(rt.alloc(), 1, 1).map_err(|_| AllocError)?;
+    let mut cases = 0u64;
+    for row in rows.as_str().lines() {
+        if !row.is_empty() && !row.starts_with('#') {
+            cases = cases.saturating_add(run_row(rt, &mut domain, file, row)?);
+        }
+    }
+    Ok(cases)
+}
+
+// How many cases the row is, none or one.
+fn run_row(
+    rt: &(impl AllocGlobal + Print),
+    domain: &mut Domain,
+    file: &str,
+    row: &str,
+) -> io::Result<u64> {
+    let (asked, answer) = row.split_once(" = ").unwrap_or((row, ""));
+    let wanted = expanded(rt.alloc(), answer)?;
+    let Some(came) = answer_of(rt.alloc(), domain, asked) else {
+        println!(rt; "{file}: not understood: {row}")?;
+        return Ok(0);
+    };
+    let came = came.as_str().replace(rt.alloc(), ' ', "")?;
+    if came != wanted {
+        println!(rt; "{file}: {asked}\n  wanted {wanted}\n  came   {came}")?;
+    }
+    Ok(u64::from(!wanted.is_empty()))
+}
+
+// What comes of a command, an empty text for a step, and nothing where it isn't understood.
+fn answer_of(alloc: Global, domain: &mut Domain, asked: &str) -> Option<String> {
+    let (command, words) = asked.split_once(' ').unwrap_or((asked, ""));
+    if let Some(answer) = layouts::answer(alloc, command, words) {
+        return Some(answer);
+    }
+    if let Some(answer) = numbers::answer(alloc, command, words) {
+        return Some(answer);
+    }
+    if let Some(answer) = rings::answer(alloc, domain, command, words) {
+        return Some(answer);
+    }
+    domain.answer(alloc, command, words)
+}

@@ -1,5 +1,0 @@
-use Rattle.cookie_copy.specs.Faults.{PagesWithin}
-use Rattle.memory_tests.proofs.rings.table_of.Given as goal
-
-abbrev pub invariant-loop-page : goal.invariant-loop-page
-invariant-loop-page l = PagesWithin l.table 32768
