@@ -35,5 +35,6 @@ pub mod DiskLog
 pub mod RequestLaws
 pub mod WorkLaws
 pub mod QuietLaws
+pub mod NearLaws
 pub mod May
 pub mod Agreement

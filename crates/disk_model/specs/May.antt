@@ -2,14 +2,15 @@
 use Rattle.std.specs.Prelude.{◌*◌, List, ⊤}
 use Rattle.runs.specs.Lawful.{Lawful}
 use Rattle.disk_model.specs.ResetSays.{WireResetAt}
-use Rattle.disk_model.specs.WireAt.{Sizes, WireAnswersAt, WireGapAt, WireHeardAt, WireSaidAt, WireTableAt, WireUnforgedAt}
+use Rattle.disk_model.specs.WireAt.{Sizes, WireAnswersAt, WireGapAt, WireHeardAt, WireLostAt, WireSaidAt, WireTableAt, WireUnforgedAt}
 use Rattle.disk_model.specs.WireEvent.{WireEvent}
 use Rattle.disk_model.specs.DiskEvent.{DiskEvent, OnWire}
 use Rattle.disk_model.specs.LaneState.{Shape, pages_of}
 use Rattle.disk_model.specs.DiskLog.{DiskLog, after, nothing_yet}
+use Rattle.disk_model.specs.NearLaws.{NearAt}
 use Rattle.disk_model.specs.QuietLaws.{IdleAt, TickAt, TwoIdleAt}
 use Rattle.disk_model.specs.RequestLaws.{AdmissionAt, CarriesAt, OnceAt, TurnsAt}
-use Rattle.disk_model.specs.WorkLaws.{OpeningsAt, PiecesAt, RangesAt, WorkNumbersAt, WorkResetAt, WorkUnforgedAt}
+use Rattle.disk_model.specs.WorkLaws.{OpeningsAt, PiecesAt, RangesAt, WorkNumbersAt, WorkResetAt, WorkUnforgedAt, WorksAt}
 
 abbrev pub sizes_in : DiskLog → Sizes
 sizes_in l = record { entries = l.shape.entries; memory = 8192 * pages_of l.shape }
@@ -27,6 +28,7 @@ pub record May (l : DiskLog) (event : DiskEvent) : Type 0 where
   pub heard : OfWire (WireHeardAt l.talk) event
   pub gap : OfWire (WireGapAt l.talk) event
   pub reset_says : OfWire (WireResetAt l.talk) event
+  pub lost : OfWire WireLostAt event
   pub unforged_wire : OfWire (WireUnforgedAt l.wire) event
   -- requests
   pub admission : AdmissionAt l event
@@ -34,12 +36,14 @@ pub record May (l : DiskLog) (event : DiskEvent) : Type 0 where
   pub carries : CarriesAt l event
   pub turns : TurnsAt l event
   -- work
+  pub works : WorksAt l event
   pub numbers : WorkNumbersAt l event
   pub ranges : RangesAt l event
   pub pieces : PiecesAt l event
   pub openings : OpeningsAt l event
   pub own_resets : WorkResetAt l event
   pub unforged_work : WorkUnforgedAt l event
+  pub near : NearAt l event
   -- quiet
   pub idle : IdleAt l event
   pub two_idle : TwoIdleAt l event

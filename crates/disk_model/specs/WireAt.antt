@@ -146,3 +146,9 @@ UnforgedReset ByTick l cause = ⊤
 abbrev pub WireUnforgedAt : WireLog → WireEvent → Type 0
 WireUnforgedAt l (Reset e cause packet lost) = UnforgedReset (giver cause) l cause
 WireUnforgedAt l _ = ⊤
+
+-- NO FRAMES are lost as an end is configured, by its own step or by a reset: the ends of a disk hold none
+abbrev pub WireLostAt : WireEvent → Type 0
+WireLostAt (Joined e lost) = lost ≡ 0
+WireLostAt (Reset e cause packet lost) = lost ≡ 0
+WireLostAt _ = ⊤

@@ -17,6 +17,7 @@ use Rattle.vio_tag.specs.declared.cause.Cause.TheVariants as the_cause
 use Rattle.disk_model.specs.HandshakeOrder.{HandshakeOrder}
 use Rattle.disk_model.specs.Sayings.{half_heard, half_said}
 use Rattle.disk_model.specs.TalkLog.{TalkLog, hears, says}
+use Rattle.disk_model.specs.WireAt.{IsUp}
 use Rattle.disk_model.specs.WireEvent.{Reset, Sent, Took}
 use Rattle.disk_model.specs.DiskEvent.{Desc, DiskEvent, Done, Finished, Misplaced, Moved, OnWire, Published, Stored, Works}
 use Rattle.disk_model.specs.LaneState.{own_table, pages_of}
@@ -56,6 +57,18 @@ WorkNumbersAt l (Works (Done id operation status bytes)) = InClient l.work.clien
 WorkNumbersAt l (Works (Desc slot bytes)) = InServer l.work.server (MayFetch l slot)
 WorkNumbersAt l (Works Misplaced) = ⊥
 WorkNumbersAt l _ = ⊤
+
+-- THE ENDS: each works only where it is up. So what was asked of a server is over with its session: behind a reset of
+-- the client's end, where that was up, the server stores nothing until it has joined.
+abbrev pub WorksAt : DiskLog → DiskEvent → Type 0
+WorksAt l (Works (Published id)) = IsUp A l.wire.wire
+WorksAt l (Works (Done id operation status bytes)) = IsUp A l.wire.wire
+WorksAt l (Works (Desc slot bytes)) = IsUp B l.wire.wire
+WorksAt l (Works (Moved unit fault)) = IsUp B l.wire.wire
+WorksAt l (Works (Stored operation block count failed)) = IsUp B l.wire.wire
+WorksAt l (Works (Finished slot status)) = IsUp B l.wire.wire
+WorksAt l (Works Misplaced) = ⊥
+WorksAt l _ = ⊤
 
 -- THE RANGES: an INFO has the next number, begins after the range before and names published ones alone; an ACK that is heard names
 -- announced ones alone, and one that is said finished ones alone

@@ -137,7 +137,8 @@ one_ring shape events s sound run clean up d is =
     let acked : k.session.acked ≡ range_sum l.shape.slots 2 heard_c = ap acked_of (sym k.session_is) ∙ client.acked in
     let asked_said = front_sum l.shape.slots 1 heard_v said_c front_b in
     let acked_said = front_sum l.shape.slots 2 heard_c said_v front_a in
-    let asked : d.asked ≤ k.counts.published = omega (arith, v_order.asked, asked_said, announced, order.announced, k.agree.published) in
+    let named : d.asked ≤ k.counts.announced = omega (arith, v_order.asked, asked_said, announced, k.agree.announced) in
+    let asked : d.asked ≤ k.counts.published = omega (arith, named, order.announced, k.agree.announced, k.agree.published) in
     let one : AreOneSession s.client.shake s.server.shake = one_session shape events s sound run clean c_open v_open in
     let offer = client.shake.offer_is in
     let few : l.shape.slots ≤ 256 = omega (arith, client.slots, knows.all.talks.client.slots) in
@@ -151,7 +152,10 @@ one_ring shape events s sound run clean up d is =
           ∙ ap (take (length (own_cookies l.shape.slots))) (one.cookies ∙ ap (λ (o : Offer). o.cookies) offer)
           ∙ filled_front 14 (own_cookies l.shape.slots) (few_cookies l.shape.slots few) ∙ ap own_cookies (sym client.slots);
       done = omega (arith, k.agree.completed, order.completed, acked, acked_said, v_order.answered, v_order.finished);
+      acked = omega (arith, k.agree.acked, acked, acked_said, v_order.answered);
+      answered = v_order.finished;
       descs = v_order.descs;
+      announced = named;
       asked = asked;
       small = omega (arith, asked, k.agree.published, order.published, k.agree.completed, all, issued_few shape events s sound run);
     }

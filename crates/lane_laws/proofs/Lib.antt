@@ -235,3 +235,9 @@ pub mod CalmSteps
 pub mod CalmEnds
 pub mod StepFalls
 pub mod StepKeeps
+pub mod FramesLost
+pub mod EndsWorking
+pub mod NewSessions
+pub mod NearOrder
+pub mod AckedFinished
+pub mod CountsTurn

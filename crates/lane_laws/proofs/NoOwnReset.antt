@@ -1,6 +1,6 @@
 -- On a lane that nobody forged no end resets itself for what it finds in the ring: an acknowledged slot is DONE, the next slot of a range is
 -- READY, and no copy of a slot is refused.
-use Rattle.std.proofs.Common.{◌≡◌, ◌≢◌, ℕ, ◌+◌, ◌*◌, ◌%◌, ◌<◌, ◌≤◌, inl, inr, Bool, true, false, Option, Some, None, List, [], refl, sym, ap, ◌∙◌, subst, arith}
+use Rattle.std.proofs.Common.{◌≡◌, ◌≢◌, ℕ, ◌+◌, ◌*◌, ◌%◌, ◌<◌, ◌≤◌, inl, inr, Bool, true, false, Option, Some, None, List, refl, sym, ap, ◌∙◌, subst, arith}
 use Rattle.std.specs.Prelude.{◌&&◌, ◌==◌, slice_index}
 use Rattle.std.proofs.lemmas.Bool.Decides.{nat_tests}
 use Rattle.std.proofs.lemmas.Nat.{mod_below}
@@ -19,17 +19,14 @@ use Rattle.dring.specs.Slots.{slot_bytes}
 use Rattle.ldc_queue.specs.declared.end.ChannelState.{ChannelState}
 use Rattle.ldc_queue.specs.declared.end.ChannelState.TheVariants.{Up}
 use Rattle.ldc_queue.specs.declared.end.End.TheVariants.{A, B}
-use Rattle.ldc_queue.specs.OneStream.{IsFront}
 use Rattle.map_table.specs.declared.cookie.Cookie.{Cookie}
 use Rattle.vdisk_msg.specs.declared.desc.DiskDesc.{DiskDesc}
 use Rattle.vio_tag.specs.declared.cause.Cause.{Cause}
-use Rattle.disk_model.specs.Sayings.{heard, said}
-use Rattle.disk_model.specs.TalkLog.{TalkLog}
 use Rattle.disk_model.specs.WireLog.{WireLog}
-use Rattle.disk_model.specs.Agreement.{ServerAgrees, WorkAgrees}
+use Rattle.disk_model.specs.Agreement.{WorkAgrees}
 use Rattle.disk_model.specs.DiskLog.{DiskLog, after, nothing_yet}
 use Rattle.disk_model.specs.WorkLaws.{IfServer}
-use Rattle.disk_model.specs.WorkLog.{ClientCounts, ServerCounts}
+use Rattle.disk_model.specs.WorkLog.{ServerCounts}
 use Rattle.disk_model.specs.ClientRule as client_rules
 use Rattle.disk_model.specs.ClientState.{ClientSession}
 use Rattle.disk_model.specs.ClientStep.{completed_descriptor}
@@ -42,10 +39,8 @@ use Rattle.disk_model.specs.Seeing.{seen}
 use Rattle.disk_model.specs.ServerRule as server_rules
 use Rattle.disk_model.specs.ServerState.{ServerSession, ServerState, Work}
 use Rattle.disk_model.specs.ServerWork.{EndFails, FetchFails, Reach, fetch_fault, slot_at, slot_fetched, slots_cookies, word_fault}
-use Rattle.lane_laws.proofs.Agreeing.{always_agree, front_sum, server_alive, talk_is}
-use Rattle.lane_laws.proofs.HeardFront.{heard_messages}
-use Rattle.lane_laws.proofs.LaneCounting.{Knows, run_knows}
-use Rattle.lane_laws.proofs.LanePlacing.{up_or}
+use Rattle.lane_laws.proofs.Agreeing.{always_agree, server_alive}
+use Rattle.lane_laws.proofs.LaneCounting.{run_knows}
 use Rattle.lane_laws.proofs.RingAlong.{run_ring}
 use Rattle.lane_laws.proofs.RingCookies.{ring_bytes}
 use Rattle.lane_laws.proofs.RingRuns.{known_of}
@@ -58,9 +53,6 @@ use Rattle.lane_laws.proofs.Ruling.{client_may, server_may}
 use Rattle.lane_laws.proofs.SlotBytes.{reads_back, ready_byte}
 use Rattle.lane_laws.proofs.RingSessions.{sizes_of}
 use Rattle.lane_laws.proofs.SlotsAlong.{run_order}
-use Rattle.lane_laws.proofs.UpRuns.{unheard_client}
-use Rattle.lane_laws.specs.Counted.{ServerOrder, acked_of, range_sum}
-use Rattle.lane_laws.specs.LaneTalks.{talk_behind}
 use Rattle.lane_laws.specs.RingAgreed.{ring_in}
 use Rattle.lane_laws.specs.RingSlots.{HoldsIssued}
 use Rattle.lane_laws.specs.RuleFacts.{ClientMay, ServerMay}
@@ -92,38 +84,7 @@ working shape events s v sound run clean up is =
     let up_a = server_alive shape events s sound run clean_s up work.of.counts work.of.open_is in
     record { known = known; work = work; both = both_are s.wire.wire.end_a s.wire.wire.end_b up_a up }
 
--- THE CLIENT: what it took as acknowledged the server finished
-answered_most : (slots : ℕ) (o : Option ServerSession) (w : Option Work) (q : Option ServerCounts) (talk : TalkLog) (finished descs : ℕ) → ServerOrder slots o q talk.server → ServerAgrees o w q
-    → IfServer q (λ d. (finished ≡ d.finished) × (descs ≡ d.descs)) → range_sum slots 2 (said talk.server) ≤ finished
-answered_most slots None w q talk finished descs order agrees works = omega (arith, order.answered)
-answered_most slots (Some v) w None talk finished descs order agrees works = absurd order
-answered_most slots (Some v) w (Some d) talk finished descs order agrees works = omega (arith, order.answered, order.finished, works.0)
-
-acked_finished : (shape : Shape) (events : List DiskEvent) (s : LaneState) (session : ClientSession) (k : ClientCounts) → IsShape shape → Run LaneStep (fresh shape) events s
-    → (log_of after (nothing_yet shape) events).wire.forged ≡ false → s.client.session ≡ Some session → s.wire.wire.end_a ≡ Up
-    → (order : RingInOrder s (log_of after (nothing_yet shape) events) k) → session.acked ≤ order.finished
-acked_finished shape events s session k sound run clean is up order =
-    let l = log_of after (nothing_yet shape) events in
-    let knows : Knows s l = run_knows shape events s sound run in
-    let talk : l.talk ≡ talk_behind events = talk_is (nothing_yet shape) events in
-    let clean_s : s.wire.forged ≡ false = ap (λ (w : WireLog). w.forged) knows.all.stands.wire ∙ clean in
-    let acked : session.acked ≡ range_sum l.shape.slots 2 (heard l.talk.client) = ap acked_of (sym is) ∙ knows.counted.client.acked in
-    elim (up_or s.wire.wire.end_b) [
-      | inl b ↦
-          let front : IsFront (heard l.talk.client) (said l.talk.server) =
-          subst (λ (t : TalkLog). IsFront (heard t.client) (said t.server)) (sym talk) (heard_messages shape events s A sound run clean_s up) in
-          let up_b : l.wire.wire.end_b ≡ Up = ap (λ (w : WireLog). w.wire.end_b) (sym knows.all.stands.wire) ∙ b in
-          omega (
-            arith,
-            acked,
-            front_sum l.shape.slots 2 (heard l.talk.client) (said l.talk.server) front,
-            answered_most l.shape.slots s.server.session s.server.work l.work.server l.talk order.finished order.descs knows.counted.server.order knows.counted.server.agrees (order.server.works up_b),
-          )
-      | inr not ↦
-          let none : heard l.talk.client ≡ [] = ap (λ (t : TalkLog). heard t.client) talk ∙ unheard_client shape events s sound run clean_s up not in
-          omega (arith, acked, ap (range_sum l.shape.slots 2) none)
-    ]
-
+-- THE CLIENT finds its acknowledged slot DONE
 pub client_finds_done : (shape : Shape) (events : List DiskEvent) (s : LaneState) (session : ClientSession) → IsShape shape → Run LaneStep (fresh shape) events s
     → (log_of after (nothing_yet shape) events).wire.forged ≡ false → client_rules.client_rule s.client (seen A s.shape.entries s.wire.wire) ≡ client_rules.Completes session
     → (completed_descriptor s.client session s.memory).state ≡ 4
@@ -135,14 +96,15 @@ client_finds_done shape events s session sound run clean rule =
     let of_c : OfClient session l.work.done l.work.client = of_client s l session may.1 known.agree in
     let k = of_c.counts in
     let order : RingInOrder s l k = run_order shape events s k sound run clean of_c.open_is in
-    let most = acked_finished shape events s session k sound run clean may.1 may.0 order in
+    let most = order.acked_first in
+    let acked = of_c.agree.acked in
     let some = some_slots s l known in
     let j = session.completed in
     let completed = of_c.agree.completed in
     let slot = j % l.shape.slots in
     let below : slot < l.shape.slots = mod_below j l.shape.slots some in
     let bytes = order.each j (omega (arith, completed)) (omega (arith, completed, some)) in
-    let done = bytes.done (omega (arith, most, may.2)) in
+    let done = bytes.done (omega (arith, most, acked, may.2)) in
     let here : slot_bytes 128 (j % s.client.slots) s.memory ≡ slot_bytes 128 slot s.memory = ap (λ (n : ℕ). slot_bytes 128 (j % n) s.memory) (slots_are s l known.stands) in
     let holds : HoldsIssued (ring_in l) slot (k.base + j) 4 done.0 (slot_bytes 128 (j % s.client.slots) s.memory) =
     subst (HoldsIssued (ring_in l) slot (k.base + j) 4 done.0) (sym here) done.1 in

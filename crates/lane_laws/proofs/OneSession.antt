@@ -1,6 +1,6 @@
 -- On a lane that nobody forged the open sessions of both ends are one: their sids, minors and rings agree.
 use Rattle.std.proofs.Common.{◌≡◌, ◌^◌, ◌<◌, ◌≤◌, ℕ, true, false, List, [], ◌∷◌, refl, sym, ap, ◌∙◌, subst, inl, inr, arith}
-use Rattle.std.specs.Prelude.{is_some, ⊤}
+use Rattle.std.specs.Prelude.{is_some, min, ⊤}
 use Rattle.runs.specs.Lawful.{log_of}
 use Rattle.runs.specs.Run.{Run}
 use Rattle.vio_bytes.specs.Place.{number_at}
@@ -33,7 +33,7 @@ use Rattle.lane_laws.proofs.LaneUttering.{client_small_sid}
 use Rattle.lane_laws.proofs.OfferedRing.{offered_form, offered_widths}
 use Rattle.lane_laws.proofs.OneSid.{among_sid}
 use Rattle.lane_laws.proofs.UpRuns.{both_up}
-use Rattle.lane_laws.proofs.SaidFields.{agrees_ident, agrees_minor, registers_own, same_kind}
+use Rattle.lane_laws.proofs.SaidFields.{agrees_ident, agrees_minor, offers_minor, registers_own, same_kind}
 use Rattle.lane_laws.specs.Grounds.{Among, knows_sid}
 use Rattle.lane_laws.specs.LaneTalks.{talk_behind}
 use Rattle.lane_laws.specs.OneSession.{AreOneSession}
@@ -68,6 +68,16 @@ among_ring blocks slots draft d (bytes ∷ others) few small says kind b body ri
     same_ring (client_offer blocks slots) m d bytes says.0.1 own.0 own.1
     (subst HasForm (sym own.1) (offered_form blocks slots few))
     (sid, subst BodyHasWidths (sym own.1) (offered_widths blocks slots few)) spells.0 spells.1
+
+-- THE OFFER that the responder heard is the initiator's
+among_offer : (offer : Offer) (draft : Session) (sid minor class : ℕ) (messages : List (List ℕ)) → offer.minor < 2 ^ 16 → SaysEach Initiator Open offer draft messages
+    → Among (info sid (Ver 1 minor class)) messages → minor ≡ offer.minor
+among_offer offer draft sid minor class [] small says among = absurd among
+among_offer offer draft sid minor class (bytes ∷ others) small says (inr among) = among_offer offer draft sid minor class others small says.1 among
+among_offer offer draft sid minor class (bytes ∷ others) small says (inl spells) =
+    let m : Message = says.0.0 in
+    let same = same_kind m (info sid (Ver 1 minor class)) bytes says.0.1 spells.1 in
+    spells.1.body.1 ∙ ap (number_at 2 10) says.0.1 ∙ offers_minor offer m.subtype m.sid m.body small same.type same.subtype same.envelope says.0.2.1
 
 -- THE AGREEMENTS that the initiator heard are the responder's
 among_minor : (offer : Offer) (draft : Session) (sid minor class : ℕ) (messages : List (List ℕ)) → draft.minor < 2 ^ 16 → SaysEach Responder Open offer draft messages
@@ -118,6 +128,8 @@ one_session shape events s sound run clean client server =
     let v_rests = server_open_rests shape events s sound run server in
     let sid : v.draft.sid ≡ c.draft.sid =
     among_sid (client_offer l.shape.blocks l.shape.slots) c.draft (info v.draft.sid (Ver 1 v_rests.version.0 v_rests.version.1)) (heard (talk_behind events).server) small said_c v_rests.version.2 in
+    let offered : v_rests.version.0 ≡ (client_offer l.shape.blocks l.shape.slots).minor =
+    among_offer (client_offer l.shape.blocks l.shape.slots) c.draft v.draft.sid v_rests.version.0 v_rests.version.1 (heard (talk_behind events).server) (omega arith) said_c v_rests.version.2 in
     let named : v.draft.ident_peer ≡ c.draft.sid = v_rests.ring.4 ∙ sid in
     let low : v.draft.minor ≤ 1 = omega (arith, v_rests.version.3, ap (λ (o : Offer). o.minor) v_offer) in
     let ring = among_ring l.shape.blocks l.shape.slots c.draft
@@ -127,6 +139,7 @@ one_session shape events s sound run clean client server =
     record {
       sid = sid;
       minor = sym (among_minor v.offer v.draft c.draft.sid c.draft.minor c_rests.version.0 (heard (talk_behind events).client) (omega (arith, low)) said_v c_rests.version.1);
+      smaller = v_rests.version.3 ∙ ap (λ (n : ℕ). min n v.offer.minor) (offered ∙ ap (λ (o : Offer). o.minor) (sym c_offer));
       number = among_ident v.offer v.draft c.draft.sid c.draft.ident_own c_rests.ring.0 c_rests.ring.1 c_rests.ring.2 c_rests.ring.3 c_rests.ring.4 (heard (talk_behind events).client)
           (omega (arith, named, small)) said_v c_rests.ring.5;
       named = named;

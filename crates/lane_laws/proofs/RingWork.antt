@@ -148,7 +148,7 @@ finished_first : (s : LaneState) (l : DiskLog) (v : ServerSession) → Known s l
 finished_first s l v known work = work_first s.server.work work.of.counts work.of.work
 
 -- the server's counts after it
-abbrev fetched_counts : DiskLog → List ℕ → ServerCounts → ServerCounts
+abbrev pub fetched_counts : DiskLog → List ℕ → ServerCounts → ServerCounts
 fetched_counts l bytes c = record c { descs = c.descs + 1; desc = bytes; owed = pieces (slot_says.disk_desc_of bytes) l.shape.blocks 0x0e }
 
 -- the ring after a slot that is marked

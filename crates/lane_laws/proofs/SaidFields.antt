@@ -83,7 +83,23 @@ agrees_minor draft Ack n (DringData seq ident start end state) small type subtyp
 agrees_minor draft Ack n (Mcast set count addresses) small type subtype envelope says = absurd (omega (arith, envelope tt))
 agrees_minor draft Ack n (Plain x) small type subtype envelope says = absurd (omega (arith, type))
 
--- its agreement to a ring has the ring's number
+-- and so has an initiator's offer of one
+pub offers_minor : (offer : Offer) (s : Subtype) (n : ℕ) (b : MsgBody) → offer.minor < 2 ^ 16 → type_code b ≡ 1 → subtype_code s ≡ 1 → (IsNoPlain b → envelope_code b ≡ 1)
+    → InitiatorSays offer s b → number_at 2 10 (canonical (record { subtype = s; sid = n; body = b })) ≡ offer.minor
+offers_minor offer Info n (Ver major minor class) small type subtype envelope says =
+    let is : minor ≡ offer.minor = cc says in
+    same_minor Info n major minor class ∙ minor_reads Info minor (subst (λ (x : ℕ). x < 2 ^ 16) (sym is) small) ∙ is
+offers_minor offer Ack n b small type subtype envelope says = absurd (omega (arith, subtype))
+offers_minor offer Nack n b small type subtype envelope says = absurd (omega (arith, subtype))
+offers_minor offer Info n (DringReg ident slots slot_size options count cookies) small type subtype envelope says = absurd (omega (arith, envelope tt))
+offers_minor offer Info n (Attr bytes) small type subtype envelope says = absurd (omega (arith, envelope tt))
+offers_minor offer Info n (DringUnreg ident) small type subtype envelope says = absurd (omega (arith, envelope tt))
+offers_minor offer Info n Rdx small type subtype envelope says = absurd (omega (arith, envelope tt))
+offers_minor offer Info n (DringData seq ident start end state) small type subtype envelope says = absurd (omega (arith, type))
+offers_minor offer Info n (Mcast set count addresses) small type subtype envelope says = absurd (omega (arith, envelope tt))
+offers_minor offer Info n (Plain x) small type subtype envelope says = absurd (omega (arith, type))
+
+-- a responder's agreement to a ring has the ring's number
 ring_with : Subtype → ℕ → Message
 ring_with s ident = record { subtype = s; sid = 0; body = DringReg ident 0 0 0 0 (replicate 14 no_cookie) }
 

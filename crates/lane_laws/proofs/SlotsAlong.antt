@@ -1,5 +1,5 @@
 -- The slots of the ring stand in their order after every run of a lane that nobody forged, in its log and in its memory.
-use Rattle.std.proofs.Common.{◌≡◌, ℕ, ◌+◌, ◌%◌, ◌≤◌, true, false, Option, Some, None, List, [], ◌∷◌, ◌++◌, refl, sym, ap, ◌∙◌, subst, arith}
+use Rattle.std.proofs.Common.{◌≡◌, ℕ, ◌+◌, ◌%◌, ◌≤◌, true, false, Option, Some, None, List, [], ◌∷◌, ◌++◌, length, refl, sym, ap, ◌∙◌, subst, arith}
 use Rattle.std.specs.Prelude.{⊤}
 use Rattle.std.proofs.lemmas.Nat.{mod_below}
 use Rattle.runs.specs.Lawful.{lawful_split, log_append, log_of, run_lawful}
@@ -9,15 +9,18 @@ use Rattle.ldc_queue.specs.declared.end.ChannelState.TheVariants.{Up}
 use Rattle.ldc_queue.specs.declared.end.End.TheVariants.{B}
 use Rattle.disk_model.specs.WireEvent.{Sent, Took}
 use Rattle.disk_model.specs.WireLog.{WireLog}
-use Rattle.disk_model.specs.Agreement.{ServerAgrees}
+use Rattle.disk_model.specs.Agreement.{ClientAgrees, ServerAgrees}
+use Rattle.disk_model.specs.ClientState.{ClientSession}
 use Rattle.disk_model.specs.DiskLog.{DiskLog, after, nothing_yet}
 use Rattle.disk_model.specs.RingLog.{Done, SlotLog}
-use Rattle.disk_model.specs.WorkLog.{ClientCounts, ServerCounts}
+use Rattle.disk_model.specs.WorkLaws.{IfServer}
+use Rattle.disk_model.specs.WorkLog.{ClientCounts, ServerCounts, WorkLog}
 use Rattle.disk_model.specs.DiskEvent.{DiskEvent, OnWire}
 use Rattle.disk_model.specs.LaneState.{IsShape, LaneState, Shape, fresh}
 use Rattle.disk_model.specs.LaneStep.{LaneStep}
 use Rattle.disk_model.specs.Seeing.{seen}
 use Rattle.disk_model.specs.ServerState.{ServerSession, Work}
+use Rattle.lane_laws.proofs.AckedFinished.{acked_finished}
 use Rattle.lane_laws.proofs.Agreeing.{always_agree, server_alive}
 use Rattle.lane_laws.proofs.LaneCounting.{Knows, few_slots, run_knows}
 use Rattle.lane_laws.proofs.RingAlong.{Along, along_run, along_step, run_ring}
@@ -28,9 +31,10 @@ use Rattle.lane_laws.proofs.ServerEndCounting.{server_puts_counting}
 use Rattle.lane_laws.proofs.ServerTaken.{server_took_what}
 use Rattle.lane_laws.proofs.SlotsStepping.{StepFacts, event_slots}
 use Rattle.lane_laws.proofs.TableRuns.{table_lawful}
-use Rattle.lane_laws.specs.RingAgreed.{SessionsAgree, ring_in}
+use Rattle.lane_laws.specs.RingAgreed.{OneRing, SessionsAgree, ring_in}
 use Rattle.lane_laws.specs.RingSlots.{HoldsIssued, RingHolds, RingOf, SlotHolds}
-use Rattle.lane_laws.specs.SlotsInOrder.{BytesOf, RingInOrder, SlotOf, SlotsIn, SlotsInOrder}
+use Rattle.lane_laws.specs.SlotsInOrder.{BytesOf, RingInOrder, ServerAt, SlotOf, SlotsIn, SlotsInOrder}
+use Rattle.lane_laws.specs.Sound.{CountsInOrder}
 use Rattle.lane_laws.specs.TableStands.{TableAt}
 
 -- WHAT IS KNOWN of an event after a run
@@ -76,6 +80,9 @@ facts_at shape events s event t sound along run step clean =
           sym (ap (λ (w : WireLog). w.wire.end_a) wire ∙ ap (λ (x : DiskLog). x.wire.wire.end_a) behind) ∙ up_a;
       opens = λ packet is. opens_none s l event t packet knows step is;
       sends = λ packet is. never_sends s l event t packet knows step is;
+      acked = λ k finished descs is up at.
+          acked_finished shape more t k finished descs sound then_run clean_more (ap (λ (x : DiskLog). x.work.client) behind ∙ is)
+          (ap (λ (x : DiskLog). x.wire.wire.end_a) behind ∙ up) (subst (λ (x : DiskLog). ServerAt x.wire.wire x.work.server finished descs) (sym behind) at);
     }
 
 record AlongSlots (shape : Shape) (s : LaneState) (l : DiskLog) : Type 0 where
@@ -116,9 +123,33 @@ bytes_of r base finished descs published j slot is bytes of holds = record {
   free = λ past. subst (λ (x : SlotLog). SlotHolds r slot x bytes) (of.free past) holds;
 }
 
+-- the counts of the ranges
+pub announced_in : (pending : ℕ) (o : Option ClientSession) (done : ℕ) (q : Option ClientCounts) (k : ClientCounts) → q ≡ Some k → ClientAgrees o done q → CountsInOrder pending o
+    → k.announced ≤ k.published
+announced_in pending None done None k is agrees order = absurd (cc is)
+announced_in pending None done (Some c) k is agrees order = absurd agrees
+announced_in pending (Some x) done None k is agrees order = absurd agrees
+announced_in pending (Some x) done (Some c) k is agrees order =
+    let same : c ≡ k = cc is in
+    let announced : c.announced ≡ k.announced = ap (λ (y : ClientCounts). y.announced) same in
+    let published : c.published ≡ k.published = ap (λ (y : ClientCounts). y.published) same in
+    omega (arith, announced, published, agrees.announced, agrees.published, order.announced)
+
+if_still : (P Q : ServerCounts → Type 0) (q : Option ServerCounts) → ((d : ServerCounts) → P d → Q d) → IfServer q P → IfServer q Q
+if_still P Q None still holds = tt
+if_still P Q (Some d) still holds = still d holds
+
+asked_in : (s : LaneState) (w : WorkLog) (k : ClientCounts) → w.client ≡ Some k → (d : ServerCounts) → OneRing s w d → d.asked ≤ k.announced
+asked_in s w k is d one =
+    let both : Some one.client ≡ Some k = sym one.open_is ∙ is in
+    let same : one.client ≡ k = cc both in
+    let announced : one.client.announced ≡ k.announced = ap (λ (y : ClientCounts). y.announced) same in
+    omega (arith, announced, one.announced)
+
 ring_order : (s : LaneState) (l : DiskLog) (o : Option ClientCounts) (k : ClientCounts) → o ≡ Some k → SlotsIn l.shape.slots l.work l.wire.wire l.ring o
-    → RingHolds (ring_in l) l.ring s.memory → 1 ≤ l.shape.slots → RingInOrder s l k
-ring_order s l o k is slots holds some =
+    → RingHolds (ring_in l) l.ring s.memory → 1 ≤ l.shape.slots → k.announced ≤ k.published
+    → (l.wire.wire.end_b ≡ Up → IfServer l.work.server (λ d. d.asked ≤ k.announced)) → RingInOrder s l k
+ring_order s l o k is slots holds some announced asked =
     let here : SlotsIn l.shape.slots l.work l.wire.wire l.ring (Some k) = subst (SlotsIn l.shape.slots l.work l.wire.wire l.ring) is slots in
     record {
       finished = here.0;
@@ -127,6 +158,10 @@ ring_order s l o k is slots holds some =
       finished_first = here.2.finished_first;
       one = here.2.one;
       descs_first = here.2.descs_first;
+      acked_first = here.4.acked;
+      descs_announced = here.4.announced;
+      announced_first = announced;
+      asked_announced = asked;
       server = here.3;
       each = λ j lo hi.
           let slot = j % l.shape.slots in
@@ -141,3 +176,5 @@ run_order shape events s k sound run clean is =
     let knows : Knows s l = run_knows shape events s sound run in
     ring_order s l l.work.client k is (run_slots shape events s sound run clean) ((run_ring shape events s sound run).unforged clean).holds
     (omega (arith, knows.all.memory.some, knows.counted.client.slots))
+    (announced_in (length s.client.pending) s.client.session l.work.done l.work.client k is knows.counted.client.agrees knows.all.talks.client.counts)
+    (λ up. if_still (OneRing s l.work) (λ (d : ServerCounts). d.asked ≤ k.announced) l.work.server (asked_in s l.work k is) ((always_agree shape sound events s run clean).ring up))

@@ -7,26 +7,28 @@ use Rattle.ldc_queue.specs.Wire.{Wire, closed, configured, peer_behind, upset}
 use Rattle.disk_model.specs.WireEvent.{Blocked, Declines, Idle, Injected, Joined, Lost, Poked, Reset, Sent, Took, WireEvent}
 use Rattle.disk_model.specs.Agreement.{ServerAgrees, WorkAgrees}
 use Rattle.disk_model.specs.DiskLog.{DiskLog, after}
+use Rattle.disk_model.specs.Messages.{range_ended}
 use Rattle.disk_model.specs.RingLog.{Accepted as IsAccepted, Done as IsDone, SlotLog, fetched_at, finished_at, freed_at, id_at, published_at}
 use Rattle.disk_model.specs.WorkLaws.{IfServer}
-use Rattle.disk_model.specs.WorkLog.{ClientCounts, ServerCounts, WorkLog, change_client, change_server}
+use Rattle.disk_model.specs.WorkLog.{ClientCounts, ServerCounts, WorkLog, change_client, change_server, length_in, one_in}
 use Rattle.disk_model.specs.ClientRule as client_rules
 use Rattle.disk_model.specs.DiskEvent.{Accepted, Asks, Desc, DiskEvent, Done, Finished, Full, Misplaced, Moved, Off, OnWire, Published, Refused, Rests, Started, Stopped, Stored, Turns, Worked, Works}
 use Rattle.disk_model.specs.LaneState.{LaneState}
 use Rattle.disk_model.specs.LaneStep.{LaneStep, WorkStep}
+use Rattle.disk_model.specs.Sayings.{half_heard, half_said}
 use Rattle.disk_model.specs.Seeing.{seen}
 use Rattle.disk_model.specs.ServerRule as server_rules
 use Rattle.disk_model.specs.ServerState.{ServerSession, Work}
 use Rattle.lane_laws.proofs.RingClientSteps.{completes_slot, publishing}
 use Rattle.lane_laws.proofs.RingEnds.{has_work}
 use Rattle.lane_laws.proofs.RingSessions.{of_client}
-use Rattle.lane_laws.proofs.RingWork.{Known, at_work, fetched_next, numbered, some_slots, turn_in}
+use Rattle.lane_laws.proofs.RingWork.{Known, at_work, fetched_counts, fetched_next, numbered, some_slots, turn_in}
 use Rattle.lane_laws.proofs.RulesFree.{ServerFree, server_free}
 use Rattle.lane_laws.proofs.Ruling.{client_may, server_may}
 use Rattle.lane_laws.proofs.SlotsOrdered.{cleared_slots, completed_slots, fetched_slots, finished_more, finished_slots, published_slots}
 use Rattle.lane_laws.specs.RingAgreed.{OneRing, SessionsAgree}
 use Rattle.lane_laws.specs.RuleFacts.{ClientMay, ServerMay}
-use Rattle.lane_laws.specs.SlotsInOrder.{ServerAt, SlotsIn, SlotsInOrder, SlotsOf}
+use Rattle.lane_laws.specs.SlotsInOrder.{RangesIn, ServerAt, SlotsIn, SlotsInOrder, SlotsOf}
 use Rattle.lane_laws.specs.TableStands.{TableAt}
 
 -- what is known of an event
@@ -38,17 +40,23 @@ pub record StepFacts (s : LaneState) (l : DiskLog) (event : DiskEvent) (t : Lane
   pub alive : (d : ServerCounts) → (after l event).wire.wire.end_b ≡ Up → (after l event).work.server ≡ Some d → (after l event).wire.wire.end_a ≡ Up
   pub opens : (packet : List ℕ) → event ≡ OnWire (Took B packet true) → l.work.server ≡ None
   pub sends : (packet : List ℕ) → event ≡ OnWire (Sent B packet true) → ⊥
+  -- what a client that is up has heard acknowledged the server finished
+  pub acked : (k : ClientCounts) (finished descs : ℕ) → (after l event).work.client ≡ Some k → (after l event).wire.wire.end_a ≡ Up
+      → ServerAt (after l event).wire.wire (after l event).work.server finished descs → k.acked ≤ finished
 
 -- THE CLIENT'S COUNTS change but for the base and what is published
 keep_client : (n : ℕ) (w : WorkLog) (wire : Wire) (ring : List SlotLog) (f : ClientCounts → ClientCounts) (o : Option ClientCounts) → ((k : ClientCounts) → (f k).base ≡ k.base)
-    → ((k : ClientCounts) → (f k).published ≡ k.published) → SlotsIn n w wire ring o → SlotsIn n w wire ring (change_client f o)
-keep_client n w wire ring f None base published slots = tt
-keep_client n w wire ring f (Some k) base published slots = (
+    → ((k : ClientCounts) → (f k).published ≡ k.published)
+    → ((k : ClientCounts) (finished descs : ℕ) → o ≡ Some k → ServerAt wire w.server finished descs → RangesIn k finished descs → RangesIn (f k) finished descs)
+    → SlotsIn n w wire ring o → SlotsIn n w wire ring (change_client f o)
+keep_client n w wire ring f None base published ranges slots = tt
+keep_client n w wire ring f (Some k) base published ranges slots = (
   slots.0,
   slots.1,
   subst (λ (b : ℕ). SlotsOf n w.done b (f k).published slots.0 slots.1 ring) (sym (base k))
       (subst (λ (p : ℕ). SlotsOf n w.done k.base p slots.0 slots.1 ring) (sym (published k)) slots.2),
   slots.3,
+  ranges k slots.0 slots.1 refl slots.3 slots.4,
 )
 
 -- the server's side changes
@@ -60,6 +68,7 @@ keep_server n w x wire next ring (Some k) done at slots = (
   slots.1,
   subst (λ (d : ℕ). SlotsOf n d k.base k.published slots.0 slots.1 ring) (sym done) slots.2,
   at slots.0 slots.1 slots.3,
+  slots.4,
 )
 
 none_changed : (g : ServerCounts → ServerCounts) (q : Option ServerCounts) → change_server g q ≡ None → q ≡ None
@@ -116,14 +125,14 @@ opens_at_rest wire q nothing = record { works = λ up. by_server q refl up; rest
     by_server None is up = tt
     by_server (Some d) is up = nothing d is up
 
-work_first : (o : Option ServerSession) (w : Option Work) (q : Option ServerCounts) (d : ServerCounts) → q ≡ Some d → ServerAgrees o w q → d.finished ≤ d.descs
+pub work_first : (o : Option ServerSession) (w : Option Work) (q : Option ServerCounts) (d : ServerCounts) → q ≡ Some d → ServerAgrees o w q → d.finished ≤ d.descs
 work_first None w None d is agrees = absurd (cc is)
 work_first None w (Some c) d is agrees = absurd agrees
 work_first (Some s) w None d is agrees = absurd agrees
 work_first (Some s) None (Some c) d is agrees = let same : c ≡ d = cc is in subst (λ (x : ServerCounts). x.finished ≤ x.descs) same (omega (arith, agrees.1.1))
 work_first (Some s) (Some work) (Some c) d is agrees = let same : c ≡ d = cc is in subst (λ (x : ServerCounts). x.finished ≤ x.descs) same (omega (arith, agrees.1.2))
 
-if_server : (P : ServerCounts → Type 0) (q : Option ServerCounts) (d : ServerCounts) → q ≡ Some d → IfServer q P → P d
+pub if_server : (P : ServerCounts → Type 0) (q : Option ServerCounts) (d : ServerCounts) → q ≡ Some d → IfServer q P → P d
 if_server P q d is holds = subst (λ (x : Option ServerCounts). IfServer x P) is holds
 
 -- THE WIRE
@@ -139,6 +148,7 @@ opened_slots s l packet t facts =
           let published : one.client.published ≡ 0 = let both : m.work.client ≡ Some one.client = one.open_is in published_of both in
           let none : d.descs ≡ 0 = omega (arith, one.descs, one.asked, published) in
           (omega (arith, first, none), sym none)),
+      record { acked = omega arith; announced = omega arith },
     )
   where
     published_of : {sid base : ℕ} {c : ClientCounts} → Some (record { sid = sid; base = base; published = 0; announced = 0; infos = 0; acked = 0 }) ≡ Some c → c.published ≡ 0
@@ -166,13 +176,23 @@ wire_slots s l (Reset A cause packet lost) t step facts slots = tt
 wire_slots s l (Reset B cause packet lost) t step facts slots =
     keep_server l.shape.slots l.work (after l (OnWire (Reset B cause packet lost))).work l.wire.wire (after l (OnWire (Reset B cause packet lost))).wire.wire l.ring l.work.client refl (λ finished descs at. at_begun l.wire.wire l.work.server finished descs at) slots
 wire_slots s l (Took A packet false) t step facts slots =
-    keep_client l.shape.slots (after l (OnWire (Took A packet false))).work (after l (OnWire (Took A packet false))).wire.wire l.ring _ l.work.client (λ k. refl) (λ k. refl)
+    let adds : ClientCounts → ClientCounts =
+    λ (c : ClientCounts). record c { acked = c.acked + length_in l.shape.slots (range_ended 2 (half_heard l.talk.client) packet) } in
+    keep_client l.shape.slots (after l (OnWire (Took A packet false))).work (after l (OnWire (Took A packet false))).wire.wire l.ring adds l.work.client (λ k. refl) (λ k. refl)
+    (λ k finished descs is at ranges.
+    record { acked = facts.acked (adds k) finished descs (ap (change_client adds) is) facts.table.0 at; announced = ranges.announced })
     (keep_server l.shape.slots l.work (after l (OnWire (Took A packet false))).work l.wire.wire (after l (OnWire (Took A packet false))).wire.wire l.ring l.work.client refl (λ finished descs at. same_at l.wire.wire (after l (OnWire (Took A packet false))).wire.wire l.work.server finished descs refl refl at) slots)
 wire_slots s l (Took A packet true) t step facts slots = let never : true ≡ false = step.step.2 in absurd (cc)
 wire_slots s l (Took B packet opens) t step facts slots = took_server opens s l packet t facts slots
 wire_slots s l (Sent A packet true) t step facts slots = opened_slots s l packet t facts
 wire_slots s l (Sent A packet false) t step facts slots =
-    keep_client l.shape.slots (after l (OnWire (Sent A packet false))).work (after l (OnWire (Sent A packet false))).wire.wire l.ring _ l.work.client (λ k. refl) (λ k. refl)
+    let adds : ClientCounts → ClientCounts =
+    λ (c : ClientCounts). record c {
+      announced = c.announced + length_in l.shape.slots (range_ended 1 (half_said l.talk.client) packet);
+      infos = c.infos + one_in (range_ended 1 (half_said l.talk.client) packet);
+    } in
+    keep_client l.shape.slots (after l (OnWire (Sent A packet false))).work (after l (OnWire (Sent A packet false))).wire.wire l.ring adds l.work.client (λ k. refl) (λ k. refl)
+    (λ k finished descs is at ranges. record { acked = ranges.acked; announced = omega (arith, ranges.announced) })
     (keep_server l.shape.slots l.work (after l (OnWire (Sent A packet false))).work l.wire.wire (after l (OnWire (Sent A packet false))).wire.wire l.ring l.work.client refl (λ finished descs at. same_at l.wire.wire (after l (OnWire (Sent A packet false))).wire.wire l.work.server finished descs refl refl at) slots)
 wire_slots s l (Sent B packet true) t step facts slots = absurd (facts.sends packet refl)
 wire_slots s l (Sent B packet false) t step facts slots =
@@ -204,6 +224,7 @@ published_in s l id t known step slots =
       here.1,
       published_slots l.shape.slots l.work.done k.base k.published here.0 here.1 id l.ring known.ring.holds.long turn.based (omega (arith, new.since, new.number)) new.turn new.number here.2,
       here.3,
+      record { acked = here.4.acked; announced = here.4.announced },
     ) in
     subst (λ (o : Option ClientCounts). SlotsIn l.shape.slots m.work l.wire.wire (published_at l.shape.slots o id l.ring) (change_client (λ (c : ClientCounts). record c { published = c.published + 1 }) o))
     (sym of_k.open_is) behind
@@ -227,6 +248,7 @@ completed_in s l id operation status bytes t known step slots =
       here.1,
       completed_slots n l.work.done k.base k.published here.0 here.1 l.ring known.ring.holds.long some turn.based turn.turn (omega (arith, less, turn.based)) here.2,
       here.3,
+      here.4,
     ) in
     subst (λ (o : Option ClientCounts). SlotsIn n m.work l.wire.wire (freed_at n l.work o l.ring) o) (sym found.1.open_is) behind
 
@@ -262,11 +284,18 @@ fetched_in s l slot bytes t known agree step slots =
     ∙ ap (λ (o : Option ClientCounts). set l.ring slot (IsAccepted (id_at o d.descs))) next.work.one.open_is
     ∙ ap (λ (x : ℕ). set l.ring x (IsAccepted id)) place in
     let m = after l (Works (Desc slot bytes)) in
+    let one_more : OneRing t m.work (fetched_counts l bytes d) =
+    subst (λ (q : Option ServerCounts). IfServer (change_server (fetched_counts l bytes) q) (OneRing t m.work)) next.work.of.open_is (agree.ring next.work.up) in
+    let two : Some k ≡ Some one_more.client = sym next.work.one.open_is ∙ one_more.open_is in
+    let same_client : k ≡ one_more.client = cc two in
+    let named : one_more.client.announced ≡ k.announced = ap (λ (c : ClientCounts). c.announced) (sym same_client) in
+    let announced : here.1 + 1 ≤ k.announced = omega (arith, counts.1, one_more.descs, one_more.announced, named) in
     let behind : SlotsIn n m.work l.wire.wire (fetched_at n l.work l.work.server slot l.ring) (Some k) = (
       here.1,
       here.1 + 1,
       subst (λ (r : List SlotLog). SlotsOf n l.work.done k.base k.published here.1 (here.1 + 1) r) (sym table) of,
       at_counts l.wire.wire l.work.server _ d here.1 (here.1 + 1) next.work.of.open_is next.work.up (sym same ∙ counts.0) (ap (λ (x : ℕ). x + 1) counts.1),
+      record { acked = omega (arith, here.4.acked, same); announced = announced },
     ) in
     subst (SlotsIn n m.work l.wire.wire (fetched_at n l.work l.work.server slot l.ring)) (sym next.work.one.open_is) behind
 
@@ -303,6 +332,7 @@ finished_in s l slot status t known step slots =
       here.0 + 1,
       subst (λ (r : List SlotLog). SlotsOf n l.work.done k.base k.published (here.0 + 1) (here.0 + 1) r) (sym table) of,
       at_counts l.wire.wire l.work.server _ d (here.0 + 1) (here.0 + 1) work.of.open_is work.up (ap (λ (x : ℕ). x + 1) counts.0) (sym same ∙ counts.1),
+      record { acked = omega (arith, here.4.acked); announced = omega (arith, here.4.announced, same) },
     ) in
     subst (SlotsIn n m.work l.wire.wire (finished_at n l.work l.work.server slot status l.ring)) (sym work.one.open_is) behind
 

@@ -56,11 +56,11 @@ peer_down Resetting y is = is
 not_both : (x : ChannelState) → x ≡ Up → x ≡ Down → ⊥
 not_both x up down = let never : Up ≡ Down = sym up ∙ down in absurd (cc)
 
-none_client : (f : ClientCounts → ClientCounts) (k : Option ClientCounts) → k ≡ None → change_client f k ≡ None
+pub none_client : (f : ClientCounts → ClientCounts) (k : Option ClientCounts) → k ≡ None → change_client f k ≡ None
 none_client f None is = refl
 none_client f (Some c) is = absurd (cc is)
 
-none_server : (f : ServerCounts → ServerCounts) (d : Option ServerCounts) → d ≡ None → change_server f d ≡ None
+pub none_server : (f : ServerCounts → ServerCounts) (d : Option ServerCounts) → d ≡ None → change_server f d ≡ None
 none_server f None is = refl
 none_server f (Some c) is = absurd (cc is)
 

@@ -35,7 +35,7 @@ run_grounded shape events s sound run =
     (fresh shape) s (nothing_yet shape) events (fresh_grounded shape sound) run).1
 
 -- a law of each event of a grounded lane is one of every run
-grounded_lawful : (May : DiskLog → DiskEvent → Type 0) → ((s : LaneState) (l : DiskLog) (event : DiskEvent) (t : LaneState) → Grounded s l → LaneStep s event t → May l event)
+pub grounded_lawful : (May : DiskLog → DiskEvent → Type 0) → ((s : LaneState) (l : DiskLog) (event : DiskEvent) (t : LaneState) → Grounded s l → LaneStep s event t → May l event)
     → (shape : Shape) (events : List DiskEvent) (s : LaneState) → IsShape shape → Run LaneStep (fresh shape) events s → Lawful May after (nothing_yet shape) events
 grounded_lawful May may shape events s sound run =
     (run_lawful LaneStep May after Grounded

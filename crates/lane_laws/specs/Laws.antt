@@ -3,7 +3,7 @@ use Rattle.disk_model.specs.DiskLog.{DiskLog}
 use Rattle.disk_model.specs.May.{OfWire}
 use Rattle.disk_model.specs.DiskEvent.{DiskEvent}
 use Rattle.disk_model.specs.ResetSays.{WireResetAt}
-use Rattle.disk_model.specs.WireAt.{WireGapAt, WireSaidAt, WireUnforgedAt}
+use Rattle.disk_model.specs.WireAt.{WireGapAt, WireLostAt, WireSaidAt, WireUnforgedAt}
 
 -- what resets an end says why
 abbrev pub ResetAt : DiskLog → DiskEvent → Type 0
@@ -20,3 +20,7 @@ SaidAt l event = OfWire (WireSaidAt l.talk) event
 -- where nobody forged, an end resets itself for a gap alone, and only once a packet was lost
 abbrev pub UnforgedAt : DiskLog → DiskEvent → Type 0
 UnforgedAt l event = OfWire (WireUnforgedAt l.wire) event
+
+-- no frames are lost as an end is configured
+abbrev pub LostAt : DiskLog → DiskEvent → Type 0
+LostAt l event = OfWire WireLostAt event

@@ -41,4 +41,7 @@ pub mod Units
 pub mod Statuses
 pub mod Opens
 pub mod CalmEnds
+pub mod NewSessions
+pub mod NearInLane
+pub mod CountsInTurn
 pub use Rattle.vio_handshake.specs.Rules

@@ -18,15 +18,18 @@ use Rattle.lane_laws.specs.RingSlots.{IdsStand, RingHolds, RingOf, StatusStands,
 abbrev pub ring_in : DiskLog → RingOf
 ring_in l = record { blocks = l.shape.blocks; slots = l.shape.slots; issued = l.work.issued }
 
--- THE TWO SESSIONS are of one ring: the server has the client's slots and cookies; what is done was finished, and what the server was
--- asked for was published
+-- THE TWO SESSIONS are of one ring: the server has the client's slots and cookies; what is done was finished; what is acknowledged was
+-- answered, and so finished; and what the server was asked for was announced, and so published
 pub record OneRing (s : LaneState) (w : WorkLog) (d : ServerCounts) : Type 0 where
   pub client : ClientCounts
   pub open_is : w.client ≡ Some client
   pub slots : s.server.shake.draft.peer_slots ≡ s.client.slots
   pub cookies : slots_cookies s.server ≡ own_cookies s.client.slots
   pub done : w.done ≤ client.base + d.finished
+  pub acked : client.acked ≤ d.answered
+  pub answered : d.answered ≤ d.finished
   pub descs : d.descs ≤ d.asked
+  pub announced : d.asked ≤ client.announced
   pub asked : d.asked ≤ client.published
   pub small : d.asked < 2 ^ 64
 

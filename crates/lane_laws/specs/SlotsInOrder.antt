@@ -1,5 +1,6 @@
 -- THE SLOTS IN ORDER, around the ring from the first request that isn't done: those that the server finished are DONE; at most one is ACCEPTED;
--- those that it hasn't fetched are READY, the announced ones first; all others are FREE.
+-- those that it hasn't fetched are READY, the announced ones first; all others are FREE. What is acknowledged is finished, and what is
+-- fetched was announced.
 use Rattle.std.specs.Prelude.{◌≡◌, ℕ, ◌+◌, ◌%◌, ◌<◌, ◌≤◌, List, Option, Some, None, slice_get, slice_index, ⊤}
 use Rattle.dring.specs.Slots.{free_state, slot_bytes}
 use Rattle.ldc_queue.specs.declared.end.ChannelState.TheVariants.{Up}
@@ -33,9 +34,16 @@ pub record ServerAt (w : Wire) (server : Option ServerCounts) (finished descs : 
   pub works : w.end_b ≡ Up → IfServer server (λ d. (finished ≡ d.finished) × (descs ≡ d.descs))
   pub rests : w.end_a ≡ Up → (w.end_b ≡ Up → server ≡ None) → (finished ≡ 0) × (descs ≡ 0)
 
+-- the client's counts of the ranges against them
+pub record RangesIn (k : ClientCounts) (finished descs : ℕ) : Type 0 where
+  pub acked : k.acked ≤ finished
+  pub announced : descs ≤ k.announced
+
 abbrev pub SlotsIn : ℕ → WorkLog → Wire → List SlotLog → Option ClientCounts → Type 0
 SlotsIn slots w wire ring None = ⊤
-SlotsIn slots w wire ring (Some k) = (finished : ℕ) × (descs : ℕ) × SlotsOf slots w.done k.base k.published finished descs ring × ServerAt wire w.server finished descs
+SlotsIn slots w wire ring (Some k) =
+    (finished : ℕ) × (descs : ℕ) × SlotsOf slots w.done k.base k.published finished descs ring × ServerAt wire w.server finished descs
+    × RangesIn k finished descs
 
 abbrev pub SlotsInOrder : DiskLog → Type 0
 SlotsInOrder l = SlotsIn l.shape.slots l.work l.wire.wire l.ring l.work.client
@@ -54,6 +62,10 @@ pub record RingInOrder (s : LaneState) (l : DiskLog) (k : ClientCounts) : Type 0
   pub finished_first : finished ≤ descs
   pub one : descs ≤ finished + 1
   pub descs_first : descs ≤ k.published
+  pub acked_first : k.acked ≤ finished
+  pub descs_announced : descs ≤ k.announced
+  pub announced_first : k.announced ≤ k.published
+  pub asked_announced : l.wire.wire.end_b ≡ Up → IfServer l.work.server (λ d. d.asked ≤ k.announced)
   pub server : ServerAt l.wire.wire l.work.server finished descs
   pub each : (j : ℕ) → l.work.done ≤ k.base + j → k.base + j < l.work.done + l.shape.slots
       → BytesOf (ring_in l) k.base finished descs k.published j (j % l.shape.slots) (slot_bytes 128 (j % l.shape.slots) s.memory)

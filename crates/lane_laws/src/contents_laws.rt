@@ -1,7 +1,7 @@
 // What follows of the contents of a lane.
 
 ghost use Rattle.std.specs.Prelude.{◌≡◌, ℕ, ◌+◌, ◌≤◌, false, length, List, [], ◌*◌, None, Option, Some};
-ghost use Rattle.runs.specs.Lawful.{log_of};
+ghost use Rattle.runs.specs.Lawful.{log_of, Lawful};
 ghost use Rattle.runs.specs.Run.{Run};
 ghost use Rattle.cookie_copy.specs.declared.fault.CopyFault.{CopyFault};
 ghost use Rattle.disk_model.specs.Agreement.{NearAgrees};
@@ -9,6 +9,7 @@ ghost use Rattle.disk_model.specs.DiskLog.{after, nothing_yet};
 ghost use Rattle.disk_model.specs.DiskEvent.{DiskEvent, Done, Finished, Moved, Works};
 ghost use Rattle.disk_model.specs.LaneState.{fresh, IsShape, LaneState, Shape};
 ghost use Rattle.disk_model.specs.LaneStep.{LaneStep};
+ghost use Rattle.disk_model.specs.NearLaws.{NearAt, NearInOrder};
 ghost use Rattle.disk_model.specs.Served.{Served};
 ghost use Rattle.lane_laws.specs.Contents.{ContentsStand, WorkHeld, WritesHeld};
 ghost use Rattle.lane_laws.specs.Blocks.{after_requests};
@@ -17,6 +18,7 @@ ghost use Rattle.lane_laws.specs.ImageStep.{content_after, ImageStep, region_of,
 ghost use Rattle.lane_laws.specs.LaneView.{view_of};
 ghost use Rattle.lane_laws.specs.LaterDisturbed.{LaterDisturbed};
 ghost use Rattle.lane_laws.specs.Near.{FrontShows, ImageHolds, IsNear};
+ghost use Rattle.lane_laws.specs.NearInLane.{NearInLane};
 ghost use Rattle.lane_laws.specs.ZeroStatuses.{StatusesZero};
 
 /// On a lane that nobody forged and whose store didn't fail, the buffer of each write that is published in the
@@ -127,6 +129,25 @@ pub fn near_counts_are_the_logs()
         → IsShape shape → Run LaneStep (fresh shape) events s
         → (log_of after (nothing_yet shape) events).wire.forged ≡ false
         → NearAgrees s (log_of after (nothing_yet shape) events).near }
+{}
+
+/// On a lane that nobody forged, also where a store failed, the counts of pending requests are in order. Those that the
+/// server finished in its session, and those that were published in an earlier one, are among the ones that were ever
+/// published. A completion is of one that is finished.
+pub fn near_counts_stand_in_order()
+    ensures lane { (shape : Shape) (events : List DiskEvent) (s : LaneState)
+        → IsShape shape → Run LaneStep (fresh shape) events s → s.wire.forged ≡ false → NearInLane s }
+    ensures done { (shape : Shape) (events : List DiskEvent) (s : LaneState)
+        (id operation status : ℕ) (bytes : List ℕ) (t : LaneState)
+        → IsShape shape → Run LaneStep (fresh shape) events s → LaneStep s (Works (Done id operation status bytes)) t
+        → s.wire.forged ≡ false → 1 ≤ s.near.k }
+    ensures logged { (shape : Shape) (events : List DiskEvent) (s : LaneState)
+        → IsShape shape → Run LaneStep (fresh shape) events s
+        → (log_of after (nothing_yet shape) events).wire.forged ≡ false
+        → NearInOrder (log_of after (nothing_yet shape) events) }
+    ensures run { (shape : Shape) (events : List DiskEvent) (s : LaneState)
+        → IsShape shape → Run LaneStep (fresh shape) events s
+        → Lawful NearAt after (nothing_yet shape) events }
 {}
 
 /// Along every run of a lane with the image of its disk, each completion is of the first request that isn't done,

@@ -22,13 +22,14 @@ ghost use Rattle.disk_model.specs.DiskLog.{after, nothing_yet};
 ghost use Rattle.disk_model.specs.QuietLaws.{TickAt};
 ghost use Rattle.disk_model.specs.RequestLaws.{AdmissionAt, CarriesAt, OnceAt, TurnsAt};
 ghost use Rattle.disk_model.specs.WorkLaws.{Unforged};
-ghost use Rattle.disk_model.specs.WorkLog.{ClientCounts};
+ghost use Rattle.disk_model.specs.WorkLog.{ClientCounts, ServerCounts};
 ghost use Rattle.disk_model.specs.DiskEvent.{Desc, DiskEvent, Done, OnWire, Published, Works};
 ghost use Rattle.disk_model.specs.LaneState.{fresh, pages_of, IsShape, LaneState, Shape};
 ghost use Rattle.disk_model.specs.LaneStep.{LaneStep};
 ghost use Rattle.disk_model.specs.Offering.{client_offer};
 ghost use Rattle.lane_laws.specs.CompletedIds.{done_ids, CountsFrom};
 ghost use Rattle.lane_laws.specs.CompletesSlot.{CompletesSlot};
+ghost use Rattle.lane_laws.specs.CountsInTurn.{CountsInTurn};
 ghost use Rattle.lane_laws.specs.RingAgreed.{AlwaysAgree, RingStands};
 ghost use Rattle.lane_laws.specs.Grounds.{OpenRests};
 ghost use Rattle.lane_laws.specs.HeardStands.{HeardAt};
@@ -240,9 +241,9 @@ pub fn what_is_heard_is_as_the_other_end_has_it()
 {}
 
 /// On a lane that nobody forged, whatever was lost, reset, stopped or restarted on the way there: where both sessions
-/// are open both ends are up, and the sessions are one. They have one sid and one minor; the server knows the client's
-/// ring by the sid, which is the number that the client has for it; and that ring has the slots and the cookies that
-/// the client offers.
+/// are open both ends are up, and the sessions are one. They have one sid and one minor, the smaller of those that the
+/// ends offer; the server knows the client's ring by the sid, which is the number that the client has for it; and that
+/// ring has the slots and the cookies that the client offers.
 pub fn open_sessions_are_one()
     ensures up { (shape : Shape) (events : List DiskEvent) (s : LaneState)
         → IsShape shape → Run LaneStep (fresh shape) events s
@@ -261,7 +262,9 @@ pub fn open_sessions_are_one()
 /// memory: each range that an end says or hears whole counts its slots, and a server's counts are those of the log
 /// modulo 2^64. Where nobody forged and the server's end is up with its session open, the client's session is open too,
 /// of the same ring, and the counts stand in their order: what is done was finished, what was fetched was asked for,
-/// and what was asked for was published, less than 2^64 in all.
+/// and what was asked for was announced and so published, less than 2^64 in all. Where both sessions are open, what is
+/// acknowledged was answered, what was answered finished, what was finished fetched, what was fetched asked for, what
+/// was asked for announced, and what was announced published.
 pub fn sessions_count_alike()
     ensures client { (shape : Shape) (events : List DiskEvent) (s : LaneState)
         → IsShape shape → Run LaneStep (fresh shape) events s
@@ -271,6 +274,11 @@ pub fn sessions_count_alike()
         → IsShape shape → Run LaneStep (fresh shape) events s
         → ServerAgrees s.server.session s.server.work (log_of after (nothing_yet shape) events).work.server }
     ensures agree { (shape : Shape) → IsShape shape → AlwaysAgree shape }
+    ensures turn { (shape : Shape) (events : List DiskEvent) (s : LaneState) (k : ClientCounts) (d : ServerCounts)
+        → IsShape shape → Run LaneStep (fresh shape) events s
+        → (log_of after (nothing_yet shape) events).wire.forged ≡ false
+        → (log_of after (nothing_yet shape) events).work.client ≡ Some k
+        → (log_of after (nothing_yet shape) events).work.server ≡ Some d → CountsInTurn k d }
 {}
 
 /// On a lane that nobody forged: a completion is of the first request that isn't done, and carries the status with
@@ -304,9 +312,10 @@ pub fn the_ring_is_as_its_log_says()
 
 /// The slots of the ring in order, on a lane that nobody forged, where the client's session is open: around the ring
 /// from the first request that isn't done, the slots of those that the server finished are DONE with their statuses; at
-/// most one is ACCEPTED; the published ones that it hasn't fetched are READY; all others are FREE. Each has the bytes
-/// of its request's descriptor. The counts are those of the server's session where it has one; where it has none and
-/// the client's end is up, nothing is finished or fetched; and of a session that is over they are as they were.
+/// most one is ACCEPTED; the published ones that it hasn't fetched are READY, the announced ones first; all others are
+/// FREE. Each has the bytes of its request's descriptor. What is acknowledged is finished, and what is fetched or asked
+/// for was announced. The counts are those of the server's session where it has one; where it has none and the client's
+/// end is up, nothing is finished or fetched; and of a session that is over they are as they were.
 pub fn slots_stand_in_order()
     ensures { (shape : Shape) (events : List DiskEvent) (s : LaneState) (k : ClientCounts)
         → IsShape shape → Run LaneStep (fresh shape) events s

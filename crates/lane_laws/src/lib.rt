@@ -9,8 +9,8 @@ mod run_laws;
 pub use contents_laws::{
     a_store_has_the_image_as_its_region, an_image_holds_what_is_done, buffers_hold_what_was_asked,
     completions_show_the_last_write, completions_show_their_content, images_stay_near,
-    later_writes_were_disturbed, near_counts_are_the_logs, near_images_hold_the_content,
-    statuses_are_zero,
+    later_writes_were_disturbed, near_counts_are_the_logs, near_counts_stand_in_order,
+    near_images_hold_the_content, statuses_are_zero,
 };
 pub use invariant_laws::{
     a_client_writes_one_slot, a_completion_carries_the_servers_status,
@@ -26,9 +26,10 @@ pub use invariant_laws::{
 };
 pub use run_laws::{
     a_lane_agrees_with_its_log, a_step_lowers_what_remains_or_is_calm,
-    an_end_resets_itself_behind_a_loss_alone, an_idle_end_has_done_all, calm_ends_have_finished,
-    every_run_of_a_lane_is_lawful, ranges_name_what_was_done, resets_say_why,
-    resets_without_a_packet_have_their_ground, sessions_open_in_order, two_idle_ends_have_finished,
-    what_is_done_is_the_next_piece, what_is_said_is_cut_and_numbered, work_has_its_numbers,
-    work_is_done_as_it_was_asked,
+    an_end_resets_itself_behind_a_loss_alone, an_end_works_where_it_is_up,
+    an_idle_end_has_done_all, calm_ends_have_finished, every_run_of_a_lane_is_lawful,
+    no_frames_are_lost, nothing_of_an_old_session_is_done, ranges_name_what_was_done,
+    resets_say_why, resets_without_a_packet_have_their_ground, sessions_open_in_order,
+    two_idle_ends_have_finished, what_is_done_is_the_next_piece, what_is_said_is_cut_and_numbered,
+    work_has_its_numbers, work_is_done_as_it_was_asked,
 };

@@ -1,6 +1,6 @@
 // What follows from what always holds of a lane, for the log of its events.
 
-ghost use Rattle.std.specs.Prelude.{◌≡◌, ◌≤◌, ◌<◌, ◌⊎◌, ℕ, false, List, Option};
+ghost use Rattle.std.specs.Prelude.{◌≡◌, ◌≤◌, ◌<◌, ◌⊎◌, ℕ, false, List, ◌∷◌, ◌++◌, Option};
 ghost use Rattle.runs.specs.Lawful.{log_of, Lawful};
 ghost use Rattle.runs.specs.Run.{Run};
 ghost use Rattle.ldc_queue.specs.declared.end.End.{End};
@@ -12,13 +12,15 @@ ghost use Rattle.disk_model.specs.Agreement.{AgreesWithLog};
 ghost use Rattle.disk_model.specs.DiskLog.{after, nothing_yet};
 ghost use Rattle.disk_model.specs.May.{IsLawful};
 ghost use Rattle.disk_model.specs.QuietLaws.{IdleAt, TwoIdleAt};
-ghost use Rattle.disk_model.specs.WorkLaws.{OpeningsAt, PiecesAt, RangesAt, WorkNumbersAt, WorkResetAt, WorkUnforgedAt};
-ghost use Rattle.disk_model.specs.DiskEvent.{DiskEvent, OnWire};
+ghost use Rattle.disk_model.specs.WorkLaws.{OpeningsAt, PiecesAt, RangesAt, WorkNumbersAt, WorkResetAt};
+ghost use Rattle.disk_model.specs.WorkLaws.{WorkUnforgedAt, WorksAt};
+ghost use Rattle.disk_model.specs.DiskEvent.{DiskEvent, OnWire, Worked, Works};
 ghost use Rattle.disk_model.specs.LaneState.{fresh, IsShape, LaneState, Shape};
 ghost use Rattle.disk_model.specs.LaneStep.{LaneStep};
 ghost use Rattle.lane_laws.specs.Remaining.{remaining};
 ghost use Rattle.lane_laws.specs.CalmEnds.{AreStill, HaveFinished, IsCalm, IsStep, StepKeeps};
-ghost use Rattle.lane_laws.specs.Laws.{GapAt, ResetAt, SaidAt, UnforgedAt};
+ghost use Rattle.lane_laws.specs.Laws.{GapAt, LostAt, ResetAt, SaidAt, UnforgedAt};
+ghost use Rattle.lane_laws.specs.NewSessions.{EndsSessions, OpensAmong, WorkOf};
 
 /// Along every run of a lane, also where somebody forges packets and memory: the packet that a reset carries says why,
 /// by its own bytes or by those of the message that it ends; a reset without a packet has a cause that lies in none. A
@@ -41,6 +43,32 @@ pub fn what_is_said_is_cut_and_numbered()
     ensures { (shape : Shape) (events : List DiskEvent) (s : LaneState)
         → IsShape shape → Run LaneStep (fresh shape) events s
         → Lawful SaidAt after (nothing_yet shape) events }
+{}
+
+/// Along every run of a lane, also where somebody forges packets and memory: no frames are lost as an end is
+/// configured, by its own step or by a reset.
+pub fn no_frames_are_lost()
+    ensures { (shape : Shape) (events : List DiskEvent) (s : LaneState)
+        → IsShape shape → Run LaneStep (fresh shape) events s
+        → Lawful LostAt after (nothing_yet shape) events }
+{}
+
+/// Along every run of a lane, also where somebody forges packets and memory: an end works only where it is up: the
+/// client where it publishes a request or completes one, the server where it fetches a descriptor, moves or stores a
+/// unit or gives a descriptor its status.
+pub fn an_end_works_where_it_is_up()
+    ensures { (shape : Shape) (events : List DiskEvent) (s : LaneState)
+        → IsShape shape → Run LaneStep (fresh shape) events s
+        → Lawful WorksAt after (nothing_yet shape) events }
+{}
+
+/// In lawful events, as those of every run are: what an end works behind a reset of either end that was up, or behind
+/// a stop of the server, is of a session of its own that opened since. So nothing of an old session is stored.
+pub fn nothing_of_an_old_session_is_done()
+    ensures { (shape : Shape) (before : List DiskEvent) (ending : DiskEvent) (between : List DiskEvent)
+        (e : End) (event : Worked) (behind : List DiskEvent)
+        → IsLawful shape (before ++ ending ∷ (between ++ Works event ∷ behind))
+        → EndsSessions (log_of after (nothing_yet shape) before) ending → WorkOf e event → OpensAmong e between }
 {}
 
 /// Along every run of a lane, also where somebody forges packets and memory: an id that is published is the next of its

@@ -17,8 +17,6 @@ use Rattle.lane_laws.proofs.CarriedRuns.{AllStand, all_step, fresh_all}
 use Rattle.lane_laws.proofs.StandingRuns.{pending_is}
 use Rattle.lane_laws.specs.Standing.{RequestsStand}
 use Rattle.world_laws.specs.Along.{happened}
-use Rattle.disk_model.specs.WireAt.{IsUp}
-use Rattle.ldc_queue.specs.declared.end.End.{End}
 use Rattle.lane_laws.specs.Headline.{CompletionShows}
 use Rattle.lane_laws.specs.ImageStep.{region_of}
 use Rattle.world_laws.specs.Settle.{OfLane, SettleEntry}
@@ -27,14 +25,14 @@ use Rattle.world_laws.proofs.Along.{lane_at, lanes_run, shape_at}
 use Rattle.world_laws.proofs.LaneLists.{each_there}
 use Rattle.world_laws.specs.World.{IsWorld, WorldState, WorldStep}
 use Rattle.script_laws.proofs.Failing.{fails_by_events}
-use Rattle.script_laws.proofs.Hearing.{hears_a_front}
 use Rattle.script_laws.proofs.Leading.{Leads}
+use Rattle.script_laws.proofs.Moments.{moment, stands_at}
 use Rattle.script_laws.proofs.Settling.{FinishedAt}
 use Rattle.script_laws.proofs.DeclaredWorlds.{declared_world}
 use Rattle.script_laws.proofs.Undisturbed.{shows_last}
 use Rattle.script_laws.specs.Contents.{DiskHolds, ReadsShow}
 use Rattle.script_laws.specs.Headline.{OfDisk}
-use Rattle.script_laws.specs.Lanes.{HearsAFront, IsOneSession, LaneStands}
+use Rattle.script_laws.specs.Lanes.{LaneStands}
 use Rattle.script_laws.specs.Told.{log_at}
 use Rattle.script_laws.proofs.DiskShapes.{are_shapes}
 use Rattle.vdisk_msg.specs.declared.request.Request.{Request}
@@ -43,7 +41,7 @@ use Rattle.world_laws.specs.Failures.{NeverFailed}
 use Rattle.world_laws.proofs.Contents.{own_all, own_holds}
 use Rattle.world_laws.proofs.Fronts.{front_completion}
 use Rattle.world_parts.specs.Declared.{bytes_needed, shapes_of, world_of}
-use Rattle.world_laws.proofs.WorldWords.{lane_agrees, lane_lawful, lane_one, lane_up}
+use Rattle.world_laws.proofs.WorldWords.{lane_agrees, lane_lawful}
 
 -- A FINISHED CLIENT's requests are all done
 requests_stand : (shape : Shape) (events : List DiskEvent) (s : LaneState) → IsShape shape
@@ -100,30 +98,16 @@ module _ (disks : List DiskDecl) (image : ImageState) (are : AreDisks disks)
   lane_run : Run LaneStep (fresh shape) (happened x entries) s
   lane_run = (lanes_run (shapes_of 0 disks) image entries v leads.run).each x shape s of_shape there
 
-  hears : (e : End) → IsUp e s.wire.wire → HearsAFront e (log_at shape x entries).talk
-  hears e up =
-      hears_a_front shape (happened x entries) s e
-      (shape_at 0 (shapes_of 0 disks) x shape (are_shapes 0 disks are) of_shape) lane_run unforged up
-
-  one_session : is_some s.client.session ≡ true → is_some s.server.session ≡ true → IsOneSession s
-  one_session client server =
-      let shapes : List Shape = shapes_of 0 disks in
-      let shapes_are = are_shapes 0 disks are in
-      let up = lane_up shapes image entries v x s shapes_are leads.run there unforged client server in
-      record {
-        client_up = up.0;
-        server_up = up.1;
-        one = lane_one shapes image entries v x s shapes_are leads.run there unforged client server;
-      }
+  is_shape : IsShape shape
+  is_shape = shape_at 0 (shapes_of 0 disks) x shape (are_shapes 0 disks are) of_shape
 
   stands : LaneStands shape x entries s
   stands = record {
     lawful = lane_lawful (shapes_of 0 disks) image entries v x shape (are_shapes 0 disks are) leads.run of_shape;
-    agrees = lane_agrees (shapes_of 0 disks) image entries v x shape s (are_shapes 0 disks are) leads.run of_shape
-        there;
-    unforged = unforged;
-    hears = hears;
-    sessions = one_session;
+    now = stands_at shape (happened x entries) s is_shape lane_run unforged;
+    always = λ before behind is.
+        moment shape x before behind s is_shape
+        (subst (λ (l : List SettleEntry). Run LaneStep (fresh shape) (happened x l) s) is lane_run) unforged;
   }
 
   completion : (first : List ℕ) → image.told ≡ Some first → s.failed ≡ false → (before : List SettleEntry)

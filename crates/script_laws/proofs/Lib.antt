@@ -12,6 +12,7 @@ pub mod DeclaredWorlds
 pub mod Entries
 pub mod Failing
 pub mod Hearing
+pub mod Moments
 pub mod Places
 pub mod SettleEntries
 pub mod SettleTicks

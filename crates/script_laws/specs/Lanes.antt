@@ -1,12 +1,19 @@
--- What holds of the lane of each disk at the end of a script's lines.
-use Rattle.std.specs.Prelude.{◌≡◌, ℕ, true, false, List, is_some}
+-- What holds of the lane of each disk along a script's lines, and at their end.
+use Rattle.std.specs.Prelude.{◌≡◌, ℕ, true, false, List, ◌++◌, Some, is_some}
+use Rattle.runs.specs.Run.{Run}
 use Rattle.disk_model.specs.Agreement.{AgreesWithLog}
+use Rattle.disk_model.specs.DiskLog.{DiskLog}
+use Rattle.disk_model.specs.LaneState.{LaneState, Shape, fresh}
+use Rattle.disk_model.specs.LaneStep.{LaneStep}
 use Rattle.disk_model.specs.May.{IsLawful}
-use Rattle.disk_model.specs.LaneState.{LaneState, Shape}
-use Rattle.lane_laws.specs.OneSession.{AreOneSession}
+use Rattle.disk_model.specs.NearLaws.{NearInOrder}
 use Rattle.disk_model.specs.Sayings.{heard, said}
 use Rattle.disk_model.specs.TalkLog.{TalkLog, talk_of}
 use Rattle.disk_model.specs.WireAt.{IsUp}
+use Rattle.disk_model.specs.WorkLog.{ClientCounts, ServerCounts}
+use Rattle.lane_laws.specs.CountsInTurn.{CountsInTurn}
+use Rattle.lane_laws.specs.OneSession.{AreOneSession}
+use Rattle.lane_laws.specs.SlotsInOrder.{RingInOrder}
 use Rattle.world_laws.specs.Along.{happened}
 use Rattle.world_laws.specs.Settle.{SettleEntry}
 use Rattle.ldc_queue.specs.OneStream.{IsFront}
@@ -28,12 +35,28 @@ pub record HearsAFront (e : End) (talk : TalkLog) : Type 0 where
   pub packets : IsFront (numbered_heard (talk_of e talk)) (numbered_said (talk_of (peer_of e) talk))
   pub messages : IsFront (heard (talk_of e talk)) (said (talk_of (peer_of e) talk))
 
--- A LANE AT THE END: each thing that happened to it may happen after those before it, by the laws of the wire, of
--- requests, of work and of quiet steps; it stands as its log says; nobody forged it; an end that is up heard in order
--- what the other said; and where both sessions are open they are one.
+-- A LANE AT ONE MOMENT: it stands as its log says, and nobody forged it. An end that is up heard in order what the other
+-- said. Where both sessions are open they are one, and their counts stand in their order. The slots of the ring do where
+-- the client's is open, and the counts of what is finished do always.
+pub record StandsAt (s : LaneState) (l : DiskLog) : Type 0 where
+  pub agrees : AgreesWithLog s l
+  pub unforged : s.wire.forged ≡ false
+  pub hears : (e : End) → IsUp e s.wire.wire → HearsAFront e l.talk
+  pub sessions : is_some s.client.session ≡ true → is_some s.server.session ≡ true → IsOneSession s
+  pub counts : (k : ClientCounts) (d : ServerCounts) → l.work.client ≡ Some k → l.work.server ≡ Some d → CountsInTurn k d
+  pub slots : (k : ClientCounts) → l.work.client ≡ Some k → RingInOrder s l k
+  pub near : NearInOrder l
+
+-- BEHIND A FRONT of the entries a lane came to a state, from which what is left of them led to the last one
+pub record Moment (shape : Shape) (x : ℕ) (before behind : List SettleEntry) (last : LaneState) : Type 0 where
+  pub state : LaneState
+  pub reached : Run LaneStep (fresh shape) (happened x before) state
+  pub leads : Run LaneStep state (happened x behind) last
+  pub stands : StandsAt state (log_at shape x before)
+
+-- A LANE ALONG THE ENTRIES: each thing that happened to it may happen after those before it, by the laws of the wire, of
+-- requests, of work and of quiet steps; and so it stands at the end, and behind each front of the entries.
 pub record LaneStands (shape : Shape) (x : ℕ) (entries : List SettleEntry) (s : LaneState) : Type 0 where
   pub lawful : IsLawful shape (happened x entries)
-  pub agrees : AgreesWithLog s (log_at shape x entries)
-  pub unforged : s.wire.forged ≡ false
-  pub hears : (e : End) → IsUp e s.wire.wire → HearsAFront e (log_at shape x entries).talk
-  pub sessions : is_some s.client.session ≡ true → is_some s.server.session ≡ true → IsOneSession s
+  pub now : StandsAt s (log_at shape x entries)
+  pub always : (before behind : List SettleEntry) → entries ≡ before ++ behind → Moment shape x before behind s

@@ -12,8 +12,9 @@ ghost use Rattle.world_parts.specs.Declared.{bytes_needed, world_of};
 ghost use Rattle.world_parts.specs.Endings.{Ending, JournalEnds};
 
 /// For every script over at most eight disks, whatever it resets, stops, restarts and loses, and wherever its run
-/// ended: each disk's lane is lawful and stands as its log says, and an end that is up heard in order what the
-/// other said; after each settle both its ends are still and, where its server runs, all its accepted requests have
+/// ended: each disk's lane is lawful. At the end and behind each front of the entries it stands as its log says, an end
+/// that is up heard in order what the other said, and sessions that are open are one, whose counts and slots stand in
+/// their order. After each settle both its ends are still and, where its server runs, all its accepted requests have
 /// completed. Each settle, also one that want of memory cut off, has at most one tick of a lane: where its server
 /// runs, a packet was lost and both ends are still. Over an image that tells its bytes, where no call of the store
 /// failed for the disk, as where the image counts no fault: each completed read shows the last earlier write; each

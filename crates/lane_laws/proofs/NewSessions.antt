@@ -1,0 +1,170 @@
+-- Behind what ends sessions an end works only in one that opened since: until then it has none while it is up.
+use Rattle.std.proofs.Common.{◌≡◌, true, false, Option, None, List, [], ◌∷◌, ◌++◌, inl, inr, ◌⊎◌, refl, subst}
+use Rattle.runs.specs.Lawful.{Lawful, lawful_split, log_of}
+use Rattle.ldc_queue.specs.declared.end.End.{End}
+use Rattle.ldc_queue.specs.declared.end.End.TheVariants.{A, B}
+use Rattle.disk_model.specs.DiskEvent.{Accepted, Asks, Desc, DiskEvent, Done, Finished, Full, Misplaced, Moved, Off, OnWire, Published, Refused, Rests, Started, Stopped, Stored, Turns, Worked, Works}
+use Rattle.disk_model.specs.DiskLog.{DiskLog, after, nothing_yet}
+use Rattle.disk_model.specs.LaneState.{Shape}
+use Rattle.disk_model.specs.May.{IsLawful, May}
+use Rattle.disk_model.specs.WireAt.{IsUp}
+use Rattle.disk_model.specs.WireEvent.{Blocked, Declines, Idle, Injected, Joined, Lost, Poked, Reset, Sent, Took, WireEvent}
+use Rattle.disk_model.specs.WorkLaws.{FinishesPiece, InClient, InServer, MayComplete, MayFetch, MayPublish, MovesPiece, StoresPiece}
+use Rattle.disk_model.specs.WorkLog.{ClientCounts, ServerCounts, WorkLog}
+use Rattle.lane_laws.proofs.SlotsStepping.{behind_up, upset_not}
+use Rattle.lane_laws.proofs.UpRuns.{none_client, none_server}
+use Rattle.lane_laws.specs.NewSessions.{EndsSessions, OpensAmong, OpensAt, WorkOf}
+
+-- AN END THAT WAITS for a new session: while it is up it has none
+abbrev ClosedIn : End → WorkLog → Type 0
+ClosedIn A w = w.client ≡ None
+ClosedIn B w = w.server ≡ None
+
+abbrev Waits : End → DiskLog → Type 0
+Waits e l = IsUp e l.wire.wire → ClosedIn e l.work
+
+-- what ends the sessions
+ended_waits : (e : End) (l : DiskLog) (ending : DiskEvent) → EndsSessions l ending → Waits e (after l ending)
+ended_waits A l (OnWire (Reset A cause packet lost)) was = λ up. refl
+ended_waits A l (OnWire (Reset B cause packet lost)) was = λ up. absurd ((behind_up l.wire.wire.end_b l.wire.wire.end_a up).1 was)
+ended_waits B l (OnWire (Reset A cause packet lost)) was = λ up. absurd ((behind_up l.wire.wire.end_a l.wire.wire.end_b up).1 was)
+ended_waits B l (OnWire (Reset B cause packet lost)) was = λ up. refl
+ended_waits A l (Turns Stopped) was = λ up. absurd (upset_not l.wire.wire.end_a up)
+ended_waits B l (Turns Stopped) was = λ up. refl
+ended_waits e l (OnWire (Joined f lost)) was = absurd was
+ended_waits e l (OnWire (Took f packet opens)) was = absurd was
+ended_waits e l (OnWire (Sent f packet opens)) was = absurd was
+ended_waits e l (OnWire (Idle f)) was = absurd was
+ended_waits e l (OnWire (Blocked f)) was = absurd was
+ended_waits e l (OnWire (Lost f packet)) was = absurd was
+ended_waits e l (OnWire (Injected f packet)) was = absurd was
+ended_waits e l (OnWire (Poked f at bytes)) was = absurd was
+ended_waits e l (OnWire (Declines d)) was = absurd was
+ended_waits e l (Asks event) was = absurd was
+ended_waits e l (Works event) was = absurd was
+ended_waits e l (Turns Started) was = absurd was
+ended_waits e l (Turns Off) was = absurd was
+ended_waits e l (Rests event) was = absurd was
+
+-- EACH EVENT opens its session, or it still waits: the client
+client_wire : (l : DiskLog) (event : WireEvent) → Waits A l → OpensAt A (OnWire event) ⊎ Waits A (after l (OnWire event))
+client_wire l (Took A packet true) waits = inl refl
+client_wire l (Took A packet false) waits = inr (λ up. none_client _ l.work.client (waits up))
+client_wire l (Took B packet opens) waits = inr waits
+client_wire l (Sent A packet true) waits = inl refl
+client_wire l (Sent A packet false) waits = inr (λ up. none_client _ l.work.client (waits up))
+client_wire l (Sent B packet opens) waits = inr waits
+client_wire l (Joined A lost) waits = inr (λ up. refl)
+client_wire l (Joined B lost) waits = inr (λ up. waits (behind_up l.wire.wire.end_b l.wire.wire.end_a up).0)
+client_wire l (Reset A cause packet lost) waits = inr (λ up. refl)
+client_wire l (Reset B cause packet lost) waits = inr (λ up. waits (behind_up l.wire.wire.end_b l.wire.wire.end_a up).0)
+client_wire l (Lost A packet) waits = inr waits
+client_wire l (Lost B packet) waits = inr waits
+client_wire l (Injected A packet) waits = inr waits
+client_wire l (Injected B packet) waits = inr waits
+client_wire l (Poked e at bytes) waits = inr waits
+client_wire l (Idle e) waits = inr waits
+client_wire l (Blocked e) waits = inr waits
+client_wire l (Declines d) waits = inr waits
+
+client_waits : (l : DiskLog) (event : DiskEvent) → Waits A l → OpensAt A event ⊎ Waits A (after l event)
+client_waits l (OnWire event) waits = client_wire l event waits
+client_waits l (Asks (Accepted id request)) waits = inr waits
+client_waits l (Asks (Full request)) waits = inr waits
+client_waits l (Asks (Refused why request)) waits = inr waits
+client_waits l (Works (Published id)) waits = inr (λ up. none_client _ l.work.client (waits up))
+client_waits l (Works (Done id operation status bytes)) waits = inr waits
+client_waits l (Works (Desc slot bytes)) waits = inr waits
+client_waits l (Works (Moved unit fault)) waits = inr waits
+client_waits l (Works (Stored operation block count failed)) waits = inr waits
+client_waits l (Works (Finished slot status)) waits = inr waits
+client_waits l (Works Misplaced) waits = inr waits
+client_waits l (Turns Stopped) waits = inr (λ up. absurd (upset_not l.wire.wire.end_a up))
+client_waits l (Turns Started) waits = inr waits
+client_waits l (Turns Off) waits = inr waits
+client_waits l (Rests event) waits = inr waits
+
+-- the server
+server_wire : (l : DiskLog) (event : WireEvent) → Waits B l → OpensAt B (OnWire event) ⊎ Waits B (after l (OnWire event))
+server_wire l (Took B packet true) waits = inl refl
+server_wire l (Took B packet false) waits = inr (λ up. none_server _ l.work.server (waits up))
+server_wire l (Took A packet opens) waits = inr waits
+server_wire l (Sent B packet true) waits = inl refl
+server_wire l (Sent B packet false) waits = inr (λ up. none_server _ l.work.server (waits up))
+server_wire l (Sent A packet opens) waits = inr waits
+server_wire l (Joined B lost) waits = inr (λ up. refl)
+server_wire l (Joined A lost) waits = inr (λ up. waits (behind_up l.wire.wire.end_a l.wire.wire.end_b up).0)
+server_wire l (Reset B cause packet lost) waits = inr (λ up. refl)
+server_wire l (Reset A cause packet lost) waits = inr (λ up. waits (behind_up l.wire.wire.end_a l.wire.wire.end_b up).0)
+server_wire l (Lost A packet) waits = inr waits
+server_wire l (Lost B packet) waits = inr waits
+server_wire l (Injected A packet) waits = inr waits
+server_wire l (Injected B packet) waits = inr waits
+server_wire l (Poked e at bytes) waits = inr waits
+server_wire l (Idle e) waits = inr waits
+server_wire l (Blocked e) waits = inr waits
+server_wire l (Declines d) waits = inr waits
+
+server_waits : (l : DiskLog) (event : DiskEvent) → Waits B l → OpensAt B event ⊎ Waits B (after l event)
+server_waits l (OnWire event) waits = server_wire l event waits
+server_waits l (Asks (Accepted id request)) waits = inr waits
+server_waits l (Asks (Full request)) waits = inr waits
+server_waits l (Asks (Refused why request)) waits = inr waits
+server_waits l (Works (Published id)) waits = inr waits
+server_waits l (Works (Done id operation status bytes)) waits = inr waits
+server_waits l (Works (Desc slot bytes)) waits = inr (λ up. none_server _ l.work.server (waits up))
+server_waits l (Works (Moved unit fault)) waits = inr (λ up. none_server _ l.work.server (waits up))
+server_waits l (Works (Stored operation block count failed)) waits = inr (λ up. none_server _ l.work.server (waits up))
+server_waits l (Works (Finished slot status)) waits = inr (λ up. none_server _ l.work.server (waits up))
+server_waits l (Works Misplaced) waits = inr waits
+server_waits l (Turns Stopped) waits = inr (λ up. refl)
+server_waits l (Turns Started) waits = inr waits
+server_waits l (Turns Off) waits = inr waits
+server_waits l (Rests event) waits = inr waits
+
+goes_on : (e : End) (l : DiskLog) (event : DiskEvent) → Waits e l → OpensAt e event ⊎ Waits e (after l event)
+goes_on A l event waits = client_waits l event waits
+goes_on B l event waits = server_waits l event waits
+
+-- WHILE IT WAITS it does no work
+no_client : (P : ClientCounts → Type 0) (k : Option ClientCounts) → k ≡ None → InClient k P → ⊥
+no_client P k none holds = subst (λ (o : Option ClientCounts). InClient o P) none holds
+
+no_server : (P : ServerCounts → Type 0) (d : Option ServerCounts) → d ≡ None → InServer d P → ⊥
+no_server P d none holds = subst (λ (o : Option ServerCounts). InServer o P) none holds
+
+never : (e : End) (l : DiskLog) (event : Worked) → Waits e l → May l (Works event) → WorkOf e event → ⊥
+never A l (Published id) waits may work = no_client (MayPublish l id) l.work.client (waits may.works) may.numbers
+never A l (Done id operation status bytes) waits may work = no_client (MayComplete id) l.work.client (waits may.works) may.numbers
+never A l (Desc slot bytes) waits may work = work
+never A l (Moved unit fault) waits may work = work
+never A l (Stored operation block count failed) waits may work = work
+never A l (Finished slot status) waits may work = work
+never A l Misplaced waits may work = work
+never B l (Published id) waits may work = work
+never B l (Done id operation status bytes) waits may work = work
+never B l (Desc slot bytes) waits may work = no_server (MayFetch l slot) l.work.server (waits may.works) may.numbers
+never B l (Moved unit fault) waits may work = no_server (MovesPiece l unit fault) l.work.server (waits may.works) may.pieces
+never B l (Stored operation block count failed) waits may work =
+    no_server (StoresPiece operation block count) l.work.server (waits may.works) may.pieces
+never B l (Finished slot status) waits may work = no_server (FinishesPiece l slot status) l.work.server (waits may.works) may.pieces
+never B l Misplaced waits may work = work
+
+-- AMONG THE EVENTS up to its work its session opens
+or_later : {X Y Z : Type 0} → X ⊎ Y → (Y → Z) → X ⊎ Z
+or_later {X} {Y} {Z} (inl now) later = inl now
+or_later {X} {Y} {Z} (inr on) later = inr (later on)
+
+among : (e : End) (l : DiskLog) (between : List DiskEvent) (event : Worked) (behind : List DiskEvent) → Waits e l
+    → Lawful May after l (between ++ Works event ∷ behind) → WorkOf e event → OpensAmong e between
+among e l [] event behind waits lawful work = never e l event waits lawful.0 work
+among e l (one ∷ between) event behind waits lawful work =
+    or_later (goes_on e l one waits) (λ on. among e (after l one) between event behind on lawful.1 work)
+
+pub new_session : (shape : Shape) (before : List DiskEvent) (ending : DiskEvent) (between : List DiskEvent) (e : End) (event : Worked) (behind : List DiskEvent)
+    → IsLawful shape (before ++ ending ∷ (between ++ Works event ∷ behind)) → EndsSessions (log_of after (nothing_yet shape) before) ending
+    → WorkOf e event → OpensAmong e between
+new_session shape before ending between e event behind lawful ends work =
+    let l = log_of after (nothing_yet shape) before in
+    let rest = (lawful_split May after (nothing_yet shape) before (ending ∷ (between ++ Works event ∷ behind)) lawful).1 in
+    among e (after l ending) between event behind (ended_waits e l ending ends) rest.1 work

@@ -1,0 +1,66 @@
+-- A lane that nobody forged stands as its log says behind each front of the entries.
+use Rattle.std.proofs.Common.{◌≡◌, ℕ, false, List, ◌++◌, sym, ap, ◌∙◌, subst}
+use Rattle.runs.specs.Lawful.{log_append, log_of}
+use Rattle.runs.specs.Run.{Run, run_split}
+use Rattle.disk_model.specs.DiskEvent.{DiskEvent}
+use Rattle.disk_model.specs.DiskLog.{DiskLog, after, nothing_yet}
+use Rattle.disk_model.specs.LaneState.{IsShape, LaneState, Shape, fresh}
+use Rattle.disk_model.specs.LaneStep.{LaneStep}
+use Rattle.disk_model.specs.WireLog.{WireLog}
+use Rattle.lane_laws.proofs.AgreementRuns.{run_agrees}
+use Rattle.lane_laws.proofs.CountsTurn.{counts_in_turn}
+use Rattle.lane_laws.proofs.NearOrder.{near_in_order}
+use Rattle.lane_laws.proofs.OneSession.{one_session}
+use Rattle.lane_laws.proofs.SlotsAlong.{run_order}
+use Rattle.lane_laws.proofs.UpRuns.{both_up}
+use Rattle.world_laws.proofs.LawFacts.{clean_before, log_clean}
+use Rattle.world_laws.proofs.Moving.{happened_both}
+use Rattle.world_laws.specs.Along.{happened}
+use Rattle.world_laws.specs.Settle.{SettleEntry}
+use Rattle.script_laws.proofs.Hearing.{hears_a_front}
+use Rattle.script_laws.specs.Lanes.{Moment, StandsAt}
+
+-- AFTER EVENTS of a lane
+pub stands_at : (shape : Shape) (events : List DiskEvent) (s : LaneState) → IsShape shape
+    → Run LaneStep (fresh shape) events s → s.wire.forged ≡ false
+    → StandsAt s (log_of after (nothing_yet shape) events)
+stands_at shape events s sound run unforged =
+    let clean = log_clean shape events s sound run unforged in
+    record {
+      agrees = run_agrees shape events s sound run;
+      unforged = unforged;
+      hears = λ e up. hears_a_front shape events s e sound run unforged up;
+      sessions = λ client server.
+          let up = both_up shape events s sound run unforged client server in
+          record {
+            client_up = up.0;
+            server_up = up.1;
+            one = one_session shape events s sound run unforged client server;
+          };
+      counts = λ k d client server. counts_in_turn shape events s k d sound run clean client server;
+      slots = λ k client. run_order shape events s k sound run clean client;
+      near = near_in_order shape events s sound run clean;
+    }
+
+-- BEHIND A FRONT
+pub moment : (shape : Shape) (x : ℕ) (before behind : List SettleEntry) (last : LaneState) → IsShape shape
+    → Run LaneStep (fresh shape) (happened x (before ++ behind)) last → last.wire.forged ≡ false
+    → Moment shape x before behind last
+moment shape x before behind last sound run unforged =
+    let front : List DiskEvent = happened x before in
+    let rest : List DiskEvent = happened x behind in
+    let whole : Run LaneStep (fresh shape) (front ++ rest) last =
+    subst (λ (events : List DiskEvent). Run LaneStep (fresh shape) events last) (happened_both x before behind) run in
+    let parts = run_split LaneStep (fresh shape) last front rest whole in
+    let l : DiskLog = log_of after (nothing_yet shape) front in
+    let all : (log_of after l rest).wire.forged ≡ false =
+    ap (λ (m : DiskLog). m.wire.forged) (sym (log_append after (nothing_yet shape) front rest))
+    ∙ log_clean shape (front ++ rest) last sound whole unforged in
+    let here : l.wire.forged ≡ false = clean_before l rest all in
+    let wire = (run_agrees shape front parts.0 sound parts.1).wire in
+    record {
+      state = parts.0;
+      reached = parts.1;
+      leads = parts.2;
+      stands = stands_at shape front parts.0 sound parts.1 (ap (λ (w : WireLog). w.forged) wire ∙ here);
+    }
