@@ -1,0 +1,50 @@
+//! Frames through a switch of eight ports, for the clock: `switch_bench CAST LENGTH COUNT` lets COUNT frames of LENGTH bytes come, by the cast
+//! `broadcast` or `unicast`, and takes each from the queues that hold it. It prints how many were taken.
+#![tactic(auto)]
+
+mod shapes;
+
+use shapes::Shape;
+use std::alloc::AllocError;
+use std::process::ExitCode;
+use std::rt::Env;
+use std::{env, io};
+
+fn main(rt: HostRuntime) -> io::Result<ExitCode> {
+    let words = match words_of(&rt) {
+        Ok(words) => words,
+        Err(AllocError) => return Ok(ExitCode::from(9)),
+    };
+    let Some((shape, count)) = asked(words.as_slice()) else {
+        return Ok(ExitCode::from(2));
+    };
+    match shapes::run(rt.alloc(), shape, count) {
+        Ok(taken) => println!(rt; "{taken}")?,
+        Err(_) => return Ok(ExitCode::from(9)),
+    }
+    Ok(ExitCode::SUCCESS)
+}
+
+fn asked(words: &[String]) -> Option<(Shape, u32)> {
+    match words {
+        [cast, length, count] => Some((
+            Shape::of(cast.as_str(), length.as_str())?,
+            count.as_str().parse::<u32>().ok()?,
+        )),
+        _ => None,
+    }
+}
+
+// The words after the program's name.
+fn words_of<R: Env + AllocGlobal>(rt: &R) -> Result<Vec<String>, AllocError> {
+    let mut words = Vec::new(rt.alloc());
+    let args = match env::args(rt) {
+        Ok(args) => args,
+        Err(error) if error.kind() == io::ErrorKind::OutOfMemory => return Err(AllocError),
+        Err(_) => return Ok(words),
+    };
+    for word in args.skip(1) {
+        words.push(word)?;
+    }
+    Ok(words)
+}
