@@ -16,9 +16,6 @@ use vdisk_msg::Request;
 use vdisk_server::{Server, ServerOut};
 use vio_bytes::NoMemory;
 
-#[cfg(test)]
-mod tests;
-
 /// The disk's blocks.
 pub const BLOCKS: u64 = 4096;
 
