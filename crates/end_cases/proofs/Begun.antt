@@ -1,4 +1,4 @@
--- A handshake whose link is up doesn't wait for its link again, whatever it takes and puts.
+-- A handshake whose link is up doesn't wait for its link again, whatever it takes.
 use Rattle.std.proofs.Common.{◌≡◌, ◌≢◌, ℕ, Bool, true, false, Option, Some, None, List, sym, refl, subst}
 use Rattle.std.specs.Prelude.{◌==◌, ◌&&◌, min, nat_le, if◌then◌else◌, ⊤}
 use Rattle.ldc_link.specs.declared.phase.Role.{Role}
@@ -14,8 +14,8 @@ use Rattle.vio_tag.specs.declared.message.MsgBody.TheVariants.{Ver, Attr, DringR
 use Rattle.vio_handshake.specs.Acceptance.{accepts_ring}
 use Rattle.vio_handshake.specs.Attributes.{accepts_answered, accepts_said, answered_attributes, said_attributes}
 use Rattle.vio_handshake.specs.Messages.{ack, info, nack, own_ring}
-use Rattle.vio_handshake.specs.Rules.{ShakeTake, Goes, GoesOpen, Faults, agrees_minor, answered, asked, attributes_answered, attributes_asked, behind_ring, fault_or, is_declined, knows, owes, own_named, peer_named, put_in, ready_answered, refuses_version, ring_answered, ring_asked, row, shake_hear, shake_sent, shake_take, sid_fault, taken, version_answered, version_asked}
-use Rattle.vio_handshake.specs.State.{IsFault, begun, joined_shake, shake_up}
+use Rattle.vio_handshake.specs.Rules.{ShakeTake, Goes, GoesOpen, Faults, agrees_minor, answered, asked, attributes_answered, attributes_asked, behind_ring, fault_or, is_declined, knows, owes, own_named, peer_named, ready_answered, refuses_version, ring_answered, ring_asked, row, shake_hear, shake_take, sid_fault, taken, version_answered, version_asked}
+use Rattle.vio_handshake.specs.State.{IsFault}
 use Rattle.vio_handshake.specs.declared.session.HsOut.{HsOut}
 use Rattle.vio_handshake.specs.declared.session.HsOut.TheVariants.{Nothing, Opens, Fault}
 use Rattle.vio_handshake.specs.declared.handshake.Handshake.{Handshake}
@@ -124,26 +124,7 @@ told_up Nothing s t take before up is unchanged = subst GoesUp (sym is) up
 told_up Opens s t take before up is unchanged = subst GoesUp (sym is) up
 told_up (Fault cause) s t take before up is unchanged = subst (λ (h : Handshake). IsUp h.phase) (sym (unchanged tt)) before
 
-put_up : (role : Role) (p : Phase) (s : Handshake) → IsUp s.phase → IsUp (put_in role p s).phase
-put_up Initiator PeerRingTaken s up = tt
-put_up Responder PeerRingTaken s up = tt
-put_up Initiator PeerReadyTaken s up = tt
-put_up Responder PeerReadyTaken s up = tt
-put_up Initiator p s up = up
-put_up Responder p s up = up
-
-begun_up : (role : Role) (s : Handshake) → IsUp (begun role s).phase
-begun_up Initiator s = tt
-begun_up Responder s = tt
-
--- a link that came up, a message that was taken, and one that was put
-pub up_is_up : (s t : Handshake) → t ≡ shake_up s → t.phase ≢ Down
-up_is_up s t is = not_down t.phase (subst (λ (h : Handshake). IsUp h.phase) (sym is) (begun_up s.role (joined_shake s)))
-
 pub taken_is_up : (answer : HsOut) (s t : Handshake) (message : Message) → s.phase ≢ Down → taken answer t ≡ shake_take s message
     → (IsFault answer → t ≡ s) → t.phase ≢ Down
 taken_is_up answer s t message up is unchanged =
     not_down t.phase (told_up answer s t (shake_take s message) (is_up s.phase up) (take_up s message (is_up s.phase up)) is unchanged)
-
-pub sent_is_up : (s t : Handshake) → s.phase ≢ Down → t ≡ shake_sent s → t.phase ≢ Down
-sent_is_up s t up is = not_down t.phase (subst (λ (h : Handshake). IsUp h.phase) (sym is) (put_up s.role s.phase s (is_up s.phase up)))

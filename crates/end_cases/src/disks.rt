@@ -79,15 +79,14 @@ impl Disk {
         if blocks == 0 || blocks > 65536 || slots < 2 || slots > 256 {
             return None;
         }
-        let pages = (128 * slots).div_ceil(8192) + 4 * slots;
-        let region = Region { first: 0, blocks };
+        let pages = pages_of(slots);
         Some(Disk {
             channel: Channel::new(alloc, 16).ok()?,
             table: table_of(alloc, pages)?,
-            memory: Memory::new(alloc, pages).ok()?,
+            memory: memory_of(alloc, pages)?,
             store: store_of(alloc, blocks, failing)?,
-            client: Client::new(alloc, blocks, slots).ok()?,
-            server: Server::new(alloc, region, slots).ok()?,
+            client: client_of(alloc, blocks, slots)?,
+            server: server_of(alloc, blocks, slots)?,
             asked: 0,
         })
     }
@@ -188,6 +187,22 @@ impl Disk {
     }
 }
 
+// The pages of a ring, and four for each slot.
+fn pages_of(slots: u32) -> u32
+    requires { slots ≤ 256 }
+    ensures { result ≡ ring_pages slots + 4 * slots }
+{
+    (128 * slots).div_ceil(8192) + 4 * slots
+}
+
+fn memory_of(alloc: Global, pages: u32) -> Option<Memory>
+    requires some { 1 ≤ pages }
+    requires most { pages ≤ 1028 }
+    ensures { IfSome result (λ memory. length memory ≡ 8192 * pages) }
+{
+    Memory::new(alloc, pages).ok()
+}
+
 // Each page at its own index.
 fn table_of(alloc: Global, pages: u32) -> Option<MapTable>
     requires some { 1 ≤ pages }
@@ -211,4 +226,25 @@ fn store_of(alloc: Global, blocks: u64, failing: &[u64]) -> Option<MemStore>
 {
     let zeros = vec![in alloc; 0; 512 * blocks as usize].ok()?;
     MemStore::new(alloc, &zeros, failing).ok()
+}
+
+fn client_of(alloc: Global, blocks: u64, slots: u32) -> Option<Client>
+    requires blocks { blocks ≤ 65536 }
+    requires some { 2 ≤ slots }
+    requires most { slots ≤ 256 }
+    ensures slots { IfSome result (λ client. client.slots ≡ slots) }
+    ensures ids { IfSome result (λ client. client.next_id ≡ 0) }
+{
+    Client::new(alloc, blocks, slots).ok()
+}
+
+fn server_of(alloc: Global, blocks: u64, slots: u32) -> Option<Server>
+    requires some_blocks { 1 ≤ blocks }
+    requires most_blocks { blocks ≤ 65536 }
+    requires some { 2 ≤ slots }
+    requires most { slots ≤ 256 }
+    ensures { IfSome result (λ server. server.first + server.blocks ≡ blocks) }
+{
+    let region = Region { first: 0, blocks };
+    Server::new(alloc, region, slots).ok()
 }

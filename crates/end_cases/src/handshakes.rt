@@ -101,6 +101,7 @@ impl Side {
         Some(message)
     }
 
+    #[tactic(auto, using(crate::proofs::Begun::taken_is_up))]
     fn take(&mut self, message: &Message) -> Option<HsOut> {
         match self.shake.next() {
             Some(_) => None,
