@@ -119,17 +119,21 @@ impl Domain {
     // The answer of a copy, and the buffer of bytes ee that the bytes were to come to.
     fn copied_in(&self, alloc: Global, [offset, count]: [u64; 2]) -> Option<String> {
         let mut bytes = vec![in alloc; 0xee; u16::try_from(count).ok()? as usize].ok()?;
+        let answer = self.copy_into(offset, &mut bytes);
+        shown_with(alloc, answer, &bytes)
+    }
+
+    fn copy_into(&self, offset: u64, bytes: &mut [u8]) -> Result<(), CopyFault> {
         let (table, memory) = (&self.table, &self.memory);
-        let answer = copy_in(
+        copy_in(
             &self.channel,
             End::B,
             table,
             memory,
             &self.cookies,
             offset,
-            &mut bytes,
-        );
-        shown_with(alloc, answer, &bytes)
+            bytes,
+        )
     }
 
     fn copied_out(&mut self, alloc: Global, words: &str) -> Option<Result<(), CopyFault>> {

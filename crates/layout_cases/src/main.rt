@@ -36,7 +36,9 @@ fn run_files(rt: &(impl AllocGlobal + Env + Files + Print)) -> io::Result<()> {
 fn run_file(rt: &(impl AllocGlobal + Files + Print), file: &str) -> io::Result<u64> {
     let text = fs::read_to_string(rt, file)?;
     let rows = text.as_str().replace(rt.alloc(), "\n  ", " ")?;
-    let mut domain = Domain::new(rt.alloc(), 1, 1).map_err(|_| AllocError)?;
+    let Ok(mut domain) = Domain::new(rt.alloc(), 1, 1) else {
+        return Err(AllocError.into());
+    };
     let mut cases = 0u64;
     for row in rows.as_str().lines() {
         if !row.is_empty() && !row.starts_with('#') {

@@ -1,6 +1,6 @@
 // Rings of 256 slots at the front of the domain's memory, which the other end reaches by one cookie.
 
-ghost use Rattle.std.specs.Prelude.{◌≡◌, ◌*◌, ◌≤◌, length};
+ghost use Rattle.std.specs.Prelude.{◌≡◌, ◌+◌, ◌*◌, ◌%◌, ◌≤◌, length};
 ghost use Rattle.dring.specs.Slots.{IsSlotSize};
 
 use crate::domain::Domain;
@@ -143,12 +143,25 @@ fn put<const SLOT: usize>(
 {
     let (at, words) = words.split_once(' ')?;
     let at = at.parse::<u8>().ok()?;
-    let word = array(alloc, words)?;
     if at % 8 != 0 || at as usize + 8 > SLOT {
         return None;
     }
+    Some(put_at::<SLOT>(domain, end, slot, at, array(alloc, words)?))
+}
+
+fn put_at<const SLOT: usize>(
+    domain: &mut Domain,
+    end: End,
+    slot: u8,
+    at: u8,
+    word: [u8; 8],
+) -> Result<(), CopyFault>
+    requires size { IsSlotSize SLOT }
+    requires aligned { at % 8 ≡ 0 }
+    requires inside { at + 8 ≤ SLOT }
+{
     let (table, memory) = (&domain.table, &mut domain.memory);
-    Some(put_word::<SLOT>(
+    put_word::<SLOT>(
         &domain.channel,
         end,
         table,
@@ -157,5 +170,5 @@ fn put<const SLOT: usize>(
         slot as u32,
         at as u32,
         word,
-    ))
+    )
 }
