@@ -78,21 +78,17 @@ fn without(alloc: Global, report: &str, front: &str) -> Result<String, AllocErro
     Ok(rest)
 }
 
-/// The first lines that differ. Behind any text as many lines are compared as the report has to have there.
+/// The first lines that differ; behind any text all that was wanted, and all that came.
 fn difference(alloc: Global, wanted: &str, told: &str) -> Result<String, AllocError> {
     let (front, behind) = wanted.split_once("...\n").unwrap_or((wanted, ""));
-    let (wanted, passed) = if told.starts_with(front) {
-        let passed = told.lines().count();
-        (behind, passed.saturating_sub(behind.lines().count()))
-    } else {
-        (front, 0)
-    };
-    for (wanted, came) in wanted.lines().zip(told.lines().skip(passed)) {
-        if wanted != came {
-            return format!(in alloc; "wanted {wanted}, came {came}");
+    let mut lines = told.lines();
+    for line in front.lines() {
+        let came = lines.next().unwrap_or("no line");
+        if line != came {
+            return format!(in alloc; "wanted {line}, came {came}");
         }
     }
-    format!(in alloc; "wanted {} bytes, came {}", wanted.len(), told.len())
+    format!(in alloc; "wanted at the end {behind}, came {told}")
 }
 
 fn is_faulty(image: &Option<MemStore>) -> bool {
