@@ -52,7 +52,7 @@ impl Case {
             }
         }
         if !case.has("status") {
-            return Err(Fault::Malformed("no status"));
+            return Err(Fault::Wrong("no status"));
         }
         Ok(case)
     }
@@ -61,10 +61,10 @@ impl Case {
     fn take(&mut self, alloc: Global, key: &str, text: &str) -> Result<(), Fault> {
         let is_text = TEXTS.contains(&key);
         if !is_text && !KEYS.contains(&key) {
-            return Err(Fault::Malformed("a key that is none"));
+            return Err(Fault::Wrong("a key that is none"));
         }
         if !is_text && self.has(key) {
-            return Err(Fault::Malformed("a key twice"));
+            return Err(Fault::Wrong("a key twice"));
         }
         let line = Line {
             key: String::from_str(alloc, key)?,
@@ -130,7 +130,7 @@ impl Case {
             return Ok(words);
         }
         let Some(text) = self.get("words") else {
-            return Err(Fault::Malformed("no words"));
+            return Err(Fault::Wrong("no words"));
         };
         for word in text.split(',') {
             words.push(String::from_str(alloc, word)?)?;

@@ -8,8 +8,8 @@ pub enum Fault {
     /// Memory is wanted.
     Memory,
 
-    /// The case's text is none: it has this.
-    Malformed(&'static str),
+    /// This is wrong with its text, or came of it.
+    Wrong(&'static str),
 
     /// What came isn't what was wanted.
     Differs(String),
@@ -20,7 +20,7 @@ impl Fault {
     pub fn text(&self) -> &str {
         match self {
             Fault::Memory => "no memory",
-            Fault::Malformed(text) => text,
+            Fault::Wrong(text) => text,
             Fault::Differs(text) => text.as_str(),
         }
     }
@@ -46,6 +46,6 @@ impl From<NoMemory> for Fault {
 
 impl From<ParseIntError> for Fault {
     fn from(_: ParseIntError) -> Self {
-        Fault::Malformed("a word in a number's place")
+        Fault::Wrong("a word in a number's place")
     }
 }

@@ -22,12 +22,17 @@ pub fn run_file<R: Files + Print + AllocGlobal>(rt: &R, file: &str) -> io::Resul
     Ok(count)
 }
 
-/// Runs a case for each of its values, and prints what differs.
+/// Runs a case for each of its `each` lines, or once where it has none.
 fn run_case<R: Print + AllocGlobal>(rt: &R, file: &str, case: &str) -> io::Result<u64> {
     let (name, text) = case.split_once('\n').unwrap_or((case, ""));
     let mut count = 0u64;
-    for values in values_of(rt.alloc(), text)? {
-        count = count.saturating_add(run_numbers(rt, file, name, text, values)?);
+    for line in text.lines() {
+        if let Some(values) = values_of(line) {
+            count = count.saturating_add(run_numbers(rt, file, name, text, Some(values))?);
+        }
+    }
+    if count == 0 {
+        count = run_numbers(rt, file, name, text, None)?;
     }
     if count == 0 {
         println!(rt; "{file}: {name}: no case")?;
@@ -59,6 +64,7 @@ fn run_numbers<R: Print + AllocGlobal>(
 fn run_one(alloc: Global, text: &str, values: Option<&str>, number: u32) -> Result<(), Fault> {
     let text = filled(alloc, text, values, number)?;
     let case = Case::read(alloc, text.as_str())?;
-    let (outcome, report) = replay_case(alloc, &case)?;
-    look_at(alloc, &case, &outcome, report.as_str())
+    let mut report = String::new(alloc);
+    let ended = replay_case(alloc, &case, &mut report)?;
+    look_at(alloc, &case, &ended, report.as_str())
 }

@@ -1,25 +1,16 @@
 use crate::fault::Fault;
-use std::alloc::{AllocError, Global};
+use std::alloc::Global;
 use std::ops::Range;
 
 /// Where the values of an `each` line go.
 const PLACES: [&str; 5] = ["$1", "$2", "$3", "$4", "$5"];
 
-/// The values of a case's `each` lines; one `None` where it has no such line.
-pub fn values_of(alloc: Global, text: &str) -> Result<Vec<Option<&str>>, AllocError> {
-    let mut all = Vec::new(alloc);
-    for line in text.lines() {
-        if line == "each" {
-            all.push(Some(""))?;
-        }
-        if let Some(values) = line.strip_prefix("each ") {
-            all.push(Some(values))?;
-        }
+/// The values of a line `each`.
+pub fn values_of(line: &str) -> Option<&str> {
+    if line == "each" {
+        return Some("");
     }
-    if all.is_empty() {
-        all.push(None)?;
-    }
-    Ok(all)
+    line.strip_prefix("each ")
 }
 
 /// The numbers of a case's `count` line; 0 alone where it has no such line.
@@ -50,7 +41,7 @@ pub fn filled(
         text = put_values(alloc, text, values)?;
     }
     if text.as_str().contains('$') {
-        return Err(Fault::Malformed("a place without a value"));
+        return Err(Fault::Wrong("a place without a value"));
     }
     Ok(text)
 }
@@ -63,7 +54,7 @@ fn put_values(alloc: Global, text: String, values: &str) -> Result<String, Fault
             Some(place) if text.as_str().contains(*place) => {
                 text = text.as_str().replace(alloc, *place, value)?;
             }
-            _ => return Err(Fault::Malformed("a value without a place")),
+            _ => return Err(Fault::Wrong("a value without a place")),
         }
     }
     Ok(text)

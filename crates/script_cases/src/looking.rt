@@ -1,28 +1,27 @@
 use crate::case::Case;
 use crate::fault::Fault;
+use crate::replaying::Ended;
 use flat_store::MemStore;
-use ldom_replay::Outcome;
 use std::alloc::{AllocError, Global};
 use vio_io::Store;
 
 /// Compares what came of a case with what the case wants.
-pub fn look_at(
-    alloc: Global,
-    case: &Case,
-    outcome: &Outcome<MemStore>,
-    report: &str,
-) -> Result<(), Fault> {
+pub fn look_at(alloc: Global, case: &Case, ended: &Ended, report: &str) -> Result<(), Fault> {
     look_at_report(alloc, case, report)?;
-    let status = format!(in alloc; "{}", outcome.status.number())?;
-    look_at_word(alloc, case, "status", status.as_str())?;
-    let journal = format!(in alloc; "{}", outcome.journal.len())?;
-    look_at_word(alloc, case, "journal", journal.as_str())?;
-    look_at_word(alloc, case, "lanes", given(outcome.lanes.is_some()))?;
-    look_at_image(alloc, case, outcome.image.as_ref())
+    look_at_number(alloc, case, "status", ended.status)?;
+    look_at_number(alloc, case, "journal", ended.entries)?;
+    let lanes = if ended.has_lanes { "given" } else { "none" };
+    look_at_word(alloc, case, "lanes", lanes)?;
+    if is_faulty(&ended.image) != case.has("faulty") {
+        return Err(Fault::Wrong("an image failed, or one that should didn't"));
+    }
+    let image = image_word(case.get("image").unwrap_or(""), &ended.image)?;
+    look_at_word(alloc, case, "image", image)
 }
 
-fn given(is_given: bool) -> &'static str {
-    if is_given { "given" } else { "none" }
+fn look_at_number(alloc: Global, case: &Case, key: &str, came: usize) -> Result<(), Fault> {
+    let came = format!(in alloc; "{came}")?;
+    look_at_word(alloc, case, key, came.as_str())
 }
 
 /// Compares what came with the text behind a key, if there is one.
@@ -35,26 +34,37 @@ fn look_at_word(alloc: Global, case: &Case, key: &str, came: &str) -> Result<(),
     }
 }
 
-/// Compares a report with the case's lines, in which `...` at a line's end is any text up to another line's end.
+/// Compares a report with the case's lines.
 fn look_at_report(alloc: Global, case: &Case, report: &str) -> Result<(), Fault> {
     let wanted = case.text(alloc, ">", ">.")?;
-    let wanted = wanted.as_str();
     let told = without(alloc, report, case.get("without").unwrap_or(""))?;
-    let told = told.as_str();
-    let fits = match (case.get("front"), wanted.split_once("...\n")) {
-        (Some(least), _) => {
-            wanted.starts_with(told) && told.len() >= least.parse()? && told.len() < wanted.len()
-        }
-        (None, Some((front, behind))) => match told.strip_prefix(front) {
-            Some(rest) => rest.ends_with(behind),
-            None => false,
-        },
-        (None, None) => told == wanted,
+    let least = case.number("front", 0)?;
+    let fits = if case.has("front") {
+        is_front(wanted.as_str(), told.as_str(), least)
+    } else {
+        is_told(wanted.as_str(), told.as_str())
     };
     if fits {
         return Ok(());
     }
-    Err(Fault::Differs(difference(alloc, wanted, told)?))
+    let difference = difference(alloc, wanted.as_str(), told.as_str())?;
+    Err(Fault::Differs(difference))
+}
+
+/// Whether these lines were told, in which `...` at a line's end is any text up to another line's end.
+fn is_told(wanted: &str, told: &str) -> bool {
+    match wanted.split_once("...\n") {
+        Some((front, behind)) => match told.strip_prefix(front) {
+            Some(rest) => rest.ends_with(behind),
+            None => false,
+        },
+        None => told == wanted,
+    }
+}
+
+/// Whether a front of these lines was told, of so many bytes at least, and not all of them.
+fn is_front(wanted: &str, told: &str, least: usize) -> bool {
+    wanted.starts_with(told) && told.len() >= least && told.len() < wanted.len()
 }
 
 /// A report without the lines that begin so, if anything is said.
@@ -68,39 +78,35 @@ fn without(alloc: Global, report: &str, front: &str) -> Result<String, AllocErro
     Ok(rest)
 }
 
-/// The first lines that differ. Behind any text as many lines are compared as the report has to have there.
+/// The first lines that differ; behind any text all that was wanted, and all that came.
 fn difference(alloc: Global, wanted: &str, told: &str) -> Result<String, AllocError> {
     let (front, behind) = wanted.split_once("...\n").unwrap_or((wanted, ""));
-    let (wanted, passed) = if told.starts_with(front) {
-        let passed = told.lines().count();
-        (behind, passed.saturating_sub(behind.lines().count()))
-    } else {
-        (front, 0)
-    };
-    for (wanted, came) in wanted.lines().zip(told.lines().skip(passed)) {
-        if wanted != came {
-            return format!(in alloc; "wanted {wanted}, came {came}");
+    let mut lines = told.lines();
+    for line in front.lines() {
+        let came = lines.next().unwrap_or("no line");
+        if line != came {
+            return format!(in alloc; "wanted {line}, came {came}");
         }
     }
-    format!(in alloc; "wanted {} bytes, came {}", wanted.len(), told.len())
+    format!(in alloc; "wanted at the end {behind}, came {told}")
 }
 
-/// Compares an image with the text behind `image`, and whether it failed with the line `faulty`.
-fn look_at_image(alloc: Global, case: &Case, image: Option<&MemStore>) -> Result<(), Fault> {
-    let faulty = match image {
+fn is_faulty(image: &Option<MemStore>) -> bool {
+    match image {
         Some(image) => image.faulty(),
         None => false,
+    }
+}
+
+/// What is said of an image: what is wanted, where it is that.
+fn image_word<'a>(wanted: &'a str, image: &Option<MemStore>) -> Result<&'a str, Fault> {
+    let Some(image) = image else {
+        return Ok("none");
     };
-    if faulty != case.has("faulty") {
-        return Err(Fault::Differs(format!(in alloc; "faulty: came {faulty}")?));
+    if wanted == "" || wanted == "given" || has_blocks(image.bytes(), wanted)? {
+        return Ok(wanted);
     }
-    match (case.get("image"), image) {
-        (None, _) | (Some("none"), None) | (Some("given"), Some(_)) => Ok(()),
-        (Some(wanted), Some(image)) if has_blocks(image.bytes(), wanted)? => Ok(()),
-        (Some(wanted), _) => Err(Fault::Differs(format!(in alloc;
-            "image: wanted {wanted}, came another"
-        )?)),
-    }
+    Ok("another")
 }
 
 /// Whether an image has a length and the bytes of its first blocks, and zeros in all others.

@@ -5,17 +5,41 @@ use ldom_replay::{Outcome, replay};
 use std::alloc::Global;
 use vio_io::{ListSink, ListSource};
 
-/// Does what a case's words say, and answers what became of it and what was written.
-pub fn replay_case(alloc: Global, case: &Case) -> Result<(Outcome<MemStore>, String), Fault> {
+/// What became of a command.
+#[derive(Drop)]
+pub struct Ended {
+    pub status: usize,
+    pub entries: usize,
+    pub has_lanes: bool,
+    pub image: Option<MemStore>,
+}
+
+/// Does what a case's words say, and appends what is written to the report.
+pub fn replay_case(alloc: Global, case: &Case, report: &mut String) -> Result<Ended, Fault> {
     let words = case.words(alloc)?;
     let mut host = host_of(alloc, case)?;
+    replay_script(alloc, case, &words, &mut host, report)
+}
+
+fn replay_script(
+    alloc: Global,
+    case: &Case,
+    words: &[String],
+    host: &mut ListHost,
+    report: &mut String,
+) -> Result<Ended, Fault> {
     let mut source = source_of(alloc, case)?;
     let mut sink = sink_of(alloc, case)?;
-    let outcome = run(alloc, &words, &mut host, &mut source, &mut sink);
-    let Ok(report) = str::from_utf8(sink.bytes()) else {
-        return Err(Fault::Malformed("a report that is no text"));
-    };
-    Ok((outcome, String::from_str(alloc, report)?))
+    let ended = run(alloc, words, host, &mut source, &mut sink);
+    push_text(report, sink.bytes())?;
+    Ok(ended)
+}
+
+fn push_text(report: &mut String, bytes: &[u8]) -> Result<(), Fault> {
+    match str::from_utf8(bytes) {
+        Ok(text) => Ok(report.push_str(text)?),
+        Err(_) => Err(Fault::Wrong("a report that is no text")),
+    }
 }
 
 // The call alone, so that its contract isn't computed on what the caller knows.
@@ -25,13 +49,28 @@ fn run(
     host: &mut ListHost,
     source: &mut ListSource,
     sink: &mut ListSink,
-) -> Outcome<MemStore> {
-    replay(alloc, words, host, source, sink)
+) -> Ended {
+    ended_of(replay(alloc, words, host, source, sink))
+}
+
+fn ended_of(outcome: Outcome<MemStore>) -> Ended {
+    let Outcome {
+        status,
+        journal,
+        image,
+        lanes,
+    } = outcome;
+    Ended {
+        status: usize::from(status.number()),
+        entries: journal.len(),
+        has_lanes: lanes.is_some(),
+        image,
+    }
 }
 
 /// A host with the image of the line `host LENGTH BYTE NAME`, or one of no bytes.
 fn host_of(alloc: Global, case: &Case) -> Result<ListHost, Fault> {
-    let wrong = Fault::Malformed("a host without LENGTH BYTE NAME");
+    let wrong = Fault::Wrong("a host without LENGTH BYTE NAME");
     let text = case.get("host").unwrap_or("0 00 img");
     let Some((length, rest)) = text.split_once(' ') else {
         return Err(wrong);
@@ -51,7 +90,7 @@ fn source_of(alloc: Global, case: &Case) -> Result<ListSource, Fault> {
     let failing = case.numbers(alloc, "source-fails")?;
     let piece = case.number("piece", 16)?;
     if piece == 0 {
-        return Err(Fault::Malformed("a piece of no byte"));
+        return Err(Fault::Wrong("a piece of no byte"));
     }
     Ok(ListSource::new(alloc, script.as_bytes(), piece, &failing)?)
 }

@@ -21,12 +21,12 @@ fn repeated(alloc: Global, text: &str) -> Result<String, Fault> {
         };
         text = one_repeated(alloc, front, behind)?;
     }
-    Err(Fault::Malformed("too many repetitions"))
+    Err(Fault::Wrong("too many repetitions"))
 }
 
 /// The text with the last repetition of its front written out.
 fn one_repeated(alloc: Global, front: &str, behind: &str) -> Result<String, Fault> {
-    let wrong = Fault::Malformed("a repetition that is none");
+    let wrong = Fault::Wrong("a repetition that is none");
     let Some((front, inner)) = front.rsplit_once('{') else {
         return Err(wrong);
     };
@@ -56,7 +56,7 @@ fn characters(alloc: Global, text: &str) -> Result<String, Fault> {
     let mut all = String::from_str(alloc, pieces.next().unwrap_or(""))?;
     for piece in pieces {
         let Some((digits, rest)) = piece.split_at_checked(2) else {
-            return Err(Fault::Malformed("a character without a number"));
+            return Err(Fault::Wrong("a character without a number"));
         };
         all.push(char::from(u8::from_str_radix(digits, 16)?))?;
         all.push_str(rest)?;
