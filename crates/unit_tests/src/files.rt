@@ -10,7 +10,7 @@ use infallible_io::InfallibleHost;
 use std::alloc::Global;
 use std::fs;
 use std::test::Fail;
-use vio_io::{AttachFault, Host, Store};
+use vio_io::{AttachFault, Host, NoMemory, Store};
 
 /// A file whose calls are interrupted so often, and then answer so: how many bytes they move, or their fault.
 #[derive(Drop)]
@@ -147,7 +147,7 @@ fn a_short_call_of_a_file_is_a_fault_and_an_interrupted_one_is_tried_again(rt: H
             succeeds(over(interruptions, answer), Call::Write),
             succeeds(over(interruptions, answer), Call::Flush),
         ];
-        assert_eq!(rt; found, [Some(moves), Some(moves), Some(flushes)]);
+        assert!(rt; found == [Some(moves), Some(moves), Some(flushes)]);
     }
 }
 
@@ -160,17 +160,29 @@ fn keeps<D: Store>(disk: &mut D, length: u64, byte: u8) -> bool {
     if disk.len() != length || length < 1024 {
         return false;
     }
-    let calls = [
-        disk.write_at(512, &[9; 512]),
-        disk.read_at(0, &mut first),
-        disk.read_at(512, &mut second),
-        disk.flush(),
-    ];
-    let sound = calls == [Ok(()); 4] && !disk.faulty();
+    let mut sound = disk.write_at(512, &[9; 512]).is_ok();
+    sound &= disk.read_at(0, &mut first).is_ok();
+    sound &= disk.read_at(512, &mut second).is_ok();
+    sound &= disk.flush().is_ok();
+    sound &= !disk.faulty();
     let wrote = disk.write_at(0, &[8; 512]).is_ok();
-    let read = disk.read_at(0, &mut last).is_ok() && wrote != disk.faulty();
+    sound &= disk.read_at(0, &mut last).is_ok();
+    sound &= wrote != disk.faulty();
     let behind = if wrote { 8 } else { byte };
-    sound && read && first == [byte; 512] && second == [9; 512] && last == [behind; 512]
+    sound && is_all(&first, byte) && is_all(&second, 9) && is_all(&last, behind)
+}
+
+/// Whether a block is this byte, again and again.
+fn is_all(block: &[u8; 512], byte: u8) -> bool {
+    *block == [byte; 512]
+}
+
+/// The same of the disk that a host gives under a name.
+fn gives_kept<H: Host>(alloc: Global, host: &mut H, name: &str, length: u64, byte: u8) -> bool {
+    match host.attach(alloc, name, 1024) {
+        Ok(mut disk) => keeps(&mut disk, length, byte) && !disk.faulty(),
+        Err(_) => false,
+    }
 }
 
 #[test]
@@ -178,20 +190,13 @@ fn disks_are_read_as_they_were_written_and_fail_as_told(rt: HostRuntime) -> Resu
     let alloc = rt.alloc();
     let mut failing = MemStore::new(alloc, &[7; 1024], &[4])?;
     assert!(rt; keeps(&mut failing, 1024, 7) && failing.faulty());
-    match InfallibleHost::new().attach(alloc, "any", 1024) {
-        Ok(mut disk) => assert!(rt; keeps(&mut disk, 1024, 0) && !disk.faulty()),
-        Err(fault) => panic!(rt; "{fault:?}"),
-    }
+    assert!(rt; gives_kept(alloc, &mut InfallibleHost::new(), "any", 1024, 0));
     Ok(())
 }
 
 /// Whether a host answers so where an image of a name is asked for, of so many bytes at least: with one so long that
 /// never failed, or with a fault.
-fn gives<H: Host>(
-    alloc: Global,
-    host: &mut H,
-    asked: &[(&str, u64, Result<u64, AttachFault>)],
-) -> bool {
+fn gives<H: Host>(alloc: Global, host: &mut H, asked: &[Asked]) -> bool {
     for (name, least, answer) in asked {
         let found = match host.attach(alloc, name, *least) {
             Ok(disk) if disk.faulty() => return false,
@@ -205,54 +210,66 @@ fn gives<H: Host>(
     true
 }
 
+/// A name that is asked for, of how many bytes at least, and what comes of it.
+type Asked = (&'static str, u64, Result<u64, AttachFault>);
+
+const NONE: Result<u64, AttachFault> = Err(AttachFault::Failed);
+
+/// What is asked of a host in memory.
+fn asked_in_memory() -> [Asked; 3] {
+    [
+        ("img", 1024, Ok(512)),
+        ("-", 1024, Ok(1024)),
+        ("other", 1024, NONE),
+    ]
+}
+
+/// What is asked of the program's host.
+fn asked_of_the_program() -> [Asked; 5] {
+    [
+        ("-", 512, Ok(512)),
+        ("", 0, NONE),
+        ("/", 0, NONE),
+        ("/no such folder/x", 0, NONE),
+        ("/dev", 0, NONE),
+    ]
+}
+
+/// A host in memory with a block.
+fn host_in_memory(alloc: Global, fails: bool) -> Result<ListHost, NoMemory> {
+    ListHost::new(alloc, "img", &[5; 512], &[], fails)
+}
+
 #[test]
 fn hosts_give_what_they_have(rt: HostRuntime) -> Result<(), Fail> {
     let alloc = rt.alloc();
-    let none = Err(AttachFault::Failed);
-    let mut list = ListHost::new(alloc, "img", &[5; 512], &[], false)?;
-    let asked = [
-        ("img", 1024, Ok(512)),
-        ("-", 1024, Ok(1024)),
-        ("other", 1024, none),
-    ];
-    assert!(rt; gives(alloc, &mut list, &asked) && list.faults() == 1);
-    let mut failing = ListHost::new(alloc, "img", &[5; 512], &[], true)?;
-    assert!(rt; gives(alloc, &mut failing, &[("-", 1024, none)]));
-    let mut program = StdHost::new(&rt);
-    assert!(rt; gives(alloc, &mut program, &[("-", 512, Ok(512))]));
-    for name in ["", "/", "/no such folder/x", "/dev"] {
-        assert!(rt; gives(alloc, &mut program, &[(name, 0, none)]), "{name}");
-    }
+    let mut list = host_in_memory(alloc, false)?;
+    assert!(rt; gives(alloc, &mut list, &asked_in_memory()));
+    assert!(rt; list.faults() == 1);
+    let mut failing = host_in_memory(alloc, true)?;
+    assert!(rt; gives(alloc, &mut failing, &[("-", 1024, NONE)]));
+    assert!(rt; gives(alloc, &mut StdHost::new(&rt), &asked_of_the_program()));
     Ok(())
 }
 
-// A name for a file of this process in the temporary folder.
-fn name_of_a_file(rt: &HostRuntime) -> Result<String, Fail> {
-    let folder = std::env::temp_dir(rt)?;
-    let id = std::process::id(rt.process());
-    Ok(format!(in rt.alloc(); "{}/unit_tests.{id}.img", folder.as_str())?)
-}
+/// A file in the folder where the tests are run.
+const FILE: &str = "unit_tests.img";
 
-/// Whether a host's disk of this name has 1,500 bytes, the first 5, and is read as it was written.
-fn keeps_file<H: Host>(alloc: Global, host: &mut H, name: &str) -> bool {
-    match host.attach(alloc, name, 512) {
-        Ok(mut disk) => keeps(&mut disk, 1500, 5) && !disk.faulty(),
-        Err(_) => false,
-    }
+/// Whether bytes are what `keeps` leaves of 1,500 bytes 5.
+fn is_as_written(bytes: &[u8]) -> bool {
+    let mut wanted = [5u8; 1500];
+    wanted[..512].fill(8);
+    wanted[512..1024].fill(9);
+    bytes == wanted.as_slice()
 }
 
 #[test]
 fn a_file_keeps_what_was_written_and_its_length(rt: HostRuntime) -> Result<(), Fail> {
-    let alloc = rt.alloc();
-    let name = name_of_a_file(&rt)?;
     let mut host = StdHost::new(&rt);
-    assert!(rt; !keeps_file(alloc, &mut host, name.as_str()));
-    fs::write(&rt, name.as_str(), [5u8; 1500].as_slice())?;
-    assert!(rt; keeps_file(alloc, &mut host, name.as_str()));
-    let mut wanted = [5u8; 1500];
-    wanted[..512].fill(8);
-    wanted[512..1024].fill(9);
-    assert!(rt; fs::read(&rt, name.as_str())?.as_slice() == wanted.as_slice());
-    fs::remove_file(&rt, name.as_str())?;
+    assert!(rt; !gives_kept(rt.alloc(), &mut host, FILE, 1500, 5));
+    fs::write(&rt, FILE, [5u8; 1500].as_slice())?;
+    assert!(rt; gives_kept(rt.alloc(), &mut host, FILE, 1500, 5));
+    assert!(rt; is_as_written(&fs::read(&rt, FILE)?));
+    fs::remove_file(&rt, FILE)?;
     Ok(())
 }

@@ -23,7 +23,7 @@ fn no_zero_at_an_array_s_end_is_kept(rt: HostRuntime) -> Result<(), NoMemory> {
         for byte in array.iter_mut().take(front) {
             *byte = 1;
         }
-        assert_eq!(rt; kept(rt.alloc(), &array)?, front);
+        assert!(rt; kept(rt.alloc(), &array)? == front);
     }
     Ok(())
 }
@@ -45,7 +45,7 @@ fn arrays_are_read_in_the_order_of_their_pushes(rt: HostRuntime) -> Result<(), N
     arrays.push(&[0, 2, 0, 3]);
     let mut rest = arrays.rest();
     for front in [&[1][..], &[], &[0, 2, 0, 3]] {
-        assert_eq!(rt; read(rest.next_array()), (front, 4));
+        assert!(rt; read(rest.next_array()) == (front, 4));
     }
     assert!(rt; rest.next_array().is_none());
     Ok(())

@@ -11,7 +11,7 @@ use ldom_journal::{
 };
 use std::alloc::Global;
 use std::test::Fail;
-use vio_io::ListSink;
+use vio_io::{ListSink, Sink};
 
 const SERVER: EndName = EndName {
     lane: Lane::Disk(0),
@@ -46,7 +46,14 @@ fn note(journal: &mut Journal, entry: Entry) -> Result<(), NoMemory>
     Ok(())
 }
 
-/// Whether the text of a journal of the disk was written, in a mode, and the sink, some of whose calls fail.
+/// Whether the text of a journal of the disk is written, in a mode.
+fn writes<K: Sink>(journal: &Journal, mode: Mode, out: &mut K) -> bool
+    requires { (disks : List DiskDecl) → length disks ≡ 1 → All (HasWords disks) journal.now.entries }
+{
+    write_text(journal, mode, &one_disk(), out).is_ok()
+}
+
+/// Whether it is written to a sink some of whose calls fail, and the sink.
 fn shown(
     alloc: Global,
     mode: Mode,
@@ -56,7 +63,7 @@ fn shown(
     requires { (disks : List DiskDecl) → length disks ≡ 1 → All (HasWords disks) journal.now.entries }
 {
     let mut sink = ListSink::new(alloc, 200_000, failing)?;
-    let told = write_text(journal, mode, &one_disk(), &mut sink).is_ok();
+    let told = writes(journal, mode, &mut sink);
     Ok((told, sink))
 }
 
@@ -152,16 +159,21 @@ reset d0.s copy nomap lost=4
 reset d0.s gap expected=7 found=9 lost=1
 ";
 
+/// Whether a mode shows this text of a journal of the disk.
+fn shows(alloc: Global, mode: Mode, journal: &Journal, text: &str) -> Result<bool, NoMemory>
+    requires { (disks : List DiskDecl) → length disks ≡ 1 → All (HasWords disks) journal.now.entries }
+{
+    let (told, sink) = shown(alloc, mode, journal, &[])?;
+    Ok(told && sink.bytes() == text.as_bytes())
+}
+
 #[test]
 fn entries_that_no_script_reaches_have_their_lines(rt: HostRuntime) -> Result<(), Fail> {
     let alloc = rt.alloc();
     let journal = unreached(alloc)?;
-    for (mode, text) in [(Mode::Trace, TRACED), (Mode::Run, RUN), (Mode::EndOnly, "")] {
-        assert_eq!(rt;
-            shown(alloc, mode, &journal, &[])?.1.bytes(),
-            text.as_bytes()
-        );
-    }
+    assert!(rt; shows(alloc, Mode::Trace, &journal, TRACED)?);
+    assert!(rt; shows(alloc, Mode::Run, &journal, RUN)?);
+    assert!(rt; shows(alloc, Mode::EndOnly, &journal, "")?);
     Ok(())
 }
 
@@ -186,8 +198,21 @@ fn read_of(alloc: Global, bytes: &[u8]) -> Result<Journal, NoMemory>
     Ok(journal)
 }
 
-/// How many bytes of the lines are written at least, before a call of the sink with this number.
-const WRITTEN: [(u64, usize); 3] = [(0, 0), (1, 61_440), (2, 122_880)];
+/// Whether a sink that fails at a call gets a front of a journal's lines, of so many bytes at least.
+fn fails_at(
+    alloc: Global,
+    journal: &Journal,
+    lines: &[u8],
+    call: u64,
+    least: usize,
+) -> Result<bool, NoMemory>
+    requires { (disks : List DiskDecl) → length disks ≡ 1 → All (HasWords disks) journal.now.entries }
+{
+    let (told, sink) = shown(alloc, Mode::Run, journal, &[call])?;
+    let front = sink.bytes();
+    let partly = front.len() >= least && front.len() < lines.len();
+    Ok(!told && partly && lines.starts_with(front))
+}
 
 #[test]
 fn a_failing_sink_gets_a_front_of_the_lines(rt: HostRuntime) -> Result<(), Fail> {
@@ -196,24 +221,32 @@ fn a_failing_sink_gets_a_front_of_the_lines(rt: HostRuntime) -> Result<(), Fail>
     let (told, whole) = shown(alloc, Mode::Run, &journal, &[])?;
     // A block without repetition has 1,024 digits.
     assert!(rt; told && whole.bytes().len() == 16 + 128 * (2 + 1024) + 1);
-    for (call, least) in WRITTEN {
-        let (told, front) = shown(alloc, Mode::Run, &journal, &[call])?;
-        let len = front.bytes().len();
-        assert!(rt; !told && len >= least && whole.bytes().starts_with(front.bytes()));
-        assert!(rt; len < whole.bytes().len());
-    }
+    assert!(rt; fails_at(alloc, &journal, whole.bytes(), 0, 0)?);
+    assert!(rt; fails_at(alloc, &journal, whole.bytes(), 1, 61_440)?);
+    assert!(rt; fails_at(alloc, &journal, whole.bytes(), 2, 122_880)?);
     Ok(())
 }
 
-/// The last line over the journal of all kinds, which has one request that was taken up, two completions and two resets.
-fn ended(alloc: Global, lines: u32, status: &Status) -> Result<ListSink, Fail> {
+/// Whether the last line over the journal of all kinds is written. That has one request that was taken up, two
+/// completions and two resets.
+fn ends<K: Sink>(
+    alloc: Global,
+    lines: u32,
+    status: &Status,
+    out: &mut K,
+) -> Result<bool, NoMemory> {
+    Ok(write_end(&journal_of_all(alloc)?, lines, status, out).is_ok())
+}
+
+/// Whether it is this line.
+fn ends_by(alloc: Global, lines: u32, status: &Status, line: &str) -> Result<bool, NoMemory> {
     let mut sink = ListSink::new(alloc, 4096, &[])?;
-    write_end(&journal_of_all(alloc)?, lines, status, &mut sink)?;
-    Ok(sink)
+    let told = ends(alloc, lines, status, &mut sink)?;
+    Ok(told && sink.bytes() == line.as_bytes())
 }
 
 /// How many lines were taken up, how the run ended, and the last line.
-fn ends() -> [(u32, Status, &'static str); 3] {
+fn last_lines() -> [(u32, Status, &'static str); 3] {
     let (need, have) = (u64::MAX, 0);
     let (line, kind) = (3, LimitKind::Entries);
     [
@@ -233,8 +266,8 @@ fn ends() -> [(u32, Status, &'static str); 3] {
 
 #[test]
 fn last_lines_that_no_script_reaches(rt: HostRuntime) -> Result<(), Fail> {
-    for (lines, status, line) in ends() {
-        assert_eq!(rt; ended(rt.alloc(), lines, &status)?.bytes(), line.as_bytes());
+    for (lines, status, line) in last_lines() {
+        assert!(rt; ends_by(rt.alloc(), lines, &status, line)?);
     }
     Ok(())
 }

@@ -2,10 +2,11 @@
 ghost use Rattle.std.specs.Prelude.{◌≤◌, ◌<◌, length, IfOk};
 
 use infallible_io::{GrowingSink, InfallibleSource};
+use std::alloc::Global;
 use std::io;
 use std::io::{ErrorKind, Read, Write};
 use std::test::Fail;
-use vio_io::{Failed, ListSink, ListSource, Sink, Source, StdSink, StdSource};
+use vio_io::{Failed, ListSink, ListSource, NoMemory, Sink, Source, StdSink, StdSource};
 
 /// What a call answers, and what stands at the front of the buffer then.
 type Call = (Result<usize, Failed>, &'static [u8]);
@@ -47,37 +48,52 @@ fn list_calls() -> [Call; 5] {
     ]
 }
 
+/// The same of a source of three bytes that never fails.
+fn infallible_calls() -> [Call; 3] {
+    [(Ok(2), b"ab"), (Ok(1), b"cb"), (Ok(0), b"cb")]
+}
+
+/// A source of five bytes that gives two at most and fails its second call.
+fn list_source(alloc: Global) -> Result<ListSource, NoMemory> {
+    ListSource::new(alloc, b"abcde", 2, &[1])
+}
+
+/// A sink with room for five bytes that fails its second call.
+fn list_sink(alloc: Global) -> Result<ListSink, NoMemory> {
+    ListSink::new(alloc, 5, &[1])
+}
+
 #[test]
 fn sources_give_their_bytes_and_fail_as_told(rt: HostRuntime) -> Result<(), Fail> {
-    let mut list = ListSource::new(rt.alloc(), b"abcde", 2, &[1])?;
-    assert!(rt; reads(&mut list, 4, &list_calls()) && list.faults() == 1);
+    let mut list = list_source(rt.alloc())?;
+    assert!(rt; reads(&mut list, 4, &list_calls()));
+    assert!(rt; list.faults() == 1);
     let mut infallible = InfallibleSource::new(rt.alloc(), b"abc")?;
-    assert!(rt;
-        reads(
-            &mut infallible,
-            2,
-            &[(Ok(2), b"ab"), (Ok(1), b"cb"), (Ok(0), b"cb")]
-        )
-    );
+    assert!(rt; reads(&mut infallible, 2, &infallible_calls()));
     let mut stream = StdSource::new(b"ab".as_slice());
     assert!(rt; reads(&mut stream, 4, &[(Ok(2), b"ab"), (Ok(0), b"ab")]));
     Ok(())
 }
 
 #[test]
-fn sinks_hold_what_was_written_and_fail_as_told(rt: HostRuntime) -> Result<(), Fail> {
-    let mut list = ListSink::new(rt.alloc(), 5, &[1])?;
+fn sinks_in_memory_hold_what_was_written_and_fail_as_told(rt: HostRuntime) -> Result<(), Fail> {
+    let mut list = list_sink(rt.alloc())?;
     assert!(rt; writes(&mut list, b"abc", &[Ok(3), Err(Failed), Ok(2), Err(Failed)]));
     assert!(rt; list.bytes() == b"abcab".as_slice() && list.faults() == 2);
     let mut growing = GrowingSink::new(rt.alloc());
     assert!(rt; writes(&mut growing, b"ab", &[Ok(2)]) && writes(&mut growing, b"c", &[Ok(1)]));
     assert!(rt; growing.bytes() == b"abc".as_slice());
+    Ok(())
+}
+
+#[test]
+fn streams_of_std_take_what_they_hold(rt: HostRuntime) {
     let mut taken = Vec::new(rt.alloc());
     assert!(rt; writes(&mut StdSink::new(&mut taken), b"ab", &[Ok(2)]));
     let mut full = [0u8; 1];
     let mut small = StdSink::new(full.as_mut_slice());
-    assert!(rt; writes(&mut small, b"ab", &[Ok(1)]) && writes(&mut small, b"b", &[Err(Failed)]));
-    Ok(())
+    assert!(rt; writes(&mut small, b"ab", &[Ok(1)]));
+    assert!(rt; writes(&mut small, b"b", &[Err(Failed)]));
 }
 
 /// A stream of std that fails so many calls in this way, and then moves one byte a call.

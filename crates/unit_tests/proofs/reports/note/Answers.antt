@@ -3,7 +3,7 @@ use Rattle.std.proofs.lemmas.List.Elements.{All-append, All-cons, All-nil}
 use Rattle.ldom_journal.specs.HasWords.{HasWords}
 use Rattle.unit_tests.proofs.reports.note.Goals as goal
 
-put_last : {A : Type 0} → A → List A → List A
+abbrev put_last : {A : Type 0} → A → List A → List A
 put_last entry entries = entries ++ entry ∷ []
 
 one_more : {A : Type 0} (P : A → Type 0) (old new : List A) (entry : A) → All P old → P entry → new ≡ put_last entry old → All P new
