@@ -1,14 +1,12 @@
 //! Tests of what no script, packet or line of text can show: sources, sinks, images and hosts that fail or are
-//! interrupted, those over std, a reader of lines after a fault, kinds of entries that no script reaches, and how a
-//! journal and its parts keep what they are given. Each test is proved before it runs, so they are few: small functions without clauses make the calls.
+//! interrupted, those over std, kinds of entries that no script reaches, and how a journal and its parts keep what they
+//! are given. Each test is proved before it runs, so they are few: small functions without clauses make the calls.
 #![tactic(auto)]
 
 #[cfg(test)]
 mod files;
 #[cfg(test)]
 mod journals;
-#[cfg(test)]
-mod lines;
 #[cfg(test)]
 mod parts;
 #[cfg(test)]

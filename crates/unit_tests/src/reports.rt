@@ -178,12 +178,12 @@ fn entries_that_no_script_reaches_have_their_lines(rt: HostRuntime) -> Result<()
 }
 
 /// 128 blocks, none of which repeats a shorter word.
-fn without_repetition() -> [u8; 65536] {
-    let mut bytes = [0; 65536];
-    for (k, byte) in bytes.iter_mut().enumerate() {
-        *byte = (k / 2 % 256) as u8;
+fn without_repetition(alloc: Global) -> Result<Vec<u8>, NoMemory> {
+    let mut bytes = Vec::new(alloc);
+    for k in 0..65_536u32 {
+        bytes.push((k / 2 % 256) as u8)?;
     }
-    bytes
+    Ok(bytes)
 }
 
 /// A journal of a read that gave these bytes.
@@ -217,7 +217,9 @@ fn fails_at(
 #[test]
 fn a_failing_sink_gets_a_front_of_the_lines(rt: HostRuntime) -> Result<(), Fail> {
     let alloc = rt.alloc();
-    let journal = read_of(alloc, &without_repetition())?;
+    let bytes = without_repetition(alloc)?;
+    assert!(rt; bytes.len() == 65_536);
+    let journal = read_of(alloc, &bytes)?;
     let (told, whole) = shown(alloc, Mode::Run, &journal, &[])?;
     // A block without repetition has 1,024 digits.
     assert!(rt; told && whole.bytes().len() == 16 + 128 * (2 + 1024) + 1);
