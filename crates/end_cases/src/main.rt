@@ -1,10 +1,10 @@
-//! Cases of the channel, of links, of handshakes and of a disk's two ends, against packets that are written out. A case is
-//! text in `data/`: a line says what is made, and each line after it is a step, with what comes of it after a colon. The
-//! program does every step, prints what differs, and ends with how many cases went as they are written.
+//! Cases of the channel, of links, of handshakes and of a disk's two ends, against packets that are written out. A case
+//! is text in `data/`: a line says what is made, and each line after it is a step, with what comes of it after a colon.
+//! The program does every step, prints what differs, and ends with how many cases went as they are written.
 //!
-//! The lines before a file's first case are done before each of its cases. A line that begins with a blank continues the
-//! one before it, and `#` begins a comment. Bytes are hexadecimal digits, and `~` stands for zeros to the end of a packet,
-//! or of a message of 56 bytes.
+//! The lines before a file's first case are done before each of its cases. A line that begins with a blank continues
+//! the one before it, and `#` begins a comment. Bytes are hexadecimal digits, and `~` stands for zeros to the end of a
+//! packet, or of a message of 56 bytes.
 #![tactic(auto)]
 
 mod answers;

@@ -71,8 +71,8 @@ fn cookie(alloc: Global, [index, offset, size]: [u64; 3]) -> Option<String> {
     shown(alloc, cookie_of(index, offset as u32, size))
 }
 
-// The first request of a ring of 8 slots, but for its operation, offset, size and count, at a server of a disk of so many
-// blocks that takes the operations of a mask.
+// The first request of a ring of 8 slots, but for its operation, offset, size and count. The server is of a disk of so
+// many blocks, and takes the operations of a mask.
 fn check(
     alloc: Global,
     [operation, offset, size, count, blocks, mask]: [u64; 6],

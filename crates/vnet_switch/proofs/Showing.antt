@@ -55,8 +55,8 @@ full_shown : (slots : List (Option KeptFrame)) (ports : List (PortView ℕ)) (k 
     → PortIs ports k IsFull ↔ PortIs (map (port_shown slots) ports) k IsFull
 full_shown slots ports k =
     port_shown_is (port_shown slots) ports k IsFull IsFull (λ port. (
-      λ full. length-map port.queue (bytes_at slots) ∙ full,
-      λ full. sym (length-map port.queue (bytes_at slots)) ∙ full,
+      λ full. omega (arith, full, length-map port.queue (bytes_at slots)),
+      λ full. omega (arith, full, length-map port.queue (bytes_at slots)),
     ))
 
 within_ports : (ports : List (PortView ℕ)) (k : ℕ) (Holds : PortView ℕ → Type 0) → PortIs ports k Holds

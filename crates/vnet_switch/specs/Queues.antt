@@ -1,5 +1,5 @@
 -- What becomes of ports and their queues.
-use Rattle.std.specs.Prelude.{◌≡◌, ℕ, ◌<◌, List, [], ◌∷◌, ◌++◌, drop, length, Option, None, slice_get, sum_by}
+use Rattle.std.specs.Prelude.{◌≡◌, ℕ, ◌<◌, ◌≤◌, List, [], ◌∷◌, ◌++◌, drop, length, Option, None, slice_get, sum_by}
 use Rattle.std.specs.Option.{option_map, option_map_or}
 use Rattle.vnet_switch.specs.PortView.{PortView}
 
@@ -8,11 +8,12 @@ module _ {Frame : Type 0} where
   abbrev pub fresh_port : ℕ → PortView Frame
   fresh_port room = record { address = None; groups = []; room = room; queue = [] }
 
+  -- the queue holds fewer frames than its room, or its room
   abbrev pub HasRoom : PortView Frame → Type 0
   HasRoom port = length port.queue < port.room
 
   abbrev pub IsFull : PortView Frame → Type 0
-  IsFull port = length port.queue ≡ port.room
+  IsFull port = port.room ≤ length port.queue
 
   abbrev pub with_session : Option (List ℕ) → List (List ℕ) → PortView Frame → PortView Frame
   with_session address groups port = record port { address = address; groups = groups }

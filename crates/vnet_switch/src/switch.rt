@@ -96,6 +96,7 @@ impl Switch {
         requires port { from < length self.old.ports }
         requires long { 14 ≤ length frame.now }
         requires short { length frame.now ≤ 1514 }
+        // A queue has room or is full, so the two sets are apart, and together all that the frame is for.
         ensures out { IsSetOf result.out (λ k.
             GetsFrame self.old.ports (take 6 frame.now) from k × PortIs self.old.ports k HasRoom) }
         ensures full { IsSetOf result.full (λ k.
