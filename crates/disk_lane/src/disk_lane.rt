@@ -5,6 +5,7 @@ ghost use Rattle.disk_model.specs.ClientState.{is_finished};
 ghost use Rattle.disk_model.specs.DiskEvent.{Asks};
 ghost use Rattle.disk_model.specs.LaneState.{fresh, IsShape};
 ghost use Rattle.disk_model.specs.LaneStep.{LaneStep};
+ghost use Rattle.disk_model.specs.Reached.{IsReached};
 ghost use Rattle.disk_model.specs.Served.{Served};
 ghost use Rattle.vdisk_client.specs.Calls.{TellsLength, admitted, client_event, front_count};
 ghost use Rattle.disk_lane.specs.Events.{CallsOf, FlushesOf, KeepsStoreOf, ResetsOwn, answered, lost_event};
@@ -203,6 +204,13 @@ impl DiskLane {
         ensures shape { self.new.shape ≡ self.old.shape }
     {
         self.ends.lose(end)
+    }
+
+    /// Tells that some calls led here from a fresh lane, whose laws stand in `lane_laws`: they hold of this lane where this
+    /// was called. It does nothing.
+    pub fn reached(&self)
+        ensures { IsReached self.now }
+    {
     }
 
     /// Whether the client's session is open and nothing is pending.

@@ -28,3 +28,6 @@ pub record ImageState : Type 0 where
   pub told : Option (List ℕ)
   -- how often it failed
   pub faults : ℕ
+  -- how often it was asked to read, to write or to flush, and how often to flush
+  pub calls : ℕ
+  pub flushes : ℕ

@@ -1,5 +1,5 @@
 // A script's run: its declarations, the image, and its other lines.
-ghost use Rattle.std.specs.Prelude.{◌≡◌, ◌≢◌, ℕ, ◌*◌, ◌≤◌, ◌↔◌, List, [], ◌∷◌, true, length, Option, None, IfErr};
+ghost use Rattle.std.specs.Prelude.{◌≡◌, ◌≢◌, ℕ, ◌*◌, ◌≤◌, ◌↔◌, List, [], ◌∷◌, true, length, map, Option, None, IfErr};
 ghost use Rattle.std.specs.Prelude.{IfOk, IfSome, IsSome, IsTrue, OnOk};
 ghost use Rattle.vio_io.specs.Given.{Gave};
 ghost use Rattle.domain_script.specs.declared.lines.LinesStop.TheVariants.{Going};
@@ -14,7 +14,8 @@ ghost use Rattle.script_laws.specs.Opening.{Opened, Opens, OpensAndStops};
 ghost use Rattle.script_laws.specs.Replayed.{Replayed, attach_status, ended_status, start_of};
 ghost use Rattle.script_laws.specs.Sized.{SizeIs};
 ghost use Rattle.world_laws.specs.Issued.{issued_on};
-ghost use Rattle.world_parts.specs.Declared.{bytes_needed};
+ghost use Rattle.world_laws.specs.LaneState.{fresh};
+ghost use Rattle.world_parts.specs.Declared.{as_image, bytes_needed, shapes_of};
 ghost use Rattle.domain_script.specs.ScriptEvents.{no_names};
 ghost use Rattle.domain_script.specs.Limits.{most_lines};
 
@@ -119,9 +120,9 @@ pub fn run_script<H: Host, S: Source>(
     host: &mut H,
     source: &mut S,
 ) -> Run<H::Disk>
-    ensures replayed { Replayed H.Disk.content H.Disk.faults (S.left source.old) (S.left source.new)
-        (H.gives host.old name.now) result.status result.lines result.names result.journal.entries result.image
-        result.lanes }
+    ensures replayed { Replayed (as_image H.Disk.content H.Disk.faults H.Disk.calls H.Disk.flushes)
+        (S.left source.old) (S.left source.new) (H.gives host.old name.now) result.status result.lines result.names
+        result.journal.entries result.image result.lanes }
     ensures sized { SizeIs H.Disk.size result.status (bytes_needed result.names.disks)
         (H.gives host.old name.now (bytes_needed result.names.disks)) result.image }
     ensures source { Fails (result.status ≡ Status.SourceFault) (S.faults source.old) (S.faults source.new) }
@@ -154,7 +155,9 @@ pub fn run_script<H: Host, S: Source>(
     }
 }
 
-// Attaches the image and runs the script over it, from the first event that isn't a declaration on.
+// Makes the lanes, attaches the image and runs the script over both, from the first event that isn't a declaration on.
+// Nothing wants memory between attaching and that event: so where there is an image there are lanes, but for one that is
+// too short.
 fn attach<H: Host, S: Source>(
     alloc: Global,
     name: &str,
@@ -169,8 +172,9 @@ fn attach<H: Host, S: Source>(
     requires journal { reader.journal.entries ≡ [] }
     ensures replayed { (start : Option (List ℕ))
         → Opened start reader.lines.held (S.left source.old) first reader.names reader.lines.number
-        → Replayed H.Disk.content H.Disk.faults start (S.left source.new) (H.gives host.old name.now) result.status
-        result.lines result.names result.journal.entries result.image result.lanes }
+        → Replayed (as_image H.Disk.content H.Disk.faults H.Disk.calls H.Disk.flushes) start (S.left source.new)
+        (H.gives host.old name.now) result.status result.lines result.names result.journal.entries result.image
+        result.lanes }
     ensures sized { (start : Option (List ℕ))
         → Opened start reader.lines.held (S.left source.old) first reader.names reader.lines.number
         → SizeIs H.Disk.size result.status (bytes_needed result.names.disks)
@@ -179,8 +183,15 @@ fn attach<H: Host, S: Source>(
     ensures host { Fails (result.status ≡ Status.HostFault) (H.faults host.old) (H.faults host.new) }
     ensures image { Gave (H.given host.old) (H.given host.new) result.image }
 {
+    let lanes = match Lanes::new(alloc, &reader.names) {
+        Ok(lanes) => lanes,
+        Err(NoMemory) => {
+            let lines = reader.number();
+            return reader.into_run(Status::NoMemory, lines, None, None);
+        }
+    };
     match host.attach(alloc, name, BLOCK * blocks_declared(&reader.names)) {
-        Ok(image) => run_over(alloc, image, source, reader, first),
+        Ok(image) => run_over(alloc, image, lanes, source, reader, first),
         Err(fault) => {
             let lines = reader.number();
             reader.into_run(status_of(fault), lines, None, None)
@@ -188,10 +199,11 @@ fn attach<H: Host, S: Source>(
     }
 }
 
-// Runs the script over an image that was attached, where it is long enough.
+// Runs the script over fresh lanes and an image that was attached, where it is long enough.
 fn run_over<D: Store, S: Source>(
     alloc: Global,
     image: D,
+    lanes: Lanes,
     source: &mut S,
     reader: Reader,
     first: Option<Event>,
@@ -200,14 +212,16 @@ fn run_over<D: Store, S: Source>(
     requires few { reader.lines.number ≤ most_lines }
     requires declared { IfSome first (IsDeclared reader.names) }
     requires journal { reader.journal.entries ≡ [] }
+    requires lanes { lanes ≡ map fresh (shapes_of 0 reader.names.disks) }
+    requires few_lanes { length lanes ≤ 8 }
     ensures replayed { (start : Option (List ℕ)) (gives : ℕ → Option (List ℕ))
         → Opened start reader.lines.held (S.left source.old) first reader.names reader.lines.number
-        → D.content image ≡ gives (bytes_needed reader.names.disks) → D.faults image ≡ 0
-        → Replayed D.content D.faults start (S.left source.new) gives result.status result.lines result.names
-        result.journal.entries result.image result.lanes }
+        → as_image D.content D.faults D.calls D.flushes image ≡ (start_of reader.names gives).image
+        → Replayed (as_image D.content D.faults D.calls D.flushes) start (S.left source.new) gives result.status
+        result.lines result.names result.journal.entries result.image result.lanes }
     ensures sized { (start : Option (List ℕ)) (gives : ℕ → Option (List ℕ))
         → Opened start reader.lines.held (S.left source.old) first reader.names reader.lines.number
-        → D.content image ≡ gives (bytes_needed reader.names.disks) → D.faults image ≡ 0
+        → as_image D.content D.faults D.calls D.flushes image ≡ (start_of reader.names gives).image
         → SizeIs D.size result.status (bytes_needed result.names.disks)
         (gives (bytes_needed result.names.disks)) result.image }
     ensures source { Fails (result.status ≡ Status.SourceFault) (S.faults source.old) (S.faults source.new) }
@@ -220,12 +234,7 @@ fn run_over<D: Store, S: Source>(
     if have < need {
         return reader.into_run(Status::ImageSize { need, have }, lines, Some(image), None);
     }
-    match World::new(alloc, &reader.names, image) {
-        Ok(world) => run_world(source, reader, world, first),
-        Err((NoMemory, given_back)) => {
-            reader.into_run(Status::NoMemory, lines, Some(given_back), None)
-        }
-    }
+    run_world(source, reader, World::over(alloc, lanes, image), first)
 }
 
 // Runs the script in its world, and lets the world end.
@@ -244,8 +253,8 @@ fn run_world<S: Source, D: Store>(
     ensures replayed { (start : Option (List ℕ)) (gives : ℕ → Option (List ℕ))
         → Opened start reader.lines.held (S.left source.old) first reader.names reader.lines.number
         → world ≡ start_of reader.names gives
-        → Replayed D.content D.faults start (S.left source.new) gives result.status result.lines result.names
-        result.journal.entries result.image result.lanes }
+        → Replayed (as_image D.content D.faults D.calls D.flushes) start (S.left source.new) gives result.status
+        result.lines result.names result.journal.entries result.image result.lanes }
     ensures sized { (start : Option (List ℕ)) (gives : ℕ → Option (List ℕ))
         → Opened start reader.lines.held (S.left source.old) first reader.names reader.lines.number
         → world ≡ start_of reader.names gives

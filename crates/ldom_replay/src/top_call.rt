@@ -6,8 +6,6 @@ ghost use Rattle.vio_io.specs.Causes.{Rose};
 ghost use Rattle.vio_io.specs.Given.{Gave};
 ghost use Rattle.domain_script.specs.declared.event.DiskDecl.{DiskDecl};
 ghost use Rattle.domain_script.specs.declared.event.Event.{Event};
-ghost use Rattle.domain_script.specs.NamesState.{NamesState};
-ghost use Rattle.domain_script.specs.ScriptLines.{script_lines};
 ghost use Rattle.disk_law.specs.Issued.{CompletesOnceInOrder};
 ghost use Rattle.gathered_text.specs.Gathered.{WroteFront};
 ghost use Rattle.ldom_journal.specs.HasWords.{HasWords};
@@ -20,9 +18,9 @@ ghost use Rattle.script_laws.specs.Failures.{SucceedOrFail, failed_count};
 ghost use Rattle.ldom_journal.specs.DiskEvents.{history};
 ghost use Rattle.script_laws.specs.Outcomes.{Reports, RunsScript};
 ghost use Rattle.script_laws.specs.Quiet.{IsQuietScript};
-ghost use Rattle.domain_script.specs.ScriptEvents.{AllSpell, no_names};
-ghost use Rattle.script_laws.specs.Whole.{RunsPlainly, RunsWhole};
-ghost use Rattle.world_parts.specs.Declared.{bytes_needed};
+ghost use Rattle.script_laws.specs.Stored.{flush_count, stored_count};
+ghost use Rattle.script_laws.specs.Whole.{RunsPlainly};
+ghost use Rattle.world_parts.specs.Declared.{as_image, bytes_needed};
 ghost use Rattle.ldom_words.specs.Words.{AsksDump, AsksRun};
 ghost use Rattle.ldom_replay.specs.Asking.{AsksFor, AsksNoRun};
 
@@ -60,19 +58,14 @@ pub fn replay<H: Host, S: Source, K: Sink>(
 ) -> Outcome<H::Disk>
     // The script is run up to where it stops, the journal is one part for each line, and the report is the journal's.
     // At status 7 alone the image is too short; it keeps what the host gave wherever no accepted write names a block.
+    // At status 0 the script was run to its end, and the whole report was written. All is said of one list of lines with
+    // their parts.
     ensures runs { (mode : Mode) (image : List ℕ) → AsksFor mode (map string_bytes words.now) image
-        → RunsScript mode H.Disk.content H.Disk.faults H.Disk.size (S.left script.old) (S.left script.new)
-        (H.gives host.old image) result.status result.journal.entries result.image result.lanes
-        (K.written out.old) (K.written out.new)
+        → RunsScript mode (as_image H.Disk.content H.Disk.faults H.Disk.calls H.Disk.flushes) H.Disk.size
+        (S.left script.old) (S.left script.new) (H.gives host.old image) result.status result.journal.entries
+        result.image result.lanes (K.written out.old) (K.written out.new)
         (counts (S.faults script.old) (H.faults host.old) (K.faults out.old))
         (counts (S.faults script.new) (H.faults host.new) (K.faults out.new)) }
-
-    // At status 0 the script was run to its end: the journal fits all its events, and the whole report was written.
-    ensures whole { (mode : Mode) (image : List ℕ) → AsksFor mode (map string_bytes words.now) image
-        → (bytes : List ℕ) (events : List Event) (names : NamesState) → S.left script.old ≡ Some bytes
-        → AllSpell (script_lines bytes) no_names events names → result.status ≡ Status.Done
-        → RunsWhole mode H.Disk.content H.Disk.faults (H.gives host.old image) names events result.journal.entries
-        result.image (K.written out.old) (K.written out.new) }
 
     // So a quiet script over an image that tells its bytes is what the plain run makes of it.
     ensures quiet { (image : List ℕ) → AsksRun (map string_bytes words.now) image
@@ -105,6 +98,11 @@ pub fn replay<H: Host, S: Source, K: Sink>(
     // Each completion has status 0, or 5 where the image failed: no more of these than the image counts.
     ensures statuses { SucceedOrFail result.journal.entries }
     ensures failures { IfSome result.image (λ image. failed_count result.journal.entries ≤ H.Disk.faults image) }
+
+    // The image was called once for each entry `stored` of the journal, and asked to flush once for each of a flush:
+    // whether the call failed or not.
+    ensures calls { IfSome result.image (λ image. H.Disk.calls image ≡ stored_count result.journal.entries) }
+    ensures flushes { IfSome result.image (λ image. H.Disk.flushes image ≡ flush_count result.journal.entries) }
 
     // For all words and every status: the image is the one disk that the host gave in this call, and there is none
     // exactly where it gave none, as attaching failed or wanted memory, or was never asked for.

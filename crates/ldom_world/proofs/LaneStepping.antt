@@ -2,7 +2,7 @@
 use Rattle.std.proofs.Common.{◌≡◌, ℕ, ◌≤◌, Bool, true, false, List, [], ◌∷◌, length, Option, Some, None, slice_get, ◌==◌, if◌then◌else◌, drop, refl, sym, ap, subst, arith}
 use Rattle.std.proofs.lemmas.List.{length-take}
 use Rattle.disk_law.specs.ListState.{ImageState}
-use Rattle.disk_lane.specs.Events.{CallsOf, KeepsStoreOf, ResetsOwn, served_event}
+use Rattle.disk_lane.specs.Events.{CallsOf, FlushesOf, KeepsStoreOf, ResetsOwn, served_event}
 use Rattle.disk_model.proofs.OwnSteps.{server_resets_own}
 use Rattle.disk_model.specs.ClientStep.{completed_slot}
 use Rattle.disk_model.specs.LaneState.{LaneState}
@@ -28,7 +28,7 @@ use Rattle.descriptor_work.specs.Calling as server
 use Rattle.descriptor_work.specs.declared.answers.ServerOut.{ServerOut}
 use Rattle.descriptor_work.specs.declared.answers.ServerOut.TheVariants as server_out
 use Rattle.vio_tag.specs.declared.cause.Cause.{Cause}
-use Rattle.world_parts.specs.Declared.{image_of}
+use Rattle.world_parts.specs.Declared.{as_image}
 
 -- THE CLIENT: each answer is a step of its end, and leaves the image
 client_of_end : (answer : ClientOut) (last : List ℕ) → ResetsOwn answer → IsStep A (client_event answer last)
@@ -103,23 +103,33 @@ module _ (s t : LaneState) where
   same_faults true old new after = after.1
   same_faults false old new after = after
 
-  module _ {D : Type 0} (content : D → Option (List ℕ)) (calls faults : D → ℕ) (old new : D) where
-    same_image : new ≡ old → image_of (content new) (faults new) ≡ image_of (content old) (faults old)
-    same_image same = ap (λ (d : D). image_of (content d) (faults d)) same
+  module _ {D : Type 0} (content : D → Option (List ℕ)) (faults calls flushes : D → ℕ) (old new : D) where
+    abbrev image : D → ImageState
+    image d = as_image content faults calls flushes d
+
+    same_image : new ≡ old → image new ≡ image old
+    same_image same = ap image same
 
     abbrev ServerMoves : Option ServerOut → Type 0
     ServerMoves answer =
-        LaneMoves s (image_of (content old) (faults old)) (served_event answer) t (image_of (content new) (faults new))
+        LaneMoves s (image old) (served_event answer) t (image new)
 
     server_moves : (answer : Option ServerOut) → Served s (content old) (served_event answer) t (content new)
         → KeepsStoreOf answer old new
-        → CallsOf answer (calls old) (calls new) (faults old) (faults new) → ServerMoves answer
-    server_moves None served keeps counts = (served.step, same_image keeps)
-    server_moves (Some (server_out.Stored operation block count failed)) served keeps counts =
-        (served, same_faults failed (faults old) (faults new) counts.faults_are)
-    server_moves (Some (server_out.Reset cause packet)) served keeps counts =
+        → CallsOf answer (calls old) (calls new) (faults old) (faults new)
+        → FlushesOf answer (flushes old) (flushes new) → ServerMoves answer
+    server_moves None served keeps counts flushed = (served.step, same_image keeps)
+    server_moves (Some (server_out.Stored operation block count failed)) served keeps counts flushed = (
+      served,
+      record {
+        calls = counts.calls_are;
+        flushes = flushed;
+        faults = same_faults failed (faults old) (faults new) counts.faults_are;
+      },
+    )
+    server_moves (Some (server_out.Reset cause packet)) served keeps counts flushed =
         (reset_by served.gave cause packet served.step, same_image keeps)
-    server_moves (Some answer) served keeps counts = ((served.gave, served.step), same_image keeps)
+    server_moves (Some answer) served keeps counts flushed = ((served.gave, served.step), same_image keeps)
 
     server_end : (answer : Option ServerOut) → Served s (content old) (served_event answer) t (content new)
         → IsStep B (served_event answer)
@@ -135,12 +145,12 @@ module _ (s t : LaneState) where
     pub server_steps : (in_settle : Bool) (k : ℕ) (answer : Option ServerOut) (before after : JournalState) (calm : Bool)
         → Served s (content old) (served_event answer) t (content new) → KeepsStoreOf answer old new
         → CallsOf answer (calls old) (calls new) (faults old) (faults new)
+        → FlushesOf answer (flushes old) (flushes new)
         → Leaves in_settle k (served_event answer) before calm after
-        → LaneSteps in_settle k B s (image_of (content old) (faults old)) before calm after t
-        (image_of (content new) (faults new))
-    server_steps in_settle k answer before after calm served keeps counts leaves = record {
+        → LaneSteps in_settle k B s (image old) before calm after t (image new)
+    server_steps in_settle k answer before after calm served keeps counts flushed leaves = record {
       event = served_event answer;
       of_end = server_end answer served;
-      moves = server_moves answer served keeps counts;
+      moves = server_moves answer served keeps counts flushed;
       leaves = leaves;
     }

@@ -14,7 +14,8 @@ ghost use Rattle.world_laws.specs.RoundMade.{all_true};
 ghost use Rattle.world_parts.specs.Parts.{Fits, FitsSoFar};
 
 use crate::calls::LaneCall;
-use crate::world::{MOST_DISKS, World};
+use crate::lanes::MOST_DISKS;
+use crate::world::World;
 use disk_lane::DiskLane;
 use domain_script::{Lane, Side};
 use ldom_journal::{Entry, Journal, Who};

@@ -1,12 +1,10 @@
-ghost use Rattle.std.specs.Prelude.{◌≡◌, ◌≤◌, ◌<◌, ◌↔◌, IfErr, IfOk, IsTrue, length, map};
-ghost use Rattle.disk_model.specs.LaneState.{fresh};
-ghost use Rattle.domain_script.specs.Declarations.{IsDisk};
+ghost use Rattle.std.specs.Prelude.{◌≡◌, ◌≤◌, ◌<◌, ◌↔◌, IfErr, IfOk, IsTrue, length};
 ghost use Rattle.world_laws.specs.Rounds.{Each};
-ghost use Rattle.world_parts.specs.Declared.{LiesWithin, bytes_needed, image_of, shape_of, shapes_of, world_of};
+ghost use Rattle.world_parts.specs.Declared.{LiesWithin, as_image, bytes_needed, world_of};
 
 use crate::lanes::Lanes;
-use disk_lane::{DiskLane, Region};
-use domain_script::{DiskDecl, Names};
+use disk_lane::DiskLane;
+use domain_script::Names;
 use ldom_journal::Bytes;
 use std::alloc::Global;
 use std::marker::Model;
@@ -29,12 +27,14 @@ impl<D: Store> Model for World<D> {
     ghost use Rattle.std.specs.Prelude.{[], ◌≡◌, ◌≤◌, length};
     ghost use Rattle.world_laws.specs.Rounds.{Each};
     ghost use Rattle.world_laws.specs.World.{WorldState};
-    ghost use Rattle.world_parts.specs.Declared.{LiesWithin};
-    ghost use Rattle.world_parts.specs.Declared.{image_of};
+    ghost use Rattle.world_parts.specs.Declared.{LiesWithin, as_image};
 
     ghost Value = { WorldState };
 
-    ghost view = { λ w. record { lanes = w.lanes.items; image = image_of (D.content w.image) (D.faults w.image) } };
+    ghost view = { λ w. record {
+      lanes = w.lanes.items;
+      image = as_image D.content D.faults D.calls D.flushes w.image;
+    } };
 
     ghost invariant = { λ w. (length w.lanes.items ≤ 8) × Each (LiesWithin (D.size w.image)) w.lanes.items
         × (w.room.items ≡ []) };
@@ -45,17 +45,28 @@ impl<D: Store> World<D> {
     /// another. Where memory is wanted the image is given back.
     pub fn new(alloc: Global, names: &Names, image: D) -> Result<Self, (NoMemory, D)>
         requires image { bytes_needed names.now.disks ≤ D.size image }
-        ensures made { IfOk result (λ w. w ≡ world_of names.now.disks (image_of (D.content image) (D.faults image))) }
+        ensures made { IfOk result (λ w. w ≡ world_of names.now.disks
+            (as_image D.content D.faults D.calls D.flushes image)) }
         ensures given_back { IfErr result (λ e. e.1 ≡ image) }
     {
-        match lanes_of(alloc, names) {
-            Ok(lanes) => Ok(World {
-                alloc,
-                lanes,
-                image,
-                room: Bytes::empty(alloc),
-            }),
+        match Lanes::new(alloc, names) {
+            Ok(lanes) => Ok(World::over(alloc, lanes, image)),
             Err(fault) => Err((fault, image)),
+        }
+    }
+
+    /// The world of these lanes, at most eight, over an image that holds the disks of all. It takes no memory.
+    pub fn over(alloc: Global, lanes: Lanes, image: D) -> Self
+        requires few { length lanes ≤ 8 }
+        requires image { Each (LiesWithin (D.size image)) lanes }
+        ensures lanes { result.lanes ≡ lanes }
+        ensures image { result.image ≡ as_image D.content D.faults D.calls D.flushes image }
+    {
+        World {
+            alloc,
+            lanes: lanes.disks,
+            image,
+            room: Bytes::empty(alloc),
         }
     }
 
@@ -78,6 +89,8 @@ impl<D: Store> World<D> {
     pub fn finish(self) -> (D, Lanes)
         ensures content { D.content result.0 ≡ self.image.told }
         ensures faults { D.faults result.0 ≡ self.image.faults }
+        ensures calls { D.calls result.0 ≡ self.image.calls }
+        ensures flushes { D.flushes result.0 ≡ self.image.flushes }
         ensures lanes { result.1 ≡ self.lanes }
         ensures size { Each (LiesWithin (D.size result.0)) self.lanes }
     {
@@ -89,38 +102,4 @@ impl<D: Store> World<D> {
         } = self;
         (image, Lanes { disks: lanes })
     }
-}
-
-/// So many disks a script may declare.
-pub(crate) const MOST_DISKS: usize = 8;
-
-/// The lanes of these declarations, before anything was asked.
-fn lanes_of(alloc: Global, names: &Names) -> Result<Vec<DiskLane>, NoMemory>
-    ensures lanes { IfOk result (λ lanes. lanes.items ≡ map fresh (shapes_of 0 names.now.disks)) }
-    ensures few { IfOk result (λ lanes. length lanes.items ≤ 8) }
-{
-    let mut lanes = Vec::with_capacity(alloc, MOST_DISKS)?;
-    let mut first = 0;
-    for k in 0..MOST_DISKS as u32 {
-        let disk = match names.disk(k) {
-            Some(disk) => disk,
-            None => return Ok(lanes),
-        };
-        lanes.push(lane_of(alloc, first, &disk)?)?;
-        first += u64::from(disk.blocks);
-    }
-    Ok(lanes)
-}
-
-/// The lane of a declared disk whose blocks begin at this one of the image.
-#[tactic(auto, using(crate::proofs::Declaring::disk_shape))]
-fn lane_of(alloc: Global, first: u64, disk: &DiskDecl) -> Result<DiskLane, NoMemory>
-    requires { IsDisk disk.now }
-    ensures { IfOk result (λ lane. lane ≡ fresh (shape_of first disk.now)) }
-{
-    let region = Region {
-        first,
-        blocks: u64::from(disk.blocks),
-    };
-    DiskLane::new(alloc, region, disk.ring, disk.queue)
 }

@@ -1,13 +1,10 @@
 -- A whole run, put together from its declarations and its other lines.
-use Rattle.std.proofs.Common.{◌≡◌, ◌≢◌, inl, inr, ℕ, ◌+◌, ◌*◌, ◌<◌, Bool, true, false, List, [], ◌∷◌, ◌++◌, length, map, refl, sym, ◌∙◌, ap, subst, append_assoc, length-append, arith, Option, Some, None, IfSome, IsTrue, ◌↔◌, zero, suc}
+use Rattle.std.proofs.Common.{◌≡◌, ◌≢◌, inl, inr, ℕ, ◌+◌, ◌*◌, ◌<◌, Bool, true, false, List, [], ◌∷◌, ◌++◌, length, refl, sym, ◌∙◌, ap, subst, length-append, arith, Option, Some, None, IfSome, IsTrue, ◌↔◌, zero, suc}
 use Rattle.std.specs.Io.KnownBytes.{IsAtEnd, Keeps, prepend_known}
-use Rattle.std.specs.Prelude.{IsNone}
-use Rattle.std.specs.List.{flat_map}
-use Rattle.std.proofs.lemmas.List.{map-append}
-use Rattle.std.proofs.lemmas.List.Concat.{flat_map-append}
-use Rattle.runs.specs.Run.{run_append}
+use Rattle.runs.specs.Run.{Run, run_append, run_push}
 use Rattle.vio_io.specs.declared.host.AttachFault.{AttachFault}
 use Rattle.vio_io.specs.declared.host.AttachFault.TheVariants.{Failed, Memory}
+use Rattle.disk_law.specs.ListState.{ImageState}
 use Rattle.domain_script.specs.declared.event.Event.{Event}
 use Rattle.domain_script.specs.declared.event.Event.TheVariants as line
 use Rattle.domain_script.specs.LinesState.{LinesState, to_come}
@@ -16,12 +13,10 @@ use Rattle.domain_script.specs.Spells.{Spells}
 use Rattle.domain_script.proofs.ScriptLemmas.{taken-append}
 use Rattle.domain_script.proofs.Spelling.{declared_first}
 use Rattle.ldom_entries.specs.declared.entry.Entry.{Entry}
-use Rattle.domain_script.specs.declared.event.LineFault.{LineFault}
-use Rattle.ldom_journal.specs.declared.status.LimitKind.{LimitKind}
 use Rattle.ldom_journal.specs.declared.status.Status.{Status}
 use Rattle.ldom_journal.specs.declared.status.Status.TheVariants as status
-use Rattle.world_parts.specs.Endings.{Ending, JournalIs, MayBeCut, NotBegun, Whole, ending}
-use Rattle.script_laws.specs.Going.{Grew, GrewTo, RunsAll, RunsLines}
+use Rattle.world_parts.specs.Endings.{EndsSo, JournalIs, ending}
+use Rattle.script_laws.specs.Going.{RunsAll, RunsLines}
 use Rattle.ldom_journal.specs.Stops.{IsReaders}
 use Rattle.script_laws.specs.Attached.{AreOpening, AttachesAt, ImageStands, is_opening}
 use Rattle.script_laws.specs.Opening.{Opened, Opens, OpensAndStops}
@@ -32,13 +27,15 @@ use Rattle.ldom_journal.specs.LinesEnd.{counted_lines}
 use Rattle.script_laws.specs.Reading.{StopsAt}
 use Rattle.script_laws.specs.Replayed.{FaultsAre, Replayed, Stopped, attach_status, ended_status, start_of}
 use Rattle.script_laws.specs.LanesStand.{LanesStand}
+use Rattle.script_laws.specs.Script.{ReadSoFar}
 use Rattle.domain_script.specs.ScriptEvents.{AllSpell, no_names}
-use Rattle.world_parts.specs.Script.{BeginBelow, FitsScript, FitsCutOff}
+use Rattle.world_parts.specs.Script.{BeginBelow, FitsScript, ScriptParts, all_lines, entries_in, events_in, events_of, journal_of}
 use Rattle.disk_model.specs.LaneState.{LaneState}
 use Rattle.world_laws.specs.World.{WorldState}
 use Rattle.script_laws.proofs.LineCases.{none_begun, noted_disks, silent, stays_ended}
+use Rattle.script_laws.proofs.LineLists.{all_behind, behind_ends, behind_lines, below_both, below_push, by_readers, entries_push, events_behind, events_both, journal_behind, whole_ends}
 use Rattle.script_laws.proofs.ReadLemmas.{opening_halves, other_line, read_none}
-use Rattle.script_laws.proofs.RunLemmas.{below_append, fits_more, fits_none, keeps_same, line_step}
+use Rattle.script_laws.proofs.RunLemmas.{keeps_same, line_starts, line_step}
 
 spell_append : (xs ys : List (List ℕ)) (a b c : NamesState) (es fs : List Event) → AllSpell xs a es b → AllSpell ys b fs c → AllSpell (xs ++ ys) a (es ++ fs) c
 spell_append [] ys a b c [] fs first second = subst (λ (n : NamesState). AllSpell ys n fs c) first second
@@ -65,51 +62,69 @@ pub from_start : (lines : LinesState) (left : Option (List ℕ)) → lines.held 
 from_start lines None none = refl
 from_start lines (Some bytes) none = ap (λ (l : List ℕ). Some (l ++ bytes)) none
 
--- declarations give no entry
-fits_opening : (s : WorldState) (events : List Event) → AreOpening events → FitsScript 0 s events [] s
-fits_opening s [] are = fits_none 0 s
-fits_opening s (event ∷ events) are = one_first (fits_opening s events are.1)
-  where
-    one_first : FitsScript 0 s events [] s → FitsScript 0 s (event ∷ events) [] s
-    one_first fits = record {
-      lines = (event, []) ∷ fits.lines;
-      events_are = ap (λ (l : List Event). event ∷ l) fits.events_are;
-      parts = fits.parts;
-      run = (s, silent s event are.0, fits.run);
-      begin_below = (omega arith, fits.begin_below);
-    }
+-- DECLARATIONS give no entry
+abbrev pub opening_lines : List Event → List (Event × List Entry)
+opening_lines [] = []
+opening_lines (event ∷ events) = (event, []) ∷ opening_lines events
 
-fits_append : (entries : ℕ) (s m t : WorldState) (es fs : List Event) (xs ys : List Entry) → FitsScript entries s es xs m → FitsScript (entries + length xs) m fs ys t → FitsScript entries s (es ++ fs) (xs ++ ys) t
-fits_append entries s m t es fs xs ys first second = record {
-  lines = first.lines ++ second.lines;
-  events_are = map-append (λ (l : Event × List Entry). l.0) first.lines second.lines ∙ ap (λ (l : List Event). l ++ map (λ (x : Event × List Entry). x.0) second.lines) first.events_are ∙ ap (λ (l : List Event). es ++ l) second.events_are;
-  parts = flat_map-append (λ (l : Event × List Entry). l.1) first.lines second.lines ∙ ap (λ (l : List Entry). l ++ flat_map (λ (x : Event × List Entry). x.1) second.lines) first.parts ∙ ap (λ (l : List Entry). xs ++ l) second.parts;
-  run = run_append LineStep s m t first.lines second.lines first.run second.run;
-  begin_below = below_append entries first.lines second.lines first.begin_below (subst (λ (l : List Entry). BeginBelow (entries + length l) second.lines) (sym first.parts) second.begin_below);
+opening_events : (events : List Event) → events_in (opening_lines events) ≡ events
+opening_events [] = refl
+opening_events (event ∷ events) = ap (λ (l : List Event). event ∷ l) (opening_events events)
+
+opening_entries : (events : List Event) → entries_in (opening_lines events) ≡ []
+opening_entries [] = refl
+opening_entries (event ∷ events) = opening_entries events
+
+opening_run : (s : WorldState) (events : List Event) → AreOpening events → Run LineStep s (opening_lines events) s
+opening_run s [] are = refl
+opening_run s (event ∷ events) are = (s, silent s event are.0, opening_run s events are.1)
+
+opening_below : (events : List Event) → BeginBelow 0 (opening_lines events)
+opening_below [] = tt
+opening_below (event ∷ events) = (omega arith, opening_below events)
+
+-- and then a line with its part
+abbrev pub first_lines : List Event → Event → List Entry → List (Event × List Entry)
+first_lines opening event part = opening_lines opening ++ (event, part) ∷ []
+
+first_events : (opening : List Event) (event : Event) (part : List Entry)
+    → events_in (first_lines opening event part) ≡ opening ++ event ∷ []
+first_events opening event part =
+    events_both (opening_lines opening) ((event, part) ∷ [])
+    ∙ ap (λ (l : List Event). l ++ event ∷ []) (opening_events opening)
+
+first_entries : (opening : List Event) (event : Event) (part : List Entry)
+    → entries_in (first_lines opening event part) ≡ part
+first_entries opening event part =
+    entries_push (opening_lines opening) (event, part)
+    ∙ ap (λ (l : List Entry). l ++ part) (opening_entries opening)
+
+first_below : (opening : List Event) (event : Event) (part : List Entry)
+    → BeginBelow 0 (first_lines opening event part)
+first_below opening event part =
+    let none = ap (λ (l : List Entry). length l) (opening_entries opening) in
+    below_push 0 (opening_lines opening) (event, part) (opening_below opening) (omega (arith, none))
+
+-- the parts where only declarations were read, and where memory was wanted at the line behind them
+abbrev pub declared_parts : List Event → ScriptParts
+declared_parts opening = record { whole = opening_lines opening; cut = None }
+
+abbrev pub begun_parts : List Event → Event → List Entry → ScriptParts
+begun_parts opening event part = record { whole = opening_lines opening; cut = Some (event, part) }
+
+declared_fit : (s : WorldState) (opening : List Event) → AreOpening opening
+    → FitsScript 0 s (declared_parts opening) s
+declared_fit s opening are =
+    record { middle = s; run = opening_run s opening are; last = refl; begin_below = opening_below opening }
+
+none_start : (s : WorldState) (opening : List Event) (event : Event) → AreOpening opening
+    → FitsScript 0 s (begun_parts opening event []) s
+none_start s opening event are = record {
+  middle = s;
+  run = opening_run s opening are;
+  last = record { entries = []; says = refl; begins = record { begins = none_begun event s.lanes; run = refl } };
+  begin_below = first_below opening event [];
 }
-
-cut_append : (entries : ℕ) (s m t : WorldState) (es fs : List Event) (xs ys : List Entry) → FitsScript entries s es xs m → FitsCutOff (entries + length xs) m fs ys t → FitsCutOff entries s (es ++ fs) (xs ++ ys) t
-cut_append entries s m t es fs xs ys first second = record {
-  before = es ++ second.before;
-  last = second.last;
-  events_are = ap (λ (l : List Event). es ++ l) second.events_are ∙ sym (append_assoc es second.before (second.last ∷ []));
-  front = xs ++ second.front;
-  part = second.part;
-  journal_is = ap (λ (l : List Entry). xs ++ l) second.journal_is ∙ sym (append_assoc xs second.front second.part);
-  middle = second.middle;
-  fits = fits_append entries s m second.middle es second.before xs second.front first second.fits;
-  begins_below = omega (arith, second.begins_below, length-append xs second.front);
-  made = second.made;
-  says = second.says;
-  begins = second.begins;
-}
-
-grew_append : (ending : Ending) (entries : ℕ) (s m t : WorldState) (es fs : List Event) (xs ys : List Entry) → FitsScript entries s es xs m → GrewTo ending (entries + length xs) m fs ys t
-    → GrewTo ending entries s (es ++ fs) (xs ++ ys) t
-grew_append MayBeCut entries s m t es fs xs ys first (inl second) = inl (fits_append entries s m t es fs xs ys first second)
-grew_append MayBeCut entries s m t es fs xs ys first (inr second) = inr (cut_append entries s m t es fs xs ys first second)
-grew_append NotBegun entries s m t es fs xs ys first second = fits_append entries s m t es fs xs ys first second
-grew_append Whole entries s m t es fs xs ys first second = fits_append entries s m t es fs xs ys first second
 
 -- a line came that is neither blank nor a declaration
 not_opening : (opening : List Event) (event : Event) → is_opening event ≡ false → AreOpening (opening ++ event ∷ []) → ⊥
@@ -119,85 +134,154 @@ attached_there : (events : List Event) (rest : Option (List ℕ)) → AttachesAt
 attached_there events rest (inl last) are = last.1
 attached_there events rest (inr first) are = absurd (not_opening first.opening first.event first.other (subst AreOpening first.events_are are))
 
+-- what was read, its events said otherwise
+abbrev read_as : (start left : Option (List ℕ)) (events all : List Event) (names : NamesState) (count : ℕ)
+    → all ≡ events → ReadSoFar start left events names count → ReadSoFar start left all names count
+read_as start left events all names count is read = record {
+  texts = read.texts;
+  taken = read.taken;
+  spell = subst (λ (l : List Event). AllSpell read.texts no_names l names) (sym is) read.spell;
+  counts = read.counts;
+}
+
+abbrev stopped_as : (start now : Option (List ℕ)) (why ended : Status) (events all : List Event) (names : NamesState)
+    (entries number lines : ℕ) → all ≡ events
+    → (stopped : Stopped start now why events names entries lines)
+    → StopsAt ended stopped.left stopped.held now names stopped.count number
+    → lines ≡ counted_lines ended stopped.count → Stopped start now ended all names number lines
+stopped_as start now why ended events all names entries number lines is stopped stop counted = record {
+  left = stopped.left;
+  count = stopped.count;
+  read = read_as start stopped.left events all names stopped.count is stopped.read;
+  held = stopped.held;
+  stop = stop;
+  lines_are = counted;
+}
+
 -- a run that stopped after the first such line
 abbrev stopped_behind : (start now : Option (List ℕ)) (held : List ℕ) (event : Event) (names : NamesState) (count : ℕ) (why : Status) → (opens : Opens start (prepend_known held now) event names count)
-    → (entries : ℕ) → StopsAt why (prepend_known held now) held now names count entries → count ≡ counted_lines why count → Stopped start now why (opens.opening ++ event ∷ []) names entries count
-stopped_behind start now held event names count why opens entries stop is = record { left = prepend_known held now; count = count; read = opens.read; held = held; stop = stop; lines_are = is }
+    → (all : List Event) → all ≡ opens.opening ++ event ∷ []
+    → (entries : ℕ) → StopsAt why (prepend_known held now) held now names count entries → count ≡ counted_lines why count → Stopped start now why all names entries count
+stopped_behind start now held event names count why opens all all_is entries stop is = record {
+  left = prepend_known held now;
+  count = count;
+  read = read_as start (prepend_known held now) (opens.opening ++ event ∷ []) all names count all_is opens.read;
+  held = held;
+  stop = stop;
+  lines_are = is;
+}
 
--- the first event that isn't a declaration, and the lines after it
-pub runs_all : (start rest now : Option (List ℕ)) (event : Event) (names after : NamesState) (s m t : WorldState) (journal new : List Entry) (number lines : ℕ) (why : Status)
-    → Opens start rest event names number → Fits s (line_of event) [] journal m → RunsLines rest now names journal m number why after new t lines → RunsAll start now names s why after new t lines
-runs_all start rest now event names after s m t journal new number lines why opens fits runs =
-    let first : FitsScript 0 s (opens.opening ++ event ∷ []) journal m =
-    subst (λ (l : List Entry). FitsScript 0 s (opens.opening ++ event ∷ []) l m) (sym fits.adds.grew)
-    (fits_more 0 s s m opens.opening event [] fits.adds.part (fits_opening s opens.opening opens.are) (omega arith) (line_step s event [] journal m fits)) in
-    let behind : length journal ≡ 0 + length journal = omega arith in
-    let rest_fits : Grew why (0 + length journal) m runs.events runs.part t = subst (λ (n : ℕ). Grew why n m runs.events runs.part t) behind runs.fits in
-    let count : number + length runs.read.texts ≡ length (opens.read.texts ++ runs.read.texts) = omega (arith, opens.read.counts, length-append opens.read.texts runs.read.texts) in
-    record {
-      events = (opens.opening ++ event ∷ []) ++ runs.events;
-      stopped = record {
-        left = runs.left;
-        count = number + length runs.read.texts;
-        read = record {
-          texts = opens.read.texts ++ runs.read.texts;
-          taken = taken-append start rest runs.left opens.read.texts runs.read.texts opens.read.taken
-              (record { taken = runs.read.taken; short = runs.read.short; few = omega (arith, runs.read.few) }) (omega (arith, runs.read.few, opens.read.counts));
-          spell = spell_append opens.read.texts runs.read.texts no_names names after (opens.opening ++ event ∷ []) runs.events opens.read.spell runs.read.spell;
-          counts = count;
+-- THE FIRST EVENT that isn't a declaration, and the lines after it
+module _ (start rest now : Option (List ℕ)) (event : Event) (names after : NamesState) (s m t : WorldState)
+    (journal new : List Entry) (number lines : ℕ) (why : Status) (readers : IsReaders why)
+    (opens : Opens start rest event names number) (fits : Fits s (line_of event) [] journal m)
+    (runs : RunsLines rest now names journal m number why after new t lines) where
+  abbrev front : List (Event × List Entry)
+  front = first_lines opens.opening event fits.adds.part
+
+  abbrev parts : ScriptParts
+  parts = behind_lines front runs.parts
+
+  front_run : Run LineStep s front m
+  front_run =
+      run_push LineStep s s m (opening_lines opens.opening) (event, fits.adds.part) (opening_run s opens.opening opens.are)
+      (line_step s event [] journal m fits)
+
+  entries_are : entries_in front ≡ journal
+  entries_are = first_entries opens.opening event fits.adds.part ∙ sym fits.adds.grew
+
+  events_are : events_of parts ≡ (opens.opening ++ event ∷ []) ++ events_of runs.parts
+  events_are =
+      events_behind front runs.parts
+      ∙ ap (λ (l : List Event). l ++ events_of runs.parts) (first_events opens.opening event fits.adds.part)
+
+  all_fit : FitsScript 0 s parts t
+  all_fit =
+      let long : length journal ≡ 0 + length (entries_in front) =
+      omega (arith, ap (λ (l : List Entry). length l) entries_are) in
+      record {
+        middle = runs.fits.middle;
+        run = run_append LineStep s m runs.fits.middle front runs.parts.whole front_run runs.fits.run;
+        last = runs.fits.last;
+        begin_below = subst (λ (l : List (Event × List Entry)). BeginBelow 0 l) (sym (all_behind front runs.parts))
+            (below_both 0 front (all_lines runs.parts) (first_below opens.opening event fits.adds.part)
+            (subst (λ (n : ℕ). BeginBelow n (all_lines runs.parts)) long runs.fits.begin_below));
+      }
+
+  pub runs_all : RunsAll start now names s why after new t lines
+  runs_all =
+      let count : number + length runs.read.texts ≡ length (opens.read.texts ++ runs.read.texts) = omega (arith, opens.read.counts, length-append opens.read.texts runs.read.texts) in
+      record {
+        parts = parts;
+        stopped = record {
+          left = runs.left;
+          count = number + length runs.read.texts;
+          read = record {
+            texts = opens.read.texts ++ runs.read.texts;
+            taken = taken-append start rest runs.left opens.read.texts runs.read.texts opens.read.taken
+                (record { taken = runs.read.taken; short = runs.read.short; few = omega (arith, runs.read.few) }) (omega (arith, runs.read.few, opens.read.counts));
+            spell = subst (λ (l : List Event). AllSpell (opens.read.texts ++ runs.read.texts) no_names l after) (sym events_are)
+                (spell_append opens.read.texts runs.read.texts no_names names after (opens.opening ++ event ∷ []) (events_of runs.parts) opens.read.spell runs.read.spell);
+            counts = count;
+          };
+          held = runs.held;
+          stop = runs.stop;
+          lines_are = runs.lines_are;
         };
-        held = runs.held;
-        stop = runs.stop;
-        lines_are = runs.lines_are;
-      };
-      fits = subst (λ (l : List Entry). Grew why 0 s ((opens.opening ++ event ∷ []) ++ runs.events) l t) (sym runs.grew) (grew_append (ending why) 0 s m t (opens.opening ++ event ∷ []) runs.events journal runs.part first rest_fits);
-      disks = same_disks runs.read.texts names after runs.events opens.ended runs.read.spell;
-      attached = λ _ are. not_opening opens.opening event (other_line event opens.other) (opening_halves (opens.opening ++ event ∷ []) runs.events are).0;
-    }
+        journal_is = record {
+          is = journal_behind front runs.parts ∙ ap (λ (l : List Entry). l ++ journal_of runs.parts) entries_are ∙ sym runs.grew;
+          fits = all_fit;
+          ends = behind_ends front runs.parts why readers runs.ends;
+        };
+        disks = same_disks runs.read.texts names after (events_of runs.parts) opens.ended runs.read.spell;
+        attached = λ _ are. not_opening opens.opening event (other_line event opens.other)
+            (opening_halves (opens.opening ++ event ∷ []) (events_of runs.parts) (subst AreOpening events_are are)).0;
+      }
 
 -- memory was wanted in the midst of that first event
 pub runs_first_cut : (start now : Option (List ℕ)) (held : List ℕ) (event : Event) (names : NamesState) (s t : WorldState) (journal : List Entry) (number : ℕ)
     → Opens start (prepend_known held now) event names number → FitsSoFar s (line_of event) [] journal t → RunsAll start now names s status.NoMemory names journal t number
-runs_first_cut start now held event names s t journal number opens fits = record {
-  events = opens.opening ++ event ∷ [];
-  stopped = stopped_behind start now held event names number status.NoMemory opens (length journal) (keeps_same (prepend_known held now)) refl;
-  fits = inr (record {
-    before = opens.opening;
-    last = event;
-    events_are = refl;
-    front = [];
-    part = fits.adds.part;
-    journal_is = fits.adds.grew;
-    middle = s;
-    fits = fits_opening s opens.opening opens.are;
-    begins_below = omega arith;
-    made = fits.entries;
-    says = fits.adds.says;
-    begins = fits.begins;
-  });
-  disks = refl;
-  attached = λ _. not_opening opens.opening event (other_line event opens.other);
-}
+runs_first_cut start now held event names s t journal number opens fits =
+    let are : events_of (begun_parts opens.opening event fits.adds.part) ≡ opens.opening ++ event ∷ [] =
+    first_events opens.opening event fits.adds.part in
+    record {
+      parts = begun_parts opens.opening event fits.adds.part;
+      stopped = stopped_behind start now held event names number status.NoMemory opens
+          (events_of (begun_parts opens.opening event fits.adds.part)) are (length journal) (keeps_same (prepend_known held now)) refl;
+      journal_is = record {
+        is = first_entries opens.opening event fits.adds.part ∙ sym fits.adds.grew;
+        fits = record {
+          middle = s;
+          run = opening_run s opens.opening opens.are;
+          last = line_starts s event [] journal t fits;
+          begin_below = first_below opens.opening event fits.adds.part;
+        };
+        ends = tt;
+      };
+      disks = refl;
+      attached = λ _ opening. not_opening opens.opening event (other_line event opens.other) (subst AreOpening are opening);
+    }
 
 -- nothing but declarations
+declared_stopped : (start now : Option (List ℕ)) (why ended : Status) (names : NamesState) (lines : ℕ)
+    → (opens : OpensAndStops start now why names lines)
+    → StopsAt ended opens.stopped.left opens.stopped.held now names opens.stopped.count 0
+    → lines ≡ counted_lines ended opens.stopped.count
+    → Stopped start now ended (events_of (declared_parts opens.opening)) names 0 lines
+declared_stopped start now why ended names lines opens stop counted =
+    stopped_as start now why ended opens.opening (events_of (declared_parts opens.opening)) names 0 0 lines
+    (opening_events opens.opening) opens.stopped stop counted
+
 pub runs_none_more : (start now : Option (List ℕ)) (names : NamesState) (s : WorldState) (lines : ℕ) → OpensAndStops start now status.Done names lines → RunsAll start now names s status.Done names [] s lines
-runs_none_more start now names s lines opens = record { events = opens.opening; stopped = opens.stopped; fits = fits_opening s opens.opening opens.are; disks = refl; attached = λ other. absurd (other refl) }
+runs_none_more start now names s lines opens = record {
+  parts = declared_parts opens.opening;
+  stopped = declared_stopped start now status.Done status.Done names lines opens opens.stopped.stop opens.stopped.lines_are;
+  journal_is = record { is = opening_entries opens.opening; fits = declared_fit s opens.opening opens.are; ends = refl };
+  disks = refl;
+  attached = λ other. absurd (other refl);
+}
 
--- what holds of each status with which reading ends
-pub by_readers : (P : Status → Type 0) → P status.Done → ((at : ℕ) (fault : LineFault) → P (status.Script at fault)) → P status.SourceFault → ((at : ℕ) (kind : LimitKind) → P (status.Limit at kind)) → P status.NoMemory
-    → (why : Status) → IsReaders why → P why
-by_readers P done script source limit memory status.Done readers = done
-by_readers P done script source limit memory (status.Script at fault) readers = script at fault
-by_readers P done script source limit memory status.SourceFault readers = source
-by_readers P done script source limit memory (status.Limit at kind) readers = limit at kind
-by_readers P done script source limit memory status.NoMemory readers = memory
-by_readers P done script source limit memory status.Usage readers = absurd readers
-by_readers P done script source limit memory status.SinkFault readers = absurd readers
-by_readers P done script source limit memory status.HostFault readers = absurd readers
-by_readers P done script source limit memory status.StoreFault readers = absurd readers
-by_readers P done script source limit memory (status.ImageSize need have) readers = absurd readers
-
--- what holds of a run's status whether the image failed or not
+-- HOW A RUN ENDED, whether the image failed or not
 pub ended_as : (P : Status → Type 0) (why : Status) (faulty : Bool) → IsReaders why → (P status.Done → P status.StoreFault) → P why → P (ended_status why faulty)
 ended_as P why faulty readers also =
     by_readers (λ (w : Status). P w → P (ended_status w faulty)) (done faulty) (λ at fault p. p) (λ p. p) (λ at kind p. p) (λ p. p) why readers
@@ -213,10 +297,10 @@ ended_stop why faulty names left now held count entries readers = ended_as (λ (
 ended_count : (why : Status) (faulty : Bool) (count : ℕ) → IsReaders why → counted_lines why count ≡ counted_lines (ended_status why faulty) count
 ended_count why faulty count readers = ended_as (λ (w : Status). counted_lines why count ≡ counted_lines w count) why faulty readers (λ is. is) refl
 
-ended_journal : (why : Status) (faulty : Bool) (s t : WorldState) (events : List Event) (journal : List Entry) → IsReaders why → Grew why 0 s events journal t → JournalIs (ended_status why faulty) s events journal t
-ended_journal why faulty s t events journal readers grew =
-    ended_as (λ (w : Status). JournalIs w s events journal t) why faulty readers (λ is. is)
-    (by_readers (λ (w : Status). Grew w 0 s events journal t → JournalIs w s events journal t) (λ is. is) (λ at fault is. is) (λ is. is) (λ at kind is. is) (λ is. is) why readers grew)
+ended_journal : (why : Status) (faulty : Bool) (s t : WorldState) (parts : ScriptParts) (journal : List Entry) → IsReaders why
+    → JournalIs (ending why) s parts journal t → JournalIs (ending (ended_status why faulty)) s parts journal t
+ended_journal why faulty s t parts journal readers =
+    ended_as (λ (w : Status). JournalIs (ending w) s parts journal t) why faulty readers (λ is. is)
 
 ended_faults : {D : Type 0} (image : D) (why : Status) (faulty : Bool) (faults : ℕ) → IsReaders why → (IsTrue faulty ↔ (0 < faults)) → FaultsAre (ended_status why faulty) (Some image) faults
 ended_faults image why faulty faults readers tells =
@@ -243,179 +327,194 @@ ended_image image why faulty events rest journal readers =
     done false = refl
 
 -- and its lanes
-ended_lanes : {D : Type 0} (image : D) (why : Status) (faulty : Bool) (journal : List Entry) (lanes : List LaneState) (t : WorldState) → IsReaders why → lanes ≡ t.lanes
-    → LanesStand (ended_status why faulty) journal (Some image) (Some lanes) t
-ended_lanes image why faulty journal lanes t readers left =
-    by_readers (λ (w : Status). LanesStand (ended_status w faulty) journal (Some image) (Some lanes) t) (done faulty) (λ at fault. same) same (λ at kind. same) (refl, left) why readers
+ended_lanes : {D : Type 0} (image : D) (why : Status) (faulty : Bool) (lanes : List LaneState) (t : WorldState) → IsReaders why → lanes ≡ t.lanes
+    → LanesStand (ended_status why faulty) (Some image) (Some lanes) t
+ended_lanes image why faulty lanes t readers left =
+    by_readers (λ (w : Status). LanesStand (ended_status w faulty) (Some image) (Some lanes) t) (done faulty) (λ at fault. same) same (λ at kind. same) same why readers
   where
     same : Some lanes ≡ Some t.lanes
     same = ap Some left
 
-    done : (faulty : Bool) → LanesStand (ended_status status.Done faulty) journal (Some image) (Some lanes) t
+    done : (faulty : Bool) → LanesStand (ended_status status.Done faulty) (Some image) (Some lanes) t
     done true = same
     done false = same
 
-opening_lanes : (D : Type 0) (why : Status) (t : WorldState) → IsReaders why → LanesStand {D = D} why [] None None t
-opening_lanes D why t readers = by_readers (λ (w : Status). LanesStand {D = D} w [] None None t) refl (λ at fault. refl) refl (λ at kind. refl) refl why readers
+-- a run that ended in its declarations has neither
+opening_lanes : (D : Type 0) (why : Status) (t : WorldState) → IsReaders why → LanesStand {D = D} why None None t
+opening_lanes D why t readers = by_readers (λ (w : Status). LanesStand {D = D} w None None t) refl (λ at fault. refl) refl (λ at kind. refl) refl why readers
 
-refused_lanes : {D : Type 0} (fault : AttachFault) (image : Option D) (t : WorldState) → (fault ≡ Failed → IsNone image) → LanesStand (attach_status fault) [] image None t
-refused_lanes Failed None t none = refl
-refused_lanes Failed (Some disk) t none = absurd (cc (none refl))
-refused_lanes Memory image t none = refl
-
--- a run that ended in its declarations has none
 opening_image : (D : Type 0) (why : Status) (events : List Event) (rest : Option (List ℕ)) → IsReaders why → why ≢ status.Done → AreOpening events → ImageStands {D = D} why events rest [] None
 opening_image D why events rest readers other are =
     by_readers (λ (w : Status). w ≢ status.Done → ImageStands {D = D} w events rest [] None) (λ o. absurd (o refl)) (λ at fault o. (λ _. are, λ _. refl)) (λ o. (λ _. are, λ _. refl)) (λ at kind o. (λ _. are, λ _. refl))
     (λ o. (refl, inl are)) why readers other
 
--- attaching an image failed, or there was no memory for its world
-refused_image : {D : Type 0} (fault : AttachFault) (events : List Event) (rest : Option (List ℕ)) (image : Option D) → AttachesAt events rest → (fault ≡ Failed → IsNone image) → ImageStands (attach_status fault) events rest [] image
-refused_image Failed events rest image at none = (none refl, at)
-refused_image Memory events rest None at none = (refl, inr at)
-refused_image Memory events rest (Some disk) at none = attached_there events rest at
-
-opening_journal : (why : Status) (s : WorldState) (events : List Event) → IsReaders why → FitsScript 0 s events [] s → JournalIs why s events [] s
-opening_journal why s events readers fits = by_readers (λ (w : Status). JournalIs w s events [] s) fits (λ at fault. fits) fits (λ at kind. fits) (inl fits) why readers
-
 opening_faults : {D : Type 0} (image : Option D) (why : Status) (faults : ℕ) → IsReaders why → why ≢ status.Done → FaultsAre why image faults
 opening_faults image why faults readers =
     by_readers (λ (w : Status). w ≢ status.Done → FaultsAre w image faults) (λ other. absurd (other refl)) (λ at fault other. tt) (λ other. tt) (λ at kind other. tt) (λ other. tt) why readers
+
+-- nor has one whose image couldn't be attached, or for whose lanes there was no memory
+refused_lanes : (D : Type 0) (fault : AttachFault) (t : WorldState) → LanesStand {D = D} (attach_status fault) None None t
+refused_lanes D Failed t = refl
+refused_lanes D Memory t = refl
+
+refused_image : (D : Type 0) (fault : AttachFault) (events : List Event) (rest : Option (List ℕ)) → AttachesAt events rest → ImageStands {D = D} (attach_status fault) events rest [] None
+refused_image D Failed events rest at = (refl, at)
+refused_image D Memory events rest at = (refl, inr at)
+
+refused_faults : {D : Type 0} (fault : AttachFault) (image : Option D) (faults : ℕ) → FaultsAre (attach_status fault) image faults
+refused_faults Failed image faults = tt
+refused_faults Memory image faults = tt
+
+refused_ends : (fault : AttachFault) (parts : ScriptParts) → journal_of parts ≡ [] → EndsSo (ending (attach_status fault)) parts
+refused_ends Failed parts none = none
+refused_ends Memory parts none = tt
+
+refused_stop : (fault : AttachFault) (left now : Option (List ℕ)) (held : List ℕ) (names : NamesState) (count : ℕ) → Keeps left (prepend_known held now) → StopsAt (attach_status fault) left held now names count 0
+refused_stop Failed left now held names count kept = kept
+refused_stop Memory left now held names count kept = kept
+
+refused_count : (fault : AttachFault) (count : ℕ) → count ≡ counted_lines (attach_status fault) count
+refused_count Failed count = refl
+refused_count Memory count = refl
 
 nothing_held : (start now : Option (List ℕ)) → now ≡ start → Keeps start (prepend_known [] now)
 nothing_held None now same = tt
 nothing_held (Some bytes) now same = subst (λ (o : Option (List ℕ)). Keeps (Some bytes) (prepend_known [] o)) (sym same) refl
 
-module _ {D : Type 0} (content : D → Option (List ℕ)) (faults : D → ℕ) (start now : Option (List ℕ)) (gives : ℕ → Option (List ℕ)) where
-  -- a run in a world that ended
+-- where the lines end at which an image is attached
+declared_attaches : (opening : List Event) (rest : Option (List ℕ)) → AreOpening opening → IsAtEnd rest
+    → AttachesAt (events_of (declared_parts opening)) rest
+declared_attaches opening rest are end =
+    subst (λ (l : List Event). AttachesAt l rest) (sym (opening_events opening)) (inl (are, end))
+
+begun_attaches : (opening : List Event) (event : Event) (rest : Option (List ℕ)) → AreOpening opening
+    → is_opening event ≡ false → AttachesAt (events_of (begun_parts opening event [])) rest
+begun_attaches opening event rest are other =
+    inr (record { opening = opening; are = are; event = event; other = other; events_are = first_events opening event [] })
+
+module _ {D : Type 0} (seen : D → ImageState) (start now : Option (List ℕ)) (gives : ℕ → Option (List ℕ)) where
+  -- A RUN in a world that ended
   pub replayed_of : (why : Status) (faulty : Bool) (names after : NamesState) (s t : WorldState) (journal : List Entry) (lines : ℕ) (image : D) (lanes : List LaneState) → IsReaders why → RunsAll start now names s why after journal t lines → s ≡ start_of names gives
-      → content image ≡ t.image.told → faults image ≡ t.image.faults → lanes ≡ t.lanes → (IsTrue faulty ↔ (0 < t.image.faults))
-      → Replayed content faults start now gives (ended_status why faulty) lines after journal (Some image) (Some lanes)
-  replayed_of why faulty names after s t journal lines image lanes readers runs begins told failed left tells =
+      → seen image ≡ t.image → lanes ≡ t.lanes → (IsTrue faulty ↔ (0 < t.image.faults))
+      → Replayed seen start now gives (ended_status why faulty) lines after journal (Some image) (Some lanes)
+  replayed_of why faulty names after s t journal lines image lanes readers runs begins told left tells =
       let begin : s ≡ start_of after gives = begins ∙ ap (λ (disks : List _). start_of (record { disks = disks; ended = true }) gives) (sym runs.disks) in
-      let fits : Grew why 0 (start_of after gives) runs.events journal t = subst (λ (x : WorldState). Grew why 0 x runs.events journal t) begin runs.fits in
       record {
-        events = runs.events;
-        stopped = record {
-          left = runs.stopped.left;
-          count = runs.stopped.count;
-          read = runs.stopped.read;
-          held = runs.stopped.held;
-          stop = ended_stop why faulty after runs.stopped.left now runs.stopped.held runs.stopped.count (length journal) readers runs.stopped.stop;
-          lines_are = runs.stopped.lines_are ∙ ended_count why faulty runs.stopped.count readers;
-        };
+        parts = runs.parts;
+        stopped = stopped_as start now why (ended_status why faulty) (events_of runs.parts) (events_of runs.parts) after (length journal) (length journal) lines refl runs.stopped
+            (ended_stop why faulty after runs.stopped.left now runs.stopped.held runs.stopped.count (length journal) readers runs.stopped.stop)
+            (runs.stopped.lines_are ∙ ended_count why faulty runs.stopped.count readers);
         final = t;
-        journal_is = ended_journal why faulty (start_of after gives) t runs.events journal readers fits;
-        image_is = (told, failed);
+        journal_is = ended_journal why faulty (start_of after gives) t runs.parts journal readers
+            (subst (λ (x : WorldState). JournalIs (ending why) x runs.parts journal t) begin runs.journal_is);
+        image_is = told;
         faults_are = ended_faults image why faulty t.image.faults readers tells;
-        image_stands = ended_image image why faulty runs.events runs.stopped.left journal readers runs.attached;
-        lanes_stand = ended_lanes image why faulty journal lanes t readers left;
+        image_stands = ended_image image why faulty (events_of runs.parts) runs.stopped.left journal readers runs.attached;
+        lanes_stand = ended_lanes image why faulty lanes t readers left;
       }
 
-  -- a run that ended before an image was attached: in its declarations
-  pub replayed_unattached : (why : Status) (names : NamesState) (lines : ℕ) → IsReaders why → why ≢ status.Done → OpensAndStops start now why names lines → Replayed content faults start now gives why lines names [] None None
+  -- one that ended before an image was attached: in its declarations
+  pub replayed_unattached : (why : Status) (names : NamesState) (lines : ℕ) → IsReaders why → why ≢ status.Done → OpensAndStops start now why names lines → Replayed seen start now gives why lines names [] None None
   replayed_unattached why names lines readers other opens = record {
-    events = opens.opening;
-    stopped = opens.stopped;
+    parts = declared_parts opens.opening;
+    stopped = declared_stopped start now why why names lines opens opens.stopped.stop opens.stopped.lines_are;
     final = start_of names gives;
-    journal_is = opening_journal why (start_of names gives) opens.opening readers (fits_opening (start_of names gives) opens.opening opens.are);
+    journal_is = record {
+      is = opening_entries opens.opening;
+      fits = declared_fit (start_of names gives) opens.opening opens.are;
+      ends = whole_ends (opening_lines opens.opening) why readers;
+    };
     image_is = tt;
     faults_are = opening_faults None why (start_of names gives).image.faults readers other;
-    image_stands = opening_image D why opens.opening opens.stopped.left readers other opens.are;
+    image_stands = opening_image D why (events_of (declared_parts opens.opening)) opens.stopped.left readers other
+        (subst AreOpening (sym (opening_events opens.opening)) opens.are);
     lanes_stand = opening_lanes D why (start_of names gives) readers;
   }
 
-  refused_stop : (fault : AttachFault) (left : Option (List ℕ)) (held : List ℕ) (names : NamesState) (count : ℕ) → Keeps left (prepend_known held now) → StopsAt (attach_status fault) left held now names count 0
-  refused_stop Failed left held names count kept = kept
-  refused_stop Memory left held names count kept = kept
+  -- one whose image couldn't be attached, or for whose lanes there was no memory
+  pub replayed_refused : (fault : AttachFault) (held : List ℕ) (first : Option Event) (names : NamesState) (lines : ℕ)
+      → Opened start held now first names lines → Replayed seen start now gives (attach_status fault) lines names [] None None
+  replayed_refused fault held None names lines opened =
+      let parts : ScriptParts = declared_parts opened.opening in
+      record {
+        parts = parts;
+        stopped = declared_stopped start now status.Done (attach_status fault) names lines opened
+            (refused_stop fault opened.stopped.left now opened.stopped.held names opened.stopped.count opened.stopped.stop.1)
+            (opened.stopped.lines_are ∙ refused_count fault opened.stopped.count);
+        final = start_of names gives;
+        journal_is = record {
+          is = opening_entries opened.opening;
+          fits = declared_fit (start_of names gives) opened.opening opened.are;
+          ends = refused_ends fault parts (opening_entries opened.opening);
+        };
+        image_is = tt;
+        faults_are = refused_faults {D = D} fault None (start_of names gives).image.faults;
+        image_stands = refused_image D fault (events_of parts) opened.stopped.left
+            (declared_attaches opened.opening opened.stopped.left opened.are opened.stopped.stop.0);
+        lanes_stand = refused_lanes D fault (start_of names gives);
+      }
+  replayed_refused fault held (Some event) names lines opened =
+      let parts : ScriptParts = begun_parts opened.opening event [] in
+      record {
+        parts = parts;
+        stopped = stopped_behind start now held event names lines (attach_status fault) opened (events_of parts) (first_events opened.opening event []) 0
+            (refused_stop fault (prepend_known held now) now held names lines (keeps_same (prepend_known held now))) (refused_count fault lines);
+        final = start_of names gives;
+        journal_is = record {
+          is = first_entries opened.opening event [];
+          fits = none_start (start_of names gives) opened.opening event opened.are;
+          ends = refused_ends fault parts (first_entries opened.opening event []);
+        };
+        image_is = tt;
+        faults_are = refused_faults {D = D} fault None (start_of names gives).image.faults;
+        image_stands = refused_image D fault (events_of parts) (prepend_known held now)
+            (begun_attaches opened.opening event (prepend_known held now) opened.are (other_line event opened.other));
+        lanes_stand = refused_lanes D fault (start_of names gives);
+      }
 
-  refused_count : (fault : AttachFault) (count : ℕ) → count ≡ counted_lines (attach_status fault) count
-  refused_count Failed count = refl
-  refused_count Memory count = refl
+  -- one whose image is too short
+  pub replayed_short : (need have : ℕ) (held : List ℕ) (first : Option Event) (names : NamesState) (lines : ℕ) (image : D) → seen image ≡ (start_of names gives).image
+      → Opened start held now first names lines → Replayed seen start now gives (status.ImageSize need have) lines names [] (Some image) None
+  replayed_short need have held None names lines image told opened =
+      let parts : ScriptParts = declared_parts opened.opening in
+      record {
+        parts = parts;
+        stopped = declared_stopped start now status.Done (status.ImageSize need have) names lines opened opened.stopped.stop.1 opened.stopped.lines_are;
+        final = start_of names gives;
+        journal_is = record {
+          is = opening_entries opened.opening;
+          fits = declared_fit (start_of names gives) opened.opening opened.are;
+          ends = opening_entries opened.opening;
+        };
+        image_is = told;
+        faults_are = tt;
+        image_stands = (refl, declared_attaches opened.opening opened.stopped.left opened.are opened.stopped.stop.0);
+        lanes_stand = refl;
+      }
+  replayed_short need have held (Some event) names lines image told opened =
+      let parts : ScriptParts = begun_parts opened.opening event [] in
+      record {
+        parts = parts;
+        stopped = stopped_behind start now held event names lines (status.ImageSize need have) opened (events_of parts) (first_events opened.opening event []) 0 (keeps_same (prepend_known held now)) refl;
+        final = start_of names gives;
+        journal_is = record {
+          is = first_entries opened.opening event [];
+          fits = none_start (start_of names gives) opened.opening event opened.are;
+          ends = first_entries opened.opening event [];
+        };
+        image_is = told;
+        faults_are = tt;
+        image_stands = (refl, begun_attaches opened.opening event (prepend_known held now) opened.are (other_line event opened.other));
+        lanes_stand = refl;
+      }
 
-  refused_faults : (fault : AttachFault) (image : Option D) → FaultsAre (attach_status fault) image (start_of no_names gives).image.faults
-  refused_faults Failed image = tt
-  refused_faults Memory image = tt
-
-  refused_opening : (fault : AttachFault) (names : NamesState) (opening : List Event) → AreOpening opening → JournalIs (attach_status fault) (start_of names gives) opening [] (start_of names gives)
-  refused_opening Failed names opening are = (refl, refl)
-  refused_opening Memory names opening are = inl (fits_opening (start_of names gives) opening are)
-
-  refused_first : (fault : AttachFault) (names : NamesState) (opening : List Event) (event : Event) → AreOpening opening → JournalIs (attach_status fault) (start_of names gives) (opening ++ event ∷ []) [] (start_of names gives)
-  refused_first Failed names opening event are = (refl, refl)
-  refused_first Memory names opening event are = inr (record {
-    before = opening;
-    last = event;
-    events_are = refl;
-    front = [];
-    part = [];
-    journal_is = refl;
-    middle = start_of names gives;
-    fits = fits_opening (start_of names gives) opening are;
-    begins_below = omega arith;
-    made = [];
-    says = refl;
-    begins = record { begins = none_begun event (start_of names gives).lanes; run = refl };
-  })
-
-  -- the image couldn't be attached, or there was no memory for its world
-  pub replayed_refused : (fault : AttachFault) (held : List ℕ) (first : Option Event) (names : NamesState) (lines : ℕ) (image : Option D) → IfSome image (λ disk. (content disk ≡ (start_of names gives).image.told) × (faults disk ≡ 0))
-      → (fault ≡ Failed → IsNone image) → Opened start held now first names lines → Replayed content faults start now gives (attach_status fault) lines names [] image None
-  replayed_refused fault held None names lines image is none opened = record {
-    events = opened.opening;
-    stopped = record { left = opened.stopped.left; count = opened.stopped.count; read = opened.stopped.read; held = opened.stopped.held; stop = refused_stop fault opened.stopped.left opened.stopped.held names opened.stopped.count opened.stopped.stop.1; lines_are = opened.stopped.lines_are ∙ refused_count fault opened.stopped.count };
-    final = start_of names gives;
-    journal_is = refused_opening fault names opened.opening opened.are;
-    image_is = is;
-    faults_are = refused_faults fault image;
-    image_stands = refused_image fault opened.opening opened.stopped.left image (inl (opened.are, opened.stopped.stop.0)) none;
-    lanes_stand = refused_lanes fault image (start_of names gives) none;
-  }
-  replayed_refused fault held (Some event) names lines image is none opened = record {
-    events = opened.opening ++ event ∷ [];
-    stopped = stopped_behind start now held event names lines (attach_status fault) opened 0 (refused_stop fault (prepend_known held now) held names lines (keeps_same (prepend_known held now))) (refused_count fault lines);
-    final = start_of names gives;
-    journal_is = refused_first fault names opened.opening event opened.are;
-    image_is = is;
-    faults_are = refused_faults fault image;
-    image_stands = refused_image fault (opened.opening ++ event ∷ []) (prepend_known held now) image (inr (record { opening = opened.opening; are = opened.are; event = event; other = other_line event opened.other; events_are = refl })) none;
-    lanes_stand = refused_lanes fault image (start_of names gives) none;
-  }
-
-  -- the image that was attached is too short
-  pub replayed_short : (need have : ℕ) (held : List ℕ) (first : Option Event) (names : NamesState) (lines : ℕ) (image : D) → content image ≡ gives (512 * blocks_of names.disks) → faults image ≡ 0
-      → Opened start held now first names lines → Replayed content faults start now gives (status.ImageSize need have) lines names [] (Some image) None
-  replayed_short need have held None names lines image told none opened = record {
-    events = opened.opening;
-    stopped = record { left = opened.stopped.left; count = opened.stopped.count; read = opened.stopped.read; held = opened.stopped.held; stop = opened.stopped.stop.1; lines_are = opened.stopped.lines_are };
-    final = start_of names gives;
-    journal_is = (refl, refl);
-    image_is = (told, none);
-    faults_are = tt;
-    image_stands = (refl, inl (opened.are, opened.stopped.stop.0));
-    lanes_stand = refl;
-  }
-  replayed_short need have held (Some event) names lines image told none opened = record {
-    events = opened.opening ++ event ∷ [];
-    stopped = stopped_behind start now held event names lines (status.ImageSize need have) opened 0 (keeps_same (prepend_known held now)) refl;
-    final = start_of names gives;
-    journal_is = (refl, refl);
-    image_is = (told, none);
-    faults_are = tt;
-    image_stands = (
-      refl,
-      inr (record { opening = opened.opening; are = opened.are; event = event; other = other_line event opened.other; events_are = refl }),
-    );
-    lanes_stand = refl;
-  }
-
-  -- there was no memory to read a line
-  pub replayed_none : (names : NamesState) → names ≡ no_names → now ≡ start → Replayed content faults start now gives status.NoMemory 0 names [] None None
+  -- one for which there was no memory to read a line
+  pub replayed_none : (names : NamesState) → names ≡ no_names → now ≡ start → Replayed seen start now gives status.NoMemory 0 names [] None None
   replayed_none names is same = record {
-    events = [];
+    parts = declared_parts [];
     stopped = record { left = start; count = 0; read = read_none start names 0 is refl; held = []; stop = nothing_held start now same; lines_are = refl };
     final = start_of names gives;
-    journal_is = inl (fits_none 0 (start_of names gives));
+    journal_is = record { is = refl; fits = declared_fit (start_of names gives) [] tt; ends = tt };
     image_is = tt;
     faults_are = tt;
     image_stands = (refl, inl tt);
@@ -425,11 +524,11 @@ module _ {D : Type 0} (content : D → Option (List ℕ)) (faults : D → ℕ) (
   -- the same run, its parts said otherwise
   pub replayed_as : (why ended : Status) (lines number : ℕ) (names now_named : NamesState) (journal entries : List Entry) (image disk : Option D) (stand left : Option (List LaneState))
       → ended ≡ why → number ≡ lines → now_named ≡ names → entries ≡ journal → disk ≡ image → left ≡ stand
-      → Replayed content faults start now gives why lines names journal image stand → Replayed content faults start now gives ended number now_named entries disk left
+      → Replayed seen start now gives why lines names journal image stand → Replayed seen start now gives ended number now_named entries disk left
   replayed_as why ended lines number names now_named journal entries image disk stand left status_is lines_are names_are journal_is image_is lanes_are replayed =
-      subst (λ (w : Status). Replayed content faults start now gives w number now_named entries disk left) (sym status_is)
-      (subst (λ (n : ℕ). Replayed content faults start now gives why n now_named entries disk left) (sym lines_are)
-      (subst (λ (n : NamesState). Replayed content faults start now gives why lines n entries disk left) (sym names_are)
-      (subst (λ (l : List Entry). Replayed content faults start now gives why lines names l disk left) (sym journal_is)
-      (subst (λ (d : Option D). Replayed content faults start now gives why lines names journal d left) (sym image_is)
-      (subst (λ (o : Option (List LaneState)). Replayed content faults start now gives why lines names journal image o) (sym lanes_are) replayed)))))
+      subst (λ (w : Status). Replayed seen start now gives w number now_named entries disk left) (sym status_is)
+      (subst (λ (n : ℕ). Replayed seen start now gives why n now_named entries disk left) (sym lines_are)
+      (subst (λ (n : NamesState). Replayed seen start now gives why lines n entries disk left) (sym names_are)
+      (subst (λ (l : List Entry). Replayed seen start now gives why lines names l disk left) (sym journal_is)
+      (subst (λ (d : Option D). Replayed seen start now gives why lines names journal d left) (sym image_is)
+      (subst (λ (o : Option (List LaneState)). Replayed seen start now gives why lines names journal image o) (sym lanes_are) replayed)))))

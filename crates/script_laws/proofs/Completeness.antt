@@ -25,6 +25,8 @@ use Rattle.domain_script.specs.ScriptEvents.{AllSpell, no_names}
 use Rattle.script_laws.specs.Script.{ReadSoFar}
 use Rattle.script_laws.specs.Sized.{SizeIs}
 use Rattle.world_parts.specs.Declared.{blocks_of}
+use Rattle.world_parts.specs.Script.{events_of}
+use Rattle.disk_law.specs.ListState.{ImageState}
 use Rattle.script_laws.proofs.OneReading.{next_spells, rest_spells}
 use Rattle.script_laws.proofs.Sizes.{blocks_stay, long_enough, zeros_are_long}
 
@@ -81,39 +83,35 @@ no_fewer bytes (Some rest) texts names after events all taken read spelled =
     let behind = rest_spells texts (script_lines rest) no_names names after events all read (subst (λ (l : List (List ℕ)). AllSpell l no_names all after) taken.0 spelled) in
     blocks_stay (script_lines rest) names after behind.0 behind.1
 
-module _ {D : Type 0} (content : D → Option (List ℕ)) (faults : D → ℕ) (script behind : Option (List ℕ)) (gives : ℕ → Option (List ℕ)) (ran : Status) (lines : ℕ) (names : NamesState) (journal : List Entry) (image : Option D) (lanes : Option (List LaneState)) (run : Replayed content faults script behind gives ran lines names journal image lanes)
+module _ {D : Type 0} (seen : D → ImageState) (script behind : Option (List ℕ)) (gives : ℕ → Option (List ℕ)) (ran : Status) (lines : ℕ) (names : NamesState) (journal : List Entry) (image : Option D) (lanes : Option (List LaneState)) (run : Replayed seen script behind gives ran lines names journal image lanes)
     (why : Status) (old new : Option (List ℕ)) (text bytes : List ℕ) (reports : Reports ran why old new text) (known : script ≡ Some bytes) (clean : IsCleanScript bytes)
-    (source : ran ≡ status.SourceFault → ⊥) (host : ran ≡ status.HostFault → ⊥) (sink : why ≡ status.SinkFault → ran ≢ status.SinkFault → ⊥) (store : IfSome image (λ disk. faults disk ≡ 0))
+    (source : ran ≡ status.SourceFault → ⊥) (host : ran ≡ status.HostFault → ⊥) (sink : why ≡ status.SinkFault → ran ≢ status.SinkFault → ⊥) (store : IfSome image (λ disk. (seen disk).faults ≡ 0))
     (size : D → ℕ) (sized : SizeIs size ran (512 * blocks_of names.disks) (gives (512 * blocks_of names.disks)) image) (name : List ℕ) (zeros : name ≡ 45 ∷ [] → (n : ℕ) → gives n ≡ Some (replicate n 0))
     (long : name ≢ 45 ∷ [] → IfSome image (λ disk. 512 * blocks_of clean.names.disks ≤ size disk)) where
   -- the image isn't too short
   never_short : (need have : ℕ) → ran ≡ status.ImageSize need have → ⊥
   never_short need have is = by_name (bytes_eq name (45 ∷ [])) refl
     where
-      read : ReadSoFar (Some bytes) run.stopped.left run.events names run.stopped.count
-      read = subst (λ (s : Option (List ℕ)). ReadSoFar s run.stopped.left run.events names run.stopped.count) known run.stopped.read
+      read : ReadSoFar (Some bytes) run.stopped.left (events_of run.parts) names run.stopped.count
+      read = subst (λ (s : Option (List ℕ)). ReadSoFar s run.stopped.left (events_of run.parts) names run.stopped.count) known run.stopped.read
 
       as_needed : 512 * blocks_of names.disks ≤ 512 * blocks_of clean.names.disks
-      as_needed = omega (arith, no_fewer bytes run.stopped.left read.texts names clean.names run.events clean.events read.taken.taken read.spell clean.spelled)
+      as_needed = omega (arith, no_fewer bytes run.stopped.left read.texts names clean.names (events_of run.parts) clean.events read.taken.taken read.spell clean.spelled)
 
       by_name : (dash : Bool) → bytes_eq name (45 ∷ []) ≡ dash → ⊥
       by_name true tests = zeros_are_long size ran (512 * blocks_of names.disks) need have (gives (512 * blocks_of names.disks)) image is (zeros ((bytes_eq-Decides name (45 ∷ [])).0 tests) (512 * blocks_of names.disks)) sized
       by_name false tests = long_enough size ran (512 * blocks_of names.disks) (512 * blocks_of clean.names.disks) need have (gives (512 * blocks_of names.disks)) image is as_needed (long (λ same. cc (tests, (bytes_eq-Decides name (45 ∷ [])).1 same))) sized
 
-  store_works : (i : Option D) (n : ℕ) → IsSome i → IfSome i (λ d. faults d ≡ n) → IfSome i (λ d. faults d ≡ 0) → 0 < n → ⊥
-  store_works None n some is none rose = cc some
-  store_works (Some d) n some is none rose = omega (arith, is, none, rose)
+  store_works : (i : Option D) (left : ImageState) → IsSome i → IfSome i (λ d. seen d ≡ left) → IfSome i (λ d. (seen d).faults ≡ 0) → 0 < left.faults → ⊥
+  store_works None left some is none rose = cc some
+  store_works (Some d) left some is none rose = omega (arith, ap (λ (x : ImageState). x.faults) is, none, rose)
 
-  counts : (i : Option D) (told : Option (List ℕ)) (n : ℕ) → IfSome i (λ d. (content d ≡ told) × (faults d ≡ n)) → IfSome i (λ d. faults d ≡ n)
-  counts None told n is = tt
-  counts (Some d) told n is = is.1
-
-  never_past : (at : ℕ) (kind : LimitKind) → (replayed : Replayed content faults (Some bytes) behind gives (status.Limit at kind) lines names journal image lanes) → IsPast kind replayed.stopped.left replayed.stopped.count → ⊥
+  never_past : (at : ℕ) (kind : LimitKind) → (replayed : Replayed seen (Some bytes) behind gives (status.Limit at kind) lines names journal image lanes) → IsPast kind replayed.stopped.left replayed.stopped.count → ⊥
   never_past at kind replayed past =
       let read = replayed.stopped.read in
       no_limit bytes kind replayed.stopped.left read.texts replayed.stopped.count clean.few clean.short read.taken.taken read.counts past
 
-  by_ran : (now : Status) → ran ≡ now → why ≡ now → Replayed content faults (Some bytes) behind gives now lines names journal image lanes → EndsClean why journal
+  by_ran : (now : Status) → ran ≡ now → why ≡ now → Replayed seen (Some bytes) behind gives now lines names journal image lanes → EndsClean why journal
   by_ran status.Done ended is replayed = inl is
   by_ran status.NoMemory ended is replayed = inr (inl is)
   by_ran status.Usage ended is replayed = absurd replayed.stopped.stop
@@ -122,21 +120,21 @@ module _ {D : Type 0} (content : D → Option (List ℕ)) (faults : D → ℕ) (
   by_ran status.HostFault ended is replayed = absurd (host ended)
   by_ran (status.ImageSize need have) ended is replayed = absurd (never_short need have ended)
   by_ran status.StoreFault ended is replayed =
-      absurd (store_works image replayed.final.image.faults replayed.faults_are.0 (counts image replayed.final.image.told replayed.final.image.faults replayed.image_is) store replayed.faults_are.1)
+      absurd (store_works image replayed.final.image replayed.faults_are.0 replayed.image_is store replayed.faults_are.1)
   by_ran (status.Script at fault) ended is replayed =
       let left : Option (List ℕ) = prepend_known replayed.stopped.held behind in
       let faulty : IsFaulty replayed.stopped.left left names fault = replayed.stopped.stop.3 in
       let read = replayed.stopped.read in
-      absurd (no_fault bytes no_names names clean.names replayed.stopped.left left read.texts faulty.text replayed.events clean.events clean.spelled read.taken.taken faulty.taken read.spell faulty.nothing)
+      absurd (no_fault bytes no_names names clean.names replayed.stopped.left left read.texts faulty.text (events_of replayed.parts) clean.events clean.spelled read.taken.taken faulty.taken read.spell faulty.nothing)
   by_ran (status.Limit at Lines) ended is replayed = absurd (never_past at Lines replayed replayed.stopped.stop.1)
   by_ran (status.Limit at Bytes) ended is replayed = absurd (never_past at Bytes replayed replayed.stopped.stop.1)
   by_ran (status.Limit at Entries) ended is replayed = inr (inr (subst (λ (w : Status). IsFull w journal) (sym is) replayed.stopped.stop.2))
 
   not_sink : ran ≡ status.SinkFault → ⊥
-  not_sink is = (subst (λ (w : Status). Replayed content faults script behind gives w lines names journal image lanes) is run).stopped.stop
+  not_sink is = (subst (λ (w : Status). Replayed seen script behind gives w lines names journal image lanes) is run).stopped.stop
 
   by_report : Reports ran why old new text → EndsClean why journal
-  by_report (inl told) = by_ran ran refl told.0 (subst (λ (s : Option (List ℕ)). Replayed content faults s behind gives ran lines names journal image lanes) known run)
+  by_report (inl told) = by_ran ran refl told.0 (subst (λ (s : Option (List ℕ)). Replayed seen s behind gives ran lines names journal image lanes) known run)
   by_report (inr failed) = absurd (sink failed.0 not_sink)
 
   pub completes : EndsClean why journal

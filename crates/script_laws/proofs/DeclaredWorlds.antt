@@ -12,8 +12,8 @@ use Rattle.world_laws.specs.World.{IsWorld, WorldState}
 use Rattle.ldom_journal.specs.LaneEvents.{world_event}
 use Rattle.ldom_entries.specs.declared.entry.Entry.{Entry}
 use Rattle.script_laws.specs.Told.{told, told_by}
-use Rattle.script_laws.proofs.DiskShapes.{are_shapes, is_world}
-use Rattle.world_parts.specs.Declared.{bytes_needed, image_of, shapes_of}
+use Rattle.script_laws.proofs.DiskShapes.{are_shapes, holds_all}
+use Rattle.world_parts.specs.Declared.{bytes_needed, shapes_of}
 use Rattle.world_parts.specs.Lines.{LineStep, line_of}
 use Rattle.world_parts.specs.Parts.{Says}
 
@@ -54,11 +54,6 @@ told_is [] = refl
 told_is (line ∷ lines) = ap (λ (l : List SettleEntry). told_by line ++ l) (told_is lines)
 
 -- THE WORLD of declared disks, whether its image tells its bytes or not
-world_over : (disks : List DiskDecl) (told : Option (List ℕ)) (faults : ℕ) → AreDisks disks
-    → IfSome told (λ bytes. bytes_needed disks ≤ length bytes) → IsWorld (shapes_of 0 disks) (image_of told faults)
-world_over disks None faults are long = record { shapes_are = are_shapes 0 disks are; holds = tt }
-world_over disks (Some content) faults are long = is_world disks faults content are long
-
 pub declared_world : (disks : List DiskDecl) (image : ImageState) → AreDisks disks
     → IfSome image.told (λ bytes. bytes_needed disks ≤ length bytes) → IsWorld (shapes_of 0 disks) image
-declared_world disks image are long = world_over disks image.told image.faults are long
+declared_world disks image are long = record { shapes_are = are_shapes 0 disks are; holds = holds_all disks image.told long }

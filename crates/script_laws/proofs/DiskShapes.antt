@@ -1,9 +1,9 @@
 -- The shapes of declared disks.
-use Rattle.std.proofs.Common.{◌≡◌, ℕ, zero, suc, ◌+◌, ◌≤◌, Some, List, [], ◌∷◌, length, map, slice_get, refl, ap, arith}
+use Rattle.std.proofs.Common.{◌≡◌, ℕ, zero, suc, ◌+◌, ◌*◌, ◌≤◌, Option, Some, None, IfSome, List, [], ◌∷◌, length, map, slice_get, refl, ap, arith}
 use Rattle.disk_model.specs.LaneState.{IsShape, LaneState, Shape, fresh}
 use Rattle.domain_script.specs.declared.event.DiskDecl.{DiskDecl}
 use Rattle.domain_script.specs.Declarations.{AreDisks, IsDisk}
-use Rattle.world_laws.specs.World.{AreShapes, IsWorld, blocks_in}
+use Rattle.world_laws.specs.World.{AreShapes, blocks_in}
 use Rattle.world_parts.specs.Declared.{blocks_of, bytes_needed, shape_of, shapes_of}
 
 is_shape : (first : ℕ) (disk : DiskDecl) → IsDisk disk → IsShape (shape_of first disk)
@@ -31,14 +31,11 @@ same_blocks : (first : ℕ) (disks : List DiskDecl) → blocks_in (shapes_of fir
 same_blocks first [] = refl
 same_blocks first (disk ∷ disks) = let rest = same_blocks (first + disk.blocks) disks in omega (arith, rest)
 
--- they are those of a world over an image that has all their bytes
-pub is_world : (disks : List DiskDecl) (faults : ℕ) (content : List ℕ) → AreDisks disks
-    → bytes_needed disks ≤ length content
-    → IsWorld (shapes_of 0 disks) (record { told = Some content; faults = faults })
-is_world disks faults content are within = record {
-  shapes_are = are_shapes 0 disks are;
-  holds = let same = same_blocks 0 disks in omega (arith, same, within);
-}
+-- an image that has all their bytes has those of their blocks
+pub holds_all : (disks : List DiskDecl) (told : Option (List ℕ)) → IfSome told (λ bytes. bytes_needed disks ≤ length bytes)
+    → IfSome told (λ bytes. 512 * blocks_in (shapes_of 0 disks) ≤ length bytes)
+holds_all disks None within = tt
+holds_all disks (Some content) within = let same = same_blocks 0 disks in omega (arith, same, within)
 
 -- each disk has its shape, at its own place
 pub shape_there : (first : ℕ) (disks : List DiskDecl) (x : ℕ) (disk : DiskDecl) → slice_get disks x ≡ Some disk

@@ -1,13 +1,14 @@
 -- What holds of each disk where a script's journal led: its lane, its requests, its reads and its blocks.
-use Rattle.std.proofs.Common.{◌≡◌, ℕ, ◌-◌, ◌≤◌, Bool, true, false, List, [], ◌∷◌, ◌++◌, length, slice_get, Some, IfSome, refl, ◌∙◌, subst, arith}
+use Rattle.std.proofs.Common.{◌≡◌, ℕ, ◌-◌, ◌≤◌, Bool, true, false, List, [], ◌∷◌, ◌++◌, length, slice_get, Option, Some, None, IfSome, refl, ◌∙◌, subst, arith}
 use Rattle.std.specs.Prelude.{◌&&◌, is_some}
 use Rattle.runs.specs.Lawful.{log_of, run_lawful}
 use Rattle.runs.specs.Run.{Run}
 use Rattle.disk_law.specs.ListState.{ImageState}
 use Rattle.disk_model.specs.DiskLog.{after, nothing_yet}
 use Rattle.disk_model.specs.RequestLaws.{CarriesAt}
-use Rattle.disk_model.specs.WorkLog.{WorkLog}
-use Rattle.disk_model.specs.ClientState.{ClientState, is_finished, is_nothing}
+use Rattle.disk_model.specs.Agreement.{ClientAgrees}
+use Rattle.disk_model.specs.WorkLog.{ClientCounts, WorkLog}
+use Rattle.disk_model.specs.ClientState.{ClientSession, ClientState, is_finished, is_nothing}
 use Rattle.disk_model.specs.DiskEvent.{DiskEvent, Done, Works}
 use Rattle.disk_model.specs.LaneState.{IsShape, LaneState, Shape, fresh}
 use Rattle.disk_model.specs.LaneStep.{LaneStep}
@@ -33,6 +34,7 @@ use Rattle.script_laws.proofs.Undisturbed.{shows_last}
 use Rattle.script_laws.specs.Contents.{DiskHolds, ReadsShow}
 use Rattle.script_laws.specs.Headline.{OfDisk}
 use Rattle.script_laws.specs.Lanes.{LaneStands}
+use Rattle.script_laws.specs.Settled.{IsFinishedBy}
 use Rattle.script_laws.specs.Told.{log_at}
 use Rattle.script_laws.proofs.DiskShapes.{are_shapes}
 use Rattle.vdisk_msg.specs.declared.request.Request.{Request}
@@ -49,6 +51,10 @@ requests_stand : (shape : Shape) (events : List DiskEvent) (s : LaneState) → I
 requests_stand shape events s sound run =
     (run_lawful LaneStep CarriesAt after AllStand all_step (fresh shape) s (nothing_yet shape) events
     (fresh_all shape sound) run).1.stands.requests
+
+one_true : (a b : Bool) → (a && b) ≡ true → a ≡ true
+one_true true b is = refl
+one_true false b is = absurd (cc is)
 
 both_true : (a b : Bool) → (a && b) ≡ true → b ≡ true
 both_true true b is = is
@@ -68,12 +74,18 @@ all_done c work stand finished =
     (none_pending c.pending (both_true (is_some c.session) (is_nothing c.pending) finished)) (pending_is c work stand)
     stand.done
 
+-- and its session is open by its log
+session_by : (s : Option ClientSession) (done : ℕ) (c : Option ClientCounts) → ClientAgrees s done c → is_some s ≡ true
+    → is_some c ≡ true
+session_by None done c agrees is = absurd (cc is)
+session_by (Some s) done None agrees is = absurd agrees
+session_by (Some s) done (Some c) agrees is = refl
+
 -- BEHIND A SETTLE
-completes : (disks : List DiskDecl) (image : ImageState) (x : ℕ) (shape : Shape) → AreDisks disks
+finishes : (disks : List DiskDecl) (image : ImageState) (x : ℕ) (shape : Shape) → AreDisks disks
     → slice_get (shapes_of 0 disks) x ≡ Some shape → (before : List SettleEntry) → FinishedAt disks image before
-    → (log_at shape x before).work.stopped ≡ false
-    → (log_at shape x before).work.done ≡ length (log_at shape x before).work.issued
-completes disks image x shape are of_shape before of runs =
+    → (log_at shape x before).work.stopped ≡ false → IsFinishedBy (log_at shape x before)
+finishes disks image x shape are of_shape before of runs =
     let shapes : List Shape = shapes_of 0 disks in
     let shapes_are = are_shapes 0 disks are in
     let lane = lane_at shapes image before of.at x shape of.run of_shape in
@@ -81,9 +93,14 @@ completes disks image x shape are of_shape before of runs =
     let agrees = lane_agrees shapes image before of.at x shape s shapes_are of.run of_shape lane.1 in
     let run : Run LaneStep (fresh shape) (happened x before) s =
     (lanes_run shapes image before of.at of.run).each x shape s of_shape lane.1 in
-    all_done s.client (log_at shape x before).work
-    (requests_stand shape (happened x before) s (shape_at 0 shapes x shape shapes_are of_shape) run)
-    (of.finished x s lane.1 (agrees.stopped ∙ runs))
+    let finished : is_finished s.client ≡ true = of.finished x s lane.1 (agrees.stopped ∙ runs) in
+    let work : WorkLog = (log_at shape x before).work in
+    record {
+      session = session_by s.client.session work.done work.client agrees.client
+          (one_true (is_some s.client.session) (is_nothing s.client.pending) finished);
+      completed = all_done s.client work
+          (requests_stand shape (happened x before) s (shape_at 0 shapes x shape shapes_are of_shape) run) finished;
+    }
 
 module _ (disks : List DiskDecl) (image : ImageState) (are : AreDisks disks)
     (long : IfSome image.told (λ bytes. bytes_needed disks ≤ length bytes)) (entries : List SettleEntry)
@@ -143,7 +160,7 @@ module _ (disks : List DiskDecl) (image : ImageState) (are : AreDisks disks)
   pub of_disk : OfDisk shape x image entries s v.image
   of_disk = record {
     stands = stands;
-    completes = λ before behind is. completes disks image x shape are of_shape before (leads.finished before behind is);
+    finishes = λ before behind is. finishes disks image x shape are of_shape before (leads.finished before behind is);
     still = λ before behind is. (leads.finished before behind is).still x shape of_shape;
     failed = fails_by_events shape (happened x entries) s lane_run;
     sound = sound;

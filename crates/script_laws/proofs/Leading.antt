@@ -1,6 +1,6 @@
 -- What a script's journal leads to, also where want of memory cut off its last line: nobody forged a lane, no disk is
 -- left over, and after each settle all lanes are finished whose servers run.
-use Rattle.std.proofs.Common.{◌≡◌, inl, inr, ℕ, ◌≤◌, List, [], ◌∷◌, ◌++◌, length, map, sym, ap, ◌∙◌, subst, append_assoc, append-nil}
+use Rattle.std.proofs.Common.{◌≡◌, inl, inr, ℕ, ◌≤◌, Option, Some, None, List, [], ◌∷◌, ◌++◌, length, map, sym, ap, ◌∙◌, subst, append_assoc, append-nil}
 use Rattle.runs.specs.Run.{Run, run_append}
 use Rattle.disk_law.specs.ListState.{ImageState}
 use Rattle.domain_script.specs.Declarations.{AreDisks}
@@ -22,7 +22,7 @@ use Rattle.script_laws.proofs.DeclaredWorlds.{as_told, lines_told, says_told, to
 use Rattle.script_laws.specs.Told.{told, told_by}
 use Rattle.world_parts.specs.Declared.{shapes_of, world_of}
 use Rattle.world_parts.specs.Lines.{LineStep, line_of}
-use Rattle.world_parts.specs.Script.{FitsCutOff, cut_lines}
+use Rattle.world_parts.specs.Script.{FitsScript, LastStarts, ScriptParts, all_lines, with_last}
 use Rattle.world_laws.proofs.ByLines.{unforged_begun, unforged_behind}
 
 pub record Leads (disks : List DiskDecl) (image : ImageState) (entries : List SettleEntry)
@@ -53,7 +53,7 @@ module _ (disks : List DiskDecl) (image : ImageState) (are : AreDisks disks) (fe
     finished = finished_at disks image are few lines v run;
   }
 
-  pub lines_lead : (lines : List (Event × List Entry)) (v : WorldState) → Run LineStep (world_of disks image) lines v
+  lines_lead : (lines : List (Event × List Entry)) (v : WorldState) → Run LineStep (world_of disks image) lines v
       → Leads disks image (told lines) v
   lines_lead lines v run =
       subst (λ (l : List SettleEntry). Leads disks image l v) (sym (told_is lines))
@@ -89,16 +89,22 @@ module _ (disks : List DiskDecl) (image : ImageState) (are : AreDisks disks) (fe
             (place_in (world.entries_of lines) part before Settled behind is);
       }
 
-  pub cut_off_lead : (events : List Event) (journal : List Entry) (v : WorldState)
-      (cut : FitsCutOff 0 (world_of disks image) events journal v) → Leads disks image (told (cut_lines cut)) v
-  cut_off_lead events journal v cut =
-      let lines : List (Event × List Entry) = cut.fits.lines in
-      let last : Event × List Entry = (cut.last, cut.part) in
-      let begun : world.LineBegins cut.middle (line_of cut.last) (told_by last) v =
-      subst (λ (l : List SettleEntry). world.LineBegins cut.middle (line_of cut.last) l v)
-      (sym (says_told last cut.made cut.says)) cut.begins in
-      let is : told (cut_lines cut) ≡ world.entries_of (map as_told lines) ++ told_by last =
-      told_more lines last ∙ ap (λ (l : List SettleEntry). l ++ told_by last) (told_is lines) in
-      subst (λ (l : List SettleEntry). Leads disks image l v) (sym is)
-      (cut_lead (map as_told lines) cut.middle (line_of cut.last) (told_by last) v
-      (lines_told (world_of disks image) lines cut.middle cut.fits.run) begun)
+  -- ALL LINES, of which the last may have been cut off
+  module _ (whole : List (Event × List Entry)) (m : WorldState) (run : Run LineStep (world_of disks image) whole m) where
+    lead_on : (cut : Option (Event × List Entry)) (v : WorldState) → LastStarts m cut v
+        → Leads disks image (told (with_last whole cut)) v
+    lead_on None v last =
+        subst (λ (x : WorldState). Leads disks image (told whole) x) (sym last) (lines_lead whole m run)
+    lead_on (Some line) v last =
+        let begun : world.LineBegins m (line_of line.0) (told_by line) v =
+        subst (λ (l : List SettleEntry). world.LineBegins m (line_of line.0) l v)
+        (sym (says_told line last.entries last.says)) last.begins in
+        let is : told (whole ++ line ∷ []) ≡ world.entries_of (map as_told whole) ++ told_by line =
+        told_more whole line ∙ ap (λ (l : List SettleEntry). l ++ told_by line) (told_is whole) in
+        subst (λ (l : List SettleEntry). Leads disks image l v) (sym is)
+        (cut_lead (map as_told whole) m (line_of line.0) (told_by line) v
+        (lines_told (world_of disks image) whole m run) begun)
+
+  pub script_leads : (parts : ScriptParts) (v : WorldState) → FitsScript 0 (world_of disks image) parts v
+      → Leads disks image (told (all_lines parts)) v
+  script_leads parts v fits = lead_on parts.whole fits.middle fits.run parts.cut v fits.last

@@ -7,6 +7,8 @@ pub mod WordedEntries
 pub mod DiskHistory
 pub mod WholeHistory
 pub mod WrittenPlaces
+pub mod StoredEntries
+pub mod LineLists
 pub mod ScriptLaws
 pub mod DeclaredWorlds
 pub mod Entries
@@ -48,3 +50,4 @@ pub mod TicksStand
 pub mod TicksNeeded
 pub mod Stillness
 pub mod SettledStill
+pub mod OneCut

@@ -1,5 +1,5 @@
 -- A quiet script that fits its journal without a fault is what the plain run makes of it.
-use Rattle.std.proofs.Common.{◌≡◌, ℕ, ◌+◌, ◌*◌, ◌≤◌, List, [], ◌∷◌, ◌++◌, length, map, refl, sym, ◌∙◌, ap, subst, arith, Some}
+use Rattle.std.proofs.Common.{◌≡◌, ℕ, ◌+◌, ◌*◌, ◌≤◌, List, [], ◌∷◌, ◌++◌, length, map, refl, sym, ◌∙◌, ap, subst, arith, None, Some}
 use Rattle.std.proofs.lemmas.List.FromFn.{length-range_with_len}
 use Rattle.runs.specs.Run.{Run}
 use Rattle.disk_law.specs.ListState.{ImageState}
@@ -18,14 +18,16 @@ use Rattle.ldom_journal.specs.declared.status.Status.TheVariants as status
 use Rattle.script_laws.proofs.EndLine.{ends_agree}
 use Rattle.script_laws.proofs.LaneReport.{SaysSame, Told, ids_in, told_lanes, told_part}
 use Rattle.script_laws.proofs.PlainGrows.{Grows, ids_below, listed, run_grows, run_same}
-use Rattle.script_laws.proofs.QuietLanes.{disk_front, disk_shape, quiet_events, whole_image}
+use Rattle.script_laws.proofs.LineLists.{RanWhole, ran_whole}
+use Rattle.script_laws.proofs.QuietLanes.{disk_front, disk_shape, quiet_events}
 use Rattle.script_laws.proofs.ThroughLanes.{ThroughLanes, all_shown, through_lanes}
 use Rattle.script_laws.specs.PlainRun.{Plain, plain_content, plain_ids, plain_run, plain_text, untouched}
 use Rattle.script_laws.specs.Quiet.{IsQuiet}
 use Rattle.script_laws.specs.Completed.{completed_ids}
 use Rattle.world_parts.specs.Declared.{shape_of, world_of}
 use Rattle.world_parts.specs.Lines.{line_of}
-use Rattle.world_parts.specs.Script.{FitsScript}
+use Rattle.world_parts.specs.Script.{FitsScript, ScriptParts, entries_in, events_in, events_of, journal_of}
+use Rattle.world_laws.proofs.NoFaults.{lines_before}
 use Rattle.world_laws.proofs.QuietLines.{quiet_lines}
 use Rattle.world_laws.specs.Plain as lanes
 use Rattle.world_laws.specs.Quiet as quiet_world
@@ -121,25 +123,28 @@ told_plain disk content events journal v tells =
     }
 
 -- A QUIET SCRIPT whose journal fits, over an image that tells its bytes, is long enough and never failed
-pub plain_law : (disk : DiskDecl) (content : List ℕ) (events : List Event) (journal : List Entry) (v : WorldState)
-    → IsDisk disk → 512 * disk.blocks ≤ length content → IsQuiet disk events
-    → FitsScript 0 (world_of (disk ∷ []) (record { told = Some content; faults = 0 })) events journal v
-    → v.image.faults ≡ 0 → PlainLaw disk content events journal v
-plain_law disk content events journal v is holds quiet fits well =
+pub plain_law : (disk : DiskDecl) (image : ImageState) (content : List ℕ) (parts : ScriptParts) (v : WorldState)
+    → IsDisk disk → image.told ≡ Some content → 512 * disk.blocks ≤ length content → IsQuiet disk (events_of parts)
+    → parts.cut ≡ None → FitsScript 0 (world_of (disk ∷ []) image) parts v → v.image.faults ≡ 0
+    → PlainLaw disk content (events_of parts) (journal_of parts) v
+plain_law disk image content parts v is told holds quiet none_cut fits well =
     let shape = shape_of 0 disk in
-    let image = whole_image content in
+    let events : List Event = events_of parts in
     let w : WorldState = world_of (disk ∷ []) image in
-    let through : ThroughLanes w fits.lines v = through_lanes w fits.lines v fits.run in
+    let whole : RanWhole 0 w parts v = ran_whole 0 w parts v none_cut fits in
+    let through : ThroughLanes w parts.whole v = through_lanes w parts.whole v whole.run in
     let are : lines_of through.lanes ≡ map line_of events =
-    through.lines_are ∙ ap (λ (l : List Event). map line_of l) fits.events_are in
+    through.lines_are ∙ ap (λ (l : List (Event × List Entry)). map line_of (events_in l)) (sym whole.lines_are) in
     let quiet_lanes = subst (λ (l : List Line). quiet_world.AreQuiet l) (sym are) (quiet_events disk events quiet) in
     let runs : RunsQuietly shape image through.lanes v =
     record { quiet = quiet_lanes; run = through.run; well = well } in
-    let plainly = quiet_lines shape image content through.lanes v (disk_front disk content is holds) runs in
+    let first : image.faults ≡ 0 = lines_before w through.lanes v through.run well in
+    let plainly = quiet_lines shape image content through.lanes v (disk_front disk image content is told holds first) runs in
     let shows = shows_plain disk content events through.lanes v are plainly in
-    let says : SaysSame disk journal (entries_of through.lanes) =
-    subst (λ (l : List Entry). SaysSame disk l (entries_of through.lanes)) fits.parts (through.same disk) in
+    let says : SaysSame disk (journal_of parts) (entries_of through.lanes) =
+    subst (λ (l : List (Event × List Entry)). SaysSame disk (entries_in l) (entries_of through.lanes))
+    (sym whole.lines_are) (through.same disk) in
     let p = listed (ran disk content events) in
     let accepted = accepted_all disk image through.lanes v p is through.run shows.ends in
-    let tells = tells_plain disk content events journal through.lanes v says shows accepted in
-    told_plain disk content events journal v tells
+    let tells = tells_plain disk content events (journal_of parts) through.lanes v says shows accepted in
+    told_plain disk content events (journal_of parts) v tells

@@ -1,5 +1,5 @@
 -- The lines of a quiet script are quiet lines of a lane, whose disk begins the image.
-use Rattle.std.proofs.Common.{ℕ, ◌*◌, ◌≤◌, List, [], ◌∷◌, length, map, refl, Some}
+use Rattle.std.proofs.Common.{◌≡◌, ℕ, ◌*◌, ◌≤◌, List, [], ◌∷◌, length, map, refl, Some}
 use Rattle.disk_law.specs.ListState.{ImageState}
 use Rattle.disk_model.specs.LaneState.{IsShape}
 use Rattle.domain_script.specs.Declarations.{IsDisk}
@@ -11,10 +11,6 @@ use Rattle.world_parts.specs.Declared.{shape_of}
 use Rattle.world_parts.specs.Lines.{line_of}
 use Rattle.world_laws.specs.Quiet as quiet_world
 use Rattle.world_laws.specs.Quiet.{IsFront}
-
--- the image before the script
-abbrev pub whole_image : List ℕ → ImageState
-whole_image content = record { told = Some content; faults = 0 }
 
 -- THE DISK begins its image
 pub disk_shape : (disk : DiskDecl) → IsDisk disk → IsShape (shape_of 0 disk)
@@ -29,14 +25,14 @@ disk_shape disk is = record {
   entries = is.queue_power;
 }
 
-pub disk_front : (disk : DiskDecl) (content : List ℕ) → IsDisk disk → 512 * disk.blocks ≤ length content
-    → IsFront (shape_of 0 disk) (whole_image content) content
-disk_front disk content is holds = record {
+pub disk_front : (disk : DiskDecl) (image : ImageState) (content : List ℕ) → IsDisk disk → image.told ≡ Some content
+    → 512 * disk.blocks ≤ length content → image.faults ≡ 0 → IsFront (shape_of 0 disk) image content
+disk_front disk image content is told holds well = record {
   sound = disk_shape disk is;
   place = refl;
-  told = refl;
+  told = told;
   holds = holds;
-  well = refl;
+  well = well;
 }
 
 -- ITS LINES are quiet lines of a lane

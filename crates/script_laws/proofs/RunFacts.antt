@@ -1,32 +1,31 @@
 -- What holds of the journal of every run.
-use Rattle.std.proofs.Common.{◌≡◌, inl, inr, ℕ, List, [], ◌∷◌, ◌++◌, sym, subst, Option}
+use Rattle.std.proofs.Common.{◌≡◌, ℕ, ◌^◌, ◌<◌, ◌≤◌, List, [], ◌∷◌, ◌++◌, length, refl, sym, ◌∙◌, ap, subst, Option, IfSome}
 use Rattle.std.specs.List.{All}
-use Rattle.std.proofs.lemmas.List.Elements.{All-nil}
+use Rattle.std.proofs.lemmas.Option.{IfSome_then}
 use Rattle.disk_law.specs.Issued.{CompletesOnceInOrder}
+use Rattle.disk_law.specs.ListState.{ImageState}
 use Rattle.disk_law.specs.ListStep.{Done}
 use Rattle.disk_model.specs.LaneState.{LaneState}
 use Rattle.domain_script.specs.Declarations.{AreDisks}
 use Rattle.domain_script.specs.NamesState.{NamesState}
-use Rattle.domain_script.specs.declared.event.Event.{Event}
-use Rattle.world_laws.specs.World.{WorldState}
 use Rattle.ldom_journal.specs.DiskEvents.{history}
 use Rattle.ldom_journal.specs.HasWords.{HasWords}
 use Rattle.ldom_entries.specs.declared.entry.Entry.{Entry}
 use Rattle.ldom_journal.specs.declared.status.Status.{Status}
-use Rattle.script_laws.specs.Replayed.{Replayed, start_of}
-use Rattle.script_laws.proofs.ScriptLaws.{cut_off_once, cut_off_worded, script_once, script_worded}
-use Rattle.world_parts.specs.Endings.{Ending, JournalEnds, MayBeCut, NotBegun, Whole, ending}
-use Rattle.world_parts.specs.Script.{FitsCutOff, FitsScript}
-use Rattle.script_laws.proofs.ReadLemmas.{read_disks}
-
--- a fact of the journal that holds of no entries, of whole scripts and of those that are cut off
-pub journal_is : (P : List Entry → Type 0) (ending : Ending) (s t : WorldState) (events : List Event) (journal : List Entry)
-    → (FitsScript 0 s events journal t → P journal) → (FitsCutOff 0 s events journal t → P journal) → (t ≡ s → P [])
-    → JournalEnds ending s events journal t → P journal
-journal_is P MayBeCut s t events journal whole cut none (inl is) = whole is
-journal_is P MayBeCut s t events journal whole cut none (inr is) = cut is
-journal_is P NotBegun s t events journal whole cut none is = subst P (sym is.0) (none is.1)
-journal_is P Whole s t events journal whole cut none is = whole is
+use Rattle.ldom_journal.specs.declared.status.Status.TheVariants as status
+use Rattle.script_laws.specs.Admitting.{AdmitsAll}
+use Rattle.script_laws.specs.Failures.{SucceedOrFail, failed_count}
+use Rattle.script_laws.specs.Headline.{Headline}
+use Rattle.script_laws.specs.Replayed.{FaultsAre, Replayed, start_of}
+use Rattle.script_laws.specs.Sized.{SizeIs}
+use Rattle.script_laws.specs.Stored.{flush_count, stored_count}
+use Rattle.script_laws.proofs.HeadlineLaw.{headline_law}
+use Rattle.script_laws.proofs.ScriptLaws.{script_admits, script_calls, script_failed, script_flushes, script_once, script_statuses, script_worded}
+use Rattle.script_laws.proofs.ReadLemmas.{read_disks, read_few}
+use Rattle.script_laws.proofs.Sizes.{lanes_long}
+use Rattle.world_parts.specs.Declared.{bytes_needed}
+use Rattle.world_parts.specs.Endings.{ending}
+use Rattle.world_parts.specs.Script.{FitsScript, all_lines, events_of, journal_of}
 
 not_last : {A : Type 0} (xs : List A) (y : A) (ys : List A) → [] ≡ xs ++ y ∷ ys → ⊥
 not_last [] y ys is = cc is
@@ -36,25 +35,81 @@ not_last (x ∷ xs) y ys is = cc is
 pub none_once : (disk : ℕ) → CompletesOnceInOrder (history disk [])
 none_once disk before after id operation status bytes is = absurd (not_last before (Done id operation status bytes) after is)
 
-module _ {D : Type 0} (content : D → Option (List ℕ)) (faults : D → ℕ) (script now : Option (List ℕ)) (gives : ℕ → Option (List ℕ)) (why : Status) (lines : ℕ) (names : NamesState) (journal : List Entry) (image : Option D) (lanes : Option (List LaneState))
-    (run : Replayed content faults script now gives why lines names journal image lanes) where
+-- a fact of a journal and an image, where both are said otherwise
+pub said_otherwise : {J D : Type 0} (P : J → Option D → Type 0) (journal now : J) (image disk : Option D) → now ≡ journal → disk ≡ image → P journal image → P now disk
+said_otherwise P journal now image disk journal_is image_is holds = subst (λ j. P j disk) (sym journal_is) (subst (λ d. P journal d) (sym image_is) holds)
+
+module _ {D : Type 0} (seen : D → ImageState) (script now : Option (List ℕ)) (gives : ℕ → Option (List ℕ)) (why : Status) (lines : ℕ) (names : NamesState) (journal : List Entry) (image : Option D) (lanes : Option (List LaneState))
+    (run : Replayed seen script now gives why lines names journal image lanes) where
   -- the disks that were declared are within the limits
   pub disks_are : AreDisks names.disks
-  disks_are = read_disks script run.stopped.left run.events names run.stopped.count run.stopped.read
+  disks_are = read_disks script run.stopped.left (events_of run.parts) names run.stopped.count run.stopped.read
+
+  abbrev start : ImageState
+  start = (start_of names gives).image
+
+  fits : FitsScript 0 (start_of names gives) run.parts run.final
+  fits = run.journal_is.fits
+
+  of_journal : (P : List Entry → Type 0) → P (journal_of run.parts) → P journal
+  of_journal P holds = subst P run.journal_is.is holds
 
   -- each entry has its words
   pub worded : All (HasWords names.disks) journal
-  worded =
-      let start = start_of names gives in
-      journal_is (λ (l : List Entry). All (HasWords names.disks) l) (ending why) start run.final run.events journal
-      (script_worded names.disks start.image 0 run.events journal run.final disks_are) (cut_off_worded names.disks start.image 0 run.events journal run.final disks_are)
-      (λ _. All-nil (HasWords names.disks)) run.journal_is
+  worded = of_journal (All (HasWords names.disks)) (script_worded names.disks start 0 run.parts run.final disks_are fits)
 
   -- completions in order, for every disk
   pub once : (disk : ℕ) → CompletesOnceInOrder (history disk journal)
   once disk =
-      let start = start_of names gives in
-      journal_is (λ (l : List Entry). CompletesOnceInOrder (history disk l)) (ending why) start run.final run.events journal
-      (λ fits. script_once names.disks start.image 0 run.events journal run.final disks_are fits disk)
-      (λ cut. cut_off_once names.disks start.image 0 run.events journal run.final disks_are cut disk)
-      (λ _. none_once disk) run.journal_is
+      of_journal (λ (l : List Entry). CompletesOnceInOrder (history disk l))
+      (script_once names.disks start 0 run.parts run.final disks_are fits disk)
+
+  -- each completion has status 0 or 5
+  pub statuses : SucceedOrFail journal
+  statuses = of_journal SucceedOrFail (script_statuses names.disks start 0 run.parts run.final disks_are fits)
+
+  -- each request got what it had to get
+  pub admits : AdmitsAll names.disks (all_lines run.parts)
+  admits = script_admits names.disks start 0 run.parts run.final disks_are fits
+
+  -- its disks are as the headline says
+  pub headline : (size : D → ℕ) → SizeIs size why (bytes_needed names.disks) (gives (bytes_needed names.disks)) image
+      → IfSome lanes (λ stand. Headline names.disks start run.parts run.final)
+  headline size sized =
+      IfSome_then lanes
+      (lanes_long size why (bytes_needed names.disks) (gives (bytes_needed names.disks)) image lanes run.final sized run.lanes_stand)
+      (λ stand long. headline_law names.disks start run.parts run.final disks_are
+      (read_few script run.stopped.left (events_of run.parts) names run.stopped.count run.stopped.read) long fits)
+
+  -- at status 0 no call of the image failed
+  pub image_unfailed : why ≡ status.Done → IfSome image (λ disk. (seen disk).faults ≡ 0)
+  image_unfailed done =
+      let none : run.final.image.faults ≡ 0 = (subst (λ (w : Status). FaultsAre w image run.final.image.faults) done run.faults_are).1 in
+      IfSome_then image run.image_is (λ disk is. ap (λ (i : ImageState). i.faults) is ∙ none)
+
+  module _ (short : length journal < 2 ^ 63) where
+    parts_short : length (journal_of run.parts) < 2 ^ 63
+    parts_short = subst (λ (l : List Entry). length l < 2 ^ 63) (sym run.journal_is.is) short
+
+    -- no more completions failed than the image counts
+    pub failures : IfSome image (λ disk. failed_count journal ≤ (seen disk).faults)
+    failures =
+        IfSome_then image run.image_is
+        (λ disk is. subst (λ (i : ImageState). failed_count journal ≤ i.faults) (sym is)
+        (of_journal (λ (l : List Entry). failed_count l ≤ run.final.image.faults)
+        (script_failed names.disks start 0 run.parts run.final disks_are fits refl parts_short)))
+
+    -- and each call of it is told
+    pub calls : IfSome image (λ disk. (seen disk).calls ≡ stored_count journal)
+    calls =
+        IfSome_then image run.image_is
+        (λ disk is. ap (λ (i : ImageState). i.calls) is
+        ∙ script_calls names.disks start 0 run.parts run.final disks_are fits refl parts_short
+        ∙ ap stored_count run.journal_is.is)
+
+    pub flushes : IfSome image (λ disk. (seen disk).flushes ≡ flush_count journal)
+    flushes =
+        IfSome_then image run.image_is
+        (λ disk is. ap (λ (i : ImageState). i.flushes) is
+        ∙ script_flushes names.disks start 0 run.parts run.final disks_are fits refl parts_short
+        ∙ ap flush_count run.journal_is.is)

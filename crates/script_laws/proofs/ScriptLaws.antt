@@ -1,9 +1,11 @@
--- What a script's journal says of the requests of its disks and of the image, of whole scripts and of those that were
--- cut off.
-use Rattle.std.proofs.Common.{◌≡◌, inl, inr, ℕ, ◌^◌, ◌<◌, ◌≤◌, Some, List, [], length, slice_get, slice_index, refl, sym, ap, ◌∙◌, subst, arith}
-use Rattle.std.specs.List.{All, filter_map}
+-- What a script's journal says of the requests of its disks and of the image.
+use Rattle.std.proofs.Common.{◌≡◌, inl, inr, ℕ, ◌^◌, ◌<◌, ◌≤◌, ◌==◌, Bool, true, Option, Some, IfSome, List, [], ◌∷◌, length, slice_get, slice_index, refl, sym, ap, ◌∙◌, subst, arith}
+use Rattle.std.specs.List.{All, count_by, filter_map}
 use Rattle.std.proofs.lemmas.Bool.{cases_lt}
 use Rattle.std.proofs.lemmas.List.{length-map}
+use Rattle.std.proofs.lemmas.List.Sums.{count_by-le-length}
+use Rattle.runs.specs.Run.{Run}
+use Rattle.vio_io.specs.Causes.{count_after}
 use Rattle.vdisk_msg.specs.declared.request.Request.{Request}
 use Rattle.disk_law.specs.Issued.{Admission, CompletesOnceInOrder, issued}
 use Rattle.disk_law.specs.ListState.{ImageState}
@@ -15,7 +17,9 @@ use Rattle.domain_script.specs.declared.event.Event.{Event}
 use Rattle.world_laws.specs.Along.{happened}
 use Rattle.world_laws.proofs.Along.{fresh_reached}
 use Rattle.world_laws.proofs.LaneLists.{is_there}
-use Rattle.world_laws.specs.World.{IsWorld, WorldState}
+use Rattle.world_laws.specs.World.{IsWorld, WorldState, WorldStep}
+use Rattle.world_laws.specs.Failures.{in_entry, is_flush, is_store, is_store_that}
+use Rattle.world_laws.proofs.ImageFaults.{few_counted, run_calls, run_flushes}
 use Rattle.ldom_journal.specs.DiskEvents.{history}
 use Rattle.ldom_journal.specs.HasWords.{HasWords}
 use Rattle.ldom_entries.specs.declared.entry.Entry.{Entry}
@@ -24,25 +28,43 @@ use Rattle.world_laws.proofs.BehindDisks.{stays_behind}
 use Rattle.world_laws.proofs.NamedRuns.{stays_at}
 use Rattle.world_parts.specs.Declared.{bytes_needed, shape_of, shapes_of, world_of}
 use Rattle.world_parts.specs.Lines.{all_happened}
-use Rattle.world_parts.specs.Script.{FitsCutOff, FitsScript, cut_lines}
+use Rattle.world_parts.specs.Script.{FitsScript, ScriptParts, all_lines, journal_of}
 use Rattle.world_laws.proofs.RequestLaws.{disk_admits, disk_completes}
 use Rattle.world_laws.specs.Requests.{requests_of}
 use Rattle.script_laws.specs.Admitting.{AdmitsAll}
 use Rattle.script_laws.specs.Failures.{SucceedOrFail, failed_count}
 use Rattle.script_laws.specs.Outside.{IsOutsideAll, IsOutsideDisks, KeepsOthers}
+use Rattle.script_laws.specs.Stored.{flush_count, is_stored_that, stored_count}
 use Rattle.script_laws.proofs.DiskHistory.{all_seen, history_kept, issued_kept, kept_once, nothing_once}
-use Rattle.script_laws.proofs.DiskShapes.{are_shapes, is_world, many_shapes, shape_there}
+use Rattle.script_laws.proofs.DeclaredWorlds.{declared_world}
+use Rattle.script_laws.proofs.DiskShapes.{are_shapes, many_shapes, shape_there}
 use Rattle.script_laws.proofs.EntryKinds.{kept}
-use Rattle.script_laws.proofs.Tellings.{as_many, means_of}
-use Rattle.script_laws.proofs.Through.{JournalTells, cut_off_tells, script_tells}
+use Rattle.script_laws.proofs.StoredEntries.{all_stored}
+use Rattle.script_laws.proofs.Tellings.{Telling, as_many, entries_told, means_of}
+use Rattle.script_laws.proofs.Through.{JournalTells, script_tells}
 use Rattle.script_laws.proofs.ToldEntries.{AreTold, none_happened, run_told}
 use Rattle.script_laws.proofs.WholeHistory.{all_counts, all_statuses}
 use Rattle.script_laws.proofs.WordedEntries.{all_words}
 use Rattle.script_laws.proofs.WrittenPlaces.{AreOutside, names_no}
 
+-- A RUN by no entry
+no_run : (w v : WorldState) (tellings : List Telling) → entries_told tellings ≡ [] → Run WorldStep w (means_of tellings) v
+    → v ≡ w
+no_run w v [] none run = sym run
+no_run w v (t ∷ tellings) none run = absurd (cc none)
+
 -- A JOURNAL that tells its lines, whether the last was cut off or not
-module _ (disks : List DiskDecl) (image : ImageState) (lines : List (Event × List Entry)) (journal : List Entry)
-    (v : WorldState) (are : AreDisks disks) (tells : JournalTells disks image lines journal v) where
+module _ (disks : List DiskDecl) (image : ImageState) (entries : ℕ) (parts : ScriptParts) (v : WorldState)
+    (are : AreDisks disks) (fits : FitsScript entries (world_of disks image) parts v) where
+  abbrev lines : List (Event × List Entry)
+  lines = all_lines parts
+
+  abbrev journal : List Entry
+  journal = journal_of parts
+
+  abbrev tells : JournalTells disks image parts v
+  tells = script_tells disks image entries parts v fits
+
   told_all : AreTold (length disks) (means_of tells.tellings)
   told_all =
       run_told (length disks) (world_of disks image) (means_of tells.tellings) v
@@ -65,8 +87,8 @@ module _ (disks : List DiskDecl) (image : ImageState) (lines : List (Event × Li
       (disk_admits (shapes_of 0 disks) image (means_of tells.tellings) v x (shape_of at.0 disk)
       (are_shapes 0 disks are) tells.run at.1)
 
-  tells_admits : AdmitsAll disks lines
-  tells_admits = record { admission = one_admits; no_other = none_seen }
+  pub script_admits : AdmitsAll disks lines
+  script_admits = record { admission = one_admits; no_other = none_seen }
 
   -- those that were accepted complete once and in order
   one_completes : (x : ℕ) → CompletesOnceInOrder (requests_of (happened x (means_of tells.tellings)))
@@ -86,8 +108,8 @@ module _ (disks : List DiskDecl) (image : ImageState) (lines : List (Event × Li
       ap (λ (l : List Entry). history x l) (sym tells.journal_is) ∙ history_kept x tells.tellings
       ∙ ap (λ (es : List plain.DiskEvent). filter_map kept es) (all_seen x tells.tellings)
 
-  tells_once : (x : ℕ) → CompletesOnceInOrder (history x journal)
-  tells_once x =
+  pub script_once : (x : ℕ) → CompletesOnceInOrder (history x journal)
+  script_once x =
       subst CompletesOnceInOrder (sym (history_is x))
       (kept_once (requests_of (happened x (means_of tells.tellings))) (one_completes x))
 
@@ -103,9 +125,12 @@ module _ (disks : List DiskDecl) (image : ImageState) (lines : List (Event × Li
   same_content : (a b : List ℕ) → Some a ≡ Some b → a ≡ b
   same_content a b is = cc is
 
-  tells_kept : (content : List ℕ) → IsWorld (shapes_of 0 disks) image → image.told ≡ Some content
+  pub script_kept : (content : List ℕ) → image.told ≡ Some content → bytes_needed disks ≤ length content
       → KeepsOthers (IsOutsideDisks disks journal) content v.image.told
-  tells_kept content world told =
+  script_kept content told within =
+      let world : IsWorld (shapes_of 0 disks) image =
+      declared_world disks image are
+      (subst (λ (o : Option (List ℕ)). IfSome o (λ bytes. bytes_needed disks ≤ length bytes)) (sym told) within) in
       let shapes = shapes_of 0 disks in
       let means = means_of tells.tellings in
       let stays = stays_behind shapes image content world told means v tells.run in
@@ -120,9 +145,9 @@ module _ (disks : List DiskDecl) (image : ImageState) (lines : List (Event × Li
             ap (λ (l : List ℕ). slice_index l place) now ∙ at.byte;
       }
 
-  -- what failed, and how each completion ended
-  tells_failed : image.faults ≡ 0 → length journal < 2 ^ 63 → failed_count journal ≤ v.image.faults
-  tells_failed none short =
+  -- no more failed than the image counts
+  pub script_failed : image.faults ≡ 0 → length journal < 2 ^ 63 → failed_count journal ≤ v.image.faults
+  script_failed none short =
       let means = means_of tells.tellings in
       let many = as_many tells.tellings in
       let long = ap (λ (l : List Entry). length l) tells.journal_is in
@@ -131,102 +156,39 @@ module _ (disks : List DiskDecl) (image : ImageState) (lines : List (Event × Li
       (omega (arith, many, long, short)) in
       omega (arith, count, most)
 
-  tells_statuses : SucceedOrFail journal
-  tells_statuses = subst SucceedOrFail tells.journal_is (all_statuses (length disks) tells.tellings told_all)
+  -- each call of the image is told
+  counted : (says : ℕ → Bool → Bool) → length journal < 2 ^ 63
+      → count_after (count_by (in_entry (is_store_that says)) (means_of tells.tellings)) 0
+      ≡ count_by (is_stored_that says) journal
+  counted says short =
+      let means = means_of tells.tellings in
+      let many = as_many tells.tellings in
+      let long = ap (λ (l : List Entry). length l) tells.journal_is in
+      let most = count_by-le-length (in_entry (is_store_that says)) means in
+      few_counted (count_by (in_entry (is_store_that says)) means) (omega (arith, many, long, short, most))
+      ∙ sym (all_stored says tells.tellings) ∙ ap (λ (l : List Entry). count_by (is_stored_that says) l) tells.journal_is
 
-  tells_worded : All (HasWords disks) journal
-  tells_worded = subst (All (HasWords disks)) tells.journal_is (all_words disks tells.tellings told_all)
+  pub script_calls : image.calls ≡ 0 → length journal < 2 ^ 63 → v.image.calls ≡ stored_count journal
+  script_calls none short =
+      let means = means_of tells.tellings in
+      run_calls (world_of disks image) means v tells.run ∙ ap (λ (n : ℕ). count_after (count_by (in_entry is_store) means) n) none
+      ∙ counted (λ operation failed. true) short
 
--- EACH REQUEST IS ADMITTED by the rules
-pub script_admits : (disks : List DiskDecl) (image : ImageState) (entries : ℕ) (events : List Event)
-    (journal : List Entry) (v : WorldState)
-    → AreDisks disks → (fits : FitsScript entries (world_of disks image) events journal v) → AdmitsAll disks fits.lines
-script_admits disks image entries events journal v are fits =
-    tells_admits disks image fits.lines journal v are (script_tells disks image entries events journal v fits)
+  pub script_flushes : image.flushes ≡ 0 → length journal < 2 ^ 63 → v.image.flushes ≡ flush_count journal
+  script_flushes none short =
+      let means = means_of tells.tellings in
+      run_flushes (world_of disks image) means v tells.run ∙ ap (λ (n : ℕ). count_after (count_by (in_entry is_flush) means) n) none
+      ∙ counted (λ operation failed. operation == 3) short
 
-pub cut_off_admits : (disks : List DiskDecl) (image : ImageState) (entries : ℕ) (events : List Event)
-    (journal : List Entry) (v : WorldState)
-    → AreDisks disks → (cut : FitsCutOff entries (world_of disks image) events journal v)
-    → AdmitsAll disks (cut_lines cut)
-cut_off_admits disks image entries events journal v are cut =
-    tells_admits disks image (cut_lines cut) journal v are (cut_off_tells disks image entries events journal v cut)
+  -- nothing happened where it has no entry
+  pub script_nothing : journal ≡ [] → v ≡ world_of disks image
+  script_nothing none = no_run (world_of disks image) v tells.tellings (tells.journal_is ∙ none) tells.run
 
--- THEY COMPLETE once and in order
-pub script_once : (disks : List DiskDecl) (image : ImageState) (entries : ℕ) (events : List Event)
-    (journal : List Entry) (v : WorldState)
-    → AreDisks disks → FitsScript entries (world_of disks image) events journal v → (x : ℕ)
-    → CompletesOnceInOrder (history x journal)
-script_once disks image entries events journal v are fits =
-    tells_once disks image fits.lines journal v are (script_tells disks image entries events journal v fits)
+  -- each completion has the status 0 or 5
+  pub script_statuses : SucceedOrFail journal
+  script_statuses = subst SucceedOrFail tells.journal_is (all_statuses (length disks) tells.tellings told_all)
 
-pub cut_off_once : (disks : List DiskDecl) (image : ImageState) (entries : ℕ) (events : List Event)
-    (journal : List Entry) (v : WorldState)
-    → AreDisks disks → FitsCutOff entries (world_of disks image) events journal v → (x : ℕ)
-    → CompletesOnceInOrder (history x journal)
-cut_off_once disks image entries events journal v are cut =
-    tells_once disks image (cut_lines cut) journal v are (cut_off_tells disks image entries events journal v cut)
+  -- each entry has its words
+  pub script_worded : All (HasWords disks) journal
+  script_worded = subst (All (HasWords disks)) tells.journal_is (all_words disks tells.tellings told_all)
 
--- THE IMAGE outside of what they write stays
-pub script_kept : (disks : List DiskDecl) (faults : ℕ) (content : List ℕ) (entries : ℕ) (events : List Event)
-    (journal : List Entry) (v : WorldState) → AreDisks disks → bytes_needed disks ≤ length content
-    → FitsScript entries (world_of disks (record { told = Some content; faults = faults })) events journal v
-    → KeepsOthers (IsOutsideDisks disks journal) content v.image.told
-script_kept disks faults content entries events journal v are within fits =
-    let image : ImageState = record { told = Some content; faults = faults } in
-    tells_kept disks image fits.lines journal v are (script_tells disks image entries events journal v fits) content
-    (is_world disks faults content are within) refl
-
-pub cut_off_kept : (disks : List DiskDecl) (faults : ℕ) (content : List ℕ) (entries : ℕ) (events : List Event)
-    (journal : List Entry) (v : WorldState) → AreDisks disks → bytes_needed disks ≤ length content
-    → FitsCutOff entries (world_of disks (record { told = Some content; faults = faults })) events journal v
-    → KeepsOthers (IsOutsideDisks disks journal) content v.image.told
-cut_off_kept disks faults content entries events journal v are within cut =
-    let image : ImageState = record { told = Some content; faults = faults } in
-    tells_kept disks image (cut_lines cut) journal v are
-    (cut_off_tells disks image entries events journal v cut) content
-    (is_world disks faults content are within) refl
-
--- NO MORE FAILED than the image counts
-pub script_failed : (disks : List DiskDecl) (image : ImageState) (entries : ℕ) (events : List Event)
-    (journal : List Entry) (v : WorldState)
-    → AreDisks disks → image.faults ≡ 0 → length journal < 2 ^ 63
-    → FitsScript entries (world_of disks image) events journal v
-    → failed_count journal ≤ v.image.faults
-script_failed disks image entries events journal v are none short fits =
-    tells_failed disks image fits.lines journal v are
-    (script_tells disks image entries events journal v fits) none short
-
-pub cut_off_failed : (disks : List DiskDecl) (image : ImageState) (entries : ℕ) (events : List Event)
-    (journal : List Entry) (v : WorldState)
-    → AreDisks disks → image.faults ≡ 0 → length journal < 2 ^ 63
-    → FitsCutOff entries (world_of disks image) events journal v
-    → failed_count journal ≤ v.image.faults
-cut_off_failed disks image entries events journal v are none short cut =
-    tells_failed disks image (cut_lines cut) journal v are
-    (cut_off_tells disks image entries events journal v cut) none short
-
--- EACH COMPLETION has the status 0 or 5
-pub script_statuses : (disks : List DiskDecl) (image : ImageState) (entries : ℕ) (events : List Event)
-    (journal : List Entry) (v : WorldState)
-    → AreDisks disks → FitsScript entries (world_of disks image) events journal v → SucceedOrFail journal
-script_statuses disks image entries events journal v are fits =
-    tells_statuses disks image fits.lines journal v are (script_tells disks image entries events journal v fits)
-
-pub cut_off_statuses : (disks : List DiskDecl) (image : ImageState) (entries : ℕ) (events : List Event)
-    (journal : List Entry) (v : WorldState)
-    → AreDisks disks → FitsCutOff entries (world_of disks image) events journal v → SucceedOrFail journal
-cut_off_statuses disks image entries events journal v are cut =
-    tells_statuses disks image (cut_lines cut) journal v are (cut_off_tells disks image entries events journal v cut)
-
--- EACH ENTRY has its words
-pub script_worded : (disks : List DiskDecl) (image : ImageState) (entries : ℕ) (events : List Event)
-    (journal : List Entry) (v : WorldState)
-    → AreDisks disks → FitsScript entries (world_of disks image) events journal v → All (HasWords disks) journal
-script_worded disks image entries events journal v are fits =
-    tells_worded disks image fits.lines journal v are (script_tells disks image entries events journal v fits)
-
-pub cut_off_worded : (disks : List DiskDecl) (image : ImageState) (entries : ℕ) (events : List Event)
-    (journal : List Entry) (v : WorldState)
-    → AreDisks disks → FitsCutOff entries (world_of disks image) events journal v → All (HasWords disks) journal
-cut_off_worded disks image entries events journal v are cut =
-    tells_worded disks image (cut_lines cut) journal v are (cut_off_tells disks image entries events journal v cut)

@@ -1,5 +1,5 @@
 -- Each settle of a script's lines begins over clean lanes, also the one that want of memory cut off.
-use Rattle.std.proofs.Common.{◌≡◌, ◌⊎◌, inl, inr, ◌≤◌, List, [], ◌∷◌, ◌++◌, length, map, refl, sym, ap, ◌∙◌, subst, append-nil}
+use Rattle.std.proofs.Common.{◌≡◌, ◌⊎◌, inl, inr, ◌≤◌, Option, Some, None, List, [], ◌∷◌, ◌++◌, length, map, refl, sym, ap, ◌∙◌, subst, append-nil}
 use Rattle.runs.specs.Run.{Run, run_split}
 use Rattle.disk_law.specs.ListState.{ImageState}
 use Rattle.disk_model.specs.LaneState.{LaneState}
@@ -19,8 +19,8 @@ use Rattle.script_laws.proofs.DeclaredWorlds.{as_told, line_told, lines_told, sa
 use Rattle.script_laws.specs.Settled.{KeepsRules}
 use Rattle.script_laws.specs.Told.{told_by}
 use Rattle.world_parts.specs.Declared.{world_of}
-use Rattle.world_parts.specs.Lines.{LineStep, line_of}
-use Rattle.world_parts.specs.Script.{FitsCutOff, cut_lines}
+use Rattle.world_parts.specs.Lines.{LineStarts, LineStep, line_of}
+use Rattle.world_parts.specs.Script.{FitsScript, LastStarts, ScriptParts, all_lines, with_last}
 
 -- A SETTLE after these lines: its part, or a front of it
 pub record SettlesBehind (disks : List DiskDecl) (image : ImageState) (before : List (Event × List Entry))
@@ -57,37 +57,39 @@ only_one {X} x (z ∷ later) y behind is =
     let none : [] ≡ later ++ y ∷ behind = cc is in
     absurd (no_place later y behind none)
 
-module _ (disks : List DiskDecl) (image : ImageState) (events : List Event) (journal : List Entry) (v : WorldState)
-    (cut : FitsCutOff 0 (world_of disks image) events journal v) (before : List (Event × List Entry))
-    (part : List Entry) (behind : List (Event × List Entry)) where
-  cut_at : InEither cut.fits.lines ((cut.last, cut.part) ∷ []) before (Settle, part) behind
-      → SettlesBehind disks image before (told_by (Settle, part))
-  cut_at (inl at) = whole_settles disks image cut.fits.lines cut.middle cut.fits.run before part at.rest at.is
-  cut_at (inr at) =
-      let one = only_one (cut.last, cut.part) at.later (Settle, part) behind at.is in
-      let begun : world.LineBegins cut.middle (line_of cut.last) (told_by (cut.last, cut.part)) v =
-      subst (λ (l : List SettleEntry). world.LineBegins cut.middle (line_of cut.last) l v)
-      (sym (says_told (cut.last, cut.part) cut.made cut.says)) cut.begins in
-      let settle : world.LineBegins cut.middle (line_of Settle) (told_by (Settle, part)) v =
-      subst (λ (line : Event × List Entry). world.LineBegins cut.middle (line_of line.0) (told_by line) v) one.1
-      begun in
-      let is : cut.fits.lines ≡ before =
-      sym (append-nil cut.fits.lines) ∙ ap (λ (l : List (Event × List Entry)). cut.fits.lines ++ l) (sym one.0)
-      ∙ sym at.before_is in
-      record {
-        at = cut.middle;
-        run = subst (λ (l : List (Event × List Entry)). Run LineStep (world_of disks image) l cut.middle) is
-            cut.fits.run;
-        behind = v.lanes;
-        goes = inr settle.begins;
-      }
+module _ (disks : List DiskDecl) (image : ImageState) (whole : List (Event × List Entry)) (m : WorldState)
+    (run : Run LineStep (world_of disks image) whole m) where
+  module _ (last : Event × List Entry) (v : WorldState) (starts : LineStarts m last v)
+      (before : List (Event × List Entry)) (part : List Entry) (behind : List (Event × List Entry)) where
+    cut_at : InEither whole (last ∷ []) before (Settle, part) behind
+        → SettlesBehind disks image before (told_by (Settle, part))
+    cut_at (inl at) = whole_settles disks image whole m run before part at.rest at.is
+    cut_at (inr at) =
+        let one = only_one last at.later (Settle, part) behind at.is in
+        let begun : world.LineBegins m (line_of last.0) (told_by last) v =
+        subst (λ (l : List SettleEntry). world.LineBegins m (line_of last.0) l v)
+        (sym (says_told last starts.entries starts.says)) starts.begins in
+        let settle : world.LineBegins m (line_of Settle) (told_by (Settle, part)) v =
+        subst (λ (line : Event × List Entry). world.LineBegins m (line_of line.0) (told_by line) v) one.1 begun in
+        let is : whole ≡ before =
+        sym (append-nil whole) ∙ ap (λ (l : List (Event × List Entry)). whole ++ l) (sym one.0) ∙ sym at.before_is in
+        record {
+          at = m;
+          run = subst (λ (l : List (Event × List Entry)). Run LineStep (world_of disks image) l m) is run;
+          behind = v.lanes;
+          goes = inr settle.begins;
+        }
 
-pub cut_settles : (disks : List DiskDecl) (image : ImageState) (events : List Event) (journal : List Entry)
-    (v : WorldState) (cut : FitsCutOff 0 (world_of disks image) events journal v)
-    → EachSettles disks image (cut_lines cut)
-cut_settles disks image events journal v cut before part behind is =
-    cut_at disks image events journal v cut before part behind
-    (place_in cut.fits.lines ((cut.last, cut.part) ∷ []) before (Settle, part) behind is)
+  settles_on : (cut : Option (Event × List Entry)) (v : WorldState) → LastStarts m cut v
+      → EachSettles disks image (with_last whole cut)
+  settles_on None v last = whole_settles disks image whole m run
+  settles_on (Some line) v last before part behind is =
+      cut_at line v last before part behind (place_in whole (line ∷ []) before (Settle, part) behind is)
+
+pub script_settles : (disks : List DiskDecl) (image : ImageState) (parts : ScriptParts) (v : WorldState)
+    → FitsScript 0 (world_of disks image) parts v → EachSettles disks image (all_lines parts)
+script_settles disks image parts v fits =
+    settles_on disks image parts.whole fits.middle fits.run parts.cut v fits.last
 
 -- BY ITS RULES
 pub rules_at : (disks : List DiskDecl) (image : ImageState) → AreDisks disks → length disks ≤ 8

@@ -14,15 +14,16 @@ use Rattle.ldom_journal.specs.declared.status.Status.TheVariants as status
 use Rattle.ldom_journal.specs.Stops.{IsReaders}
 use Rattle.vio_io.specs.declared.host.AttachFault.{AttachFault}
 use Rattle.vio_io.specs.declared.host.AttachFault.TheVariants.{Failed, Memory}
-use Rattle.script_laws.specs.Going.{Grew, RunsAll}
+use Rattle.script_laws.specs.Going.{RunsAll}
 use Rattle.script_laws.specs.Replayed.{attach_status, ended_status, start_of}
 use Rattle.script_laws.specs.Sized.{SizeIs}
-use Rattle.script_laws.proofs.Through.{cut_off_shapes, script_shapes}
+use Rattle.script_laws.proofs.Through.{script_shapes}
 use Rattle.world_parts.specs.Declared.{LiesWithin, blocks_of, shape_of, shapes_of}
-use Rattle.world_parts.specs.Endings.{NotBegun, ending}
-use Rattle.world_parts.specs.Script.{FitsCutOff, FitsScript}
+use Rattle.world_parts.specs.Endings.{JournalIs, NotBegun, ending}
 use Rattle.script_laws.proofs.LineCases.{noted_disks}
-use Rattle.script_laws.proofs.Assembly.{by_readers, ended_as}
+use Rattle.script_laws.proofs.Assembly.{ended_as}
+use Rattle.script_laws.proofs.LineLists.{by_readers}
+use Rattle.script_laws.specs.LanesStand.{LanesOver, LanesStand}
 
 abbrev pub shape_in : LaneState → Shape
 shape_in s = s.shape
@@ -38,18 +39,6 @@ needed_within first size (disk ∷ disks) (s ∷ lanes) are each from =
     let begins : s.shape.first ≡ first = ap (λ (x : Shape). x.first) one in
     let blocks : s.shape.blocks ≡ disk.blocks = ap (λ (x : Shape). x.blocks) one in
     omega (arith, needed_within (first + disk.blocks) size disks lanes others each.1 (omega (arith, each.0, begins, blocks)))
-
--- the lanes of a run have the shapes of its disks when it has ended
-grown_shapes : (why : Status) (names : NamesState) (gives : ℕ → Option (List ℕ)) (t : WorldState) (events : List Event) (journal : List Entry) → IsReaders why → Grew why 0 (start_of names gives) events journal t
-    → map shape_in t.lanes ≡ shapes_of 0 names.disks
-grown_shapes why names gives t events journal =
-    by_readers (λ (x : Status). Grew x 0 (start_of names gives) events journal t → map shape_in t.lanes ≡ shapes_of 0 names.disks) whole (λ at fault. whole) whole (λ at kind. whole) (λ either. elim either [ inl fits ↦ whole fits | inr cut ↦ cut_off cut ]) why
-  where
-    whole : FitsScript 0 (start_of names gives) events journal t → map shape_in t.lanes ≡ shapes_of 0 names.disks
-    whole fits = script_shapes names.disks (start_of names gives).image 0 events journal t fits
-
-    cut_off : FitsCutOff 0 (start_of names gives) events journal t → map shape_in t.lanes ≡ shapes_of 0 names.disks
-    cut_off cut = cut_off_shapes names.disks (start_of names gives).image 0 events journal t cut
 
 module _ {D : Type 0} (size : D → ℕ) where
   -- a run in a world over an image that is long enough
@@ -87,6 +76,28 @@ module _ {D : Type 0} (size : D → ℕ) where
   long_or_none (status.Limit at kind) least told image sized = inl (longs least told image sized)
   long_or_none status.NoMemory least told image sized = inl (longs least told image sized)
 
+  -- what was told is long enough where the run has lanes: there is an image then, and it isn't too short
+  long_over : (least : ℕ) (told : Option (List ℕ)) (image : Option D) (lanes : Option (List LaneState)) (t : WorldState)
+      → IfSome image (λ disk. (least ≤ size disk) × IfSome told (λ bytes. least ≤ length bytes)) → LanesOver image lanes t
+      → IfSome lanes (λ stand. IfSome told (λ bytes. least ≤ length bytes))
+  long_over least told image None t sized stand = tt
+  long_over least told None (Some lanes) t sized stand = absurd (cc stand)
+  long_over least told (Some disk) (Some lanes) t sized stand = sized.1
+
+  pub lanes_long : (why : Status) (least : ℕ) (told : Option (List ℕ)) (image : Option D) (lanes : Option (List LaneState)) (t : WorldState)
+      → SizeIs size why least told image → LanesStand why image lanes t → IfSome lanes (λ stand. IfSome told (λ bytes. least ≤ length bytes))
+  lanes_long (status.ImageSize need have) least told image None t sized stand = tt
+  lanes_long (status.ImageSize need have) least told image (Some lanes) t sized stand = absurd (cc stand)
+  lanes_long status.Done least told image lanes t sized stand = long_over least told image lanes t sized stand
+  lanes_long status.Usage least told image lanes t sized stand = long_over least told image lanes t sized stand
+  lanes_long (status.Script at fault) least told image lanes t sized stand = long_over least told image lanes t sized stand
+  lanes_long status.SourceFault least told image lanes t sized stand = long_over least told image lanes t sized stand
+  lanes_long status.SinkFault least told image lanes t sized stand = long_over least told image lanes t sized stand
+  lanes_long status.HostFault least told image lanes t sized stand = long_over least told image lanes t sized stand
+  lanes_long status.StoreFault least told image lanes t sized stand = long_over least told image lanes t sized stand
+  lanes_long (status.Limit at kind) least told image lanes t sized stand = long_over least told image lanes t sized stand
+  lanes_long status.NoMemory least told image lanes t sized stand = long_over least told image lanes t sized stand
+
   -- a disk that attaching made of zeros is never too short
   pub zeros_are_long : (why : Status) (least need have : ℕ) (told : Option (List ℕ)) (image : Option D) → why ≡ status.ImageSize need have → told ≡ Some (replicate least 0) → SizeIs size why least told image → ⊥
   zeros_are_long why least need have told image is zeros sized =
@@ -122,9 +133,9 @@ module _ {D : Type 0} (size : D → ℕ) where
       → s ≡ start_of names gives → Each (LiesWithin (size image)) t.lanes → IfSome (gives (512 * blocks_of names.disks)) (λ bytes. 512 * blocks_of names.disks ≤ length bytes)
       → SizeIs size (ended_status why faulty) (512 * blocks_of after.disks) (gives (512 * blocks_of after.disks)) (Some image)
   sized_run start now gives why faulty names after s t journal lines image readers runs begins within long =
-      let fits : Grew why 0 (start_of names gives) runs.events journal t = subst (λ (x : WorldState). Grew why 0 x runs.events journal t) begins runs.fits in
+      let is : JournalIs (ending why) (start_of names gives) runs.parts journal t = subst (λ (x : WorldState). JournalIs (ending why) x runs.parts journal t) begins runs.journal_is in
       let enough : 512 * (0 + blocks_of names.disks) ≤ size image =
-      needed_within 0 (size image) names.disks t.lanes (grown_shapes why names gives t runs.events journal readers fits) within (omega arith) in
+      needed_within 0 (size image) names.disks t.lanes (script_shapes names.disks (start_of names gives).image 0 runs.parts t is.fits) within (omega arith) in
       subst (λ (disks : List DiskDecl). SizeIs size (ended_status why faulty) (512 * blocks_of disks) (gives (512 * blocks_of disks)) (Some image)) (sym runs.disks)
       (sized_of size why faulty (512 * blocks_of names.disks) (gives (512 * blocks_of names.disks)) image readers (omega (arith, enough)) long)
 

@@ -1,7 +1,6 @@
 -- A journal that fits leads the lanes of the declared disks line by line, and what its entries are for them is their
 -- run.
-use Rattle.std.proofs.Common.{◌≡◌, ℕ, zero, suc, Some, List, [], ◌∷◌, ◌++◌, length, map, slice_get, slice_set, sym, ap, ◌∙◌, subst}
-use Rattle.std.specs.List.{flat_map}
+use Rattle.std.proofs.Common.{◌≡◌, ℕ, zero, suc, Option, Some, None, List, [], ◌∷◌, ◌++◌, length, map, slice_get, slice_set, sym, ap, ◌∙◌, subst}
 use Rattle.std.proofs.lemmas.List.{length-map}
 use Rattle.runs.specs.Run.{Run, run_append}
 use Rattle.disk_law.specs.ListState.{ImageState}
@@ -19,11 +18,11 @@ use Rattle.world_laws.specs.World.{WorldState, WorldStep}
 use Rattle.ldom_entries.specs.declared.entry.Entry.{Entry}
 use Rattle.world_parts.specs.Declared.{shapes_of, world_of}
 use Rattle.world_parts.specs.Lines.{LineStep, all_happened, line_of}
-use Rattle.world_parts.specs.Script.{FitsCutOff, FitsScript, cut_lines}
+use Rattle.world_parts.specs.Script.{FitsScript, LastStarts, ScriptParts, all_lines, journal_of, with_last}
 use Rattle.world_laws.proofs.ByLines.{unforged_begun, unforged_behind}
 use Rattle.world_laws.proofs.LeftOver.{NamesBelow, cut_below, lines_below}
 use Rattle.script_laws.proofs.DiskShapes.{fresh_shapes, many_shapes}
-use Rattle.script_laws.proofs.Tellings.{LinesTell, Telling, entries_told, flat_push, line_first, line_last, means_of, no_lines, part_tells, seen_at}
+use Rattle.script_laws.proofs.Tellings.{LinesTell, Telling, entries_told, line_first, line_last, means_of, no_lines, part_tells, seen_at}
 
 -- LINES with their parts, as those of a script over lanes
 pub record Through (w : WorldState) (lines : List (Event × List Entry)) (v : WorldState) : Type 0 where
@@ -45,11 +44,10 @@ lines_through w (line ∷ lines) v run =
     }
 
 -- A JOURNAL, entry by entry: what its lines say of each disk, and that what it is for the lanes is a run of theirs
-pub record JournalTells (disks : List DiskDecl) (image : ImageState) (lines : List (Event × List Entry))
-    (journal : List Entry) (v : WorldState) : Type 0 where
+pub record JournalTells (disks : List DiskDecl) (image : ImageState) (parts : ScriptParts) (v : WorldState) : Type 0 where
   pub tellings : List Telling
-  pub journal_is : entries_told tellings ≡ journal
-  pub seen : (x : ℕ) → seen_at x tellings ≡ all_happened x lines
+  pub journal_is : entries_told tellings ≡ journal_of parts
+  pub seen : (x : ℕ) → seen_at x tellings ≡ all_happened x (all_lines parts)
   pub run : Run WorldStep (world_of disks image) (means_of tellings) v
   pub unforged : Each IsUnforged v.lanes
   pub below : NamesBelow (length disks) (means_of tellings)
@@ -57,56 +55,50 @@ pub record JournalTells (disks : List DiskDecl) (image : ImageState) (lines : Li
 fresh_many : (disks : List DiskDecl) → length (map fresh (shapes_of 0 disks)) ≡ length disks
 fresh_many disks = length-map (shapes_of 0 disks) fresh ∙ many_shapes 0 disks
 
-pub script_tells : (disks : List DiskDecl) (image : ImageState) (entries : ℕ) (events : List Event)
-    (journal : List Entry) (v : WorldState)
-    → (fits : FitsScript entries (world_of disks image) events journal v)
-    → JournalTells disks image fits.lines journal v
-script_tells disks image entries events journal v fits =
-    let w = world_of disks image in
-    let through = lines_through w fits.lines v fits.run in
-    let tells = through.tells in
-    let back : entries_of through.moved ≡ means_of tells.tellings = sym tells.means_are in
-    record {
-      tellings = tells.tellings;
-      journal_is = tells.entries_are ∙ fits.parts;
-      seen = tells.seen;
-      run = subst (λ (l : List SettleEntry). Run WorldStep w l v) back (lines_run w through.moved v through.run);
-      unforged = unforged_behind (shapes_of 0 disks) image through.moved v through.run;
-      below = subst (NamesBelow (length disks)) back
-          (lines_below (length disks) w through.moved v (fresh_many disks) through.run);
-    }
+-- the whole lines, and the one that was cut off
+module _ (disks : List DiskDecl) (image : ImageState) (whole : List (Event × List Entry)) (m : WorldState)
+    (run : Run LineStep (world_of disks image) whole m) where
+  abbrev through : Through (world_of disks image) whole m
+  through = lines_through (world_of disks image) whole m run
 
-cut_parts : (lines : List (Event × List Entry)) (last : Event × List Entry) (front : List Entry)
-    → flat_map (λ (l : Event × List Entry). l.1) lines ≡ front
-    → flat_map (λ (l : Event × List Entry). l.1) (lines ++ last ∷ []) ≡ front ++ last.1
-cut_parts lines last front is =
-    sym (flat_push (λ (l : Event × List Entry). l.1) lines last) ∙ ap (λ (l : List Entry). l ++ last.1) is
+  tells_on : (cut : Option (Event × List Entry)) (v : WorldState) → LastStarts m cut v
+      → JournalTells disks image (record { whole = whole; cut = cut }) v
+  tells_on None v last =
+      let w = world_of disks image in
+      let tells = through.tells in
+      let back : entries_of through.moved ≡ means_of tells.tellings = sym tells.means_are in
+      subst (λ (x : WorldState). JournalTells disks image (record { whole = whole; cut = None }) x) (sym last) (record {
+        tellings = tells.tellings;
+        journal_is = tells.entries_are;
+        seen = tells.seen;
+        run = subst (λ (l : List SettleEntry). Run WorldStep w l m) back (lines_run w through.moved m through.run);
+        unforged = unforged_behind (shapes_of 0 disks) image through.moved m through.run;
+        below = subst (NamesBelow (length disks)) back
+            (lines_below (length disks) w through.moved m (fresh_many disks) through.run);
+      })
+  tells_on (Some line) v last =
+      let w = world_of disks image in
+      let tells = line_last whole line (entries_of through.moved) last.entries through.tells
+      (part_tells line.0 line.1 last.entries last.says) in
+      let back : entries_of through.moved ++ last.entries ≡ means_of tells.tellings = sym tells.means_are in
+      let both = run_append WorldStep w m v (entries_of through.moved) last.entries
+      (lines_run w through.moved m through.run) last.begins.run in
+      record {
+        tellings = tells.tellings;
+        journal_is = tells.entries_are;
+        seen = tells.seen;
+        run = subst (λ (l : List SettleEntry). Run WorldStep w l v) back both;
+        unforged = unforged_begun (shapes_of 0 disks) image through.moved m (line_of line.0) last.entries v through.run
+            last.begins;
+        below = subst (NamesBelow (length disks)) back
+            (cut_below (length disks) w through.moved m (line_of line.0) last.entries v (fresh_many disks) through.run
+            last.begins);
+      }
 
-pub cut_off_tells : (disks : List DiskDecl) (image : ImageState) (entries : ℕ) (events : List Event)
-    (journal : List Entry) (v : WorldState)
-    → (cut : FitsCutOff entries (world_of disks image) events journal v)
-    → JournalTells disks image (cut_lines cut) journal v
-cut_off_tells disks image entries events journal v cut =
-    let w = world_of disks image in
-    let m = cut.middle in
-    let through = lines_through w cut.fits.lines m cut.fits.run in
-    let last : Event × List Entry = (cut.last, cut.part) in
-    let tells = line_last cut.fits.lines last (entries_of through.moved) cut.made through.tells
-    (part_tells cut.last cut.part cut.made cut.says) in
-    let back : entries_of through.moved ++ cut.made ≡ means_of tells.tellings = sym tells.means_are in
-    let run = run_append WorldStep w m v (entries_of through.moved) cut.made
-    (lines_run w through.moved m through.run) cut.begins.run in
-    record {
-      tellings = tells.tellings;
-      journal_is = tells.entries_are ∙ cut_parts cut.fits.lines last cut.front cut.fits.parts ∙ sym cut.journal_is;
-      seen = tells.seen;
-      run = subst (λ (l : List SettleEntry). Run WorldStep w l v) back run;
-      unforged = unforged_begun (shapes_of 0 disks) image through.moved m
-          (line_of cut.last) cut.made v through.run cut.begins;
-      below = subst (NamesBelow (length disks)) back
-          (cut_below (length disks) w through.moved m (line_of cut.last) cut.made v (fresh_many disks)
-          through.run cut.begins);
-    }
+pub script_tells : (disks : List DiskDecl) (image : ImageState) (entries : ℕ) (parts : ScriptParts) (v : WorldState)
+    → FitsScript entries (world_of disks image) parts v → JournalTells disks image parts v
+script_tells disks image entries parts v fits =
+    tells_on disks image parts.whole fits.middle fits.run parts.cut v fits.last
 
 -- SHAPES STAY
 set_shape : (lanes : List LaneState) (k : ℕ) (s t : LaneState) → slice_get lanes k ≡ Some s → t.shape ≡ s.shape
@@ -133,18 +125,8 @@ run_shapes : (w : WorldState) (entries : List SettleEntry) (v : WorldState) → 
 run_shapes w [] v run = ap (λ (x : WorldState). map (λ (s : LaneState). s.shape) x.lanes) (sym run)
 run_shapes w (entry ∷ entries) v run = run_shapes run.0 entries v run.2 ∙ step_shapes w entry run.0 run.1
 
-pub script_shapes : (disks : List DiskDecl) (image : ImageState) (entries : ℕ) (events : List Event)
-    (journal : List Entry) (v : WorldState)
-    → FitsScript entries (world_of disks image) events journal v
-    → map (λ (s : LaneState). s.shape) v.lanes ≡ shapes_of 0 disks
-script_shapes disks image entries events journal v fits =
-    let tells = script_tells disks image entries events journal v fits in
-    run_shapes (world_of disks image) (means_of tells.tellings) v tells.run ∙ fresh_shapes (shapes_of 0 disks)
-
-pub cut_off_shapes : (disks : List DiskDecl) (image : ImageState) (entries : ℕ) (events : List Event)
-    (journal : List Entry) (v : WorldState)
-    → FitsCutOff entries (world_of disks image) events journal v
-    → map (λ (s : LaneState). s.shape) v.lanes ≡ shapes_of 0 disks
-cut_off_shapes disks image entries events journal v cut =
-    let tells = cut_off_tells disks image entries events journal v cut in
+pub script_shapes : (disks : List DiskDecl) (image : ImageState) (entries : ℕ) (parts : ScriptParts) (v : WorldState)
+    → FitsScript entries (world_of disks image) parts v → map (λ (s : LaneState). s.shape) v.lanes ≡ shapes_of 0 disks
+script_shapes disks image entries parts v fits =
+    let tells = script_tells disks image entries parts v fits in
     run_shapes (world_of disks image) (means_of tells.tellings) v tells.run ∙ fresh_shapes (shapes_of 0 disks)

@@ -1,7 +1,8 @@
 -- A run with status 0: its script was read to the end, and its report was written.
-use Rattle.std.proofs.Common.{◌≡◌, inl, inr, ℕ, ◌*◌, ◌≤◌, arith, List, [], ◌∷◌, length, sym, ◌∙◌, ap, subst, Option, Some, None, IfSome}
+use Rattle.std.proofs.Common.{◌≡◌, inl, inr, ℕ, ◌*◌, ◌≤◌, arith, List, [], ◌∷◌, length, sym, ◌∙◌, ap, subst, Option, Some, None, IfSome, refl}
 use Rattle.std.specs.Prelude.{IsSome, IsSomeAnd}
 use Rattle.std.specs.Io.KnownBytes.{Appends}
+use Rattle.disk_law.specs.ListState.{ImageState}
 use Rattle.disk_model.specs.LaneState.{LaneState}
 use Rattle.domain_script.specs.Declarations.{AreDisks}
 use Rattle.domain_script.specs.ScriptEvents.{AllSpell, no_names}
@@ -16,17 +17,22 @@ use Rattle.ldom_journal.specs.declared.status.Mode.{Mode}
 use Rattle.ldom_journal.specs.declared.status.Mode.TheVariants as mode
 use Rattle.ldom_journal.specs.declared.status.Status.{Status}
 use Rattle.ldom_journal.specs.declared.status.Status.TheVariants as status
-use Rattle.script_laws.specs.PlainRun.{plain_content}
-use Rattle.script_laws.specs.Quiet.{IsQuietScript}
-use Rattle.script_laws.proofs.PlainLaw.{plain_law}
+use Rattle.script_laws.specs.Completed.{completed_ids}
+use Rattle.script_laws.specs.PlainRun.{plain_content, plain_ids, plain_text}
+use Rattle.script_laws.specs.Quiet.{IsQuiet, IsQuietScript}
+use Rattle.script_laws.proofs.PlainLaw.{PlainLaw, plain_law}
 use Rattle.script_laws.proofs.QuietNames.{quiet_disks}
 use Rattle.script_laws.specs.Counts.{Counts}
 use Rattle.script_laws.specs.Outcomes.{Reports, RunsScript}
-use Rattle.script_laws.specs.Replayed.{Replayed, start_of}
+use Rattle.script_laws.specs.Reading.{StopsAt}
+use Rattle.script_laws.specs.Replayed.{FaultsAre, Replayed}
+use Rattle.script_laws.specs.Script.{ReadSoFar}
 use Rattle.script_laws.specs.Sized.{SizeIs}
-use Rattle.script_laws.specs.Whole.{RunsPlainly, RunsWhole}
-use Rattle.world_parts.specs.Declared.{bytes_needed, world_of}
-use Rattle.world_parts.specs.Script.{FitsScript}
+use Rattle.script_laws.specs.Whole.{RunsPlainly, RunsWhole, SpellsAll}
+use Rattle.world_parts.specs.Declared.{attached, bytes_needed, world_of}
+use Rattle.world_parts.specs.Endings.{EndsSo, ending}
+use Rattle.world_parts.specs.Script.{FitsScript, ScriptParts, events_of, journal_of}
+use Rattle.ldom_journal.specs.LinesEnd.{counted_lines}
 use Rattle.script_laws.proofs.OneReading.{all_read, as_many, one_reading}
 use Rattle.script_laws.proofs.ReadLemmas.{are_disks}
 
@@ -39,76 +45,83 @@ long_at_end : {D : Type 0} (size : D → ℕ) (least : ℕ) (told : Option (List
 long_at_end size least told None given is some sized = absurd (cc some)
 long_at_end size least told (Some disk) given is some sized = subst (λ (o : Option (List ℕ)). IfSome o (λ bytes. least ≤ length bytes)) is sized.1
 
-attached_so : {D : Type 0} (content : D → Option (List ℕ)) (faults : D → ℕ) (image : Option D) (t : WorldState) → IfSome image (λ d. (content d ≡ t.image.told) × (faults d ≡ t.image.faults)) → IsSome image → t.image.faults ≡ 0
-    → IsSomeAnd image (λ d. (content d ≡ t.image.told) × (faults d ≡ 0))
-attached_so content faults None t is some none = absurd (cc some)
-attached_so content faults (Some d) t is some none = (is.0, is.1 ∙ none)
+seen_so : {D : Type 0} (seen : D → ImageState) (image : Option D) (i : ImageState) → IfSome image (λ d. seen d ≡ i) → IsSome image → IsSomeAnd image (λ d. seen d ≡ i)
+seen_so seen None i is some = absurd (cc some)
+seen_so seen (Some d) i is some = is
 
-module _ {D : Type 0} (shown : Mode) (content : D → Option (List ℕ)) (faults size : D → ℕ) (script now : Option (List ℕ)) (gives : ℕ → Option (List ℕ)) (why : Status) (journal : List Entry) (image : Option D) (lanes : Option (List LaneState)) (old new : Option (List ℕ)) (before after : Counts)
-    (runs : RunsScript shown content faults size script now gives why journal image lanes old new before after) (bytes : List ℕ) (events : List Event) (known : script ≡ Some bytes) (done : why ≡ status.Done)
-    (names : NamesState) (spelled : AllSpell (script_lines bytes) no_names events names) where
-  told : (runs.ran ≡ status.Done) × Appends old new (report shown runs.names.disks runs.lines journal runs.ran)
-  told = ran_done runs.ran why old new (report shown runs.names.disks runs.lines journal runs.ran) done runs.reports
+-- WHAT A RUN ENDED WITH at the script's end
+module _ {D : Type 0} (shown : Mode) (seen : D → ImageState) (script now : Option (List ℕ)) (gives : ℕ → Option (List ℕ)) (ran : Status) (lines : ℕ) (names : NamesState) (journal : List Entry) (image : Option D) (lanes : Option (List LaneState)) (old new : Option (List ℕ))
+    (run : Replayed seen script now gives ran lines names journal image lanes) (why : Status) (reports : Reports ran why old new (report shown names.disks lines journal ran)) (done : why ≡ status.Done) where
+  abbrev read_events : List Event
+  read_events = events_of run.parts
 
-  replayed : Replayed content faults (Some bytes) now gives status.Done runs.lines runs.names journal image lanes
-  replayed =
-      subst (λ (s : Option (List ℕ)). Replayed content faults s now gives status.Done runs.lines runs.names journal image lanes) known
-      (subst (λ (w : Status). Replayed content faults script now gives w runs.lines runs.names journal image lanes) told.0 runs.replayed)
+  told : (ran ≡ status.Done) × Appends old new (report shown names.disks lines journal ran)
+  told = ran_done ran why old new (report shown names.disks lines journal ran) done reports
+
+  stop : StopsAt status.Done run.stopped.left run.stopped.held now names run.stopped.count (length journal)
+  stop = subst (λ (w : Status). StopsAt w run.stopped.left run.stopped.held now names run.stopped.count (length journal)) told.0 run.stopped.stop
 
   -- all lines were read, and in one way
-  one : (events ≡ replayed.events) × (names ≡ runs.names)
-  one =
-      let read = replayed.stopped.read in
-      let all : script_lines bytes ≡ read.texts = all_read bytes replayed.stopped.left read.texts replayed.stopped.stop.0 read.taken.taken in
-      one_reading read.texts no_names names runs.names events replayed.events (subst (λ (l : List (List ℕ)). AllSpell l no_names events names) all spelled) read.spell
+  all_spelled : SpellsAll script read_events names
+  all_spelled bytes events known_names known spelled =
+      let read : ReadSoFar (Some bytes) run.stopped.left read_events names run.stopped.count =
+      subst (λ (s : Option (List ℕ)). ReadSoFar s run.stopped.left read_events names run.stopped.count) known run.stopped.read in
+      let all : script_lines bytes ≡ read.texts = all_read bytes run.stopped.left read.texts stop.0 read.taken.taken in
+      one_reading read.texts no_names known_names names events read_events (subst (λ (l : List (List ℕ)). AllSpell l no_names events known_names) all spelled) read.spell
 
-  lines_are : runs.lines ≡ length events
+  lines_are : lines ≡ length read_events
   lines_are =
-      let read = replayed.stopped.read in
-      replayed.stopped.lines_are ∙ read.counts ∙ sym (as_many read.texts no_names runs.names replayed.events read.spell) ∙ ap (λ (l : List Event). length l) (sym one.0)
+      let read = run.stopped.read in
+      subst (λ (w : Status). lines ≡ counted_lines w run.stopped.count) told.0 run.stopped.lines_are
+      ∙ read.counts ∙ sym (as_many read.texts no_names names read_events read.spell)
 
-  text_is : report shown runs.names.disks runs.lines journal runs.ran ≡ report shown names.disks (length events) journal status.Done
+  text_is : report shown names.disks lines journal ran ≡ report shown names.disks (length read_events) journal status.Done
   text_is =
-      ap (λ (w : Status). report shown runs.names.disks runs.lines journal w) told.0
-      ∙ ap (λ (n : ℕ). report shown runs.names.disks n journal status.Done) lines_are
-      ∙ ap (λ (n : NamesState). report shown n.disks (length events) journal status.Done) (sym one.1)
+      ap (λ (w : Status). report shown names.disks lines journal w) told.0
+      ∙ ap (λ (n : ℕ). report shown names.disks n journal status.Done) lines_are
 
-  pub runs_whole : RunsWhole shown content faults gives names events journal image old new
+  faults : IsSome image × (run.final.image.faults ≡ 0)
+  faults = subst (λ (w : Status). FaultsAre w image run.final.image.faults) told.0 run.faults_are
+
+  pub runs_whole : RunsWhole shown seen script names run.parts run.final journal image old new
   runs_whole = record {
-    final = replayed.final;
-    fits = subst (λ (n : NamesState). FitsScript 0 (start_of n gives) events journal replayed.final) (sym one.1)
-        (subst (λ (l : List Event). FitsScript 0 (start_of runs.names gives) l journal replayed.final) (sym one.0) replayed.journal_is);
-    faultless = replayed.faults_are.1;
-    image_is = attached_so content faults image replayed.final replayed.image_is replayed.faults_are.0 replayed.faults_are.1;
+    all = all_spelled;
+    none_cut = subst (λ (w : Status). EndsSo (ending w) run.parts) told.0 run.journal_is.ends;
+    faultless = faults.1;
+    image_is = seen_so seen image run.final.image run.image_is faults.0;
     written = subst (λ (l : List ℕ). Appends old new l) text_is told.1;
   }
 
-  -- the image was as long as the disks need
-  enough : (given : List ℕ) → gives (bytes_needed names.disks) ≡ Some given → bytes_needed names.disks ≤ length given
-  enough given gave =
-      let sized : SizeIs size status.Done (bytes_needed runs.names.disks) (gives (bytes_needed runs.names.disks)) image =
-      subst (λ (w : Status). SizeIs size w (bytes_needed runs.names.disks) (gives (bytes_needed runs.names.disks)) image) told.0 runs.sized in
-      long_at_end size (bytes_needed names.disks) (gives (bytes_needed names.disks)) image given gave replayed.faults_are.0
-      (subst (λ (n : NamesState). SizeIs size status.Done (bytes_needed n.disks) (gives (bytes_needed n.disks)) image) (sym one.1) sized)
+left_so : {D : Type 0} (seen : D → ImageState) (image : Option D) (i : ImageState) (left : List ℕ) → IsSomeAnd image (λ d. seen d ≡ i) → i.told ≡ Some left
+    → IsSomeAnd image (λ d. (seen d).told ≡ Some left)
+left_so seen None i left is same = absurd is
+left_so seen (Some d) i left is same = ap (λ (x : ImageState). x.told) is ∙ same
 
-left_so : {D : Type 0} (content : D → Option (List ℕ)) (faults : D → ℕ) (image : Option D) (t : WorldState) (left : List ℕ) → IsSomeAnd image (λ d. (content d ≡ t.image.told) × (faults d ≡ 0)) → t.image.told ≡ Some left
-    → IsSomeAnd image (λ d. content d ≡ Some left)
-left_so content faults None t left is same = absurd is
-left_so content faults (Some d) t left is same = is.0 ∙ same
-
--- a quiet script, over an image that tells its bytes
-module _ {D : Type 0} (content : D → Option (List ℕ)) (faults size : D → ℕ) (script now : Option (List ℕ)) (gives : ℕ → Option (List ℕ)) (why : Status) (journal : List Entry) (image : Option D) (lanes : Option (List LaneState)) (old new : Option (List ℕ)) (before after : Counts)
-    (runs : RunsScript mode.Run content faults size script now gives why journal image lanes old new before after) (bytes : List ℕ) (events : List Event) (known : script ≡ Some bytes) (done : why ≡ status.Done) (disk : DiskDecl) (given : List ℕ) (quiet : IsQuietScript bytes disk events)
+-- A QUIET SCRIPT, over an image that tells its bytes
+module _ {D : Type 0} (seen : D → ImageState) (size : D → ℕ) (script now : Option (List ℕ)) (gives : ℕ → Option (List ℕ)) (why : Status) (journal : List Entry) (image : Option D) (lanes : Option (List LaneState)) (old new : Option (List ℕ)) (before after : Counts)
+    (runs : RunsScript mode.Run seen size script now gives why journal image lanes old new before after) (bytes : List ℕ) (events : List Event) (known : script ≡ Some bytes) (done : why ≡ status.Done) (disk : DiskDecl) (given : List ℕ) (quiet : IsQuietScript bytes disk events)
     (gave : gives (512 * disk.blocks) ≡ Some given) where
-  whole : RunsWhole mode.Run content faults gives quiet.names events journal image old new
-  whole = runs_whole mode.Run content faults size script now gives why journal image lanes old new before after runs bytes events known done quiet.names quiet.spelled
+  abbrev parts : ScriptParts
+  parts = runs.replayed.parts
+
+  abbrev final : WorldState
+  final = runs.replayed.final
+
+  whole : RunsWhole mode.Run seen script runs.names parts final journal image old new
+  whole = runs.whole done
+
+  one : (events ≡ events_of parts) × (quiet.names ≡ runs.names)
+  one = whole.all bytes events quiet.names known quiet.spelled
 
   -- it declares one disk
-  declares : quiet.names.disks ≡ disk ∷ []
-  declares = quiet_disks disk (script_lines bytes) events quiet.names quiet.quiet quiet.spelled
+  declared : quiet.names.disks ≡ disk ∷ []
+  declared = quiet_disks disk (script_lines bytes) events quiet.names quiet.quiet quiet.spelled
+
+  declares : runs.names.disks ≡ disk ∷ []
+  declares = ap (λ (n : NamesState). n.disks) (sym one.1) ∙ declared
 
   are : AreDisks (disk ∷ [])
-  are = subst AreDisks declares (are_disks (script_lines bytes) no_names quiet.names events tt quiet.spelled)
+  are = subst AreDisks declared (are_disks (script_lines bytes) no_names quiet.names events tt quiet.spelled)
 
   least : bytes_needed (disk ∷ []) ≡ 512 * disk.blocks
   least = omega arith
@@ -116,21 +129,42 @@ module _ {D : Type 0} (content : D → Option (List ℕ)) (faults size : D → �
   gave_one : gives (bytes_needed (disk ∷ [])) ≡ Some given
   gave_one = ap gives least ∙ gave
 
+  -- the image is as long as it needs
+  sized : SizeIs size status.Done (bytes_needed (disk ∷ [])) (gives (bytes_needed (disk ∷ []))) image
+  sized =
+      let ran = ran_done runs.ran why old new (report mode.Run runs.names.disks runs.lines journal runs.ran) done runs.reports in
+      subst (λ (l : List DiskDecl). SizeIs size status.Done (bytes_needed l) (gives (bytes_needed l)) image) declares
+      (subst (λ (w : Status). SizeIs size w (bytes_needed runs.names.disks) (gives (bytes_needed runs.names.disks)) image) ran.0 runs.sized)
+
   long : 512 * disk.blocks ≤ length given
   long =
-      let all : bytes_needed quiet.names.disks ≡ 512 * disk.blocks = ap (λ (l : List DiskDecl). bytes_needed l) declares ∙ least in
-      subst (λ (n : ℕ). n ≤ length given) all (enough mode.Run content faults size script now gives why journal image lanes old new before after runs bytes events known done quiet.names quiet.spelled given (ap gives all ∙ gave))
+      subst (λ (n : ℕ). n ≤ length given) least
+      (long_at_end size (bytes_needed (disk ∷ [])) (gives (bytes_needed (disk ∷ []))) image given gave_one (some_image image whole.image_is) sized)
+    where
+      some_image : (i : Option D) → IsSomeAnd i (λ d. seen d ≡ final.image) → IsSome i
+      some_image None is = absurd is
+      some_image (Some d) is = refl
 
-  fits : FitsScript 0 (world_of (disk ∷ []) (record { told = Some given; faults = 0 })) events journal whole.final
+  fits : FitsScript 0 (world_of (disk ∷ []) (attached (gives (bytes_needed (disk ∷ []))))) parts final
   fits =
-      subst (λ (o : Option (List ℕ)). FitsScript 0 (world_of (disk ∷ []) (record { told = o; faults = 0 })) events journal whole.final) gave_one
-      (subst (λ (d : List DiskDecl). FitsScript 0 (world_of d (record { told = gives (bytes_needed d); faults = 0 })) events journal whole.final) declares whole.fits)
+      subst (λ (l : List DiskDecl). FitsScript 0 (world_of l (attached (gives (bytes_needed l)))) parts final) declares
+      runs.replayed.journal_is.fits
 
-  pub runs_plainly : RunsPlainly content disk given events journal image old new
-  runs_plainly =
-      let law = plain_law disk given events journal whole.final are.0 long quiet.quiet fits whole.faultless in
-      record {
-        written = subst (λ (l : List ℕ). Appends old new l) (ap (λ (d : List DiskDecl). report mode.Run d (length events) journal status.Done) declares ∙ law.text) whole.written;
-        left = left_so content faults image whole.final (plain_content disk given events) whole.image_is law.told;
-        ids = law.ids;
-      }
+  law : PlainLaw disk given (events_of parts) (journal_of parts) final
+  law =
+      plain_law disk (attached (gives (bytes_needed (disk ∷ [])))) given parts final are.0 gave_one long
+      (subst (λ (l : List Event). IsQuiet disk l) one.0 quiet.quiet) whole.none_cut fits whole.faultless
+
+  text_is_plain : report mode.Run runs.names.disks (length (events_of parts)) journal status.Done ≡ plain_text disk given events
+  text_is_plain =
+      ap (λ (l : List DiskDecl). report mode.Run l (length (events_of parts)) journal status.Done) declares
+      ∙ ap (λ (l : List Entry). report mode.Run (disk ∷ []) (length (events_of parts)) l status.Done) (sym runs.replayed.journal_is.is)
+      ∙ law.text ∙ ap (λ (l : List Event). plain_text disk given l) (sym one.0)
+
+  pub runs_plainly : RunsPlainly (λ d. (seen d).told) disk given events journal image old new
+  runs_plainly = record {
+    written = subst (λ (l : List ℕ). Appends old new l) text_is_plain whole.written;
+    left = left_so seen image final.image (plain_content disk given events) whole.image_is
+        (law.told ∙ ap (λ (l : List Event). Some (plain_content disk given l)) (sym one.0));
+    ids = ap completed_ids (sym runs.replayed.journal_is.is) ∙ law.ids ∙ ap (λ (l : List Event). plain_ids disk given l) (sym one.0);
+  }

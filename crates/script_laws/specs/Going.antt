@@ -1,5 +1,5 @@
 -- The lines of a script after its declarations.
-use Rattle.std.specs.Prelude.{◌≡◌, ◌≢◌, ℕ, ◌+◌, ◌≤◌, ◌⊎◌, List, ◌++◌, length, Option}
+use Rattle.std.specs.Prelude.{◌≡◌, ◌≢◌, ℕ, ◌+◌, ◌≤◌, List, ◌++◌, length, Option}
 use Rattle.domain_script.specs.declared.event.Event.{Event}
 use Rattle.domain_script.specs.NamesState.{NamesState}
 use Rattle.ldom_entries.specs.declared.entry.Entry.{Entry}
@@ -7,22 +7,14 @@ use Rattle.ldom_journal.specs.declared.status.Status.{Status}
 use Rattle.ldom_journal.specs.declared.status.Status.TheVariants as status
 use Rattle.ldom_journal.specs.LinesEnd.{counted_lines}
 use Rattle.script_laws.specs.Attached.{AreOpening}
-use Rattle.world_parts.specs.Endings.{Ending, MayBeCut, ending}
+use Rattle.world_parts.specs.Endings.{EndsSo, JournalIs, ending}
 use Rattle.script_laws.specs.Reading.{StopsAt}
 use Rattle.script_laws.specs.Replayed.{Stopped}
 use Rattle.domain_script.specs.ScriptLines.{AreShort, TakesLines}
 use Rattle.domain_script.specs.ScriptEvents.{AllSpell}
-use Rattle.world_parts.specs.Script.{FitsScript, FitsCutOff}
+use Rattle.world_parts.specs.Script.{FitsScript, ScriptParts, events_of, journal_of}
 use Rattle.world_laws.specs.World.{WorldState}
 use Rattle.domain_script.specs.Limits.{most_lines}
-
--- what the journal got after so many entries, by how it ended: after want of memory the last line's part may be cut off
-abbrev pub GrewTo : Ending → ℕ → WorldState → List Event → List Entry → WorldState → Type 0
-GrewTo MayBeCut entries s events part t = FitsScript entries s events part t ⊎ FitsCutOff entries s events part t
-GrewTo other entries s events part t = FitsScript entries s events part t
-
-abbrev pub Grew : Status → ℕ → WorldState → List Event → List Entry → WorldState → Type 0
-Grew why entries s events part t = GrewTo (ending why) entries s events part t
 
 -- from the bytes that are still to come, after so many lines, these lines were read
 pub record ReadsOn (start left : Option (List ℕ)) (before : NamesState) (number : ℕ) (events : List Event) (after : NamesState) : Type 0 where
@@ -35,21 +27,21 @@ pub record ReadsOn (start left : Option (List ℕ)) (before : NamesState) (numbe
 -- they were read and run, and then no further one was taken up
 pub record RunsLines (start now : Option (List ℕ)) (before : NamesState) (old : List Entry) (s : WorldState) (number : ℕ)
     (why : Status) (after : NamesState) (new : List Entry) (t : WorldState) (lines : ℕ) : Type 0 where
-  pub events : List Event
+  pub parts : ScriptParts
   pub left : Option (List ℕ)
-  pub read : ReadsOn start left before number events after
-  pub part : List Entry
-  pub grew : new ≡ old ++ part
-  pub fits : Grew why (length old) s events part t
+  pub read : ReadsOn start left before number (events_of parts) after
+  pub grew : new ≡ old ++ journal_of parts
+  pub fits : FitsScript (length old) s parts t
+  pub ends : EndsSo (ending why) parts
   pub held : List ℕ
   pub stop : StopsAt why left held now after (number + length read.texts) (length new)
   pub lines_are : lines ≡ counted_lines why (number + length read.texts)
 
 -- From its first line on the script was read and run, and then no further line was taken up.
 pub record RunsAll (start now : Option (List ℕ)) (before : NamesState) (s : WorldState) (why : Status) (after : NamesState) (journal : List Entry) (t : WorldState) (lines : ℕ) : Type 0 where
-  pub events : List Event
-  pub stopped : Stopped start now why events after (length journal) lines
-  pub fits : Grew why 0 s events journal t
+  pub parts : ScriptParts
+  pub stopped : Stopped start now why (events_of parts) after (length journal) lines
+  pub journal_is : JournalIs (ending why) s parts journal t
   pub disks : after.disks ≡ before.disks
   -- but at the input's end, a line came at which the image is attached
-  pub attached : why ≢ status.Done → AreOpening events → ⊥
+  pub attached : why ≢ status.Done → AreOpening (events_of parts) → ⊥

@@ -1,6 +1,7 @@
 pub mod Admitting
 pub mod Completed
 pub mod Failures
+pub mod Stored
 pub mod Outside
 pub mod Told
 pub mod Lanes

@@ -1,5 +1,6 @@
 -- What a run did with its script, up to where it stopped.
 use Rattle.std.specs.Prelude.{◌≡◌, ℕ, ◌<◌, Bool, if◌then◌else◌, List, length, Option, IfSome, IsSome, ⊤}
+use Rattle.disk_law.specs.ListState.{ImageState}
 use Rattle.domain_script.specs.declared.event.Event.{Event}
 use Rattle.domain_script.specs.NamesState.{NamesState}
 use Rattle.ldom_entries.specs.declared.entry.Entry.{Entry}
@@ -9,13 +10,14 @@ use Rattle.vio_io.specs.declared.host.AttachFault.{AttachFault}
 use Rattle.vio_io.specs.declared.host.AttachFault.TheVariants.{Failed, Memory}
 use Rattle.ldom_journal.specs.LinesEnd.{counted_lines}
 use Rattle.script_laws.specs.Attached.{ImageStands}
-use Rattle.world_parts.specs.Endings.{JournalIs}
+use Rattle.world_parts.specs.Endings.{JournalIs, ending}
 use Rattle.disk_model.specs.LaneState.{LaneState}
 use Rattle.world_laws.specs.World.{WorldState}
 use Rattle.script_laws.specs.Reading.{StopsAt}
 use Rattle.script_laws.specs.LanesStand.{LanesStand}
 use Rattle.script_laws.specs.Script.{ReadSoFar}
-use Rattle.world_parts.specs.Declared.{bytes_needed, world_of}
+use Rattle.world_parts.specs.Declared.{attached, bytes_needed, world_of}
+use Rattle.world_parts.specs.Script.{ScriptParts, events_of}
 
 -- These events were read, and then no further line was taken up, where the journal has so many entries; the report counts
 -- so many lines. The source has `now` left, and what was taken from it and is in no line is held.
@@ -45,17 +47,19 @@ ended_status other faulty = other
 
 -- the world as a run begins, over what attaching gives for so many bytes
 abbrev pub start_of : NamesState → (ℕ → Option (List ℕ)) → WorldState
-start_of names gives = world_of names.disks (record { told = gives (bytes_needed names.disks); faults = 0 })
+start_of names gives = world_of names.disks (attached (gives (bytes_needed names.disks)))
 
 -- A run: its script was read up to where it stopped, its journal is one part for each line, and the image and the lanes are
--- what the journal makes of the image that was attached and of fresh lanes. The source has `now` left.
-pub record Replayed {D : Type 0} (content : D → Option (List ℕ)) (faults : D → ℕ) (script now : Option (List ℕ)) (gives : ℕ → Option (List ℕ))
+-- what the journal makes of the image that was attached and of fresh lanes. The source has `now` left. `seen` is what
+-- contracts see of an image.
+pub record Replayed {D : Type 0} (seen : D → ImageState) (script now : Option (List ℕ)) (gives : ℕ → Option (List ℕ))
     (why : Status) (lines : ℕ) (names : NamesState) (journal : List Entry) (image : Option D) (lanes : Option (List LaneState)) : Type 0 where
-  pub events : List Event
-  pub stopped : Stopped script now why events names (length journal) lines
+  -- its lines with their parts, of which all that is said of the run speaks
+  pub parts : ScriptParts
+  pub stopped : Stopped script now why (events_of parts) names (length journal) lines
   pub final : WorldState
-  pub journal_is : JournalIs why (start_of names gives) events journal final
-  pub image_is : IfSome image (λ disk. (content disk ≡ final.image.told) × (faults disk ≡ final.image.faults))
+  pub journal_is : JournalIs (ending why) (start_of names gives) parts journal final
+  pub image_is : IfSome image (λ disk. seen disk ≡ final.image)
   pub faults_are : FaultsAre why image final.image.faults
-  pub image_stands : ImageStands why events stopped.left journal image
-  pub lanes_stand : LanesStand why journal image lanes final
+  pub image_stands : ImageStands why (events_of parts) stopped.left journal image
+  pub lanes_stand : LanesStand why image lanes final

@@ -1,5 +1,5 @@
 -- What a settle comes to in a script.
-use Rattle.std.specs.Prelude.{◌≡◌, ℕ, ◌≤◌, true, false, List, [], ◌∷◌, ◌++◌, length}
+use Rattle.std.specs.Prelude.{◌≡◌, ℕ, ◌≤◌, true, false, is_some, List, [], ◌∷◌, ◌++◌, length}
 use Rattle.disk_model.specs.DiskLog.{DiskLog}
 use Rattle.disk_model.specs.DiskEvent.{DiskEvent}
 use Rattle.disk_model.specs.LaneState.{Shape}
@@ -11,6 +11,7 @@ use Rattle.ldc_queue.specs.declared.end.End.{End}
 use Rattle.ldom_entries.specs.declared.entry.Entry.{Entry}
 use Rattle.script_laws.specs.Still.{AreStillBy}
 use Rattle.script_laws.specs.Told.{log_at, told, told_by}
+use Rattle.world_parts.specs.Script.{ScriptParts, all_lines}
 
 -- THE PART OF A SETTLE, also one that want of memory cut off: each lane has at most one tick in it, and no end of a lane
 -- finds no room three times with nothing but that between.
@@ -37,22 +38,25 @@ pub record EndsSettled (part : List SettleEntry) : Type 0 where
   pub front : List SettleEntry
   pub is : part ≡ front ++ Settled ∷ []
 
--- so each settle of these lines, of which the whole ones end, and no disk is ever left over
-pub record SettlesEnd (whole lines : List (Event × List Entry)) : Type 0 where
+-- so each settle of a script's lines, of which the whole ones end, and no disk is ever left over
+pub record SettlesEnd (parts : ScriptParts) : Type 0 where
   pub each : (before : List (Event × List Entry)) (part : List Entry) (behind : List (Event × List Entry))
-      → lines ≡ before ++ (Settle, part) ∷ behind → KeepsRules (told_by (Settle, part))
+      → all_lines parts ≡ before ++ (Settle, part) ∷ behind → KeepsRules (told_by (Settle, part))
   pub ends : (before : List (Event × List Entry)) (part : List Entry) (behind : List (Event × List Entry))
-      → whole ≡ before ++ (Settle, part) ∷ behind → EndsSettled (told_by (Settle, part))
+      → parts.whole ≡ before ++ (Settle, part) ∷ behind → EndsSettled (told_by (Settle, part))
   pub none_left : (before : List SettleEntry) (x : ℕ) (behind : List SettleEntry)
-      → told lines ≡ before ++ Unsettled x ∷ behind → ⊥
+      → told (all_lines parts) ≡ before ++ Unsettled x ∷ behind → ⊥
 
--- BEHIND EACH SETTLE all requests of a disk have completed that were accepted before it, unless the disk's server is
--- stopped: whatever became of the store's calls.
-abbrev pub CompletesAll : Shape → ℕ → List SettleEntry → Type 0
-CompletesAll shape x entries =
+-- A DISK IS FINISHED: its client's session is open, and all requests that it accepted have completed.
+pub record IsFinishedBy (l : DiskLog) : Type 0 where
+  pub session : is_some l.work.client ≡ true
+  pub completed : l.work.done ≡ length l.work.issued
+
+-- BEHIND EACH SETTLE it is, unless its server is stopped: whatever became of the store's calls.
+abbrev pub FinishesAll : Shape → ℕ → List SettleEntry → Type 0
+FinishesAll shape x entries =
     (before behind : List SettleEntry) → entries ≡ before ++ Settled ∷ behind
-    → (log_at shape x before).work.stopped ≡ false
-    → (log_at shape x before).work.done ≡ length (log_at shape x before).work.issued
+    → (log_at shape x before).work.stopped ≡ false → IsFinishedBy (log_at shape x before)
 
 -- and there both ends of its lane are still
 abbrev pub StillBehind : Shape → ℕ → List SettleEntry → Type 0

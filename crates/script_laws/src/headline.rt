@@ -1,29 +1,26 @@
 // The headline of every script that its journal fits.
 
-ghost use Rattle.std.specs.Prelude.{◌≡◌, ℕ, ◌≤◌, List, length, IfSome};
+ghost use Rattle.std.specs.Prelude.{ℕ, ◌≤◌, List, length, IfSome};
 ghost use Rattle.disk_law.specs.ListState.{ImageState};
 ghost use Rattle.domain_script.specs.Declarations.{AreDisks};
 ghost use Rattle.domain_script.specs.declared.event.DiskDecl.{DiskDecl};
-ghost use Rattle.domain_script.specs.declared.event.Event.{Event};
 ghost use Rattle.world_laws.specs.World.{WorldState};
-ghost use Rattle.ldom_entries.specs.declared.entry.Entry.{Entry};
 ghost use Rattle.script_laws.specs.Headline.{Headline};
 ghost use Rattle.world_parts.specs.Declared.{bytes_needed, world_of};
-ghost use Rattle.world_parts.specs.Endings.{Ending, JournalEnds};
+ghost use Rattle.world_parts.specs.Script.{FitsScript, ScriptParts};
 
 /// For every script over at most eight disks, whatever it resets, stops, restarts and loses, and wherever its run
 /// ended: each disk's lane is lawful. At the end and behind each front of the entries it stands as its log says, an end
 /// that is up heard in order what the other said, and sessions that are open are one, whose counts and slots stand in
-/// their order. After each settle both its ends are still and, where its server runs, all its accepted requests have
-/// completed. Each settle, also one that want of memory cut off, has at most one tick of a lane: where its server
-/// runs, a packet was lost and both ends are still. Over an image that tells its bytes, where no call of the store
-/// failed for the disk, as where the image counts no fault: each completed read shows the last earlier write; each
-/// block of the disk is that of its completed writes or of one that isn't completed; where all are completed, the
-/// disk holds exactly the accepted ones applied once in order. Outside of all disks the image stays.
+/// their order. After each settle both its ends are still and, where its server runs, it is finished: its client's
+/// session is open, and all its accepted requests have completed. Each settle, also one that want of memory cut off, has
+/// at most one tick of a lane: where its server runs, a packet was lost and both ends are still. Over an image that tells
+/// its bytes, where no call of the store failed for the disk, as where the image counts no fault: each completed read
+/// shows the last earlier write; each block of the disk is that of its completed writes or of one that isn't completed;
+/// where all are completed, the disk holds exactly the accepted ones applied once in order. Outside of all disks the
+/// image stays.
 pub fn the_headline_holds()
-    ensures { (ending : Ending) (disks : List DiskDecl) (image : ImageState) (events : List Event)
-        (journal : List Entry) (v : WorldState)
+    ensures { (disks : List DiskDecl) (image : ImageState) (parts : ScriptParts) (v : WorldState)
         → AreDisks disks → length disks ≤ 8 → IfSome image.told (λ bytes. bytes_needed disks ≤ length bytes)
-        → JournalEnds ending (world_of disks image) events journal v
-        → Headline ending disks (world_of disks image) events journal v }
+        → FitsScript 0 (world_of disks image) parts v → Headline disks image parts v }
 {}

@@ -6,89 +6,83 @@ ghost use Rattle.disk_law.specs.Issued.{CompletesOnceInOrder};
 ghost use Rattle.disk_law.specs.ListState.{ImageState};
 ghost use Rattle.domain_script.specs.Declarations.{AreDisks};
 ghost use Rattle.domain_script.specs.declared.event.DiskDecl.{DiskDecl};
-ghost use Rattle.domain_script.specs.declared.event.Event.{Event};
 ghost use Rattle.world_laws.specs.World.{WorldState};
 ghost use Rattle.ldom_journal.specs.DiskEvents.{history};
 ghost use Rattle.ldom_journal.specs.HasWords.{HasWords};
-ghost use Rattle.ldom_entries.specs.declared.entry.Entry.{Entry};
 ghost use Rattle.script_laws.specs.Admitting.{AdmitsAll};
 ghost use Rattle.script_laws.specs.Failures.{SucceedOrFail, failed_count};
 ghost use Rattle.script_laws.specs.Outside.{IsOutsideDisks, KeepsOthers};
+ghost use Rattle.script_laws.specs.Stored.{flush_count, stored_count};
 ghost use Rattle.world_parts.specs.Declared.{bytes_needed, world_of};
-ghost use Rattle.world_parts.specs.Script.{FitsCutOff, FitsScript, cut_lines};
+ghost use Rattle.world_parts.specs.Script.{FitsScript, ScriptParts, all_lines, events_of, journal_of};
+
+/// A journal cuts into the parts of its lines in one way: over at most eight disks, two lists of lines with the same
+/// events, whose parts make the same journal and may come of the same world, have the same parts. Of each the last may
+/// have been cut off for want of memory.
+pub fn a_journal_cuts_in_one_way()
+    ensures { (disks : List DiskDecl) (image : ImageState) (parts others : ScriptParts) (v u : WorldState)
+        → AreDisks disks → length disks ≤ 8
+        → FitsScript 0 (world_of disks image) parts v → FitsScript 0 (world_of disks image) others u
+        → events_of parts ≡ events_of others → journal_of parts ≡ journal_of others
+        → all_lines parts ≡ all_lines others }
+{}
 
 /// In the parts of all lines of a script each request is refused for its defect, finds no room or is accepted with
 /// the next id: also where want of memory cut off the last line. It finds no room where as many are pending as its
 /// disk's ring has slots.
 pub fn requests_are_admitted()
-    ensures script { (disks : List DiskDecl) (image : ImageState) (entries : ℕ) (events : List Event)
-        (journal : List Entry) (v : WorldState)
-        → AreDisks disks → (fits : FitsScript entries (world_of disks image) events journal v)
-        → AdmitsAll disks fits.lines }
-    ensures cut_off { (disks : List DiskDecl) (image : ImageState) (entries : ℕ) (events : List Event)
-        (journal : List Entry) (v : WorldState)
-        → AreDisks disks → (cut : FitsCutOff entries (world_of disks image) events journal v)
-        → AdmitsAll disks (cut_lines cut) }
+    ensures { (disks : List DiskDecl) (image : ImageState) (entries : ℕ) (parts : ScriptParts) (v : WorldState)
+        → AreDisks disks → FitsScript entries (world_of disks image) parts v → AdmitsAll disks (all_lines parts) }
 {}
 
 /// For each disk, by its number: the requests that a journal accepted complete in the order in which they were, each at
 /// most once.
 pub fn requests_complete_once_in_order()
-    ensures script { (disks : List DiskDecl) (image : ImageState) (entries : ℕ) (events : List Event)
-        (journal : List Entry) (v : WorldState)
-        → AreDisks disks → FitsScript entries (world_of disks image) events journal v
-        → (x : ℕ) → CompletesOnceInOrder (history x journal) }
-    ensures cut_off { (disks : List DiskDecl) (image : ImageState) (entries : ℕ) (events : List Event)
-        (journal : List Entry) (v : WorldState)
-        → AreDisks disks → FitsCutOff entries (world_of disks image) events journal v
-        → (x : ℕ) → CompletesOnceInOrder (history x journal) }
+    ensures { (disks : List DiskDecl) (image : ImageState) (entries : ℕ) (parts : ScriptParts) (v : WorldState)
+        → AreDisks disks → FitsScript entries (world_of disks image) parts v
+        → (x : ℕ) → CompletesOnceInOrder (history x (journal_of parts)) }
 {}
 
 /// An image that tells its bytes goes on to tell as many, and outside of the blocks that accepted requests write
 /// they stay as they were: also where an image failed, and where memory was wanted within a line. Each request
 /// writes to its own disk.
 pub fn bytes_outside_of_writes_stay()
-    ensures script { (disks : List DiskDecl) (faults : ℕ) (content : List ℕ) (entries : ℕ) (events : List Event)
-        (journal : List Entry) (v : WorldState)
-        → AreDisks disks → bytes_needed disks ≤ length content
-        → FitsScript entries (world_of disks (record { told = Some content; faults = faults })) events journal v
-        → KeepsOthers (IsOutsideDisks disks journal) content v.image.told }
-    ensures cut_off { (disks : List DiskDecl) (faults : ℕ) (content : List ℕ) (entries : ℕ) (events : List Event)
-        (journal : List Entry) (v : WorldState)
-        → AreDisks disks → bytes_needed disks ≤ length content
-        → FitsCutOff entries (world_of disks (record { told = Some content; faults = faults })) events journal v
-        → KeepsOthers (IsOutsideDisks disks journal) content v.image.told }
+    ensures { (disks : List DiskDecl) (image : ImageState) (entries : ℕ) (parts : ScriptParts) (v : WorldState)
+        → AreDisks disks → FitsScript entries (world_of disks image) parts v
+        → (content : List ℕ) → image.told ≡ Some content → bytes_needed disks ≤ length content
+        → KeepsOthers (IsOutsideDisks disks (journal_of parts)) content v.image.told }
 {}
 
 /// No more completions failed than the image counts faults, where it counted none at first and its count can't have
 /// stopped at the last value.
 pub fn failed_completions_are_counted()
-    ensures script { (disks : List DiskDecl) (image : ImageState) (entries : ℕ) (events : List Event)
-        (journal : List Entry) (v : WorldState)
-        → AreDisks disks → image.faults ≡ 0 → length journal < 2 ^ 63
-        → FitsScript entries (world_of disks image) events journal v → failed_count journal ≤ v.image.faults }
-    ensures cut_off { (disks : List DiskDecl) (image : ImageState) (entries : ℕ) (events : List Event)
-        (journal : List Entry) (v : WorldState)
-        → AreDisks disks → image.faults ≡ 0 → length journal < 2 ^ 63
-        → FitsCutOff entries (world_of disks image) events journal v → failed_count journal ≤ v.image.faults }
+    ensures { (disks : List DiskDecl) (image : ImageState) (entries : ℕ) (parts : ScriptParts) (v : WorldState)
+        → AreDisks disks → FitsScript entries (world_of disks image) parts v
+        → image.faults ≡ 0 → length (journal_of parts) < 2 ^ 63 → failed_count (journal_of parts) ≤ v.image.faults }
+{}
+
+/// Each call of the image is told: it was called as often as the journal says `stored`, and asked to flush as often as
+/// that says so of a flush, whether it failed or not; where nothing was asked of it at first and its count can't have
+/// stopped at the last value. So no flush that is told was kept from it, and nothing was asked that isn't told.
+pub fn calls_of_the_image_are_told()
+    ensures calls { (disks : List DiskDecl) (image : ImageState) (entries : ℕ) (parts : ScriptParts) (v : WorldState)
+        → AreDisks disks → FitsScript entries (world_of disks image) parts v
+        → image.calls ≡ 0 → length (journal_of parts) < 2 ^ 63 → v.image.calls ≡ stored_count (journal_of parts) }
+    ensures flushes { (disks : List DiskDecl) (image : ImageState) (entries : ℕ) (parts : ScriptParts) (v : WorldState)
+        → AreDisks disks → FitsScript entries (world_of disks image) parts v
+        → image.flushes ≡ 0 → length (journal_of parts) < 2 ^ 63
+        → v.image.flushes ≡ flush_count (journal_of parts) }
 {}
 
 /// Each completion has the status 0, or 5 where the image failed.
 pub fn completions_succeed_or_fail()
-    ensures script { (disks : List DiskDecl) (image : ImageState) (entries : ℕ) (events : List Event)
-        (journal : List Entry) (v : WorldState)
-        → AreDisks disks → FitsScript entries (world_of disks image) events journal v → SucceedOrFail journal }
-    ensures cut_off { (disks : List DiskDecl) (image : ImageState) (entries : ℕ) (events : List Event)
-        (journal : List Entry) (v : WorldState)
-        → AreDisks disks → FitsCutOff entries (world_of disks image) events journal v → SucceedOrFail journal }
+    ensures { (disks : List DiskDecl) (image : ImageState) (entries : ℕ) (parts : ScriptParts) (v : WorldState)
+        → AreDisks disks → FitsScript entries (world_of disks image) parts v → SucceedOrFail (journal_of parts) }
 {}
 
 /// Each entry names what the script declared, and its values have their words.
 pub fn entries_have_their_words()
-    ensures script { (disks : List DiskDecl) (image : ImageState) (entries : ℕ) (events : List Event)
-        (journal : List Entry) (v : WorldState)
-        → AreDisks disks → FitsScript entries (world_of disks image) events journal v → All (HasWords disks) journal }
-    ensures cut_off { (disks : List DiskDecl) (image : ImageState) (entries : ℕ) (events : List Event)
-        (journal : List Entry) (v : WorldState)
-        → AreDisks disks → FitsCutOff entries (world_of disks image) events journal v → All (HasWords disks) journal }
+    ensures { (disks : List DiskDecl) (image : ImageState) (entries : ℕ) (parts : ScriptParts) (v : WorldState)
+        → AreDisks disks → FitsScript entries (world_of disks image) parts v
+        → All (HasWords disks) (journal_of parts) }
 {}

@@ -10,7 +10,8 @@ mod plain;
 
 pub use headline::the_headline_holds;
 pub use laws::{
-    bytes_outside_of_writes_stay, completions_succeed_or_fail, entries_have_their_words,
-    failed_completions_are_counted, requests_are_admitted, requests_complete_once_in_order,
+    a_journal_cuts_in_one_way, bytes_outside_of_writes_stay, calls_of_the_image_are_told,
+    completions_succeed_or_fail, entries_have_their_words, failed_completions_are_counted,
+    requests_are_admitted, requests_complete_once_in_order,
 };
 pub use plain::a_quiet_script_runs_plainly;

@@ -1,5 +1,5 @@
--- The image's count of faults along a run of a world: one higher for each call of the store that failed.
-use Rattle.std.proofs.Common.{◌≡◌, ◌≤◌, ℕ, zero, suc, ◌+◌, Bool, true, false, cond, List, [], ◌∷◌, refl, sym, ap, ◌∙◌, arith}
+-- The image's counts along a run of a world: each is one higher for each call of the store that it counts.
+use Rattle.std.proofs.Common.{◌≡◌, ◌≤◌, ℕ, zero, suc, ◌+◌, ◌==◌, if◌then◌else◌, Bool, true, false, cond, List, [], ◌∷◌, refl, sym, ap, ◌∙◌, arith}
 use Rattle.std.specs.List.{count_by}
 use Rattle.runs.specs.Run.{Run}
 use Rattle.vio_io.specs.Causes.{count_after, last_count, next_count}
@@ -7,34 +7,11 @@ use Rattle.disk_law.specs.ListState.{ImageState}
 use Rattle.disk_model.specs.DiskEvent.{Asks, Desc, DiskEvent, Done, Finished, Misplaced, Moved, OnWire, Published, Rests, Stored, Turns, Works}
 use Rattle.disk_model.specs.LaneState.{LaneState}
 use Rattle.world_laws.specs.Settle.{OfLane, SettleEntry, Settled, Unsettled}
-use Rattle.world_laws.specs.World.{FaultsAfter, LaneMoves, WorldState, WorldStep}
+use Rattle.world_laws.specs.World.{CalledOnce, FaultsAfter, LaneMoves, WorldState, WorldStep}
 use Rattle.world_laws.proofs.Counted.{count_more}
-use Rattle.world_laws.specs.Failures.{in_entry, is_failed_store}
+use Rattle.world_laws.specs.Failures.{in_entry, is_failed_store, is_flush, is_store, is_store_that}
 
--- ONE EVENT
-counted_call : (failed : Bool) (before now : ℕ) → FaultsAfter failed before now → now ≡ count_after (cond failed 1 0) before
-counted_call true before now after = after
-counted_call false before now after = after
-
-event_faults : (s : LaneState) (i : ImageState) (event : DiskEvent) (t : LaneState) (j : ImageState) → LaneMoves s i event t j → j.faults ≡ count_after (cond (is_failed_store event) 1 0) i.faults
-event_faults s i (OnWire event) t j moves = ap (λ (x : ImageState). x.faults) moves.1
-event_faults s i (Asks event) t j moves = ap (λ (x : ImageState). x.faults) moves.1
-event_faults s i (Works (Published id)) t j moves = ap (λ (x : ImageState). x.faults) moves.1
-event_faults s i (Works (Done id operation status bytes)) t j moves = ap (λ (x : ImageState). x.faults) moves.1
-event_faults s i (Works (Desc slot bytes)) t j moves = ap (λ (x : ImageState). x.faults) moves.1
-event_faults s i (Works (Moved unit fault)) t j moves = ap (λ (x : ImageState). x.faults) moves.1
-event_faults s i (Works (Stored operation block count failed)) t j moves = counted_call failed i.faults j.faults moves.1
-event_faults s i (Works (Finished slot status)) t j moves = ap (λ (x : ImageState). x.faults) moves.1
-event_faults s i (Works Misplaced) t j moves = ap (λ (x : ImageState). x.faults) moves.1
-event_faults s i (Turns event) t j moves = ap (λ (x : ImageState). x.faults) moves.1
-event_faults s i (Rests event) t j moves = ap (λ (x : ImageState). x.faults) moves.1
-
-entry_faults : (w : WorldState) (entry : SettleEntry) (v : WorldState) → WorldStep w entry v → v.image.faults ≡ count_after (cond (in_entry is_failed_store entry) 1 0) w.image.faults
-entry_faults w (OfLane k event) v step = event_faults step.lane w.image event step.after v.image step.moves
-entry_faults w Settled v step = ap (λ (x : WorldState). x.image.faults) step
-entry_faults w (Unsettled k) v step = ap (λ (x : WorldState). x.image.faults) step
-
--- A RUN
+-- A COUNT later
 one_before : (n count : ℕ) → count_after n (next_count count) ≡ next_count (count_after n count)
 one_before zero count = refl
 one_before (suc n) count = ap next_count (one_before n count)
@@ -47,15 +24,70 @@ more_before n count false =
     let none : n ≡ 0 + n = omega arith in
     ap (λ (k : ℕ). count_after k count) none
 
+-- A COUNT OF THE IMAGE that each call raises of which this says so
+abbrev Counts : (ImageState → ℕ) → (ℕ → Bool → Bool) → Type 0
+Counts count says =
+    (operation : ℕ) (failed : Bool) (i j : ImageState) → CalledOnce operation failed i j
+    → count j ≡ count_after (cond (says operation failed) 1 0) (count i)
+
+module _ (count : ImageState → ℕ) (says : ℕ → Bool → Bool) (counts : Counts count says) where
+  event_counts : (s : LaneState) (i : ImageState) (event : DiskEvent) (t : LaneState) (j : ImageState) → LaneMoves s i event t j
+      → count j ≡ count_after (cond (is_store_that says event) 1 0) (count i)
+  event_counts s i (OnWire event) t j moves = ap count moves.1
+  event_counts s i (Asks event) t j moves = ap count moves.1
+  event_counts s i (Works (Published id)) t j moves = ap count moves.1
+  event_counts s i (Works (Done id operation status bytes)) t j moves = ap count moves.1
+  event_counts s i (Works (Desc slot bytes)) t j moves = ap count moves.1
+  event_counts s i (Works (Moved unit fault)) t j moves = ap count moves.1
+  event_counts s i (Works (Stored operation block n failed)) t j moves = counts operation failed i j moves.1
+  event_counts s i (Works (Finished slot status)) t j moves = ap count moves.1
+  event_counts s i (Works Misplaced) t j moves = ap count moves.1
+  event_counts s i (Turns event) t j moves = ap count moves.1
+  event_counts s i (Rests event) t j moves = ap count moves.1
+
+  entry_counts : (w : WorldState) (entry : SettleEntry) (v : WorldState) → WorldStep w entry v
+      → count v.image ≡ count_after (cond (in_entry (is_store_that says) entry) 1 0) (count w.image)
+  entry_counts w (OfLane k event) v step = event_counts step.lane w.image event step.after v.image step.moves
+  entry_counts w Settled v step = ap (λ (x : WorldState). count x.image) step
+  entry_counts w (Unsettled k) v step = ap (λ (x : WorldState). count x.image) step
+
+  -- A RUN
+  run_counts : (w : WorldState) (entries : List SettleEntry) (v : WorldState) → Run WorldStep w entries v
+      → count v.image ≡ count_after (count_by (in_entry (is_store_that says)) entries) (count w.image)
+  run_counts w [] v run = ap (λ (x : WorldState). count x.image) (sym run)
+  run_counts w (entry ∷ entries) v run =
+      let n = count_by (in_entry (is_store_that says)) entries in
+      run_counts run.0 entries v run.2
+      ∙ ap (count_after n) (entry_counts w entry run.0 run.1)
+      ∙ more_before n (count w.image) (in_entry (is_store_that says) entry)
+      ∙ ap (λ (k : ℕ). count_after k (count w.image)) (sym (count_more (in_entry (is_store_that says)) entry entries))
+
+-- ITS FAULTS, its calls and its flushes
+failed_counts : Counts (λ image. image.faults) (λ operation failed. failed)
+failed_counts operation true i j once = once.faults
+failed_counts operation false i j once = once.faults
+
+all_count : Counts (λ image. image.calls) (λ operation failed. true)
+all_count operation failed i j once = once.calls
+
+one_if : (b : Bool) (before now : ℕ) → now ≡ (if b then next_count before else before) → now ≡ count_after (cond b 1 0) before
+one_if true before now is = is
+one_if false before now is = is
+
+flushes_count : Counts (λ image. image.flushes) (λ operation failed. operation == 3)
+flushes_count operation failed i j once = one_if (operation == 3) i.flushes j.flushes once.flushes
+
 pub run_faults : (w : WorldState) (entries : List SettleEntry) (v : WorldState) → Run WorldStep w entries v
     → v.image.faults ≡ count_after (count_by (in_entry is_failed_store) entries) w.image.faults
-run_faults w [] v run = ap (λ (x : WorldState). x.image.faults) (sym run)
-run_faults w (entry ∷ entries) v run =
-    let n = count_by (in_entry is_failed_store) entries in
-    run_faults run.0 entries v run.2
-    ∙ ap (count_after n) (entry_faults w entry run.0 run.1)
-    ∙ more_before n w.image.faults (in_entry is_failed_store entry)
-    ∙ ap (λ (k : ℕ). count_after k w.image.faults) (sym (count_more (in_entry is_failed_store) entry entries))
+run_faults = run_counts (λ image. image.faults) (λ operation failed. failed) failed_counts
+
+pub run_calls : (w : WorldState) (entries : List SettleEntry) (v : WorldState) → Run WorldStep w entries v
+    → v.image.calls ≡ count_after (count_by (in_entry is_store) entries) w.image.calls
+run_calls = run_counts (λ image. image.calls) (λ operation failed. true) all_count
+
+pub run_flushes : (w : WorldState) (entries : List SettleEntry) (v : WorldState) → Run WorldStep w entries v
+    → v.image.flushes ≡ count_after (count_by (in_entry is_flush) entries) w.image.flushes
+run_flushes = run_counts (λ image. image.flushes) (λ operation failed. operation == 3) flushes_count
 
 -- A COUNT of few is exact, and one of some isn't 0
 pub few_counted : (n : ℕ) → n ≤ last_count → count_after n 0 ≡ n

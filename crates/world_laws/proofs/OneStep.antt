@@ -380,7 +380,7 @@ one_step shape p s e (Works (Desc slot bytes)) t i j front over own moves well =
 one_step shape p s e (Works (Moved unit fault)) t i j front over own moves well =
     quietly shape p s (Works (Moved unit fault)) t i j front over moves.1 refl (moved_silent shape p s over.store unit fault t over.stands moves.0)
 one_step shape p s e (Works (Stored operation block count failed)) t i j front over own moves well =
-    stored_on failed shape p s operation block count t i j front over (fault_free failed i.faults j.faults moves.1 well) moves.0
+    stored_on failed shape p s operation block count t i j front over (fault_free failed i.faults j.faults moves.1.faults well) moves.0
 one_step shape p s e (Works (Finished slot status)) t i j front over own moves well =
     quietly shape p s (Works (Finished slot status)) t i j front over moves.1 refl (finished_silent shape p s over.store slot status t over.stands moves.0)
 one_step shape p s e (Works Misplaced) t i j front over own moves well = absurd moves.0

@@ -1,13 +1,23 @@
--- Which events tell that a call of the store failed, and which that a request failed for it.
-use Rattle.std.specs.Prelude.{◌≡◌, ◌==◌, Bool, false}
+-- Which events tell of a call of the store, that it failed, or flushed it; and which that a request failed for it.
+use Rattle.std.specs.Prelude.{◌≡◌, ℕ, ◌==◌, Bool, true, false}
 use Rattle.disk_model.specs.DiskEvent.{DiskEvent, Done, Stored, Works}
 use Rattle.disk_model.specs.LaneState.{LaneState}
 use Rattle.world_laws.specs.Settle.{OfLane, SettleEntry}
 
--- a call of the store that failed
+-- a call of the store of whose operation this says so, and whether it failed
+abbrev pub is_store_that : (ℕ → Bool → Bool) → DiskEvent → Bool
+is_store_that says (Works (Stored operation block count failed)) = says operation failed
+is_store_that says _ = false
+
+-- a call of the store, one that failed, and one that flushes it: that is the operation 3
+abbrev pub is_store : DiskEvent → Bool
+is_store event = is_store_that (λ operation failed. true) event
+
 abbrev pub is_failed_store : DiskEvent → Bool
-is_failed_store (Works (Stored operation block count failed)) = failed
-is_failed_store _ = false
+is_failed_store event = is_store_that (λ operation failed. failed) event
+
+abbrev pub is_flush : DiskEvent → Bool
+is_flush event = is_store_that (λ operation failed. operation == 3) event
 
 -- a completion with the status 5
 abbrev pub is_failed_done : DiskEvent → Bool

@@ -1,5 +1,5 @@
 -- A WORLD: the lanes of disks, by their numbers, and the one image that all of them are served from; and what each entry of its journal does.
-use Rattle.std.specs.Prelude.{◌≡◌, ℕ, ◌+◌, ◌*◌, ◌≤◌, Bool, true, false, List, [], ◌∷◌, length, map, Some, slice_get, slice_set, IfSome, ⊤}
+use Rattle.std.specs.Prelude.{◌≡◌, ℕ, ◌+◌, ◌*◌, ◌≤◌, ◌==◌, if◌then◌else◌, Bool, true, false, List, [], ◌∷◌, length, map, Some, slice_get, slice_set, IfSome, ⊤}
 use Rattle.vio_io.specs.Causes.{next_count}
 use Rattle.disk_law.specs.ListState.{ImageState}
 use Rattle.disk_model.specs.DiskEvent.{DiskEvent, Stored, Works}
@@ -17,10 +17,16 @@ abbrev pub FaultsAfter : Bool → ℕ → ℕ → Type 0
 FaultsAfter true before now = now ≡ next_count before
 FaultsAfter false before now = now ≡ before
 
+-- ONE CALL of the image, whether it failed or not; a flush, the operation 3, is one flush of it, and no other call flushes it
+pub record CalledOnce (operation : ℕ) (failed : Bool) (i j : ImageState) : Type 0 where
+  pub calls : j.calls ≡ next_count i.calls
+  pub flushes : j.flushes ≡ (if operation == 3 then next_count i.flushes else i.flushes)
+  pub faults : FaultsAfter failed i.faults j.faults
+
 -- AN EVENT OF A LANE over the image: a unit that is stored, or a flush, is one call of the image; by every other event the image stays
 abbrev pub LaneMoves : LaneState → ImageState → DiskEvent → LaneState → ImageState → Type 0
 LaneMoves s i (Works (Stored operation block count failed)) t j =
-    Served s i.told (Works (Stored operation block count failed)) t j.told × FaultsAfter failed i.faults j.faults
+    Served s i.told (Works (Stored operation block count failed)) t j.told × CalledOnce operation failed i j
 LaneMoves s i event t j = LaneStep s event t × (j ≡ i)
 
 -- the lane with this number moved by this event, and all others stayed

@@ -15,7 +15,7 @@ ghost use Rattle.world_laws.specs.Rounds.{Each};
 ghost use Rattle.world_laws.specs.Settle.{OfLane, SettleEntry};
 ghost use Rattle.world_laws.specs.Sums.{IsUnforged};
 ghost use Rattle.world_laws.specs.World.{AreShapes, fresh_world, WorldState, WorldStep};
-ghost use Rattle.world_laws.specs.Failures.{in_entry, is_failed_done, is_failed_store, NeverFailed};
+ghost use Rattle.world_laws.specs.Failures.{in_entry, is_failed_done, is_failed_store, is_flush, is_store, NeverFailed};
 ghost use Rattle.world_laws.specs.Statuses.{CarriesAsAsked, StatusAt, TellsStore};
 
 /// On a lane that nobody forged, whether its store failed or not, whatever was lost, reset, stopped or restarted on
@@ -55,6 +55,17 @@ pub fn failed_completions_are_counted()
         → AreShapes 0 shapes → Run WorldStep (fresh_world shapes image) entries w → Each IsUnforged w.lanes
         → image.faults ≡ 0 → length entries < 2 ^ 63
         → count_by (in_entry is_failed_done) entries ≤ w.image.faults }
+{}
+
+/// In a world the image's count of calls is that of the start, and one higher for each call of a store that its journal
+/// tells, of any lane; and its count of flushes is one higher for each that flushes. So nothing else calls it, and each
+/// flush that is told reached it: also where somebody forges packets and memory and where the store fails.
+pub fn calls_of_the_image_are_told()
+    ensures calls { (w : WorldState) (entries : List SettleEntry) (v : WorldState)
+        → Run WorldStep w entries v → v.image.calls ≡ count_after (count_by (in_entry is_store) entries) w.image.calls }
+    ensures flushes { (w : WorldState) (entries : List SettleEntry) (v : WorldState)
+        → Run WorldStep w entries v
+        → v.image.flushes ≡ count_after (count_by (in_entry is_flush) entries) w.image.flushes }
 {}
 
 /// Where the image of a world counts no faults, no call of the store failed, on no lane; and each completion on a

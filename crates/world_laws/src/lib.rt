@@ -13,7 +13,8 @@ mod settle_laws;
 mod word_laws;
 
 pub use fault_laws::{
-    an_image_that_never_failed, failed_completions_are_counted, statuses_tell_failing_stores,
+    an_image_that_never_failed, calls_of_the_image_are_told, failed_completions_are_counted,
+    statuses_tell_failing_stores,
 };
 pub use image_laws::{
     completions_of_each_disk_show_the_last_write, each_disk_has_its_own_image,

@@ -1,11 +1,10 @@
 -- How far the journal of a run goes, by its status.
-use Rattle.std.specs.Prelude.{◌≡◌, ◌⊎◌, List, []}
-use Rattle.domain_script.specs.declared.event.Event.{Event}
+use Rattle.std.specs.Prelude.{◌≡◌, List, [], None, ⊤}
 use Rattle.world_laws.specs.World.{WorldState}
 use Rattle.ldom_entries.specs.declared.entry.Entry.{Entry}
 use Rattle.ldom_journal.specs.declared.status.Status.{Status}
 use Rattle.ldom_journal.specs.declared.status.Status.TheVariants as status
-use Rattle.world_parts.specs.Script.{FitsCutOff, FitsScript}
+use Rattle.world_parts.specs.Script.{FitsScript, ScriptParts, journal_of}
 
 pub data Ending : Type 0 where
   -- each line gave its part
@@ -21,12 +20,14 @@ ending status.HostFault = NotBegun
 ending (status.ImageSize need have) = NotBegun
 ending other = Whole
 
--- the journal of a run: after want of memory the last line's part may be cut off, and without an image there is none
-abbrev pub JournalEnds : Ending → WorldState → List Event → List Entry → WorldState → Type 0
-JournalEnds MayBeCut s events journal t = FitsScript 0 s events journal t ⊎ FitsCutOff 0 s events journal t
-JournalEnds NotBegun s events journal t = (journal ≡ []) × (t ≡ s)
-JournalEnds Whole s events journal t = FitsScript 0 s events journal t
+abbrev pub EndsSo : Ending → ScriptParts → Type 0
+EndsSo Whole parts = parts.cut ≡ None
+EndsSo MayBeCut parts = ⊤
+EndsSo NotBegun parts = journal_of parts ≡ []
 
--- by how it ended
-abbrev pub JournalIs : Status → WorldState → List Event → List Entry → WorldState → Type 0
-JournalIs why s events journal t = JournalEnds (ending why) s events journal t
+-- THE JOURNAL of a run is the parts of its lines, one after another: after want of memory the last may be cut off, and
+-- without a world there is none.
+pub record JournalIs (how : Ending) (s : WorldState) (parts : ScriptParts) (journal : List Entry) (t : WorldState) : Type 0 where
+  pub is : journal_of parts ≡ journal
+  pub fits : FitsScript 0 s parts t
+  pub ends : EndsSo how parts

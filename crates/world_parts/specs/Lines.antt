@@ -1,12 +1,14 @@
 -- What a line of a script is for a world of lanes, and the part that it gives.
-use Rattle.std.specs.Prelude.{ℕ, ◌<◌, List, ⊤}
+use Rattle.std.specs.Prelude.{◌≡◌, ℕ, ◌<◌, List, ⊤}
 use Rattle.std.specs.List.{flat_map}
 use Rattle.vdisk_msg.specs.Fills.{IsRequest}
 use Rattle.disk_law.specs.ListStep.{DiskEvent}
 use Rattle.domain_script.specs.declared.event.Event.{Event}
 use Rattle.domain_script.specs.declared.event.Event.TheVariants as event
+use Rattle.domain_script.specs.declared.event.Side.TheVariants.{Server}
+use Rattle.domain_script.specs.Limits.{AreTurns}
 use Rattle.world_laws.specs.Settle.{SettleEntry}
-use Rattle.world_laws.specs.Lines.{Asked, Calls, Line, LineMoves, Loses, Nothing, Resets, Restarts, Rounds, Settles, Starts, Steps, Stops, Ticks}
+use Rattle.world_laws.specs.Lines.{Asked, Calls, Line, LineBegins, LineMoves, Loses, Nothing, Resets, Restarts, Rounds, Settles, Starts, Steps, Stops, Ticks}
 use Rattle.world_laws.specs.World.{WorldState}
 use Rattle.ldom_journal.specs.DiskEvents.{happened}
 use Rattle.ldom_journal.specs.LaneEvents.{end_of, lane_number}
@@ -28,12 +30,14 @@ line_of (event.Start disk) = Calls disk Starts
 line_of (event.Lose end) = Calls (lane_number end.lane) (Loses (end_of end.side))
 line_of (event.Tick lane) = Calls (lane_number lane) Ticks
 
--- the event is of one of so many disks, and a request's fill is one
+-- The event is one that a row of a script says, of one of so many disks: a request's fill is one, steps and rounds are 1
+-- to 100, and the end that restarts is a server. Of a declaration nothing is asked.
 abbrev pub IsForDisks : ℕ → Event → Type 0
 IsForDisks many (event.Issue disk request) = (disk < many) × IsRequest request
-IsForDisks many (event.Step end count) = lane_number end.lane < many
+IsForDisks many (event.Step end count) = (lane_number end.lane < many) × AreTurns count
+IsForDisks many (event.Round count) = AreTurns count
 IsForDisks many (event.Reset end) = lane_number end.lane < many
-IsForDisks many (event.Restart end) = lane_number end.lane < many
+IsForDisks many (event.Restart end) = (lane_number end.lane < many) × (end.side ≡ Server)
 IsForDisks many (event.Stop disk) = disk < many
 IsForDisks many (event.Start disk) = disk < many
 IsForDisks many (event.Lose end) = lane_number end.lane < many
@@ -45,6 +49,12 @@ pub record LineStep (w : WorldState) (line : Event × List Entry) (v : WorldStat
   pub entries : List SettleEntry
   pub says : Says (line_of line.0) line.1 entries
   pub moves : LineMoves w (line_of line.0) entries v
+
+-- and one with the steps of its part that were made before memory was wanted
+pub record LineStarts (w : WorldState) (line : Event × List Entry) (v : WorldState) : Type 0 where
+  pub entries : List SettleEntry
+  pub says : Says (line_of line.0) line.1 entries
+  pub begins : LineBegins w (line_of line.0) entries v
 
 -- what lines with their parts say of the requests of the disk x
 abbrev pub all_happened : ℕ → List (Event × List Entry) → List DiskEvent

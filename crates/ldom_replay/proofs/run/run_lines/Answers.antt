@@ -10,6 +10,7 @@ use Rattle.world_parts.specs.Lines.{IsForDisks, line_of}
 use Rattle.world_parts.specs.Parts.{Fits, FitsSoFar}
 use Rattle.domain_script.specs.declared.event.DiskDecl.{DiskDecl}
 use Rattle.script_laws.proofs.RunLemmas.{runs_cut, runs_more, runs_none, runs_stop}
+use Rattle.ldom_journal.proofs.StopLemmas.{readers_of}
 use Rattle.ldom_replay.proofs.run.run_lines.Goals as goal
 
 pub loop-stop-init : goal.loop-stop-init
@@ -62,7 +63,7 @@ returns-in-Err-clause-runs g c =
     subst (λ (j : JournalState). RunsLines start now c.args.reader.now.names c.args.reader.now.journal.entries c.args.world.now c.args.reader.now.lines.number why read.names j.entries c.loop-stop.world (stop_lines c.in-Err.stop read.lines.number)) (sym c.in-Err.ensures.journal)
     (runs_stop start rest now read.lines.held c.args.reader.now.names c.loop-stop.reader.names read.names
     c.args.reader.now.journal.entries c.loop-stop.reader.journal.entries c.args.world.now c.loop-stop.world c.args.reader.now.lines.number c.loop-stop.reader.lines.number
-    (stop_lines c.in-Err.stop read.lines.number) why c.loop-stop.invariant.so_far c.in-Err.ensures.stop c.in-Err.ensures.lines.0 c.in-Err.ensures.lines.1)
+    (stop_lines c.in-Err.stop read.lines.number) why (readers_of c.in-Err.stop read.lines.number) c.loop-stop.invariant.so_far c.in-Err.ensures.stop c.in-Err.ensures.lines.0 c.in-Err.ensures.lines.1)
 
 pub apply-requires-clause-event : goal.apply-requires-clause-event
 apply-requires-clause-event g c =

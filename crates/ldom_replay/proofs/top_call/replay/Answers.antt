@@ -10,11 +10,12 @@ use Rattle.script_laws.specs.Clean.{EndsClean}
 use Rattle.script_laws.specs.Counts.{counts}
 use Rattle.script_laws.specs.Failures.{SucceedOrFail, SucceedsOrFails, failed_count}
 use Rattle.script_laws.specs.Outcomes.{RunsScript}
-use Rattle.world_parts.specs.Declared.{blocks_of}
+use Rattle.world_parts.specs.Declared.{as_image, blocks_of}
 use Rattle.ldom_replay.proofs.Commands.{as_asked, one_asked}
 use Rattle.ldom_replay.proofs.Holding.{all_otherwise, gave_as, gave_none}
-use Rattle.script_laws.proofs.MoreFacts.{admits, failures, headline, others_told, said_otherwise, statuses}
-use Rattle.script_laws.proofs.RunFacts.{none_once, once, worded}
+use Rattle.script_laws.proofs.MoreFacts.{others_told}
+use Rattle.script_laws.proofs.RunFacts.{admits, calls, failures, flushes, headline, none_once, once, said_otherwise, statuses, worded}
+use Rattle.script_laws.specs.Stored.{flush_count, stored_count}
 use Rattle.script_laws.proofs.WholeScript.{runs_plainly, runs_whole}
 use Rattle.ldom_journal.specs.declared.status.Mode.{Mode}
 use Rattle.ldom_journal.specs.declared.status.Mode.TheVariants as mode
@@ -23,7 +24,7 @@ use Rattle.ldom_replay.specs.declared.command.Command.{Command}
 use Rattle.ldom_replay.proofs.top_call.replay.Goals as goal
 
 pub report_run-requires-clause-words : goal.report_run-requires-clause-words
-report_run-requires-clause-words g c = worded _ _ _ _ _ _ _ _ _ _ _ c.run_script.ensures.replayed
+report_run-requires-clause-words g c = worded _ _ _ _ _ _ _ _ _ _ c.run_script.ensures.replayed
 
 pub returns-in-Some-Script-clause-runs : goal.returns-in-Some-Script-clause-runs
 returns-in-Some-Script-clause-runs g c shown image asks =
@@ -35,9 +36,9 @@ returns-in-Some-Script-clause-runs g c shown image asks =
     let new = g.K.Sink.written c.report_run.new.out in
     let before = counts (g.S.Source.faults c.args.script.now) (g.H.Host.faults c.args.host.now) (g.K.Sink.faults c.args.out.now) in
     let now = counts (g.S.Source.faults c.run_script.new.source) (g.H.Host.faults c.run_script.new.host) (g.K.Sink.faults c.report_run.new.out) in
-    as_asked (λ (m : Mode) (name : List ℕ). RunsScript m g.H.Disk.Store.content g.H.Disk.Store.faults g.H.Disk.Store.size left after (g.H.Host.gives c.args.host.now name) c.report_run.result.status
+    as_asked (λ (m : Mode) (name : List ℕ). RunsScript m (as_image g.H.Disk.Store.content g.H.Disk.Store.faults g.H.Disk.Store.calls g.H.Disk.Store.flushes) g.H.Disk.Store.size left after (g.H.Host.gives c.args.host.now name) c.report_run.result.status
     c.report_run.result.journal.entries c.report_run.result.image c.report_run.result.lanes old new before now) words c.in-Some-Script.mode shown c.in-Some-Script.image.now image own asks
-    (all_otherwise (λ (j : JournalState) d l. RunsScript c.in-Some-Script.mode g.H.Disk.Store.content g.H.Disk.Store.faults g.H.Disk.Store.size left after (g.H.Host.gives c.args.host.now c.in-Some-Script.image.now) c.report_run.result.status
+    (all_otherwise (λ (j : JournalState) d l. RunsScript c.in-Some-Script.mode (as_image g.H.Disk.Store.content g.H.Disk.Store.faults g.H.Disk.Store.calls g.H.Disk.Store.flushes) g.H.Disk.Store.size left after (g.H.Host.gives c.args.host.now c.in-Some-Script.image.now) c.report_run.result.status
     j.entries d l old new before now) c.run_script.result.journal c.report_run.result.journal c.run_script.result.image c.report_run.result.image c.run_script.result.lanes c.report_run.result.lanes
     c.report_run.ensures.journal c.report_run.ensures.image c.report_run.ensures.lanes
     (record {
@@ -46,16 +47,17 @@ returns-in-Some-Script-clause-runs g c shown image asks =
       lines = c.run_script.result.lines;
       names = c.run_script.result.names;
       replayed = c.run_script.ensures.replayed;
-      admits = admits _ _ _ _ _ _ _ _ _ _ _ c.run_script.ensures.replayed;
+      admits = admits _ _ _ _ _ _ _ _ _ _ c.run_script.ensures.replayed;
       sized = c.run_script.ensures.sized;
-      headline = headline _ _ _ _ _ _ _ _ _ _ _ c.run_script.ensures.replayed g.H.Disk.Store.size c.run_script.ensures.sized;
-      others = others_told _ _ _ _ _ _ _ _ _ _ _ c.run_script.ensures.replayed g.H.Disk.Store.size c.run_script.ensures.sized;
+      headline = headline _ _ _ _ _ _ _ _ _ _ c.run_script.ensures.replayed g.H.Disk.Store.size c.run_script.ensures.sized;
+      whole = λ done. runs_whole _ _ _ _ _ _ _ _ _ _ _ _ _ c.run_script.ensures.replayed _ c.report_run.ensures.reports done;
+      others = others_told _ _ _ _ _ _ _ _ _ _ c.run_script.ensures.replayed g.H.Disk.Store.size c.run_script.ensures.sized;
       reports = c.report_run.ensures.reports;
     }))
 
 pub returns-in-Some-Script-clause-once : goal.returns-in-Some-Script-clause-once
 returns-in-Some-Script-clause-once g c disk =
-    subst (λ (j : JournalState). CompletesOnceInOrder (history disk j.entries)) (sym c.report_run.ensures.journal) (once _ _ _ _ _ _ _ _ _ _ _ c.run_script.ensures.replayed disk)
+    subst (λ (j : JournalState). CompletesOnceInOrder (history disk j.entries)) (sym c.report_run.ensures.journal) (once _ _ _ _ _ _ _ _ _ _ c.run_script.ensures.replayed disk)
 
 pub returns-in-Some-Dump-clause-once : goal.returns-in-Some-Dump-clause-once
 returns-in-Some-Dump-clause-once g c disk =
@@ -67,7 +69,7 @@ returns-in-None-clause-once g c disk =
 
 pub returns-in-Some-Script-clause-statuses : goal.returns-in-Some-Script-clause-statuses
 returns-in-Some-Script-clause-statuses g c =
-    subst (λ (j : JournalState). SucceedOrFail j.entries) (sym c.report_run.ensures.journal) (statuses _ _ _ _ _ _ _ _ _ _ _ c.run_script.ensures.replayed)
+    subst (λ (j : JournalState). SucceedOrFail j.entries) (sym c.report_run.ensures.journal) (statuses _ _ _ _ _ _ _ _ _ _ c.run_script.ensures.replayed)
 
 pub returns-in-Some-Dump-clause-statuses : goal.returns-in-Some-Dump-clause-statuses
 returns-in-Some-Dump-clause-statuses g c = subst (λ (l : List Entry). SucceedOrFail l) (sym (ap (λ (j : JournalState). j.entries) c.report_dump.ensures.journal)) (All-nil SucceedsOrFails)
@@ -79,15 +81,23 @@ pub returns-in-Some-Script-clause-failures : goal.returns-in-Some-Script-clause-
 returns-in-Some-Script-clause-failures g c =
     said_otherwise (λ (j : JournalState) d. IfSome d (λ image. failed_count j.entries ≤ g.H.Disk.Store.faults image)) c.run_script.result.journal c.report_run.result.journal c.run_script.result.image c.report_run.result.image
     c.report_run.ensures.journal c.report_run.ensures.image
-    (failures _ _ _ _ _ _ _ _ _ _ _ c.run_script.ensures.replayed (subst (λ (j : JournalState). length j.entries < 2 ^ 63) c.report_run.ensures.journal c.report_run.ensures.small))
+    (failures _ _ _ _ _ _ _ _ _ _ c.run_script.ensures.replayed (subst (λ (j : JournalState). length j.entries < 2 ^ 63) c.report_run.ensures.journal c.report_run.ensures.small))
 
-pub returns-in-Some-Script-clause-whole : goal.returns-in-Some-Script-clause-whole
-returns-in-Some-Script-clause-whole g c shown image asks bytes events names known spelled done =
-    runs_whole _ _ _ _ _ _ _ _ _ _ _ _ _ _ _ (returns-in-Some-Script-clause-runs g c shown image asks) bytes events known done names spelled
+pub returns-in-Some-Script-clause-calls : goal.returns-in-Some-Script-clause-calls
+returns-in-Some-Script-clause-calls g c =
+    said_otherwise (λ (j : JournalState) d. IfSome d (λ image. g.H.Disk.Store.calls image ≡ stored_count j.entries)) c.run_script.result.journal c.report_run.result.journal c.run_script.result.image c.report_run.result.image
+    c.report_run.ensures.journal c.report_run.ensures.image
+    (calls _ _ _ _ _ _ _ _ _ _ c.run_script.ensures.replayed (subst (λ (j : JournalState). length j.entries < 2 ^ 63) c.report_run.ensures.journal c.report_run.ensures.small))
+
+pub returns-in-Some-Script-clause-flushes : goal.returns-in-Some-Script-clause-flushes
+returns-in-Some-Script-clause-flushes g c =
+    said_otherwise (λ (j : JournalState) d. IfSome d (λ image. g.H.Disk.Store.flushes image ≡ flush_count j.entries)) c.run_script.result.journal c.report_run.result.journal c.run_script.result.image c.report_run.result.image
+    c.report_run.ensures.journal c.report_run.ensures.image
+    (flushes _ _ _ _ _ _ _ _ _ _ c.run_script.ensures.replayed (subst (λ (j : JournalState). length j.entries < 2 ^ 63) c.report_run.ensures.journal c.report_run.ensures.small))
 
 pub returns-in-Some-Script-clause-quiet : goal.returns-in-Some-Script-clause-quiet
 returns-in-Some-Script-clause-quiet g c image asks bytes content disk events known quiet gives done =
-    runs_plainly _ _ _ _ _ _ _ _ _ _ _ _ _ _ (returns-in-Some-Script-clause-runs g c mode.Run image asks) bytes events known done disk content quiet gives
+    runs_plainly _ _ _ _ _ _ _ _ _ _ _ _ _ (returns-in-Some-Script-clause-runs g c mode.Run image asks) bytes events known done disk content quiet gives
 
 pub returns-in-Some-Script-clause-complete : goal.returns-in-Some-Script-clause-complete
 returns-in-Some-Script-clause-complete g c shown image asks bytes known clean still_all store long =
@@ -95,7 +105,7 @@ returns-in-Some-Script-clause-complete g c shown image asks bytes known clean st
     let own : AsksFor c.in-Some-Script.mode words c.in-Some-Script.image.now = subst (λ (x : Command). IsCommand words (Some x)) c.in-Some-Script.field-0-is c.in-Some-Script.ensures in
     let named : image ≡ c.in-Some-Script.image.now = (one_asked words c.in-Some-Script.mode shown c.in-Some-Script.image.now image own asks).1 in
     subst (λ (j : JournalState). EndsClean c.report_run.result.status j.entries) (sym c.report_run.ensures.journal)
-    (completes _ _ _ _ _ _ _ _ _ _ _ c.run_script.ensures.replayed c.report_run.result.status (g.K.Sink.written c.args.out.now) (g.K.Sink.written c.report_run.new.out) _ bytes c.report_run.ensures.reports known clean
+    (completes _ _ _ _ _ _ _ _ _ _ c.run_script.ensures.replayed c.report_run.result.status (g.K.Sink.written c.args.out.now) (g.K.Sink.written c.report_run.new.out) _ bytes c.report_run.ensures.reports known clean
     (λ ran. still _ _ still_all.source (c.run_script.ensures.source.cause ran)) (λ ran. still _ _ still_all.host (c.run_script.ensures.host.cause ran)) (λ told ran. still _ _ still_all.sink (c.report_run.ensures.sink_fault told ran))
     (subst (λ (i : Option g.row.H-Disk.Denot). IfSome i (λ disk. g.H.Disk.Store.faults disk ≡ 0)) c.report_run.ensures.image store)
     g.H.Disk.Store.size c.run_script.ensures.sized c.in-Some-Script.image.now (λ is n. subst (λ (name : List ℕ). g.H.Host.gives c.args.host.now name n ≡ Some (replicate n 0)) (sym is) (g.met.H.Host.dash c.args.host.now n))
@@ -107,7 +117,7 @@ returns-in-Some-Script-clause-infallible g c shown image asks bytes known clean 
     let own : AsksFor c.in-Some-Script.mode words c.in-Some-Script.image.now = subst (λ (x : Command). IsCommand words (Some x)) c.in-Some-Script.field-0-is c.in-Some-Script.ensures in
     let named : image ≡ c.in-Some-Script.image.now = (one_asked words c.in-Some-Script.mode shown c.in-Some-Script.image.now image own asks).1 in
     subst (λ (j : JournalState). EndsClean c.report_run.result.status j.entries) (sym c.report_run.ensures.journal)
-    (completes _ _ _ _ _ _ _ _ _ _ _ c.run_script.ensures.replayed c.report_run.result.status (g.K.Sink.written c.args.out.now) (g.K.Sink.written c.report_run.new.out) _ bytes c.report_run.ensures.reports known clean
+    (completes _ _ _ _ _ _ _ _ _ _ c.run_script.ensures.replayed c.report_run.result.status (g.K.Sink.written c.args.out.now) (g.K.Sink.written c.report_run.new.out) _ bytes c.report_run.ensures.reports known clean
     (λ ran. never g.S.Source.faults _ _ source (c.run_script.ensures.source.cause ran)) (λ ran. never g.H.Host.faults _ _ host (c.run_script.ensures.host.cause ran)) (λ told ran. absurd (written told))
     (all_zero g.H.Disk.Store.faults disk c.run_script.result.image)
     g.H.Disk.Store.size c.run_script.ensures.sized c.in-Some-Script.image.now (λ is n. subst (λ (name : List ℕ). g.H.Host.gives c.args.host.now name n ≡ Some (replicate n 0)) (sym is) (g.met.H.Host.dash c.args.host.now n))

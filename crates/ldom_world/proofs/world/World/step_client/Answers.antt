@@ -6,12 +6,13 @@ use Rattle.ldc_queue.specs.declared.end.End.TheVariants.{A}
 use Rattle.ldom_world.proofs.Lifting.{end_steps}
 use Rattle.ldom_world.proofs.Opened.{lane_set, lane_there, over}
 use Rattle.ldom_world.specs.OneLane.{EndSteps, LaneSteps}
-use Rattle.world_parts.specs.Declared.{image_of}
+use Rattle.world_parts.specs.Declared.{as_image}
 use Rattle.ldom_world.proofs.world.World.step_client.Goals as goal
 
 pub returns-clause-steps : goal.returns-clause-steps
 returns-clause-steps g c =
-    let image : ImageState = image_of (g.D.Store.content c.self.inside.image) (g.D.Store.faults c.self.inside.image) in
+    let image : ImageState =
+    as_image g.D.Store.content g.D.Store.faults g.D.Store.calls g.D.Store.flushes c.self.inside.image in
     let lanes = c.self.inside.lanes.items in
     let w : WorldState = c.args.self.now in
     let old = c.args.journal.now in

@@ -1,7 +1,7 @@
 use Rattle.std.proofs.Common.{◌≡◌, ℕ, ◌+◌, ◌≤◌, Some, slice_get, sym, ap, ◌∙◌, arith}
 use Rattle.domain_script.specs.Declarations.{IsDisk}
 use Rattle.ldom_world.proofs.Declaring.{all_lanes, few_lanes, first_more, lanes_more, no_more_lanes}
-use Rattle.ldom_world.proofs.world.lanes_of.Goals as goal
+use Rattle.ldom_world.proofs.lanes.lanes_of.Goals as goal
 
 pub loop-k-preserved : goal.loop-k-preserved
 loop-k-preserved c =

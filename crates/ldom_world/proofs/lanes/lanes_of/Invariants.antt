@@ -1,7 +1,7 @@
 use Rattle.std.proofs.Common.{◌≡◌, ◌*◌, ◌≤◌, length, map, take}
 use Rattle.disk_model.specs.LaneState.{fresh}
 use Rattle.world_parts.specs.Declared.{blocks_of, shapes_of}
-use Rattle.ldom_world.proofs.world.lanes_of.Given as goal
+use Rattle.ldom_world.proofs.lanes.lanes_of.Given as goal
 
 abbrev pub invariant-loop-k : goal.invariant-loop-k
 invariant-loop-k l = record {

@@ -1,0 +1,64 @@
+-- Which entries of a journal say that the image was called: those that mean a call of a store for the lanes.
+use Rattle.std.proofs.Common.{◌≡◌, ℕ, ◌+◌, Bool, false, cond, Some, List, [], ◌∷◌, refl, sym, ap, ◌∙◌}
+use Rattle.std.specs.List.{count_by}
+use Rattle.disk_model.specs.DiskEvent.{DiskEvent, Stored, Works}
+use Rattle.domain_script.specs.declared.event.Event.{Event}
+use Rattle.domain_script.specs.declared.event.Lane.TheVariants.{Disk}
+use Rattle.ldom_entries.specs.declared.entry.Entry.{Entry}
+use Rattle.ldom_entries.specs.declared.entry.Entry.TheVariants as entry
+use Rattle.ldom_entries.specs.declared.entry.Who.TheVariants.{Lane as OfWhole, End as OfEnd}
+use Rattle.ldom_journal.specs.LaneEvents.{AtClient, AtLane, AtServer, AtWire, ChangesNothing, LeavesNothing, LeavesOver, Meaning, NoRoomFor, Refuses, meaning, world_event}
+use Rattle.world_laws.proofs.Counted.{count_more}
+use Rattle.world_laws.specs.Failures.{in_entry, is_store, is_store_that}
+use Rattle.world_laws.specs.Settle.{SettleEntry}
+use Rattle.world_parts.proofs.Meanings.{Holds, entry_has}
+use Rattle.world_parts.specs.Lines.{line_of}
+use Rattle.script_laws.proofs.Tellings.{Telling, entries_told, means_of}
+use Rattle.script_laws.specs.Stored.{is_stored_that}
+
+-- WHETHER A CALL OF A STORE IS MEANT
+abbrev means_store : Meaning → Bool
+means_store (AtClient e event) = is_store event
+means_store (AtServer e event) = is_store event
+means_store (AtLane k event) = is_store event
+means_store other = false
+
+abbrev Says : (ℕ → Bool → Bool) → Bool → SettleEntry → Type 0
+Says says b m = in_entry (is_store_that says) m ≡ b
+
+event_none : (says : ℕ → Bool → Bool) (event : DiskEvent) → is_store event ≡ false → is_store_that says event ≡ false
+event_none says (Works (Stored operation block count failed)) none = absurd (cc none)
+event_none says event none = refl
+
+others_none : (says : ℕ → Bool → Bool) (x : Meaning) → means_store x ≡ false → Holds (Says says false) x
+others_none says (AtWire e event) none = refl
+others_none says (AtClient e event) none = event_none says event none
+others_none says (AtServer e event) none = event_none says event none
+others_none says (AtLane k event) none = event_none says event none
+others_none says (NoRoomFor (OfWhole (Disk k))) none = λ request. refl
+others_none says (NoRoomFor (OfEnd e)) none = tt
+others_none says (Refuses (OfWhole (Disk k)) why) none = λ request. refl
+others_none says (Refuses (OfEnd e) why) none = tt
+others_none says (ChangesNothing who) none = (λ calm. refl, λ d. refl)
+others_none says (LeavesOver (OfWhole (Disk k))) none = refl
+others_none says (LeavesOver (OfEnd e)) none = tt
+others_none says LeavesNothing none = refl
+
+-- EACH ENTRY says of a call what it means
+entry_stored : (says : ℕ → Bool → Bool) (asked : Event) (e : Entry) (m : SettleEntry)
+    → world_event (line_of asked) e ≡ Some m → in_entry (is_store_that says) m ≡ is_stored_that says e
+entry_stored says asked (entry.Stored e operation block count failed) m is =
+    entry_has (Says says (says operation failed)) (line_of asked) (entry.Stored e operation block count failed) m refl is
+entry_stored says asked e m is = entry_has (Says says false) (line_of asked) e m (others_none says (meaning e) refl) is
+
+-- A JOURNAL
+pub all_stored : (says : ℕ → Bool → Bool) (tellings : List Telling)
+    → count_by (is_stored_that says) (entries_told tellings)
+    ≡ count_by (in_entry (is_store_that says)) (means_of tellings)
+all_stored says [] = refl
+all_stored says (t ∷ tellings) =
+    count_more (is_stored_that says) t.entry (entries_told tellings)
+    ∙ ap (λ (n : ℕ). cond {A = ℕ} (is_stored_that says t.entry) 1 0 + n) (all_stored says tellings)
+    ∙ ap (λ (b : Bool). cond {A = ℕ} b 1 0 + count_by (in_entry (is_store_that says)) (means_of tellings))
+    (sym (entry_stored says t.asked t.entry t.means t.is))
+    ∙ sym (count_more (in_entry (is_store_that says)) t.means (means_of tellings))
