@@ -1,5 +1,6 @@
 -- The descriptors of admitted requests, and what is written into a descriptor.
 use Rattle.std.proofs.Common.{◌≡◌, ℕ, zero, suc, ◌+◌, ◌-◌, ◌*◌, ◌/◌, ◌%◌, ◌^◌, ◌<◌, ◌≤◌, min, [], ◌∷◌, ◌++◌, length, replicate, Bool, true, false, not, cond, nat_lt, refl, ap, arith, Option, Some, None}
+use Rattle.std.proofs.lemmas.Bool.{lt-ltb}
 use Rattle.std.proofs.lemmas.Bool.Decides.{nat_tests}
 use Rattle.std.specs.List.{AllByRecursion}
 use Rattle.vio_bytes.specs.Place.{put_at}
@@ -14,7 +15,7 @@ use Rattle.vdisk_msg.specs.declared.request.Request.TheVariants.{Read, Write, Fl
 use Rattle.vdisk_msg.specs.Check.{first_defect, has_size, holds_cookies, is_within}
 use Rattle.vdisk_msg.specs.Descriptor.{HasWidths, canonical}
 use Rattle.vdisk_msg.specs.Pieces.{Finishes, checked_pieces, operation_pieces, pieces, read_pieces, unit_count, write_pieces}
-use Rattle.vdisk_msg.specs.Requested.{block_of, buffer_cookies, buffer_place, cookie_count, descriptor_of, header, page_cookie, size_of, status_word}
+use Rattle.vdisk_msg.specs.Requested.{block_of, buffer_cookie, buffer_cookies, buffer_place, cookie_count, descriptor_of, header, no_cookie, size_of, status_word}
 use Rattle.vdisk_msg.specs.Requests.{blocks_defect, defect, operation_of}
 
 -- a header put into a descriptor
@@ -79,15 +80,19 @@ either_cookie : (b : Bool) (a c : Cookie) → IsCookie a → IsCookie c → IsCo
 either_cookie true a c one other = one
 either_cookie false a c one other = other
 
-page_fits : (place size k : ℕ) → place < 2 ^ 32 → k ≤ 3 → IsCookie (page_cookie place size k)
-page_fits place size k low few =
-    let used : Cookie = record { address = place + 8192 * k; size = min 8192 (size - 8192 * k) } in
-    either_cookie (nat_lt (8192 * k) size) used (record { address = 0; size = 0 }) (record { address = omega arith; size = omega arith }) (record { address = omega arith; size = omega arith })
+cookie_fits : (place size : ℕ) → place < 2 ^ 32 → size ≤ 32768 → IsCookie (buffer_cookie place size)
+cookie_fits place size low few =
+    either_cookie (nat_lt 0 size) (record { address = place; size = size }) no_cookie (record { address = omega arith; size = omega arith }) (record { address = omega arith; size = omega arith })
 
-cookies_fit : (place size : ℕ) → place < 2 ^ 32 → AllByRecursion IsCookie (buffer_cookies place size)
+cookies_fit : (place size : ℕ) → place < 2 ^ 32 → size ≤ 32768 → AllByRecursion IsCookie (buffer_cookies place size)
 unfolding buffer_cookies
-cookies_fit place size low =
-    (page_fits place size 0 low (omega arith), (page_fits place size 1 low (omega arith), (page_fits place size 2 low (omega arith), (page_fits place size 3 low (omega arith), (record { address = omega arith; size = omega arith }, tt)))))
+cookies_fit place size low few =
+    let none : IsCookie no_cookie = record { address = omega arith; size = omega arith } in
+    (cookie_fits place size low few, (none, (none, (none, (none, tt)))))
+
+one_at_most : (b : Bool) → cond b 1 0 ≤ 1
+one_at_most true = omega arith
+one_at_most false = omega arith
 
 five_cookies : (place size : ℕ) → length (buffer_cookies place size) ≡ 5
 unfolding buffer_cookies
@@ -112,10 +117,10 @@ requested_has_widths blocks id request slot slots disk numbered below few is =
         status = omega arith;
         offset = omega (arith, within);
         size = omega (arith, most);
-        count = omega (arith, most);
+        count = omega (arith, one_at_most (nat_lt 0 (size_of request)));
       };
       five = five_cookies (buffer_place slots slot) (size_of request);
-      cookies = cookies_fit (buffer_place slots slot) (size_of request) (omega arith);
+      cookies = cookies_fit (buffer_place slots slot) (size_of request) (omega arith) most;
     }
 
 -- two blocks are written from block 3 on: the first request of a ring of eight slots, as its 128 bytes
@@ -124,7 +129,7 @@ pub first_write : (fill : Fill) → canonical (descriptor_of 0 (Write 3 2 fill) 
 unfolding descriptor_of buffer_cookies
 first_write fill = refl
 
--- 64 blocks are read, with the last number of all, in the last slot of a ring of 256: its buffer's four cookies
+-- 64 blocks are read, with the last number of all, in the last slot of a ring of 256: its buffer's cookie
 pub last_read : descriptor_of 0xffffffffffffffff (Read 1 64) 255 256
     ≡ record {
       state = 2;
@@ -135,8 +140,8 @@ pub last_read : descriptor_of 0xffffffffffffffff (Read 1 64) 255 256
       status = 0;
       offset = 1;
       size = 32768;
-      count = 4;
-      cookies = record { address = 0x800000; size = 8192 } ∷ record { address = 0x802000; size = 8192 } ∷ record { address = 0x804000; size = 8192 } ∷ record { address = 0x806000; size = 8192 } ∷ record { address = 0; size = 0 } ∷ [];
+      count = 1;
+      cookies = record { address = 0x800000; size = 32768 } ∷ no_cookie ∷ no_cookie ∷ no_cookie ∷ no_cookie ∷ [];
     }
 unfolding descriptor_of buffer_cookies
 last_read = refl
@@ -153,7 +158,7 @@ pub a_flush : descriptor_of 7 Flush 1 2
       offset = 0;
       size = 0;
       count = 0;
-      cookies = record { address = 0; size = 0 } ∷ record { address = 0; size = 0 } ∷ record { address = 0; size = 0 } ∷ record { address = 0; size = 0 } ∷ record { address = 0; size = 0 } ∷ [];
+      cookies = no_cookie ∷ no_cookie ∷ no_cookie ∷ no_cookie ∷ no_cookie ∷ [];
     }
 unfolding descriptor_of buffer_cookies
 a_flush = refl
@@ -168,9 +173,8 @@ sound_tests blocks block count is =
     let within = facts.2 in
     let whole : 512 * count / 512 ≡ count = omega arith in
     let rest : 512 * count % 512 ≡ 0 = omega arith in
-    let low : 1 ≤ (512 * count + 8191) / 8192 = omega arith in
-    let high : (512 * count + 8191) / 8192 ≤ 5 = omega arith in
-    (grind (arith, nat_tests), grind (arith, nat_tests), grind (arith, nat_tests))
+    let used : nat_lt 0 (512 * count) ≡ true = lt-ltb 0 (512 * count) (omega (arith, some)) in
+    (ap (λ (b : Bool). holds_cookies (cond b 1 0)) used, grind (arith, nat_tests), grind (arith, nat_tests))
 
 data_sound : (cookies size range : Bool) → cookies ≡ true → size ≡ true → range ≡ true
     → cond (not cookies) (Some Cookies) (cond (not size) (Some Size) (cond (not range) (Some Range) None)) ≡ None
