@@ -31,12 +31,14 @@ size_of (Read block count) = 512 * count
 size_of (Write block count fill) = 512 * count
 size_of Flush = 0
 
--- the one cookie of a buffer from a place on, with the whole size; a request that moves nothing has none. Page i is granted at index i.
-abbrev pub buffer_cookie : ℕ → ℕ → Cookie
-buffer_cookie place size = if nat_lt 0 size then record { address = place; size = size } else record { address = 0; size = 0 }
-
+-- the cookie of no memory
 abbrev pub no_cookie : Cookie
 no_cookie = record { address = 0; size = 0 }
+
+-- The one cookie of a buffer from a place on, with the whole size; a request that moves nothing has none. Page i is
+-- granted at index i.
+abbrev pub buffer_cookie : ℕ → ℕ → Cookie
+buffer_cookie place size = if nat_lt 0 size then record { address = place; size = size } else no_cookie
 
 -- the last four of five are never used
 unfoldable pub buffer_cookies : ℕ → ℕ → List Cookie
