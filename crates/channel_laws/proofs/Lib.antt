@@ -9,3 +9,5 @@ pub mod Budgets
 pub mod FewLost
 pub mod Conversations
 pub mod Lifting
+pub mod ConversingRuns
+pub mod EndUttering

@@ -1,6 +1,6 @@
 -- What each move keeps of an end, every run keeps of both; and what each act keeps from the side of the end that acts, every run keeps where
 -- nobody forged.
-use Rattle.std.proofs.Common.{◌≡◌, Bool, ℕ, ◌+◌, ◌<◌, ◌≤◌, true, false, inl, inr, Option, Some, List, [], length, refl, sym, ap, ◌∙◌, subst}
+use Rattle.std.proofs.Common.{◌≡◌, Bool, ℕ, ◌+◌, ◌<◌, true, false, inl, inr, Option, Some, List, [], length, refl, sym, ap, ◌∙◌, subst}
 use Rattle.std.specs.Prelude.{slice_get, ⊤}
 use Rattle.runs.specs.Lawful.{run_lawful}
 use Rattle.runs.specs.Run.{Run}
@@ -19,7 +19,7 @@ use Rattle.disk_model.specs.WireLog.{WireLog, wire_moved}
 use Rattle.channel_laws.proofs.EndStanding.{fresh_end_stands, stands_step}
 use Rattle.channel_laws.specs.EndCore.{EndCore, EndMove, Stays, fresh_end}
 use Rattle.channel_laws.specs.EndStep.{EndAnew, EndBegins, EndHears, EndRenews, EndSays, EndStays, EndStep, EndWaits}
-use Rattle.channel_laws.specs.LaneCore.{Beside, Closes, CoreEvent, CoreStep, LaneCore, OnChannel, end_of, fresh_core, move_of, reset_move, role_of, talk_after, talk_behind, turns_after, wire_after}
+use Rattle.channel_laws.specs.LaneCore.{Beside, Closes, CoreEvent, CoreFits, CoreStep, LaneCore, OnChannel, end_of, fresh_core, move_of, reset_move, role_of, talk_after, talk_behind, turns_after, wire_after}
 use Rattle.channel_laws.specs.Sides.{Sides, anew, goes_on, missed, other, put, shut, sides_in, sides_of, swapped, took}
 use Rattle.channel_laws.specs.Standing.{EndStands}
 
@@ -89,11 +89,11 @@ ends_run P keeps entries asks answers events s first second run =
     (λ (x : LaneCore) (l : TalkLog) (e : CoreEvent) (y : LaneCore) all step. (tt, ends_step P keeps x e y l all step))
     (fresh_core entries asks answers) s nothing_said events (record { a = first; b = second }) run).1
 
-pub stand_run : (entries : ℕ) (asks answers : Offer) (events : List CoreEvent) (s : LaneCore) → asks.count ≤ 14 → answers.count ≤ 14
+pub stand_run : (entries : ℕ) (asks answers : Offer) (events : List CoreEvent) (s : LaneCore) → CoreFits entries asks answers
     → Run CoreStep (fresh_core entries asks answers) events s → EndsAll EndStands s (talk_behind events)
-stand_run entries asks answers events s few few_too run =
+stand_run entries asks answers events s fits run =
     ends_run EndStands (λ role c move t turns stands step. stands_step role c move t turns stands step) entries asks answers events s
-    (fresh_end_stands Initiator asks few) (fresh_end_stands Responder answers few_too) run
+    (fresh_end_stands Initiator asks fits.asks_fit.form.most) (fresh_end_stands Responder answers fits.answers_fit.form.most) run
 
 -- WHAT EACH ACT KEEPS of both, from the side of the end that acts
 pub record BothStand (role : Role) (s : Sides) : Type 0 where
@@ -256,13 +256,13 @@ core_step Holds keep s talk event t all step = record {
       (subst (λ (w : WireLog). Holds Initiator (sides_in s.entries w t.a t.b (talk_after talk event))) (sym step.wire) (event_behind Holds keep s t talk event kept step here));
 }
 
-pub core_run : (Holds : Role → Sides → Type 0) → ActsKeep Holds → (entries : ℕ) (asks answers : Offer) (events : List CoreEvent) (s : LaneCore) → asks.count ≤ 14 → answers.count ≤ 14
+pub core_run : (Holds : Role → Sides → Type 0) → ActsKeep Holds → (entries : ℕ) (asks answers : Offer) (events : List CoreEvent) (s : LaneCore) → CoreFits entries asks answers
     → Holds Initiator (sides_of (fresh_core entries asks answers) nothing_said) → Run CoreStep (fresh_core entries asks answers) events s → CoreHolds Holds s (talk_behind events)
-core_run Holds keep entries asks answers events s few few_too first run =
+core_run Holds keep entries asks answers events s fits first run =
     (run_lawful CoreStep (λ (l : TalkLog) (e : CoreEvent). ⊤) talk_after (CoreHolds Holds)
     (λ (x : LaneCore) (l : TalkLog) (e : CoreEvent) (y : LaneCore) all step. (tt, core_step Holds keep x l e y all step))
     (fresh_core entries asks answers) s nothing_said events
     (record {
-      ends = record { a = fresh_end_stands Initiator asks few; b = fresh_end_stands Responder answers few_too };
+      ends = record { a = fresh_end_stands Initiator asks fits.asks_fit.form.most; b = fresh_end_stands Responder answers fits.answers_fit.form.most };
       holds = λ clean. first;
     }) run).1

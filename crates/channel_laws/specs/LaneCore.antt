@@ -1,5 +1,6 @@
 -- Two ends and the wire between them, of any kind of lane. The initiator's end is A, the responder's B.
-use Rattle.std.specs.Prelude.{◌≡◌, ◌≢◌, ℕ, ◌+◌, ◌<◌, ◌≤◌, false, List, [], ◌∷◌, length, Option, ⊤}
+use Rattle.std.specs.Prelude.{◌≡◌, ◌≢◌, ℕ, ◌+◌, ◌^◌, ◌<◌, ◌≤◌, false, List, [], ◌∷◌, length, Option, ⊤}
+use Rattle.std.specs.List.{AllByRecursion}
 use Rattle.runs.specs.Lawful.{log_of}
 use Rattle.ldc_link.specs.declared.phase.Role.{Role}
 use Rattle.ldc_link.specs.declared.phase.Role.TheVariants.{Initiator, Responder}
@@ -13,7 +14,9 @@ use Rattle.disk_model.specs.TalkLog.{TalkLog, nothing_said, silenced, talk_moved
 use Rattle.disk_model.specs.WireAt.{IsFirst, IsUp, MayReset}
 use Rattle.disk_model.specs.WireEvent.{Blocked, ByRestart, ByScript, ByStep, ByTick, Declines, Giver, Idle, Injected, Joined, Lost, Poked, Reset, Sent, Took, WireEvent, giver}
 use Rattle.disk_model.specs.WireLog.{WireLog, nothing_on_wire, wire_moved}
+use Rattle.map_table.specs.Cookies.{IsCookie}
 use Rattle.vio_tag.specs.declared.cause.Cause.{Cause}
+use Rattle.vio_tag.specs.Form.{AreCookies}
 use Rattle.channel_laws.specs.EndCore.{Begins, EndCore, EndMove, Fails, Hears, Renews, Says, Stays, Waits, fresh_end}
 use Rattle.channel_laws.specs.EndStep.{EndStep}
 
@@ -38,6 +41,22 @@ pub data CoreEvent : Type 0 where
   Closes : End → CoreEvent
   -- work of a session, and what is asked of a lane
   Beside : CoreEvent
+
+-- each number of an offer is of its field's width, as in a program, and its ring's cookies are well formed
+pub record OfferFits (offer : Offer) : Type 0 where
+  pub minor : offer.minor < 2 ^ 16
+  pub class : offer.class < 2 ^ 8
+  pub slots : offer.slots < 2 ^ 32
+  pub slot_size : offer.slot_size < 2 ^ 32
+  pub room : length offer.cookies ≡ 14
+  pub cookies : AllByRecursion IsCookie offer.cookies
+  pub form : AreCookies offer.count offer.cookies
+
+-- the sizes of a channel's queues, and of what its ends offer
+pub record CoreFits (entries : ℕ) (asks answers : Offer) : Type 0 where
+  pub most_entries : entries ≤ 256
+  pub asks_fit : OfferFits asks
+  pub answers_fit : OfferFits answers
 
 -- no end is configured
 abbrev pub fresh_core : ℕ → Offer → Offer → LaneCore
