@@ -39,7 +39,7 @@ converse_keeps = record {
   misses = λ role s packet both first c. missed_converse role s packet first c;
 }
 
-first_converse : (entries : ℕ) (asks answers : Offer) → entries ≤ 256 → Converse Initiator (sides_of (fresh_core entries asks answers) nothing_said)
+pub first_converse : (entries : ℕ) (asks answers : Offer) → entries ≤ 256 → Converse Initiator (sides_of (fresh_core entries asks answers) nothing_said)
 first_converse entries asks answers few = record {
   entries = few;
   lost_mine = 0;

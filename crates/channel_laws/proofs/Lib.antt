@@ -11,3 +11,6 @@ pub mod Conversations
 pub mod Lifting
 pub mod ConversingRuns
 pub mod EndUttering
+pub mod LinkPlaced
+pub mod CoreRuns
+pub mod Numbering

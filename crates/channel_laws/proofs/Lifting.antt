@@ -244,7 +244,7 @@ was_clean w (OnChannel event) clean = clean
 was_clean w (Closes e) clean = clean
 was_clean w Beside clean = clean
 
-core_step : (Holds : Role → Sides → Type 0) → ActsKeep Holds → (s : LaneCore) (talk : TalkLog) (event : CoreEvent) (t : LaneCore) → CoreHolds Holds s talk → CoreStep s event t
+pub core_step : (Holds : Role → Sides → Type 0) → ActsKeep Holds → (s : LaneCore) (talk : TalkLog) (event : CoreEvent) (t : LaneCore) → CoreHolds Holds s talk → CoreStep s event t
     → CoreHolds Holds t (talk_after talk event)
 core_step Holds keep s talk event t all step = record {
   ends = ends_step EndStands (λ role c move x turns stands moves. stands_step role c move x turns stands moves) s event t talk all.ends step;

@@ -54,6 +54,7 @@ pub record OfferFits (offer : Offer) : Type 0 where
 
 -- the sizes of a channel's queues, and of what its ends offer
 pub record CoreFits (entries : ℕ) (asks answers : Offer) : Type 0 where
+  pub some_entries : 1 ≤ entries
   pub most_entries : entries ≤ 256
   pub asks_fit : OfferFits asks
   pub answers_fit : OfferFits answers

@@ -9,3 +9,5 @@ pub mod Utterances
 pub mod OneSession
 pub mod Budget
 pub mod Conversing
+pub mod LinkPlaces
+pub mod CoreLog
