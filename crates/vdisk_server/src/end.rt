@@ -1,6 +1,6 @@
 // What a server holds of its lane.
 
-ghost use Rattle.std.specs.Prelude.{◌≡◌, ◌<◌, ◌%◌, false, None, is_some, IfOk, option_map};
+ghost use Rattle.std.specs.Prelude.{◌≡◌, ◌<◌, false, None, is_some, IfOk, option_map};
 ghost use Rattle.ldc_link.specs.declared.phase.Role.TheVariants.{Responder};
 ghost use Rattle.ldc_queue.specs.ChannelView.{configured_channel};
 ghost use Rattle.ldc_queue.specs.declared.end.End.TheVariants.{B};

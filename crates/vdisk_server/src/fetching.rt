@@ -1,6 +1,6 @@
 // A descriptor is fetched.
 
-ghost use Rattle.std.specs.Prelude.{◌≡◌, ◌≤◌, ◌%◌, ◌<◌, length, None, Some};
+ghost use Rattle.std.specs.Prelude.{◌≡◌, ◌≤◌, ◌<◌, length, None, Some};
 ghost use Rattle.cookie_copy.specs.Faults.{PagesWithin};
 ghost use Rattle.vio_handshake.specs.declared.handshake.Phase.TheVariants.{Open};
 ghost use Rattle.disk_model.specs.ServerRule.{Fetches, server_rule};
