@@ -17,22 +17,24 @@ pub data ClientRule : Type 0 where
   Puts : ClientRule
   -- the handshake owes a message
   Says : Message → ClientRule
-  -- published requests aren't announced
-  Announces : ClientSession → ClientRule
   -- a pending request isn't published
   Publishes : ClientSession → Request → ClientRule
+  -- published requests aren't announced
+  Announces : ClientSession → ClientRule
   Rests : ClientRule
 
--- the next request that isn't published in this session
+-- the requests that are published and aren't announced, all at once
+abbrev pub announces : ClientSession → ClientRule
+announces session = if nat_lt session.announced session.published then Announces session else Rests
+
+-- the next request that isn't published in this session, and where there is none, the announcement
 abbrev pub publishes : ClientSession → Option Request → ClientRule
-publishes session None = Rests
+publishes session None = announces session
 publishes session (Some request) = Publishes session request
 
 abbrev pub in_session : ClientState → Option ClientSession → ClientRule
 in_session s None = Rests
-in_session s (Some session) =
-    if nat_lt session.announced session.published then Announces session
-    else publishes session (slice_get s.pending (session.published - session.completed))
+in_session s (Some session) = publishes session (slice_get s.pending (session.published - session.completed))
 
 abbrev pub says : ClientState → Option Message → ClientRule
 says s None = in_session s s.session

@@ -1,7 +1,7 @@
 // The descriptor of a request.
 
 ghost use Rattle.std.specs.Prelude.{◌≡◌, ◌+◌, ◌*◌, ◌<◌, ◌≤◌};
-ghost use Rattle.vdisk_msg.specs.Requested.{block_of, buffer_cookies, buffer_place, cookie_count, descriptor_of, page_cookie, size_of};
+ghost use Rattle.vdisk_msg.specs.Requested.{block_of, buffer_cookie, buffer_cookies, buffer_place, cookie_count, descriptor_of, size_of};
 ghost use Rattle.vdisk_msg.specs.Requests.{given_count, operation_of};
 
 use crate::offering::{PAGE, ring_pages};
@@ -85,38 +85,46 @@ pub(crate) fn descriptor_of(id: u64, request: &Request, slot: u32, slots: u32) -
         status: 0,
         offset: block_of(request),
         size,
-        count: size.div_ceil(PAGE) as u32,
+        count: cookie_count(size),
         cookies: buffer_cookies(buffer_place(slots, slot), size),
     }
 }
 
-/// One cookie for each page of a buffer, the last with the rest of the size.
+/// One cookie for the whole of a buffer, and none for a request that moves nothing.
+fn cookie_count(size: u64) -> u32
+    ensures { result ≡ cookie_count size }
+{
+    if size > 0 {
+        1
+    } else {
+        0
+    }
+}
+
+/// The cookies of a buffer, of which the last four are never used.
 #[tactic(auto, unfolding(vdisk_msg::specs::Requested::buffer_cookies))]
 fn buffer_cookies(place: u64, size: u64) -> [Cookie; 5]
-    requires place { place ≤ 16777216 }
-    requires size { size ≤ 32768 }
     ensures { result ≡ buffer_cookies place size }
 {
     [
-        page_cookie(place, size, 0),
-        page_cookie(place, size, 1),
-        page_cookie(place, size, 2),
-        page_cookie(place, size, 3),
+        buffer_cookie(place, size),
+        Cookie::NONE,
+        Cookie::NONE,
+        Cookie::NONE,
         Cookie::NONE,
     ]
 }
 
-fn page_cookie(place: u64, size: u64, page: u64) -> Cookie
-    requires place { place ≤ 16777216 }
-    requires page { page ≤ 3 }
-    ensures { result ≡ page_cookie place size page }
+/// The buffer's pages follow one another, and page i is granted at index i: so its place is its address.
+fn buffer_cookie(place: u64, size: u64) -> Cookie
+    ensures { result ≡ buffer_cookie place size }
 {
-    let offset = PAGE * page;
-    if offset >= size {
-        return Cookie::NONE;
-    }
-    Cookie {
-        address: place + offset,
-        size: PAGE.min(size - offset),
+    if size > 0 {
+        Cookie {
+            address: place,
+            size,
+        }
+    } else {
+        Cookie::NONE
     }
 }

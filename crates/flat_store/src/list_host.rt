@@ -103,6 +103,8 @@ impl Host for ListHost {
     fn attach(&mut self, alloc: Global, name: &str, least: u64) -> Result<MemStore, AttachFault>
         ensures gives { IfOk result (λ disk. Some disk.bytes ≡ one_image self.old.name self.old.image name.now least) }
         ensures fresh { IfOk result (λ disk. disk.plan.faults ≡ 0) }
+        ensures calls { IfOk result (λ disk. disk.plan.calls ≡ 0) }
+        ensures flushes { IfOk result (λ disk. disk.flushes ≡ 0) }
         ensures given { OnOk result (self.new.given ≡ next_given self.old.given) }
         ensures none { OnErr result (self.new.given ≡ self.old.given) }
         ensures ok { OnOk result (self.new.faults ≡ self.old.faults) }

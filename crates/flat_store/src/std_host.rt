@@ -161,6 +161,8 @@ impl<R: Files<File = File> + Drop> Host for StdHost<R> {
     ) -> Result<HostDisk<StdFile>, AttachFault>
         ensures gives { IfOk result (λ disk. content_of ⟦<StdFile as ImageFile>⟧ disk ≡ zeros_alone name.now least) }
         ensures fresh { IfOk result (λ disk. faults_of disk ≡ 0) }
+        ensures calls { IfOk result (λ disk. calls_of disk ≡ 0) }
+        ensures flushes { IfOk result (λ disk. flushes_of disk ≡ 0) }
         ensures given { OnOk result (self.new.given ≡ next_given self.old.given) }
         ensures none { OnErr result (self.new.given ≡ self.old.given) }
         ensures ok { OnOk result (self.new.faults ≡ self.old.faults) }
@@ -172,8 +174,6 @@ impl<R: Files<File = File> + Drop> Host for StdHost<R> {
         ensures zeros { IsTrue (bytes_eq name.now (codes "-")) → result ≢ Err AttachFault.Failed }
         ensures files { result ≡ Err AttachFault.Memory → IsTrue (bytes_eq name.now (codes "-")) }
         ensures plan { IfOk result (λ disk. plan_of disk ≡ (if bytes_eq name.now (codes "-") then Some (unused []) else None)) }
-        ensures calls { IfOk result (λ disk. calls_of disk ≡ 0) }
-        ensures flushes { IfOk result (λ disk. flushes_of disk ≡ 0) }
         ensures uncalled { IfOk result (λ disk. IsUncalled ⟦<StdFile as ImageFile>⟧ disk) }
     {
         if name == "-" {

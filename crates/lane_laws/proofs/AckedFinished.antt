@@ -1,9 +1,8 @@
 -- On a lane that nobody forged what a client that is up has heard acknowledged the server finished.
-use Rattle.std.proofs.Common.{◌≡◌, ◌≢◌, ◌⊎◌, ℕ, ◌≤◌, false, Option, Some, None, List, [], inl, inr, refl, sym, ap, ◌∙◌, subst, arith}
+use Rattle.std.proofs.Common.{◌≡◌, ℕ, ◌≤◌, false, Option, Some, None, List, [], inl, inr, sym, ap, ◌∙◌, subst, arith}
 use Rattle.runs.specs.Lawful.{log_of}
 use Rattle.runs.specs.Run.{Run}
-use Rattle.ldc_queue.specs.declared.end.ChannelState.{ChannelState}
-use Rattle.ldc_queue.specs.declared.end.ChannelState.TheVariants.{Down, Resetting, Up}
+use Rattle.ldc_queue.specs.declared.end.ChannelState.TheVariants.{Up}
 use Rattle.ldc_queue.specs.declared.end.End.TheVariants.{A}
 use Rattle.ldc_queue.specs.OneStream.{IsFront}
 use Rattle.disk_model.specs.Agreement.{ClientAgrees, ServerAgrees}
@@ -21,23 +20,27 @@ use Rattle.disk_model.specs.WorkLog.{ClientCounts, ServerCounts}
 use Rattle.lane_laws.proofs.Agreeing.{front_sum, talk_is}
 use Rattle.lane_laws.proofs.HeardFront.{heard_messages}
 use Rattle.lane_laws.proofs.LaneCounting.{Knows, run_knows}
+use Rattle.lane_laws.proofs.LanePlacing.{up_or}
 use Rattle.lane_laws.proofs.UpRuns.{unheard_client}
-use Rattle.lane_laws.specs.Counted.{ServerOrder, acked_of, range_sum}
+use Rattle.lane_laws.specs.Counted.{ServerOrder, acked_of, announced_of, range_sum}
 use Rattle.lane_laws.specs.LaneTalks.{talk_behind}
 use Rattle.lane_laws.specs.SlotsInOrder.{ServerAt}
 
-up_or_not : (x : ChannelState) → (x ≡ Up) ⊎ (x ≢ Up)
-up_or_not Up = inl refl
-up_or_not Down = inr (λ is. absurd (cc is))
-up_or_not Resetting = inr (λ is. absurd (cc is))
+-- the log's counts are the session's
+pub record SameRanges (o : Option ClientSession) (k : ClientCounts) : Type 0 where
+  pub announced : k.announced ≡ announced_of o
+  pub acked : k.acked ≡ acked_of o
 
--- the log's count is the session's
-acked_in : (o : Option ClientSession) (done : ℕ) (q : Option ClientCounts) (k : ClientCounts) → q ≡ Some k → ClientAgrees o done q → k.acked ≡ acked_of o
-acked_in None done None k is agrees = absurd (cc is)
-acked_in None done (Some c) k is agrees = absurd agrees
-acked_in (Some x) done None k is agrees = absurd agrees
-acked_in (Some x) done (Some c) k is agrees =
-    let same : c ≡ k = cc is in ap (λ (y : ClientCounts). y.acked) (sym same) ∙ sym agrees.acked
+pub same_ranges : (o : Option ClientSession) (done : ℕ) (q : Option ClientCounts) (k : ClientCounts) → q ≡ Some k → ClientAgrees o done q → SameRanges o k
+same_ranges None done None k is agrees = absurd (cc is)
+same_ranges None done (Some c) k is agrees = absurd agrees
+same_ranges (Some x) done None k is agrees = absurd agrees
+same_ranges (Some x) done (Some c) k is agrees =
+    let same : c ≡ k = cc is in
+    record {
+      announced = ap (λ (y : ClientCounts). y.announced) (sym same) ∙ sym agrees.announced;
+      acked = ap (λ (y : ClientCounts). y.acked) (sym same) ∙ sym agrees.acked;
+    }
 
 answered_most : (slots : ℕ) (o : Option ServerSession) (w : Option Work) (q : Option ServerCounts) (talk : TalkLog) (finished descs : ℕ) → ServerOrder slots o q talk.server → ServerAgrees o w q
     → IfServer q (λ d. (finished ≡ d.finished) × (descs ≡ d.descs)) → range_sum slots 2 (said talk.server) ≤ finished
@@ -57,8 +60,8 @@ acked_finished shape events s k finished descs sound run clean is up at =
     let clean_s : s.wire.forged ≡ false = ap (λ (w : WireLog). w.forged) wire ∙ clean in
     let up_s : s.wire.wire.end_a ≡ Up = ap (λ (w : WireLog). w.wire.end_a) wire ∙ up in
     let acked : k.acked ≡ range_sum l.shape.slots 2 (heard l.talk.client) =
-    acked_in s.client.session l.work.done l.work.client k is knows.counted.client.agrees ∙ knows.counted.client.acked in
-    elim (up_or_not s.wire.wire.end_b) [
+    (same_ranges s.client.session l.work.done l.work.client k is knows.counted.client.agrees).acked ∙ knows.counted.client.acked in
+    elim (up_or s.wire.wire.end_b) [
       | inl b ↦
           let front : IsFront (heard l.talk.client) (said l.talk.server) =
           subst (λ (t : TalkLog). IsFront (heard t.client) (said t.server)) (sym talk) (heard_messages shape events s A sound run clean_s up_s) in

@@ -54,27 +54,27 @@ abbrev WhereRests : ClientState → client.ClientRule → Type 0
 WhereRests s client.Rests = RestsIn s
 WhereRests s _ = ⊤
 
-next_rests : (s : ClientState) (session : ClientSession) (next : Option Request) → owes s.link ≡ false → s.shake.owed ≡ None → s.session ≡ Some session
-    → nat_lt session.announced session.published ≡ false → slice_get s.pending (session.published - session.completed) ≡ next → WhereRests s (client.publishes session next)
-next_rests s session None free none is announced next = record {
+announces_rests : (s : ClientState) (session : ClientSession) (b : Bool) → owes s.link ≡ false → s.shake.owed ≡ None → s.session ≡ Some session
+    → slice_get s.pending (session.published - session.completed) ≡ None → nat_lt session.announced session.published ≡ b
+    → WhereRests s (if b then client.Announces session else client.Rests)
+announces_rests s session true free none is published announced = tt
+announces_rests s session false free none is published announced = record {
   free = free;
   owed = none;
   session = λ other now.
       let both : Some session ≡ Some other = sym is ∙ now in
       let same : session ≡ other = cc in
-      subst (λ (x : ClientSession). HasDone s x) same (record { announced = announced; published = next });
+      subst (λ (x : ClientSession). HasDone s x) same (record { announced = announced; published = published });
 }
-next_rests s session (Some request) free none is announced next = tt
 
-announces_rests : (s : ClientState) (session : ClientSession) (b : Bool) → owes s.link ≡ false → s.shake.owed ≡ None → s.session ≡ Some session
-    → nat_lt session.announced session.published ≡ b
-    → WhereRests s (if b then client.Announces session else client.publishes session (slice_get s.pending (session.published - session.completed)))
-announces_rests s session true free none is announced = tt
-announces_rests s session false free none is announced = next_rests s session (slice_get s.pending (session.published - session.completed)) free none is announced refl
+next_rests : (s : ClientState) (session : ClientSession) (next : Option Request) → owes s.link ≡ false → s.shake.owed ≡ None → s.session ≡ Some session
+    → slice_get s.pending (session.published - session.completed) ≡ next → WhereRests s (client.publishes session next)
+next_rests s session None free none is published = announces_rests s session (nat_lt session.announced session.published) free none is published refl
+next_rests s session (Some request) free none is published = tt
 
 session_rests : (s : ClientState) (open_one : Option ClientSession) → owes s.link ≡ false → s.shake.owed ≡ None → s.session ≡ open_one → WhereRests s (client.in_session s open_one)
 session_rests s None free none is = record { free = free; owed = none; session = λ session now. let both : None ≡ Some session = sym is ∙ now in absurd (cc) }
-session_rests s (Some session) free none is = announces_rests s session (nat_lt session.announced session.published) free none is refl
+session_rests s (Some session) free none is = next_rests s session (slice_get s.pending (session.published - session.completed)) free none is refl
 
 says_rests : (s : ClientState) (owed : Option Message) → owes s.link ≡ false → s.shake.owed ≡ owed → WhereRests s (client.says s owed)
 says_rests s None free is = session_rests s s.session free is refl

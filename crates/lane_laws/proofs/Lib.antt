@@ -42,6 +42,7 @@ pub mod OfferedRing
 pub mod OpeningDeal
 pub mod OpeningScript
 pub mod OneSession
+pub mod OnTheWay
 pub mod OneSid
 pub mod OpenRuns
 pub mod PartPut

@@ -169,7 +169,7 @@ next_slot shape events s v sound run clean now none unfinished =
     let turn = (turn_in s l k known work.one.open_is).turn in
     let j = d.descs in
     let bytes = order.each j (omega (arith, done, same)) (omega (arith, same, more, asked, turn)) in
-    let ready = bytes.ready (omega (arith, at_b.1)) (omega (arith, same, more, asked)) in
+    let ready = bytes.announced_ready (omega (arith, at_b.1)) (omega (arith, same, more, work.one.announced)) in
     let slot_is : slot_at s.server v.descs ≡ j % l.shape.slots = numbered s l v work v.descs j known.stands work.of.agree.descs (omega (arith, same, more, small)) in
     record {
       below = omega (arith, slot_is, mod_below j l.shape.slots (some_slots s l known));

@@ -1,7 +1,7 @@
 -- The script of the opening names no ranges, so that the sums of what an end said are those of its ranges; and how a link is after each kind of
 -- packet.
 use Rattle.std.proofs.Common.{◌≡◌, ℕ, ◌+◌, ◌⊎◌, inl, inr, Bool, true, false, Some, None, List, [], ◌∷◌, ◌++◌, take, length, refl, sym, ap, ◌∙◌, arith}
-use Rattle.std.specs.Prelude.{nat_le, zero, suc, ⊤}
+use Rattle.std.specs.Prelude.{cond, filter, nat_le, zero, suc, ⊤}
 use Rattle.ldc_link.specs.declared.phase.LinkPhase.{LinkPhase}
 use Rattle.ldc_link.specs.declared.phase.LinkPhase.TheVariants as phase
 use Rattle.ldc_link.specs.declared.phase.Role.{Role}
@@ -15,7 +15,7 @@ use Rattle.vio_tag.specs.Form.{IsWellFormed}
 use Rattle.vio_tag.specs.Spelling.{SpellsMessage, envelope_at}
 use Rattle.vio_handshake.specs.declared.handshake.Phase.TheVariants.{PeerReadyTaken}
 use Rattle.vio_handshake.proofs.Places.{AttributesAnswered, AttributesSaid, Deal, PeerReadyAnswered, PeerReadySaid, Place, ReadyAnswered, ReadySaid, RingAnswered, RingSaid, VersionAnswered, VersionSaid, message_at}
-use Rattle.disk_model.specs.Messages.{range_in}
+use Rattle.disk_model.specs.Messages.{is_range, range_if, range_in}
 use Rattle.disk_model.specs.WorkLog.{length_in, one_in}
 use Rattle.disk_model.specs.EndPuts.{ComesUp, EndsOwn, EndsShake, Goes, PutKind, ending, kind_in, put_kind}
 use Rattle.lane_laws.proofs.EndPlaced.{EachData, IsData, code_of}
@@ -44,6 +44,19 @@ count_past k zero xs ys none = refl
 count_past k (suc i) [] ys none = refl
 count_past k (suc i) (x ∷ xs) ys none = omega (arith, ap one_in none.0, count_past k i xs ys none.1)
 
+not_one : (b : Bool) (bytes : List ℕ) → range_if b bytes ≡ None → b ≡ false
+not_one true bytes none = absurd (cc none)
+not_one false bytes none = refl
+
+ranges_past : (k i : ℕ) (xs ys : List (List ℕ)) → NoRange k xs → filter (is_range k) (take i xs ++ ys) ≡ filter (is_range k) ys
+ranges_past k zero xs ys none = refl
+ranges_past k (suc i) [] ys none = refl
+ranges_past k (suc i) (x ∷ xs) ys none =
+    ap (λ (b : Bool). cond b (x ∷ filter (is_range k) (take i xs ++ ys)) (filter (is_range k) (take i xs ++ ys))) (not_one (is_range k x) x none.0) ∙ ranges_past k i xs ys none.1
+
+pub placed_ranges : (d : Deal) (r : Role) (place : Place) (k : ℕ) (more : List (List ℕ)) → (k ≡ 1) ⊎ (k ≡ 2) → filter (is_range k) (said_at d r place ++ more) ≡ filter (is_range k) more
+placed_ranges d r place k more kind = ranges_past k (count_at r place) (script d r) more (script_none d r k kind)
+
 pub placed_sum : (d : Deal) (r : Role) (place : Place) (n k : ℕ) (more : List (List ℕ)) → (k ≡ 1) ⊎ (k ≡ 2) → range_sum n k (said_at d r place ++ more) ≡ range_sum n k more
 placed_sum d r place n k more kind = sum_past n k (count_at r place) (script d r) more (script_none d r k kind)
 
@@ -55,7 +68,7 @@ data_count : (r : Role) (d : Deal) (count sum : ℕ) (messages : List (List ℕ)
 data_count r d count sum [] each = refl
 data_count r d count sum (bytes ∷ messages) each = omega (arith, one_data r d count sum bytes each.0, data_count r d (count + 1) _ messages each.1)
 
-kind_of : (r : Role) → (code_of r ≡ 1) ⊎ (code_of r ≡ 2)
+pub kind_of : (r : Role) → (code_of r ≡ 1) ⊎ (code_of r ≡ 2)
 kind_of Initiator = inl refl
 kind_of Responder = inr refl
 

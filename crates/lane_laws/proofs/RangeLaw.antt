@@ -3,16 +3,13 @@
 use Rattle.std.proofs.Common.{◌≡◌, ℕ, ◌+◌, ◌-◌, ◌%◌, ◌^◌, ◌<◌, ◌≤◌, Bool, true, false, Option, Some, None, List, [], ◌∷◌, ◌++◌, length, drop, refl, sym, ap, ◌∙◌, subst, arith, inl, length-append}
 use Rattle.std.specs.Prelude.{◌&&◌}
 use Rattle.std.proofs.lemmas.Nat.{mod_below}
-use Rattle.ldc_packet.specs.declared.packet.Subtype.{Subtype}
 use Rattle.ldc_packet.specs.declared.packet.Subtype.TheVariants.{Info}
 use Rattle.ldc_queue.specs.declared.end.End.TheVariants.{A, B}
 use Rattle.ldc_queue.specs.Fragments.{Fragment, fragment_at, is_part}
 use Rattle.ldc_queue.specs.Talk as turn
 use Rattle.ldc_queue.specs.Talk.{Turn}
-use Rattle.vio_tag.specs.declared.message.Message.{Message}
 use Rattle.vio_tag.specs.declared.message.MsgBody.TheVariants.{DringData}
 use Rattle.vio_tag.specs.Spelling.{canonical}
-use Rattle.vio_tag.proofs.Canonical.{canonical_spells}
 use Rattle.disk_model.specs.Sayings.{half_heard, half_said, said, whole_by, whole_past}
 use Rattle.disk_model.specs.WireEvent.{Blocked, Declines, Idle, Injected, Joined, Lost, Poked, Reset, Sent, Took, WireEvent}
 use Rattle.disk_model.specs.Agreement.{ClientAgrees, ServerAgrees}
@@ -45,7 +42,7 @@ use Rattle.lane_laws.proofs.ClientWorkCounting.{client_holds_counting}
 use Rattle.lane_laws.proofs.EndPutting.{PutSays, SaysLast, put_says}
 use Rattle.lane_laws.proofs.RangeSums.{sum_more, sum_said}
 use Rattle.lane_laws.proofs.RangeTurns.{range_turns}
-use Rattle.lane_laws.proofs.RangesSaid.{envelope_reads, owed_no_range, range_is, said_range, subtype_reads}
+use Rattle.lane_laws.proofs.RangesSaid.{envelope_reads, owed_no_range, range_is, said_range, seq_is, start_is, subtype_reads}
 use Rattle.lane_laws.proofs.Ruling.{client_may}
 use Rattle.lane_laws.proofs.ServerUttering.{server_blocked_utters}
 use Rattle.lane_laws.specs.Counted.{ClientCounted, ServerOrder, range_sum}
@@ -130,33 +127,6 @@ ended_with false c f half messages bytes stop is = absurd (never_last messages b
 
 ended_is : (turns : List Turn) (packet bytes : List ℕ) → said (turn.Said packet ∷ turns) ≡ said turns ++ bytes ∷ [] → ended_by (half_said turns) packet ≡ Some bytes
 ended_is turns packet bytes is = ended_with (is_part packet) (fragment_at packet).stop (fragment_at packet) (half_said turns) (said turns) bytes refl is
-
--- its fields are those of the announcement
-numbered : Subtype → ℕ → Message
-numbered s seq = record { subtype = s; sid = 0; body = DringData seq 0 0 0 0 }
-
-begun_at : Subtype → ℕ → Message
-begun_at s start = record { subtype = s; sid = 0; body = DringData 0 0 start 0 0 }
-
-same_seq : (s : Subtype) (n seq ident start end state : ℕ)
-    → seq_of (canonical (record { subtype = s; sid = n; body = DringData seq ident start end state })) ≡ seq_of (canonical (numbered s seq))
-unfolding canonical numbered
-same_seq s n seq ident start end state = refl
-
-seq_is : (s : Subtype) (n seq ident start end state : ℕ) → seq < 2 ^ 64 → seq_of (canonical (record { subtype = s; sid = n; body = DringData seq ident start end state })) ≡ seq
-unfolding numbered
-seq_is s n seq ident start end state small =
-    same_seq s n seq ident start end state ∙ sym (canonical_spells (record { subtype = s; sid = 0; body = DringData seq 0 0 0 0 }) tt (omega arith, (small, omega arith, omega arith, omega arith, omega arith))).body.0
-
-same_start : (s : Subtype) (n seq ident start end state : ℕ)
-    → start_of (canonical (record { subtype = s; sid = n; body = DringData seq ident start end state })) ≡ start_of (canonical (begun_at s start))
-unfolding canonical begun_at
-same_start s n seq ident start end state = refl
-
-start_is : (s : Subtype) (n seq ident start end state : ℕ) → start < 2 ^ 32 → start_of (canonical (record { subtype = s; sid = n; body = DringData seq ident start end state })) ≡ start
-unfolding begun_at
-start_is s n seq ident start end state small =
-    same_start s n seq ident start end state ∙ sym (canonical_spells (record { subtype = s; sid = 0; body = DringData 0 0 start 0 0 }) tt (omega arith, (omega arith, omega arith, small, omega arith, omega arith))).body.2
 
 -- THE CLIENT as it puts the packet
 record Putting (s : LaneState) (l : DiskLog) (packet : List ℕ) (held : ClientState) : Type 0 where

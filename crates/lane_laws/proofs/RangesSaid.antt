@@ -14,7 +14,7 @@ use Rattle.vio_tag.specs.Form.{HasForm, IsWellFormed}
 use Rattle.vio_tag.specs.Spelling.{SpellsBody, SpellsMessage, canonical, envelope_at, envelope_code, subtype_at}
 use Rattle.vio_handshake.specs.declared.handshake.Phase.{Phase}
 use Rattle.vio_handshake.specs.declared.handshake.Phase.TheVariants.{PeerReadyTaken}
-use Rattle.disk_model.specs.Messages.{end_of, is_range, range_if, range_in, start_of}
+use Rattle.disk_model.specs.Messages.{end_of, is_range, range_if, range_in, seq_of, start_of}
 use Rattle.disk_model.specs.WorkLog.{length_in, one_in}
 use Rattle.disk_model.specs.Ranges.{range_length}
 use Rattle.lane_laws.specs.Counted.{is_ready}
@@ -120,12 +120,14 @@ pub owed_no_range : (phase : Phase) (k : ℕ) (m : Message) → (k ≡ 1) ⊎ (k
 owed_no_range phase k m kind may = owed_in phase k m.sid m.subtype m.body kind may
 
 -- A RANGE, as it was heard
-pub range_is : (k : ℕ) (bytes : List ℕ) → envelope_at bytes ≡ 0x0042 → subtype_at bytes ≡ k → range_in k (Some bytes) ≡ Some bytes
-range_is k bytes envelope subtype =
-    let test : is_range k bytes ≡ true = rw (envelope, subtype) (same_test k) in ap (λ (b : Bool). range_if b bytes) test
+test_is : (k : ℕ) (bytes : List ℕ) → envelope_at bytes ≡ 0x0042 → subtype_at bytes ≡ k → is_range k bytes ≡ true
+test_is k bytes envelope subtype = rw (envelope, subtype) (same_test k)
   where
     same_test : (n : ℕ) → (true && n == n) ≡ true
     same_test n = let same : (n == n) ≡ true = grind (arith, nat_tests) in same
+
+pub range_is : (k : ℕ) (bytes : List ℕ) → envelope_at bytes ≡ 0x0042 → subtype_at bytes ≡ k → range_in k (Some bytes) ≡ Some bytes
+range_is k bytes envelope subtype = ap (λ (b : Bool). range_if b bytes) (test_is k bytes envelope subtype)
 
 pub heard_range : (slots k : ℕ) (bytes : List ℕ) (m : Message) (seq ident start end state : ℕ) → SpellsMessage bytes m → subtype_code m.subtype ≡ k
     → m.body ≡ DringData seq ident start end state → length_in slots (range_in k (Some bytes)) ≡ range_length slots start end
@@ -140,40 +142,63 @@ pub heard_one : (k : ℕ) (bytes : List ℕ) (m : Message) (seq ident start end 
 heard_one k bytes m seq ident start end state spells kind body =
     ap one_in (range_is k bytes (spells.envelope ∙ ap envelope_code body) (spells.subtype ∙ kind))
 
--- and as it is said: the fields of its slots are read back, whatever the others are
-simple : Subtype → ℕ → ℕ → Message
-simple s start end = record { subtype = s; sid = 0; body = DringData 0 0 start end 0 }
+-- and as it is said: three of its fields are read back, whatever the others are
+abbrev range_bytes : Subtype → ℕ → ℕ → ℕ → ℕ → ℕ → ℕ → List ℕ
+range_bytes s n seq ident start end state = canonical (record { subtype = s; sid = n; body = DringData seq ident start end state })
 
-same_start : (s : Subtype) (n seq ident start end state : ℕ)
-    → start_of (canonical (record { subtype = s; sid = n; body = DringData seq ident start end state })) ≡ start_of (canonical (simple s start end))
+simple : Subtype → ℕ → ℕ → ℕ → Message
+simple s seq start end = record { subtype = s; sid = 0; body = DringData seq 0 start end 0 }
+
+same_seq : (s : Subtype) (n seq ident start end state : ℕ) → seq_of (range_bytes s n seq ident start end state) ≡ seq_of (canonical (simple s seq 0 0))
+unfolding canonical simple
+same_seq s n seq ident start end state = refl
+
+same_start : (s : Subtype) (n seq ident start end state : ℕ) → start_of (range_bytes s n seq ident start end state) ≡ start_of (canonical (simple s 0 start 0))
 unfolding canonical simple
 same_start s n seq ident start end state = refl
 
-same_end : (s : Subtype) (n seq ident start end state : ℕ)
-    → end_of (canonical (record { subtype = s; sid = n; body = DringData seq ident start end state })) ≡ end_of (canonical (simple s start end))
+same_end : (s : Subtype) (n seq ident start end state : ℕ) → end_of (range_bytes s n seq ident start end state) ≡ end_of (canonical (simple s 0 0 end))
 unfolding canonical simple
 same_end s n seq ident start end state = refl
 
-simple_spells : (s : Subtype) (start end : ℕ) → start < 2 ^ 32 → end < 2 ^ 32 → SpellsMessage (canonical (simple s start end)) (record { subtype = s; sid = 0; body = DringData 0 0 start end 0 })
+simple_spells : (s : Subtype) (seq start end : ℕ) → seq < 2 ^ 64 → start < 2 ^ 32 → end < 2 ^ 32
+    → SpellsMessage (canonical (simple s seq start end)) (record { subtype = s; sid = 0; body = DringData seq 0 start end 0 })
 unfolding simple
-simple_spells s start end small_start small_end =
-    canonical_spells (record { subtype = s; sid = 0; body = DringData 0 0 start end 0 }) tt (omega arith, (omega arith, omega arith, small_start, small_end, omega arith))
+simple_spells s seq start end small_seq small_start small_end =
+    canonical_spells (record { subtype = s; sid = 0; body = DringData seq 0 start end 0 }) tt (omega arith, (small_seq, omega arith, small_start, small_end, omega arith))
+
+pub seq_is : (s : Subtype) (n seq ident start end state : ℕ) → seq < 2 ^ 64 → seq_of (range_bytes s n seq ident start end state) ≡ seq
+seq_is s n seq ident start end state small =
+    same_seq s n seq ident start end state ∙ sym (simple_spells s seq 0 0 small (omega arith) (omega arith)).body.0
+
+pub start_is : (s : Subtype) (n seq ident start end state : ℕ) → start < 2 ^ 32 → start_of (range_bytes s n seq ident start end state) ≡ start
+start_is s n seq ident start end state small =
+    same_start s n seq ident start end state ∙ sym (simple_spells s 0 start 0 (omega arith) small (omega arith)).body.2
+
+pub end_is : (s : Subtype) (n seq ident start end state : ℕ) → end < 2 ^ 32 → end_of (range_bytes s n seq ident start end state) ≡ end
+end_is s n seq ident start end state small =
+    same_end s n seq ident start end state ∙ sym (simple_spells s 0 0 end (omega arith) (omega arith) small).body.3
+
+pub is_data : (k n : ℕ) (s : Subtype) (seq ident start end state : ℕ) → subtype_code s ≡ k → is_range k (range_bytes s n seq ident start end state) ≡ true
+is_data k n s seq ident start end state kind =
+    test_is k (range_bytes s n seq ident start end state) (envelope_reads s n (DringData seq ident start end state) tt)
+    (subtype_reads (record { subtype = s; sid = n; body = DringData seq ident start end state }) ∙ kind)
+
+said_is : (k n : ℕ) (s : Subtype) (seq ident start end state : ℕ) → subtype_code s ≡ k
+    → range_in k (Some (range_bytes s n seq ident start end state)) ≡ Some (range_bytes s n seq ident start end state)
+said_is k n s seq ident start end state kind =
+    ap (λ (b : Bool). range_if b (range_bytes s n seq ident start end state)) (is_data k n s seq ident start end state kind)
 
 pub said_range : (slots k n : ℕ) (s : Subtype) (seq ident start end state : ℕ) → subtype_code s ≡ k → start < 2 ^ 32 → end < 2 ^ 32
     → length_in slots (range_in k (Some (canonical (record { subtype = s; sid = n; body = DringData seq ident start end state })))) ≡ range_length slots start end
 said_range slots k n s seq ident start end state kind small_start small_end =
-    let bytes = canonical (record { subtype = s; sid = n; body = DringData seq ident start end state }) in
-    let spells = simple_spells s start end small_start small_end in
-    let begins : start_of bytes ≡ start = same_start s n seq ident start end state ∙ sym spells.body.2 in
-    let ends : end_of bytes ≡ end = same_end s n seq ident start end state ∙ sym spells.body.3 in
-    ap (length_in slots) (range_is k bytes (envelope_reads s n (DringData seq ident start end state) tt) (subtype_reads (record { subtype = s; sid = n; body = DringData seq ident start end state }) ∙ kind))
-    ∙ ap (λ (x : ℕ). range_length slots x (end_of bytes)) begins ∙ ap (λ (x : ℕ). range_length slots start x) ends
+    ap (length_in slots) (said_is k n s seq ident start end state kind)
+    ∙ ap (λ (x : ℕ). range_length slots x (end_of (range_bytes s n seq ident start end state))) (start_is s n seq ident start end state small_start)
+    ∙ ap (λ (x : ℕ). range_length slots start x) (end_is s n seq ident start end state small_end)
 
 pub said_one : (k n : ℕ) (s : Subtype) (seq ident start end state : ℕ) → subtype_code s ≡ k
     → one_in (range_in k (Some (canonical (record { subtype = s; sid = n; body = DringData seq ident start end state })))) ≡ 1
-said_one k n s seq ident start end state kind =
-    let bytes = canonical (record { subtype = s; sid = n; body = DringData seq ident start end state }) in
-    ap one_in (range_is k bytes (envelope_reads s n (DringData seq ident start end state) tt) (subtype_reads (record { subtype = s; sid = n; body = DringData seq ident start end state }) ∙ kind))
+said_one k n s seq ident start end state kind = ap one_in (said_is k n s seq ident start end state kind)
 
 pub said_other : (k other n : ℕ) (s : Subtype) (seq ident start end state : ℕ) → subtype_code s ≡ other → other ≢ k
     → range_in k (Some (canonical (record { subtype = s; sid = n; body = DringData seq ident start end state }))) ≡ None

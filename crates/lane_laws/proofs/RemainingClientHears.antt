@@ -24,7 +24,7 @@ use Rattle.vio_tag.specs.declared.message.TagFault.{TagFault}
 use Rattle.vio_handshake.specs.declared.handshake.Handshake.{Handshake}
 use Rattle.vio_handshake.specs.Rules.{Faults, Goes, GoesOpen, ShakeTake, shake_take, sid_fault}
 use Rattle.disk_model.specs.ClientPutting.{is_announcing}
-use Rattle.disk_model.specs.ClientRule.{Announces, ClientRule, Completes, Joins, Puts, Takes, client_rule, completes_first, in_session, is_urgent, publishes, puts_first, puts_or_takes, says, takes_first}
+use Rattle.disk_model.specs.ClientRule.{Announces, ClientRule, Completes, Joins, Puts, Rests, Takes, client_rule, completes_first, in_session, is_urgent, publishes, puts_first, puts_or_takes, says, takes_first}
 use Rattle.disk_model.specs.ClientState.{ClientSession, ClientState, slot_in}
 use Rattle.disk_model.specs.ClientTaking as hear
 use Rattle.disk_model.specs.Ranges.{is_other, range_length}
@@ -42,18 +42,17 @@ abbrev TakeMay : ClientState → ClientRule → Type 0
 TakeMay s (Takes packet) = is_urgent s ≡ false
 TakeMay s _ = ⊤
 
-publishes_may : (s : ClientState) (session : ClientSession) (next : Option Request) → TakeMay s (publishes session next)
-publishes_may s session None = tt
-publishes_may s session (Some request) = tt
-
-announces_may : (s : ClientState) (session : ClientSession) (b : Bool)
-    → TakeMay s (if b then Announces session else publishes session (slice_get s.pending (session.published - session.completed)))
+announces_may : (s : ClientState) (session : ClientSession) (b : Bool) → TakeMay s (if b then Announces session else Rests)
 announces_may s session true = tt
-announces_may s session false = publishes_may s session (slice_get s.pending (session.published - session.completed))
+announces_may s session false = tt
+
+publishes_may : (s : ClientState) (session : ClientSession) (next : Option Request) → TakeMay s (publishes session next)
+publishes_may s session None = announces_may s session (nat_lt session.announced session.published)
+publishes_may s session (Some request) = tt
 
 in_session_may : (s : ClientState) (open_one : Option ClientSession) → TakeMay s (in_session s open_one)
 in_session_may s None = tt
-in_session_may s (Some session) = announces_may s session (nat_lt session.announced session.published)
+in_session_may s (Some session) = publishes_may s session (slice_get s.pending (session.published - session.completed))
 
 says_may : (s : ClientState) (owed : Option Message) → TakeMay s (says s owed)
 says_may s None = in_session_may s s.session

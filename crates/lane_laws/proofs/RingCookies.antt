@@ -1,6 +1,6 @@
 -- The cookies of a client's ring, and of a request's buffer, name bytes that follow one another, so that what goes through them is a
 -- range of the memory.
-use Rattle.std.proofs.Common.{◌≡◌, ℕ, zero, suc, ◌+◌, ◌-◌, ◌*◌, ◌%◌, ◌<◌, ◌≤◌, min, List, [], ◌∷◌, take, Bool, true, false, not, cond, nat_lt, nat_le, refl, ap, ◌∙◌, subst, arith, Option, Some, None}
+use Rattle.std.proofs.Common.{◌≡◌, ℕ, zero, suc, ◌+◌, ◌*◌, ◌%◌, ◌≤◌, List, [], ◌∷◌, take, Bool, true, false, not, cond, nat_lt, nat_le, refl, ap, ◌∙◌, subst, arith, Option, Some, None}
 use Rattle.std.specs.Prelude.{if◌then◌else◌}
 use Rattle.std.proofs.lemmas.Bool.{leb-true}
 use Rattle.std.proofs.lemmas.Bool.Decides.{nat_tests}
@@ -14,8 +14,12 @@ use Rattle.cookie_copy.specs.declared.fault.CopyFault.TheVariants.{Channel, BadA
 use Rattle.cookie_copy.specs.Faults.{first_address_fault, first_copy_fault, held, is_aligned, is_aligned_cookie, is_even_word}
 use Rattle.cookie_copy.specs.Following.{FollowOn}
 use Rattle.cookie_copy.specs.Moved.{moved_spots, spots}
-use Rattle.vdisk_msg.specs.Requested.{buffer_cookies, cookie_count, page_cookie, ring_pages}
+use Rattle.vdisk_msg.specs.Requested.{buffer_cookies, cookie_count, no_cookie, ring_pages}
 use Rattle.disk_model.specs.Offering.{own_cookies, page_cookies}
+
+-- a multiple of 8
+pub even_word : (n : ℕ) → n % 8 ≡ 0 → is_even_word n ≡ true
+even_word n even = grind (arith, nat_tests)
 
 -- THE RING
 follow_pages : (page n : ℕ) → FollowOn (8192 * page) (page_cookies page n)
@@ -31,8 +35,7 @@ held_pages page (suc n) = omega (arith, held_pages (page + 1) n)
 aligned_pages : (page n : ℕ) → list_all is_aligned_cookie (page_cookies page n) ≡ true
 aligned_pages page zero = refl
 aligned_pages page (suc n) =
-    let even : (8192 * page) % 8 ≡ 0 = omega arith in
-    let here : is_even_word (8192 * page) ≡ true = grind (arith, nat_tests) in
+    let here : is_even_word (8192 * page) ≡ true = even_word (8192 * page) (omega arith) in
     rw (here, aligned_pages (page + 1) n) refl
 
 -- cookies whose bytes are the front of a memory, at least those of a ring, and within its pages
@@ -45,8 +48,7 @@ pub record RingBytes (slots : ℕ) (cookies : List Cookie) : Type 0 where
 
 one_aligned : (slots : ℕ) → list_all is_aligned_cookie (record { address = 0; size = 128 * slots } ∷ []) ≡ true
 one_aligned slots =
-    let even : (128 * slots) % 8 ≡ 0 = omega arith in
-    let here : is_even_word (128 * slots) ≡ true = grind (arith, nat_tests) in
+    let here : is_even_word (128 * slots) ≡ true = even_word (128 * slots) (omega arith) in
     rw (here) refl
 
 ring_bytes_if : (b : Bool) (slots : ℕ) → RingBytes slots (if b then page_cookies 0 (ring_pages slots) else record { address = 0; size = 128 * slots } ∷ [])
@@ -74,86 +76,37 @@ ring_bytes_if false slots =
 pub ring_bytes : (slots : ℕ) → RingBytes slots (own_cookies slots)
 ring_bytes slots = ring_bytes_if (nat_le 64 slots) slots
 
--- A BUFFER
-page_used : (place size k : ℕ) → 8192 * k < size → page_cookie place size k ≡ record { address = place + 8192 * k; size = min 8192 (size - 8192 * k) }
-page_used place size k below =
-    let test : nat_lt (8192 * k) size ≡ true = grind (arith, nat_tests) in
-    ap (λ (b : Bool). cond b (record { address = place + 8192 * k; size = min 8192 (size - 8192 * k) }) (record { address = 0; size = 0 })) test
+-- A BUFFER has one cookie, and none where it has no bytes
+pub record BufferBytes (place size : ℕ) (cookies : List Cookie) : Type 0 where
+  pub spots_are : spots cookies ≡ range_with_len place size
+  pub whole : held cookies ≡ size
+  pub aligned : place % 8 ≡ 0 → size % 8 ≡ 0 → list_all is_aligned_cookie cookies ≡ true
 
-page_at : (place size k : ℕ) → 8192 * k < size → (page_cookie place size k).address ≡ place + 8192 * k
-page_at place size k below = ap (λ (c : Cookie). c.address) (page_used place size k below)
+buffer_if : (b : Bool) (place size : ℕ) → nat_lt 0 size ≡ b
+    → BufferBytes place size (take (cond b 1 0) (cond b (record { address = place; size = size }) no_cookie ∷ no_cookie ∷ no_cookie ∷ no_cookie ∷ no_cookie ∷ []))
+buffer_if true place size is =
+    let one : List Cookie = record { address = place; size = size } ∷ [] in
+    let follow : FollowOn place one = (refl, tt) in
+    let whole : held one ≡ size = omega arith in
+    record {
+      spots_are = spots_follow place one follow ∙ ap (λ (n : ℕ). range_with_len place n) whole;
+      whole = whole;
+      aligned = λ even full.
+          let first : is_even_word place ≡ true = even_word place even in
+          let second : is_even_word size ≡ true = even_word size full in
+          rw (first, second) refl;
+    }
+buffer_if false place size is =
+    let none : 0 ≡ size = grind (arith, nat_tests) in
+    record {
+      spots_are = spots_follow place [] tt ∙ ap (λ (n : ℕ). range_with_len place n) none;
+      whole = none;
+      aligned = λ even full. refl;
+    }
 
-page_long : (place size k : ℕ) → 8192 * k < size → (page_cookie place size k).size ≡ min 8192 (size - 8192 * k)
-page_long place size k below = ap (λ (c : Cookie). c.size) (page_used place size k below)
-
--- the cookies that a size uses follow one another and hold it
-record Follows (place size : ℕ) (cookies : List Cookie) : Type 0 where
-  follow : FollowOn place cookies
-  whole : held cookies ≡ size
-
--- of n pages, the last of them used in part
-follow_count : (n place size : ℕ) → size ≤ 8192 * n → 8192 * n < size + 8192 → n ≤ 4 → Follows place size (take n (buffer_cookies place size))
+pub buffer_bytes : (place size : ℕ) → BufferBytes place size (take (cookie_count size) (buffer_cookies place size))
 unfolding buffer_cookies
-follow_count zero place size most least few = record { follow = tt; whole = omega (arith, most) }
-follow_count (suc zero) place size most least few =
-    let b0 : 8192 * 0 < size = omega (arith, least) in
-    let l0 = page_long place size 0 b0 in
-    let p0 = page_at place size 0 b0 in
-    record {
-      follow = (omega (arith, p0, least), tt);
-      whole = omega (arith, l0, most, least);
-    }
-follow_count (suc (suc zero)) place size most least few =
-    let b0 : 8192 * 0 < size = omega (arith, least) in
-    let b1 : 8192 * 1 < size = omega (arith, least) in
-    let l0 = page_long place size 0 b0 in
-    let l1 = page_long place size 1 b1 in
-    let p0 = page_at place size 0 b0 in
-    let p1 = page_at place size 1 b1 in
-    record {
-      follow = (omega (arith, p0, least), (omega (arith, p1, l0, least), tt));
-      whole = omega (arith, l0, l1, most, least);
-    }
-follow_count (suc (suc (suc zero))) place size most least few =
-    let b0 : 8192 * 0 < size = omega (arith, least) in
-    let b1 : 8192 * 1 < size = omega (arith, least) in
-    let b2 : 8192 * 2 < size = omega (arith, least) in
-    let l0 = page_long place size 0 b0 in
-    let l1 = page_long place size 1 b1 in
-    let l2 = page_long place size 2 b2 in
-    let p0 = page_at place size 0 b0 in
-    let p1 = page_at place size 1 b1 in
-    let p2 = page_at place size 2 b2 in
-    record {
-      follow = (omega (arith, p0, least), (omega (arith, p1, l0, least), (omega (arith, p2, l0, l1, least), tt)));
-      whole = omega (arith, l0, l1, l2, most, least);
-    }
-follow_count (suc (suc (suc (suc zero)))) place size most least few =
-    let b0 : 8192 * 0 < size = omega (arith, least) in
-    let b1 : 8192 * 1 < size = omega (arith, least) in
-    let b2 : 8192 * 2 < size = omega (arith, least) in
-    let b3 : 8192 * 3 < size = omega (arith, least) in
-    let l0 = page_long place size 0 b0 in
-    let l1 = page_long place size 1 b1 in
-    let l2 = page_long place size 2 b2 in
-    let l3 = page_long place size 3 b3 in
-    let p0 = page_at place size 0 b0 in
-    let p1 = page_at place size 1 b1 in
-    let p2 = page_at place size 2 b2 in
-    let p3 = page_at place size 3 b3 in
-    record {
-      follow = (omega (arith, p0, least), (omega (arith, p1, l0, least), (omega (arith, p2, l0, l1, least), (omega (arith, p3, l0, l1, l2, least), tt))));
-      whole = omega (arith, l0, l1, l2, l3, most, least);
-    }
-follow_count (suc (suc (suc (suc (suc n))))) place size most least few = absurd (omega (arith, few))
-
-pub buffer_spots : (place size : ℕ) → size ≤ 32768 → (spots (take (cookie_count size) (buffer_cookies place size)) ≡ range_with_len place size)
-    × (held (take (cookie_count size) (buffer_cookies place size)) ≡ size)
-buffer_spots place size few =
-    let used = follow_count (cookie_count size) place size (omega arith) (omega arith) (omega (arith, few)) in (
-      spots_follow place (take (cookie_count size) (buffer_cookies place size)) used.follow ∙ ap (λ (m : ℕ). range_with_len place m) used.whole,
-      used.whole,
-    )
+buffer_bytes place size = buffer_if (nat_lt 0 size) place size refl
 
 -- A COPY that is answered is within its cookies
 held_if : (up aligned holds : Bool) (rest : Option CopyFault) → (cond (not up) (Some Channel) (cond (not aligned) (Some BadAlign) (cond (not holds) (Some Short) rest))) ≡ None → holds ≡ true

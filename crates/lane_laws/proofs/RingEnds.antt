@@ -56,7 +56,7 @@ unit_behind (Gives u bytes) w ring r pages slot id unit fault next new sizes lon
     let few = request_size ring slot id 2 0 w.bytes holds in
     let below = sizes.below in
     subst (SameSlots ring.slots r.memory) (sym moves.3)
-    (given_behind fault w r pages ring.slots (buffer_place ring.slots slot) (size_of holds.request) u bytes identity few (omega arith) (omega (arith, few, long, below))
+    (given_behind fault w r pages ring.slots (buffer_place ring.slots slot) (size_of holds.request) u bytes identity (omega arith) (omega (arith, few, long, below))
     (fetched_cookies ring slot id w.bytes sizes holds) moves.1)
 unit_behind (Gathers u) w ring r pages slot id unit fault next new sizes long identity holds moves = equal_slots ring.slots r.memory new moves.3
 unit_behind _ w ring r pages slot id unit fault next new sizes long identity holds moves = absurd moves

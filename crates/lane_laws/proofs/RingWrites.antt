@@ -19,7 +19,7 @@ use Rattle.vio_bytes.specs.Place.{put_at}
 use Rattle.disk_model.specs.Offering.{own_cookies}
 use Rattle.disk_model.specs.ServerState.{ServerState, Work}
 use Rattle.disk_model.specs.ServerWork.{Reach, data_cookies, fetch_fault, given_memory, out_fault, slot_fetched, slots_cookies, with_word, word_fault}
-use Rattle.lane_laws.proofs.RingCookies.{buffer_spots, copy_held, ring_bytes}
+use Rattle.lane_laws.proofs.RingCookies.{buffer_bytes, copy_held, ring_bytes}
 use Rattle.lane_laws.specs.RingSlots.{SameSlots}
 
 -- CHANGES one after another
@@ -96,31 +96,31 @@ ring_word_answered s r pages slots slot at both identity cookies below within ev
     ∙ no_fault_range access.Write r.table pages (own_cookies slots) 0 b.size (128 * slot + at) 8 identity b.spots_are (omega (arith, fits, holds, within)) (omega (arith, inside, room))
     (even_aligned slot at (own_cookies slots) even b.aligned)
 
--- THROUGH A BUFFER'S COOKIES a unit is written after the ring
+-- THROUGH A BUFFER'S COOKIE a unit is written after the ring
 pub record IntoBuffer (r : Reach) (place size u : ℕ) (bytes : List ℕ) (cookies : List Cookie) : Type 0 where
   pub written : moved_out r.table r.memory cookies (8192 * u) bytes ≡ put_at (place + 8192 * u) bytes r.memory
   pub within : 8192 * u + length bytes ≤ size
 
-pub into_buffer : (r : Reach) (pages place size u : ℕ) (bytes : List ℕ) (cookies : List Cookie) → IsIdentity r.table pages → size ≤ 32768 → place + size ≤ length r.memory
+pub into_buffer : (r : Reach) (pages place size u : ℕ) (bytes : List ℕ) (cookies : List Cookie) → IsIdentity r.table pages → place + size ≤ length r.memory
     → cookies ≡ take (cookie_count size) (buffer_cookies place size) → first_copy_fault r.both access.Write r.table cookies (8192 * u) (length bytes) ≡ None
     → IntoBuffer r place size u bytes cookies
-into_buffer r pages place size u bytes cookies identity few room is none =
-    let named = buffer_spots place size few in
-    let within : 8192 * u + length bytes ≤ size = omega (arith, copy_held r.both access.Write r.table cookies (8192 * u) (length bytes) none, ap held is, named.1) in
+into_buffer r pages place size u bytes cookies identity room is none =
+    let named = buffer_bytes place size in
+    let within : 8192 * u + length bytes ≤ size = omega (arith, copy_held r.both access.Write r.table cookies (8192 * u) (length bytes) none, ap held is, named.whole) in
     record {
       written =
           own_moved_out r.both access.Write r.table r.memory pages cookies (8192 * u) bytes identity none
           ∙ ap (λ (cs : List Cookie). copied_out r.memory cs (8192 * u) bytes) is
-          ∙ copied_out_range r.memory (take (cookie_count size) (buffer_cookies place size)) place size (8192 * u) bytes named.0 within room;
+          ∙ copied_out_range r.memory (take (cookie_count size) (buffer_cookies place size)) place size (8192 * u) bytes named.spots_are within room;
       within = within;
     }
 
-pub given_behind : (fault : Option CopyFault) (work : Work) (r : Reach) (pages slots place size u : ℕ) (bytes : List ℕ) → IsIdentity r.table pages → size ≤ 32768 → 128 * slots ≤ place
+pub given_behind : (fault : Option CopyFault) (work : Work) (r : Reach) (pages slots place size u : ℕ) (bytes : List ℕ) → IsIdentity r.table pages → 128 * slots ≤ place
     → place + size ≤ length r.memory → data_cookies work ≡ take (cookie_count size) (buffer_cookies place size) → fault ≡ out_fault work r u bytes
     → SameSlots slots r.memory (given_memory fault work r u bytes)
-given_behind (Some why) work r pages slots place size u bytes identity few past room cookies is = equal_slots slots r.memory r.memory refl
-given_behind None work r pages slots place size u bytes identity few past room cookies is =
-    let into = into_buffer r pages place size u bytes (data_cookies work) identity few room cookies (sym is) in
+given_behind (Some why) work r pages slots place size u bytes identity past room cookies is = equal_slots slots r.memory r.memory refl
+given_behind None work r pages slots place size u bytes identity past room cookies is =
+    let into = into_buffer r pages place size u bytes (data_cookies work) identity room cookies (sym is) in
     let within = into.within in
     subst (λ (m : List ℕ). SameSlots slots r.memory m) (sym into.written)
     (behind_ring slots (place + 8192 * u) bytes r.memory (omega (arith, past)) (omega (arith, within, room)))

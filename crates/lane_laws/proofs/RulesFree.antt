@@ -17,18 +17,17 @@ abbrev PublishesFree : ClientState → client.ClientRule → Type 0
 PublishesFree s (client.Publishes session request) = owes s.link ≡ false
 PublishesFree s _ = ⊤
 
-next_free : (s : ClientState) (session : ClientSession) (next : Option Request) → owes s.link ≡ false → PublishesFree s (client.publishes session next)
-next_free s session None free = tt
-next_free s session (Some request) free = free
+announces_free : (s : ClientState) (session : ClientSession) (b : Bool) → PublishesFree s (if b then client.Announces session else client.Rests)
+announces_free s session true = tt
+announces_free s session false = tt
 
-announces_free : (s : ClientState) (session : ClientSession) (b : Bool) → owes s.link ≡ false
-    → PublishesFree s (if b then client.Announces session else client.publishes session (slice_get s.pending (session.published - session.completed)))
-announces_free s session true free = tt
-announces_free s session false free = next_free s session (slice_get s.pending (session.published - session.completed)) free
+next_free : (s : ClientState) (session : ClientSession) (next : Option Request) → owes s.link ≡ false → PublishesFree s (client.publishes session next)
+next_free s session None free = announces_free s session (nat_lt session.announced session.published)
+next_free s session (Some request) free = free
 
 session_free : (s : ClientState) (open_one : Option ClientSession) → owes s.link ≡ false → PublishesFree s (client.in_session s open_one)
 session_free s None free = tt
-session_free s (Some session) free = announces_free s session (nat_lt session.announced session.published) free
+session_free s (Some session) free = next_free s session (slice_get s.pending (session.published - session.completed)) free
 
 says_free : (s : ClientState) (owed : Option Message) → owes s.link ≡ false → PublishesFree s (client.says s owed)
 says_free s None free = session_free s s.session free

@@ -26,23 +26,21 @@ not_up Down down up = absurd (cc)
 not_up Resetting down up = absurd (cc)
 
 -- THE CLIENT
-publishes_may : (s : ClientState) (at : Seen) (session : ClientSession) (next : Option Request) → at.state ≡ Up → s.session ≡ Some session
-    → slice_get s.pending (session.published - session.completed) ≡ next → ClientMay s at (client.publishes session next)
-publishes_may s at session None up is got = up
-publishes_may s at session (Some request) up is got = (up, is, got)
-
 announces_may : (s : ClientState) (at : Seen) (session : ClientSession) (b : Bool) → at.state ≡ Up → owes s.link ≡ false → s.shake.owed ≡ None
-    → s.session ≡ Some session → nat_lt session.announced session.published ≡ b
-    → ClientMay s at (if b then client.Announces session else client.publishes session (slice_get s.pending (session.published - session.completed)))
+    → s.session ≡ Some session → nat_lt session.announced session.published ≡ b → ClientMay s at (if b then client.Announces session else client.Rests)
 announces_may s at session true up quiet none is more = (up, quiet, none, is, ltb-true session.announced session.published more)
-announces_may s at session false up quiet none is more =
-    publishes_may s at session (slice_get s.pending (session.published - session.completed)) up is refl
+announces_may s at session false up quiet none is more = up
+
+publishes_may : (s : ClientState) (at : Seen) (session : ClientSession) (next : Option Request) → at.state ≡ Up → owes s.link ≡ false → s.shake.owed ≡ None
+    → s.session ≡ Some session → slice_get s.pending (session.published - session.completed) ≡ next → ClientMay s at (client.publishes session next)
+publishes_may s at session None up quiet none is got = announces_may s at session (nat_lt session.announced session.published) up quiet none is refl
+publishes_may s at session (Some request) up quiet none is got = (up, is, got)
 
 in_session_may : (s : ClientState) (at : Seen) (open_one : Option ClientSession) → at.state ≡ Up → owes s.link ≡ false → s.shake.owed ≡ None → s.session ≡ open_one
     → ClientMay s at (client.in_session s open_one)
 in_session_may s at None up quiet none is = up
 in_session_may s at (Some session) up quiet none is =
-    announces_may s at session (nat_lt session.announced session.published) up quiet none is refl
+    publishes_may s at session (slice_get s.pending (session.published - session.completed)) up quiet none is refl
 
 says_may : (s : ClientState) (at : Seen) (owed : Option Message) → at.state ≡ Up → owes s.link ≡ false → s.shake.owed ≡ owed → ClientMay s at (client.says s owed)
 says_may s at None up quiet is = in_session_may s at s.session up quiet is refl

@@ -248,7 +248,7 @@ takes_shake true shape v t turns packet sid d rests free counted shakes =
     })
 
 -- A RANGE that it is asked for
-wraps_more : (a b n : ℕ) → a ≡ wrapped b → wrapped (a + n) ≡ wrapped (b + n)
+pub wraps_more : (a b n : ℕ) → a ≡ wrapped b → wrapped (a + n) ≡ wrapped (b + n)
 wraps_more a b n is = omega (arith, is)
 
 record AsksOf (slots : ℕ) (session : ServerSession) (range : SlotRange) (n : ℕ) (added : ℕ) : Type 0 where

@@ -23,6 +23,7 @@ use Rattle.disk_model.specs.ServerState.{ServerSession, Work}
 use Rattle.lane_laws.proofs.AckedFinished.{acked_finished}
 use Rattle.lane_laws.proofs.Agreeing.{always_agree, server_alive}
 use Rattle.lane_laws.proofs.LaneCounting.{Knows, few_slots, run_knows}
+use Rattle.lane_laws.proofs.OnTheWay.{on_the_way}
 use Rattle.lane_laws.proofs.RingAlong.{Along, along_run, along_step, run_ring}
 use Rattle.lane_laws.proofs.RingRuns.{before, known_of}
 use Rattle.lane_laws.proofs.RingTable.{some_entry}
@@ -31,11 +32,24 @@ use Rattle.lane_laws.proofs.ServerEndCounting.{server_puts_counting}
 use Rattle.lane_laws.proofs.ServerTaken.{server_took_what}
 use Rattle.lane_laws.proofs.SlotsStepping.{StepFacts, event_slots}
 use Rattle.lane_laws.proofs.TableRuns.{table_lawful}
+use Rattle.lane_laws.specs.OnTheWay.{OnTheWay}
 use Rattle.lane_laws.specs.RingAgreed.{OneRing, SessionsAgree, ring_in}
 use Rattle.lane_laws.specs.RingSlots.{HoldsIssued, RingHolds, RingOf, SlotHolds}
 use Rattle.lane_laws.specs.SlotsInOrder.{BytesOf, RingInOrder, ServerAt, SlotOf, SlotsIn, SlotsInOrder}
 use Rattle.lane_laws.specs.Sound.{CountsInOrder}
 use Rattle.lane_laws.specs.TableStands.{TableAt}
+
+-- the counts of the ranges
+pub announced_in : (pending : ℕ) (o : Option ClientSession) (done : ℕ) (q : Option ClientCounts) (k : ClientCounts) → q ≡ Some k → ClientAgrees o done q → CountsInOrder pending o
+    → k.announced ≤ k.published
+announced_in pending None done None k is agrees order = absurd (cc is)
+announced_in pending None done (Some c) k is agrees order = absurd agrees
+announced_in pending (Some x) done None k is agrees order = absurd agrees
+announced_in pending (Some x) done (Some c) k is agrees order =
+    let same : c ≡ k = cc is in
+    let announced : c.announced ≡ k.announced = ap (λ (y : ClientCounts). y.announced) same in
+    let published : c.published ≡ k.published = ap (λ (y : ClientCounts). y.published) same in
+    omega (arith, announced, published, agrees.announced, agrees.published, order.announced)
 
 -- WHAT IS KNOWN of an event after a run
 none_log : (o : Option ServerSession) (w : Option Work) (q : Option ServerCounts) → o ≡ None → ServerAgrees o w q → q ≡ None
@@ -80,6 +94,10 @@ facts_at shape events s event t sound along run step clean =
           sym (ap (λ (w : WireLog). w.wire.end_a) wire ∙ ap (λ (x : DiskLog). x.wire.wire.end_a) behind) ∙ up_a;
       opens = λ packet is. opens_none s l event t packet knows step is;
       sends = λ packet is. never_sends s l event t packet knows step is;
+      announced = λ k is.
+          let next : Knows t (log_of after (nothing_yet shape) more) = run_knows shape more t sound then_run in
+          announced_in (length t.client.pending) t.client.session (log_of after (nothing_yet shape) more).work.done (log_of after (nothing_yet shape) more).work.client k
+          (ap (λ (x : DiskLog). x.work.client) behind ∙ is) next.counted.client.agrees next.all.talks.client.counts;
       acked = λ k finished descs is up at.
           acked_finished shape more t k finished descs sound then_run clean_more (ap (λ (x : DiskLog). x.work.client) behind ∙ is)
           (ap (λ (x : DiskLog). x.wire.wire.end_a) behind ∙ up) (subst (λ (x : DiskLog). ServerAt x.wire.wire x.work.server finished descs) (sym behind) at);
@@ -114,26 +132,15 @@ run_slots shape events s sound run clean =
 done_bytes : (r : RingOf) (slot id : ℕ) (is : SlotLog) (bytes : List ℕ) → (status : ℕ) × (is ≡ Done id status) → SlotHolds r slot is bytes → (status : ℕ) × HoldsIssued r slot id 4 status bytes
 done_bytes r slot id is bytes done holds = (done.0, subst (λ (x : SlotLog). SlotHolds r slot x bytes) done.1 holds)
 
-bytes_of : (r : RingOf) (base finished descs published j slot : ℕ) (is : SlotLog) (bytes : List ℕ) → SlotOf base finished descs published j is → SlotHolds r slot is bytes
-    → BytesOf r base finished descs published j slot bytes
-bytes_of r base finished descs published j slot is bytes of holds = record {
+bytes_of : (r : RingOf) (base announced published finished descs j slot : ℕ) (is : SlotLog) (bytes : List ℕ) → SlotOf base announced published finished descs j is → SlotHolds r slot is bytes
+    → BytesOf r base announced published finished descs j slot bytes
+bytes_of r base announced published finished descs j slot is bytes of holds = record {
   done = λ less. done_bytes r slot (base + j) is bytes (of.done less) holds;
   accepted = λ past less. subst (λ (x : SlotLog). SlotHolds r slot x bytes) (of.accepted past less) holds;
-  ready = λ past less. subst (λ (x : SlotLog). SlotHolds r slot x bytes) (of.ready past less) holds;
+  announced_ready = λ past less. subst (λ (x : SlotLog). SlotHolds r slot x bytes) (of.announced_ready past less) holds;
+  published_ready = λ past less. subst (λ (x : SlotLog). SlotHolds r slot x bytes) (of.published_ready past less) holds;
   free = λ past. subst (λ (x : SlotLog). SlotHolds r slot x bytes) (of.free past) holds;
 }
-
--- the counts of the ranges
-pub announced_in : (pending : ℕ) (o : Option ClientSession) (done : ℕ) (q : Option ClientCounts) (k : ClientCounts) → q ≡ Some k → ClientAgrees o done q → CountsInOrder pending o
-    → k.announced ≤ k.published
-announced_in pending None done None k is agrees order = absurd (cc is)
-announced_in pending None done (Some c) k is agrees order = absurd agrees
-announced_in pending (Some x) done None k is agrees order = absurd agrees
-announced_in pending (Some x) done (Some c) k is agrees order =
-    let same : c ≡ k = cc is in
-    let announced : c.announced ≡ k.announced = ap (λ (y : ClientCounts). y.announced) same in
-    let published : c.published ≡ k.published = ap (λ (y : ClientCounts). y.published) same in
-    omega (arith, announced, published, agrees.announced, agrees.published, order.announced)
 
 if_still : (P Q : ServerCounts → Type 0) (q : Option ServerCounts) → ((d : ServerCounts) → P d → Q d) → IfServer q P → IfServer q Q
 if_still P Q None still holds = tt
@@ -147,9 +154,9 @@ asked_in s w k is d one =
     omega (arith, announced, one.announced)
 
 ring_order : (s : LaneState) (l : DiskLog) (o : Option ClientCounts) (k : ClientCounts) → o ≡ Some k → SlotsIn l.shape.slots l.work l.wire.wire l.ring o
-    → RingHolds (ring_in l) l.ring s.memory → 1 ≤ l.shape.slots → k.announced ≤ k.published
-    → (l.wire.wire.end_b ≡ Up → IfServer l.work.server (λ d. d.asked ≤ k.announced)) → RingInOrder s l k
-ring_order s l o k is slots holds some announced asked =
+    → RingHolds (ring_in l) l.ring s.memory → 1 ≤ l.shape.slots → (l.wire.wire.end_b ≡ Up → IfServer l.work.server (λ d. d.asked ≤ k.announced))
+    → (l.wire.wire.end_a ≡ Up → OnTheWay s l k) → RingInOrder s l k
+ring_order s l o k is slots holds some asked way =
     let here : SlotsIn l.shape.slots l.work l.wire.wire l.ring (Some k) = subst (SlotsIn l.shape.slots l.work l.wire.wire l.ring) is slots in
     record {
       finished = here.0;
@@ -158,15 +165,15 @@ ring_order s l o k is slots holds some announced asked =
       finished_first = here.2.finished_first;
       one = here.2.one;
       descs_first = here.2.descs_first;
-      acked_first = here.4.acked;
-      descs_announced = here.4.announced;
-      announced_first = announced;
+      announced_first = here.2.announced_first;
+      acked_first = here.4;
       asked_announced = asked;
       server = here.3;
       each = λ j lo hi.
           let slot = j % l.shape.slots in
           let entry = some_entry l.ring slot (omega (arith, mod_below j l.shape.slots some, holds.long)) in
-          bytes_of (ring_in l) k.base here.0 here.1 k.published j slot entry.0 (slot_bytes 128 slot s.memory) (here.2.each j entry.0 lo hi entry.1) (holds.each slot entry.0 entry.1);
+          bytes_of (ring_in l) k.base k.announced k.published here.0 here.1 j slot entry.0 (slot_bytes 128 slot s.memory) (here.2.each j entry.0 lo hi entry.1) (holds.each slot entry.0 entry.1);
+      way = way;
     }
 
 pub run_order : (shape : Shape) (events : List DiskEvent) (s : LaneState) (k : ClientCounts) → IsShape shape → Run LaneStep (fresh shape) events s
@@ -176,5 +183,5 @@ run_order shape events s k sound run clean is =
     let knows : Knows s l = run_knows shape events s sound run in
     ring_order s l l.work.client k is (run_slots shape events s sound run clean) ((run_ring shape events s sound run).unforged clean).holds
     (omega (arith, knows.all.memory.some, knows.counted.client.slots))
-    (announced_in (length s.client.pending) s.client.session l.work.done l.work.client k is knows.counted.client.agrees knows.all.talks.client.counts)
     (λ up. if_still (OneRing s l.work) (λ (d : ServerCounts). d.asked ≤ k.announced) l.work.server (asked_in s l.work k is) ((always_agree shape sound events s run clean).ring up))
+    (on_the_way shape events s k sound run clean is)

@@ -37,124 +37,174 @@ set_slots n done base a P Q ring e long since below based each keeps here j is l
     ]
 
 -- PUBLISHED
-publish_of : (base finished descs published j : ℕ) (is : SlotLog) → j ≢ published → SlotOf base finished descs published j is → SlotOf base finished descs (published + 1) j is
-publish_of base finished descs published j is other of = record {
+publish_of : (base announced published finished descs j : ℕ) (is : SlotLog) → j ≢ published → SlotOf base announced published finished descs j is
+    → SlotOf base announced (published + 1) finished descs j is
+publish_of base announced published finished descs j is other of = record {
   done = of.done;
   accepted = of.accepted;
-  ready = λ since below. of.ready since (omega (arith, below, other));
+  announced_ready = of.announced_ready;
+  published_ready = λ since below. of.published_ready since (omega (arith, below, other));
   free = λ past. of.free (omega (arith, past));
 }
 
-new_ready : (base finished descs published id : ℕ) → finished ≤ descs → descs ≤ published → id ≡ base + published → SlotOf base finished descs (published + 1) published (Ready id)
-new_ready base finished descs published id first below is = record {
-  done = λ less. absurd (omega (arith, less, first, below));
-  accepted = λ past less. absurd (omega (arith, less, below));
-  ready = λ since less. ap Ready is;
+new_ready : (base announced published finished descs id : ℕ) → finished ≤ descs → descs ≤ announced → announced ≤ published → id ≡ base + published
+    → SlotOf base announced (published + 1) finished descs published (Ready id)
+new_ready base announced published finished descs id first fetched told is = record {
+  done = λ less. absurd (omega (arith, less, first, fetched, told));
+  accepted = λ past less. absurd (omega (arith, less, fetched, told));
+  announced_ready = λ since less. absurd (omega (arith, less, told));
+  published_ready = λ since less. ap Ready is;
   free = λ past. absurd (omega (arith, past));
 }
 
-pub published_slots : (n done base published finished descs id : ℕ) (ring : List SlotLog) → length ring ≡ n → base ≤ done → done ≤ base + published → base + published < done + n
-    → id ≡ base + published → SlotsOf n done base published finished descs ring → SlotsOf n done base (published + 1) finished descs (set ring (published % n) (Ready id))
-published_slots n done base published finished descs id ring long based since below is slots = record {
+pub published_slots : (n done base announced published finished descs id : ℕ) (ring : List SlotLog) → length ring ≡ n → base ≤ done → done ≤ base + published → base + published < done + n
+    → id ≡ base + published → SlotsOf n done base announced published finished descs ring → SlotsOf n done base announced (published + 1) finished descs (set ring (published % n) (Ready id))
+published_slots n done base announced published finished descs id ring long based since below is slots = record {
   done_first = slots.done_first;
   finished_first = slots.finished_first;
   one = slots.one;
-  descs_first = omega (arith, slots.descs_first);
-  each = set_slots n done base published (SlotOf base finished descs published) (SlotOf base finished descs (published + 1)) ring (Ready id) long since below based slots.each
-      (publish_of base finished descs published) (new_ready base finished descs published id slots.finished_first slots.descs_first is);
+  descs_first = slots.descs_first;
+  announced_first = omega (arith, slots.announced_first);
+  each = set_slots n done base published (SlotOf base announced published finished descs) (SlotOf base announced (published + 1) finished descs) ring (Ready id) long since below based slots.each
+      (publish_of base announced published finished descs) (new_ready base announced published finished descs id slots.finished_first slots.descs_first slots.announced_first is);
 }
 
--- FETCHED
-fetch_of : (base descs published j : ℕ) (is : SlotLog) → j ≢ descs → SlotOf base descs descs published j is → SlotOf base descs (descs + 1) published j is
-fetch_of base descs published j is other of = record {
+-- ANNOUNCED: the published ones up to a number
+announce_of : (base announced published finished descs more j : ℕ) (is : SlotLog) → announced ≤ more → more ≤ published → descs ≤ announced → SlotOf base announced published finished descs j is
+    → SlotOf base more published finished descs j is
+announce_of base announced published finished descs more j is least most fetched of = record {
   done = of.done;
-  accepted = λ past less. absurd (omega (arith, past, less, other));
-  ready = λ since below. of.ready (omega (arith, since)) below;
+  accepted = of.accepted;
+  announced_ready = λ since below. elim (cases_lt j announced) [
+    | inl less ↦ of.announced_ready since less
+    | inr past ↦ of.published_ready past (omega (arith, below, most))
+  ];
+  published_ready = λ since below. of.published_ready (omega (arith, since, least)) below;
   free = of.free;
 }
 
-new_accepted : (base descs published id : ℕ) → descs < published → id ≡ base + descs → SlotOf base descs (descs + 1) published descs (Accepted id)
-new_accepted base descs published id more is = record {
-  done = λ less. absurd (omega (arith, less));
-  accepted = λ past less. ap Accepted is;
-  ready = λ since below. absurd (omega (arith, since));
-  free = λ past. absurd (omega (arith, past, more));
+pub announced_slots : (n done base announced published finished descs more : ℕ) (ring : List SlotLog) → announced ≤ more → more ≤ published
+    → SlotsOf n done base announced published finished descs ring → SlotsOf n done base more published finished descs ring
+announced_slots n done base announced published finished descs more ring least most slots = record {
+  done_first = slots.done_first;
+  finished_first = slots.finished_first;
+  one = slots.one;
+  descs_first = omega (arith, slots.descs_first, least);
+  announced_first = most;
+  each = λ j is lo hi got. announce_of base announced published finished descs more j is least most slots.descs_first (slots.each j is lo hi got);
 }
 
-pub fetched_slots : (n done base published descs id : ℕ) (ring : List SlotLog) → length ring ≡ n → base ≤ done → base + published ≤ done + n → descs < published → id ≡ base + descs
-    → SlotsOf n done base published descs descs ring → SlotsOf n done base published descs (descs + 1) (set ring (descs % n) (Accepted id))
-fetched_slots n done base published descs id ring long based turn more is slots = record {
+-- FETCHED
+fetch_of : (base announced published descs j : ℕ) (is : SlotLog) → j ≢ descs → SlotOf base announced published descs descs j is → SlotOf base announced published descs (descs + 1) j is
+fetch_of base announced published descs j is other of = record {
+  done = of.done;
+  accepted = λ past less. absurd (omega (arith, past, less, other));
+  announced_ready = λ since below. of.announced_ready (omega (arith, since)) below;
+  published_ready = of.published_ready;
+  free = of.free;
+}
+
+new_accepted : (base announced published descs id : ℕ) → descs < announced → announced ≤ published → id ≡ base + descs → SlotOf base announced published descs (descs + 1) descs (Accepted id)
+new_accepted base announced published descs id more told is = record {
+  done = λ less. absurd (omega (arith, less));
+  accepted = λ past less. ap Accepted is;
+  announced_ready = λ since below. absurd (omega (arith, since));
+  published_ready = λ since below. absurd (omega (arith, since, more));
+  free = λ past. absurd (omega (arith, past, more, told));
+}
+
+pub fetched_slots : (n done base announced published descs id : ℕ) (ring : List SlotLog) → length ring ≡ n → base ≤ done → base + published ≤ done + n → descs < announced → id ≡ base + descs
+    → SlotsOf n done base announced published descs descs ring → SlotsOf n done base announced published descs (descs + 1) (set ring (descs % n) (Accepted id))
+fetched_slots n done base announced published descs id ring long based turn more is slots = record {
   done_first = slots.done_first;
   finished_first = omega arith;
   one = omega arith;
   descs_first = omega (arith, more);
-  each = set_slots n done base descs (SlotOf base descs descs published) (SlotOf base descs (descs + 1) published) ring (Accepted id) long slots.done_first (omega (arith, turn, more)) based slots.each
-      (fetch_of base descs published) (new_accepted base descs published id more is);
+  announced_first = slots.announced_first;
+  each = set_slots n done base descs (SlotOf base announced published descs descs) (SlotOf base announced published descs (descs + 1)) ring (Accepted id) long slots.done_first
+      (omega (arith, turn, more, slots.announced_first)) based slots.each (fetch_of base announced published descs) (new_accepted base announced published descs id more slots.announced_first is);
 }
 
 -- FINISHED
-finish_of : (base finished published j : ℕ) (is : SlotLog) → j ≢ finished → SlotOf base finished (finished + 1) published j is → SlotOf base (finished + 1) (finished + 1) published j is
-finish_of base finished published j is other of = record {
+finish_of : (base announced published finished j : ℕ) (is : SlotLog) → j ≢ finished → SlotOf base announced published finished (finished + 1) j is
+    → SlotOf base announced published (finished + 1) (finished + 1) j is
+finish_of base announced published finished j is other of = record {
   done = λ less. of.done (omega (arith, less, other));
   accepted = λ past less. absurd (omega (arith, past, less));
-  ready = of.ready;
+  announced_ready = of.announced_ready;
+  published_ready = of.published_ready;
   free = of.free;
 }
 
-new_done : (base finished published id status : ℕ) → finished < published → id ≡ base + finished → SlotOf base (finished + 1) (finished + 1) published finished (Done id status)
-new_done base finished published id status more is = record {
+new_done : (base announced published finished id status : ℕ) → finished < announced → announced ≤ published → id ≡ base + finished
+    → SlotOf base announced published (finished + 1) (finished + 1) finished (Done id status)
+new_done base announced published finished id status more told is = record {
   done = λ less. (status, ap (λ (i : ℕ). Done i status) is);
   accepted = λ past less. absurd (omega (arith, past));
-  ready = λ since below. absurd (omega (arith, since));
-  free = λ past. absurd (omega (arith, past, more));
+  announced_ready = λ since below. absurd (omega (arith, since));
+  published_ready = λ since below. absurd (omega (arith, since, more));
+  free = λ past. absurd (omega (arith, past, more, told));
 }
 
-pub finished_slots : (n done base published finished id status : ℕ) (ring : List SlotLog) → length ring ≡ n → base ≤ done → base + published ≤ done + n → finished < published → id ≡ base + finished
-    → SlotsOf n done base published finished (finished + 1) ring → SlotsOf n done base published (finished + 1) (finished + 1) (set ring (finished % n) (Done id status))
-finished_slots n done base published finished id status ring long based turn more is slots = record {
-  done_first = omega (arith, slots.done_first);
-  finished_first = omega arith;
-  one = omega arith;
-  descs_first = omega (arith, more);
-  each = set_slots n done base finished (SlotOf base finished (finished + 1) published) (SlotOf base (finished + 1) (finished + 1) published) ring (Done id status) long slots.done_first
-      (omega (arith, turn, more)) based slots.each (finish_of base finished published) (new_done base finished published id status more is);
-}
+pub finished_slots : (n done base announced published finished id status : ℕ) (ring : List SlotLog) → length ring ≡ n → base ≤ done → base + published ≤ done + n → id ≡ base + finished
+    → SlotsOf n done base announced published finished (finished + 1) ring → SlotsOf n done base announced published (finished + 1) (finished + 1) (set ring (finished % n) (Done id status))
+finished_slots n done base announced published finished id status ring long based turn is slots =
+    let more : finished < announced = omega (arith, slots.descs_first) in
+    record {
+      done_first = omega (arith, slots.done_first);
+      finished_first = omega arith;
+      one = omega arith;
+      descs_first = slots.descs_first;
+      announced_first = slots.announced_first;
+      each = set_slots n done base finished (SlotOf base announced published finished (finished + 1)) (SlotOf base announced published (finished + 1) (finished + 1)) ring (Done id status) long
+          slots.done_first (omega (arith, turn, more, slots.announced_first)) based slots.each (finish_of base announced published finished)
+          (new_done base announced published finished id status more slots.announced_first is);
+    }
 
 -- COMPLETED: the first slot becomes the last
-pub finished_more : (base finished descs published j id status : ℕ) (is : SlotLog) → is ≡ Done id status → finished ≤ descs → descs ≤ published → SlotOf base finished descs published j is → j < finished
-finished_more base finished descs published j id status is done first below of =
+not_done : (base j id status : ℕ) (is : SlotLog) → is ≡ Done id status → is ≡ Ready (base + j) → ⊥
+not_done base j id status is done ready = let never : Ready (base + j) ≡ Done id status = sym ready ∙ done in absurd (cc)
+
+pub finished_more : (base announced published finished descs j id status : ℕ) (is : SlotLog) → is ≡ Done id status → SlotOf base announced published finished descs j is → j < finished
+finished_more base announced published finished descs j id status is done of =
     elim (cases_lt j finished) [
       | inl less ↦ less
       | inr past ↦ elim (cases_lt j descs) [
-        | inl accepted ↦ let never : Accepted (base + j) ≡ Done id status = sym (of.accepted (omega (arith, past)) accepted) ∙ done in absurd (cc)
-        | inr fetched ↦ elim (cases_lt j published) [
-          | inl ready ↦ let never : Ready (base + j) ≡ Done id status = sym (of.ready (omega (arith, fetched)) ready) ∙ done in absurd (cc)
-          | inr free ↦ let never : Free ≡ Done id status = sym (of.free (omega (arith, free))) ∙ done in absurd (cc)
+        | inl accepted ↦ let never : Accepted (base + j) ≡ Done id status = sym (of.accepted past accepted) ∙ done in absurd (cc)
+        | inr fetched ↦ elim (cases_lt j announced) [
+          | inl told ↦ absurd (not_done base j id status is done (of.announced_ready fetched told))
+          | inr untold ↦ elim (cases_lt j published) [
+            | inl ready ↦ absurd (not_done base j id status is done (of.published_ready untold ready))
+            | inr free ↦ let never : Free ≡ Done id status = sym (of.free free) ∙ done in absurd (cc)
+          ]
         ]
       ]
     ]
 
-freed : (base finished descs published j : ℕ) → finished ≤ descs → descs ≤ published → published ≤ j → SlotOf base finished descs published j Free
-freed base finished descs published j first below past = record {
-  done = λ less. absurd (omega (arith, less, first, below, past));
-  accepted = λ since less. absurd (omega (arith, less, below, past));
-  ready = λ since less. absurd (omega (arith, less, past));
+freed : (base announced published finished descs j : ℕ) → finished ≤ descs → descs ≤ announced → announced ≤ published → published ≤ j → SlotOf base announced published finished descs j Free
+freed base announced published finished descs j first fetched told past = record {
+  done = λ less. absurd (omega (arith, less, first, fetched, told, past));
+  accepted = λ since less. absurd (omega (arith, less, fetched, told, past));
+  announced_ready = λ since less. absurd (omega (arith, less, told, past));
+  published_ready = λ since less. absurd (omega (arith, less, past));
   free = λ far. refl;
 }
 
-pub completed_slots : (n done base published finished descs : ℕ) (ring : List SlotLog) → length ring ≡ n → 1 ≤ n → base ≤ done → base + published ≤ done + n → done < base + finished
-    → SlotsOf n done base published finished descs ring → SlotsOf n (done + 1) base published finished descs (set ring ((done - base) % n) Free)
-completed_slots n done base published finished descs ring long some based turn more slots = record {
+pub completed_slots : (n done base announced published finished descs : ℕ) (ring : List SlotLog) → length ring ≡ n → 1 ≤ n → base ≤ done → base + published ≤ done + n → done < base + finished
+    → SlotsOf n done base announced published finished descs ring → SlotsOf n (done + 1) base announced published finished descs (set ring ((done - base) % n) Free)
+completed_slots n done base announced published finished descs ring long some based turn more slots = record {
   done_first = omega (arith, more);
   finished_first = slots.finished_first;
   one = slots.one;
   descs_first = slots.descs_first;
+  announced_first = slots.announced_first;
   each = λ j is lo hi got. elim (same_or_other j (done - base + n)) [
     | inl last ↦
         let slot : j % n ≡ (done - base) % n = ap (λ (x : ℕ). x % n) last ∙ add-mod_right (done - base) n in
         let at : slice_get (set ring ((done - base) % n) Free) ((done - base) % n) ≡ Some is = subst (λ (x : ℕ). slice_get (set ring ((done - base) % n) Free) x ≡ Some is) slot got in
         let free : is ≡ Free = entry_is ring ((done - base) % n) Free is (omega (arith, mod_below (done - base) n some, long)) at in
-        subst (SlotOf base finished descs published j) (sym free) (freed base finished descs published j slots.finished_first slots.descs_first (omega (arith, last, turn, based)))
+        subst (SlotOf base announced published finished descs j) (sym free)
+        (freed base announced published finished descs j slots.finished_first slots.descs_first slots.announced_first (omega (arith, last, turn, based)))
     | inr other ↦
         let apart : j % n ≢ (done - base) % n =
         λ same. absurd (omega (arith, lo, same_number n (done - base) j (done - base) (omega (arith, lo, based)) (omega (arith, hi, other, based)) (omega arith) (omega (arith, some)) same, based)) in
@@ -163,11 +213,12 @@ completed_slots n done base published finished descs ring long some based turn m
 }
 
 -- CLEARED
-pub cleared_slots : (n done : ℕ) → SlotsOf n done done 0 0 0 (replicate n Free)
+pub cleared_slots : (n done : ℕ) → SlotsOf n done done 0 0 0 0 (replicate n Free)
 cleared_slots n done = record {
   done_first = omega arith;
   finished_first = omega arith;
   one = omega arith;
   descs_first = omega arith;
-  each = λ j is lo hi got. subst (SlotOf done 0 0 0 j) (sym (free_entry n (j % n) is got)) (freed done 0 0 0 j (omega arith) (omega arith) (omega arith));
+  announced_first = omega arith;
+  each = λ j is lo hi got. subst (SlotOf done 0 0 0 0 j) (sym (free_entry n (j % n) is got)) (freed done 0 0 0 0 j (omega arith) (omega arith) (omega arith) (omega arith));
 }

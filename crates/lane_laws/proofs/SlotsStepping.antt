@@ -25,10 +25,10 @@ use Rattle.lane_laws.proofs.RingSessions.{of_client}
 use Rattle.lane_laws.proofs.RingWork.{Known, at_work, fetched_counts, fetched_next, numbered, some_slots, turn_in}
 use Rattle.lane_laws.proofs.RulesFree.{ServerFree, server_free}
 use Rattle.lane_laws.proofs.Ruling.{client_may, server_may}
-use Rattle.lane_laws.proofs.SlotsOrdered.{cleared_slots, completed_slots, fetched_slots, finished_more, finished_slots, published_slots}
+use Rattle.lane_laws.proofs.SlotsOrdered.{announced_slots, cleared_slots, completed_slots, fetched_slots, finished_more, finished_slots, published_slots}
 use Rattle.lane_laws.specs.RingAgreed.{OneRing, SessionsAgree}
 use Rattle.lane_laws.specs.RuleFacts.{ClientMay, ServerMay}
-use Rattle.lane_laws.specs.SlotsInOrder.{RangesIn, ServerAt, SlotsIn, SlotsInOrder, SlotsOf}
+use Rattle.lane_laws.specs.SlotsInOrder.{ServerAt, SlotsIn, SlotsInOrder, SlotsOf}
 use Rattle.lane_laws.specs.TableStands.{TableAt}
 
 -- what is known of an event
@@ -40,6 +40,8 @@ pub record StepFacts (s : LaneState) (l : DiskLog) (event : DiskEvent) (t : Lane
   pub alive : (d : ServerCounts) → (after l event).wire.wire.end_b ≡ Up → (after l event).work.server ≡ Some d → (after l event).wire.wire.end_a ≡ Up
   pub opens : (packet : List ℕ) → event ≡ OnWire (Took B packet true) → l.work.server ≡ None
   pub sends : (packet : List ℕ) → event ≡ OnWire (Sent B packet true) → ⊥
+  -- what is announced is published
+  pub announced : (k : ClientCounts) → (after l event).work.client ≡ Some k → k.announced ≤ k.published
   -- what a client that is up has heard acknowledged the server finished
   pub acked : (k : ClientCounts) (finished descs : ℕ) → (after l event).work.client ≡ Some k → (after l event).wire.wire.end_a ≡ Up
       → ServerAt (after l event).wire.wire (after l event).work.server finished descs → k.acked ≤ finished
@@ -47,17 +49,21 @@ pub record StepFacts (s : LaneState) (l : DiskLog) (event : DiskEvent) (t : Lane
 -- THE CLIENT'S COUNTS change but for the base and what is published
 keep_client : (n : ℕ) (w : WorkLog) (wire : Wire) (ring : List SlotLog) (f : ClientCounts → ClientCounts) (o : Option ClientCounts) → ((k : ClientCounts) → (f k).base ≡ k.base)
     → ((k : ClientCounts) → (f k).published ≡ k.published)
-    → ((k : ClientCounts) (finished descs : ℕ) → o ≡ Some k → ServerAt wire w.server finished descs → RangesIn k finished descs → RangesIn (f k) finished descs)
+    → ((k : ClientCounts) → o ≡ Some k → (k.announced ≤ (f k).announced) × ((f k).announced ≤ (f k).published))
+    → ((k : ClientCounts) (finished descs : ℕ) → o ≡ Some k → ServerAt wire w.server finished descs → k.acked ≤ finished → (f k).acked ≤ finished)
     → SlotsIn n w wire ring o → SlotsIn n w wire ring (change_client f o)
-keep_client n w wire ring f None base published ranges slots = tt
-keep_client n w wire ring f (Some k) base published ranges slots = (
-  slots.0,
-  slots.1,
-  subst (λ (b : ℕ). SlotsOf n w.done b (f k).published slots.0 slots.1 ring) (sym (base k))
-      (subst (λ (p : ℕ). SlotsOf n w.done k.base p slots.0 slots.1 ring) (sym (published k)) slots.2),
-  slots.3,
-  ranges k slots.0 slots.1 refl slots.3 slots.4,
-)
+keep_client n w wire ring f None base published announced acked slots = tt
+keep_client n w wire ring f (Some k) base published announced acked slots =
+    let told = announced k refl in
+    let same = published k in (
+      slots.0,
+      slots.1,
+      subst (λ (b : ℕ). SlotsOf n w.done b (f k).announced (f k).published slots.0 slots.1 ring) (sym (base k))
+          (subst (λ (p : ℕ). SlotsOf n w.done k.base (f k).announced p slots.0 slots.1 ring) (sym same)
+          (announced_slots n w.done k.base k.announced k.published slots.0 slots.1 (f k).announced ring told.0 (omega (arith, told.1, same)) slots.2)),
+      slots.3,
+      acked k slots.0 slots.1 refl slots.3 slots.4,
+    )
 
 -- the server's side changes
 keep_server : (n : ℕ) (w x : WorkLog) (wire next : Wire) (ring : List SlotLog) (o : Option ClientCounts) → x.done ≡ w.done
@@ -66,7 +72,7 @@ keep_server n w x wire next ring None done at slots = tt
 keep_server n w x wire next ring (Some k) done at slots = (
   slots.0,
   slots.1,
-  subst (λ (d : ℕ). SlotsOf n d k.base k.published slots.0 slots.1 ring) (sym done) slots.2,
+  subst (λ (d : ℕ). SlotsOf n d k.base k.announced k.published slots.0 slots.1 ring) (sym done) slots.2,
   at slots.0 slots.1 slots.3,
   slots.4,
 )
@@ -148,7 +154,7 @@ opened_slots s l packet t facts =
           let published : one.client.published ≡ 0 = let both : m.work.client ≡ Some one.client = one.open_is in published_of both in
           let none : d.descs ≡ 0 = omega (arith, one.descs, one.asked, published) in
           (omega (arith, first, none), sym none)),
-      record { acked = omega arith; announced = omega arith },
+      omega arith,
     )
   where
     published_of : {sid base : ℕ} {c : ClientCounts} → Some (record { sid = sid; base = base; published = 0; announced = 0; infos = 0; acked = 0 }) ≡ Some c → c.published ≡ 0
@@ -179,8 +185,8 @@ wire_slots s l (Took A packet false) t step facts slots =
     let adds : ClientCounts → ClientCounts =
     λ (c : ClientCounts). record c { acked = c.acked + length_in l.shape.slots (range_ended 2 (half_heard l.talk.client) packet) } in
     keep_client l.shape.slots (after l (OnWire (Took A packet false))).work (after l (OnWire (Took A packet false))).wire.wire l.ring adds l.work.client (λ k. refl) (λ k. refl)
-    (λ k finished descs is at ranges.
-    record { acked = facts.acked (adds k) finished descs (ap (change_client adds) is) facts.table.0 at; announced = ranges.announced })
+    (λ k is. (omega arith, facts.announced (adds k) (ap (change_client adds) is)))
+    (λ k finished descs is at most. facts.acked (adds k) finished descs (ap (change_client adds) is) facts.table.0 at)
     (keep_server l.shape.slots l.work (after l (OnWire (Took A packet false))).work l.wire.wire (after l (OnWire (Took A packet false))).wire.wire l.ring l.work.client refl (λ finished descs at. same_at l.wire.wire (after l (OnWire (Took A packet false))).wire.wire l.work.server finished descs refl refl at) slots)
 wire_slots s l (Took A packet true) t step facts slots = let never : true ≡ false = step.step.2 in absurd (cc)
 wire_slots s l (Took B packet opens) t step facts slots = took_server opens s l packet t facts slots
@@ -192,7 +198,8 @@ wire_slots s l (Sent A packet false) t step facts slots =
       infos = c.infos + one_in (range_ended 1 (half_said l.talk.client) packet);
     } in
     keep_client l.shape.slots (after l (OnWire (Sent A packet false))).work (after l (OnWire (Sent A packet false))).wire.wire l.ring adds l.work.client (λ k. refl) (λ k. refl)
-    (λ k finished descs is at ranges. record { acked = ranges.acked; announced = omega (arith, ranges.announced) })
+    (λ k is. (omega arith, facts.announced (adds k) (ap (change_client adds) is)))
+    (λ k finished descs is at most. most)
     (keep_server l.shape.slots l.work (after l (OnWire (Sent A packet false))).work l.wire.wire (after l (OnWire (Sent A packet false))).wire.wire l.ring l.work.client refl (λ finished descs at. same_at l.wire.wire (after l (OnWire (Sent A packet false))).wire.wire l.work.server finished descs refl refl at) slots)
 wire_slots s l (Sent B packet true) t step facts slots = absurd (facts.sends packet refl)
 wire_slots s l (Sent B packet false) t step facts slots =
@@ -222,9 +229,9 @@ published_in s l id t known step slots =
     let behind : SlotsIn l.shape.slots m.work l.wire.wire (published_at l.shape.slots (Some k) id l.ring) (Some (record k { published = k.published + 1 })) = (
       here.0,
       here.1,
-      published_slots l.shape.slots l.work.done k.base k.published here.0 here.1 id l.ring known.ring.holds.long turn.based (omega (arith, new.since, new.number)) new.turn new.number here.2,
+      published_slots l.shape.slots l.work.done k.base k.announced k.published here.0 here.1 id l.ring known.ring.holds.long turn.based (omega (arith, new.since, new.number)) new.turn new.number here.2,
       here.3,
-      record { acked = here.4.acked; announced = here.4.announced },
+      here.4,
     ) in
     subst (λ (o : Option ClientCounts). SlotsIn l.shape.slots m.work l.wire.wire (published_at l.shape.slots o id l.ring) (change_client (λ (c : ClientCounts). record c { published = c.published + 1 }) o))
     (sym of_k.open_is) behind
@@ -241,12 +248,12 @@ completed_in s l id operation status bytes t known step slots =
     let here : SlotsIn n l.work l.wire.wire l.ring (Some k) = subst (SlotsIn n l.work l.wire.wire l.ring) found.1.open_is slots in
     let first = here.2.each (l.work.done - k.base) (IsDone id status) (omega (arith, turn.based)) (omega (arith, turn.based, some)) found.1.done_is in
     let less : l.work.done - k.base < here.0 =
-    finished_more k.base here.0 here.1 k.published (l.work.done - k.base) id status (IsDone id status) refl here.2.finished_first here.2.descs_first first in
+    finished_more k.base k.announced k.published here.0 here.1 (l.work.done - k.base) id status (IsDone id status) refl first in
     let m = after l (Works (Done id operation status bytes)) in
     let behind : SlotsIn n m.work l.wire.wire (freed_at n l.work (Some k) l.ring) (Some k) = (
       here.0,
       here.1,
-      completed_slots n l.work.done k.base k.published here.0 here.1 l.ring known.ring.holds.long some turn.based turn.turn (omega (arith, less, turn.based)) here.2,
+      completed_slots n l.work.done k.base k.announced k.published here.0 here.1 l.ring known.ring.holds.long some turn.based turn.turn (omega (arith, less, turn.based)) here.2,
       here.3,
       here.4,
     ) in
@@ -274,10 +281,8 @@ fetched_in s l slot bytes t known agree step slots =
     let here : SlotsIn n l.work l.wire.wire l.ring (Some k) = subst (SlotsIn n l.work l.wire.wire l.ring) next.work.one.open_is slots in
     let counts = if_server (λ (x : ServerCounts). (here.0 ≡ x.finished) × (here.1 ≡ x.descs)) l.work.server d next.work.of.open_is (here.3.works next.work.up) in
     let same : here.0 ≡ here.1 = omega (arith, counts.0, counts.1, none.1) in
-    let more : here.1 < k.published = omega (arith, counts.1, next.ready.stands.below, next.ready.number) in
-    let before : SlotsOf n l.work.done k.base k.published here.1 here.1 l.ring = subst (λ (x : ℕ). SlotsOf n l.work.done k.base k.published x here.1 l.ring) same here.2 in
+    let before : SlotsOf n l.work.done k.base k.announced k.published here.1 here.1 l.ring = subst (λ (x : ℕ). SlotsOf n l.work.done k.base k.announced k.published x here.1 l.ring) same here.2 in
     let id = k.base + d.descs in
-    let of = fetched_slots n l.work.done k.base k.published here.1 id l.ring known.ring.holds.long turn.based turn.turn more (ap (λ (x : ℕ). k.base + x) (sym counts.1)) before in
     let place : slot ≡ here.1 % n = next.ready.next ∙ ap (λ (x : ℕ). x % n) (sym counts.1) in
     let table : fetched_at n l.work l.work.server slot l.ring ≡ set l.ring (here.1 % n) (IsAccepted id) =
     ap (λ (q : Option ServerCounts). fetched_at n l.work q slot l.ring) next.work.of.open_is
@@ -289,13 +294,14 @@ fetched_in s l slot bytes t known agree step slots =
     let two : Some k ≡ Some one_more.client = sym next.work.one.open_is ∙ one_more.open_is in
     let same_client : k ≡ one_more.client = cc two in
     let named : one_more.client.announced ≡ k.announced = ap (λ (c : ClientCounts). c.announced) (sym same_client) in
-    let announced : here.1 + 1 ≤ k.announced = omega (arith, counts.1, one_more.descs, one_more.announced, named) in
+    let more : here.1 < k.announced = omega (arith, counts.1, one_more.descs, one_more.announced, named) in
+    let of = fetched_slots n l.work.done k.base k.announced k.published here.1 id l.ring known.ring.holds.long turn.based turn.turn more (ap (λ (x : ℕ). k.base + x) (sym counts.1)) before in
     let behind : SlotsIn n m.work l.wire.wire (fetched_at n l.work l.work.server slot l.ring) (Some k) = (
       here.1,
       here.1 + 1,
-      subst (λ (r : List SlotLog). SlotsOf n l.work.done k.base k.published here.1 (here.1 + 1) r) (sym table) of,
+      subst (λ (r : List SlotLog). SlotsOf n l.work.done k.base k.announced k.published here.1 (here.1 + 1) r) (sym table) of,
       at_counts l.wire.wire l.work.server _ d here.1 (here.1 + 1) next.work.of.open_is next.work.up (sym same ∙ counts.0) (ap (λ (x : ℕ). x + 1) counts.1),
-      record { acked = omega (arith, here.4.acked, same); announced = announced },
+      omega (arith, here.4, same),
     ) in
     subst (SlotsIn n m.work l.wire.wire (fetched_at n l.work l.work.server slot l.ring)) (sym next.work.one.open_is) behind
 
@@ -317,10 +323,10 @@ finished_in s l slot status t known step slots =
     let next : slot ≡ d.finished % n =
     f.slot_is ∙ numbered s l f.session work f.session.finished d.finished known.stands work.of.agree.finished (omega (arith, has.one, work.one.descs, work.one.small)) in
     let same : here.1 ≡ here.0 + 1 = omega (arith, counts.0, counts.1, has.one) in
-    let more : here.0 < k.published = omega (arith, same, here.2.descs_first) in
-    let before : SlotsOf n l.work.done k.base k.published here.0 (here.0 + 1) l.ring = subst (λ (x : ℕ). SlotsOf n l.work.done k.base k.published here.0 x l.ring) same here.2 in
+    let before : SlotsOf n l.work.done k.base k.announced k.published here.0 (here.0 + 1) l.ring =
+    subst (λ (x : ℕ). SlotsOf n l.work.done k.base k.announced k.published here.0 x l.ring) same here.2 in
     let id = k.base + d.finished in
-    let of = finished_slots n l.work.done k.base k.published here.0 id status l.ring known.ring.holds.long turn.based turn.turn more (ap (λ (x : ℕ). k.base + x) (sym counts.0)) before in
+    let of = finished_slots n l.work.done k.base k.announced k.published here.0 id status l.ring known.ring.holds.long turn.based turn.turn (ap (λ (x : ℕ). k.base + x) (sym counts.0)) before in
     let place : slot ≡ here.0 % n = next ∙ ap (λ (x : ℕ). x % n) (sym counts.0) in
     let table : finished_at n l.work l.work.server slot status l.ring ≡ set l.ring (here.0 % n) (IsDone id status) =
     ap (λ (q : Option ServerCounts). finished_at n l.work q slot status l.ring) work.of.open_is
@@ -330,9 +336,9 @@ finished_in s l slot status t known step slots =
     let behind : SlotsIn n m.work l.wire.wire (finished_at n l.work l.work.server slot status l.ring) (Some k) = (
       here.0 + 1,
       here.0 + 1,
-      subst (λ (r : List SlotLog). SlotsOf n l.work.done k.base k.published (here.0 + 1) (here.0 + 1) r) (sym table) of,
+      subst (λ (r : List SlotLog). SlotsOf n l.work.done k.base k.announced k.published (here.0 + 1) (here.0 + 1) r) (sym table) of,
       at_counts l.wire.wire l.work.server _ d (here.0 + 1) (here.0 + 1) work.of.open_is work.up (ap (λ (x : ℕ). x + 1) counts.0) (sym same ∙ counts.1),
-      record { acked = omega (arith, here.4.acked); announced = omega (arith, here.4.announced, same) },
+      omega (arith, here.4),
     ) in
     subst (SlotsIn n m.work l.wire.wire (finished_at n l.work l.work.server slot status l.ring)) (sym work.one.open_is) behind
 

@@ -1,6 +1,6 @@
 -- What is known of an event of a lane that nobody forged by which a session opens: both ends name it by the client's fifth message, and the
 -- server has given no status in it.
-use Rattle.std.proofs.Common.{◌≡◌, ◌≢◌, ℕ, ◌+◌, ◌-◌, ◌<◌, ◌≤◌, Bool, true, false, Option, Some, None, List, [], ◌∷◌, ◌++◌, length, refl, sym, ap, ◌∙◌, subst, arith}
+use Rattle.std.proofs.Common.{◌≡◌, ◌≢◌, ℕ, ◌-◌, ◌≤◌, Bool, true, false, Option, Some, None, List, [], ◌∷◌, ◌++◌, length, refl, sym, ap, ◌∙◌, subst, arith}
 use Rattle.std.specs.Prelude.{is_some, slice_get}
 use Rattle.runs.specs.Lawful.{lawful_split, log_append, log_of}
 use Rattle.runs.specs.Run.{Run, run_push}
@@ -20,7 +20,7 @@ use Rattle.disk_model.specs.WireEvent.{Sent, Took}
 use Rattle.disk_model.specs.WireLog.{WireLog}
 use Rattle.disk_model.specs.Agreement.{ClientAgrees}
 use Rattle.disk_model.specs.DiskLog.{DiskLog, after, nothing_yet}
-use Rattle.disk_model.specs.RingLog.{Done, Ready}
+use Rattle.disk_model.specs.RingLog.{Done}
 use Rattle.disk_model.specs.WorkLaws.{IfServer}
 use Rattle.disk_model.specs.WorkLog.{ClientCounts, ServerCounts, opening_sid}
 use Rattle.disk_model.specs.ClientPutting.{client_kind}
@@ -52,6 +52,7 @@ use Rattle.lane_laws.proofs.EndUttering.{is_open_up}
 use Rattle.lane_laws.proofs.ServerPlacing.{ServerPlaced}
 use Rattle.lane_laws.proofs.ServerTaken.{server_took_what}
 use Rattle.lane_laws.proofs.SlotsAlong.{run_slots}
+use Rattle.lane_laws.proofs.SlotsOrdered.{finished_more}
 use Rattle.lane_laws.proofs.TableRuns.{table_lawful}
 use Rattle.lane_laws.specs.LaneRests.{ClientRests, ClientUtters}
 use Rattle.lane_laws.specs.LaneTalks.{talk_behind}
@@ -210,12 +211,9 @@ hears_session shape s l packet t now step =
     front_named (opening_sid (half_heard l.talk.server) packet) (heard (Heard_ packet ∷ l.talk.server)) (said l.talk.client) (now.front up_t) named
 
 -- where the client's session is open no slot is DONE yet
-done_is_not : (base published j id status : ℕ) → (j < published → Done id status ≡ Ready (base + j)) → j < published → ⊥
-done_is_not base published j id status ready less = let never : Done id status ≡ Ready (base + j) = ready less in absurd (cc never)
-
-none_done : (s : LaneState) (l : DiskLog) (k : ClientCounts) (finished descs : ℕ) → Known s l → l.work.client ≡ Some k → SlotsOf l.shape.slots l.work.done k.base k.published finished descs l.ring
-    → 0 ≡ finished → 0 ≡ descs → NoneDone l.ring
-none_done s l k finished descs known is slots zero_finished zero_descs slot id status got =
+none_done : (s : LaneState) (l : DiskLog) (k : ClientCounts) (finished descs : ℕ) → Known s l → l.work.client ≡ Some k
+    → SlotsOf l.shape.slots l.work.done k.base k.announced k.published finished descs l.ring → 0 ≡ finished → NoneDone l.ring
+none_done s l k finished descs known is slots zero slot id status got =
     let stands : IdStands l.shape.slots l.work.done k slot id = ids_in s l k known is slot (Done id status) got in
     let turn = (turn_in s l k known is).turn in
     let based = stands.based in
@@ -224,13 +222,13 @@ none_done s l k finished descs known is slots zero_finished zero_descs slot id s
     let j = id - k.base in
     let of = slots.each j (Done id status) (omega (arith, based, since)) (omega (arith, based, since, below, turn))
     (subst (λ (n : ℕ). slice_get l.ring n ≡ Some (Done id status)) stands.slot_is got) in
-    done_is_not k.base k.published j id status (λ less. of.ready (omega (arith, zero_descs)) less) (omega (arith, based, since, below))
+    absurd (omega (arith, zero, finished_more k.base k.announced k.published finished descs j id status (Done id status) refl of))
 
 none_in : (s : LaneState) (l : DiskLog) (packet : List ℕ) (o : Option ClientCounts) → Known s l → l.work.client ≡ o → l.wire.wire.end_b ≡ Up
     → SlotsIn l.shape.slots (after l (OnWire (Took B packet true))).work (after l (OnWire (Took B packet true))).wire.wire l.ring o → (k : ClientCounts) → o ≡ Some k → NoneDone l.ring
 none_in s l packet None known is up slots k some = absurd (cc some)
 none_in s l packet (Some c) known is up slots k some =
-    let works = slots.3.works up in none_done s l c slots.0 slots.1 known is slots.2 (sym works.0) (sym works.1)
+    none_done s l c slots.0 slots.1 known is slots.2 (sym (slots.3.works up).0)
 
 pub none_given : (shape : Shape) (s : LaneState) (l : DiskLog) (packet : List ℕ) (t : LaneState) → Around shape s l (OnWire (Took B packet true)) t → (k : ClientCounts) → l.work.client ≡ Some k → NoneDone l.ring
 none_given shape s l packet t now k is = none_in s l packet l.work.client now.known refl now.table.0 now.slots k is

@@ -1,25 +1,18 @@
 -- On a lane that nobody forged no copy of a unit is refused.
-use Rattle.std.proofs.Common.{◌≡◌, ℕ, zero, suc, ◌+◌, ◌-◌, ◌*◌, ◌%◌, ◌<◌, ◌≤◌, min, Bool, true, false, Option, None, List, [], ◌∷◌, length, take, refl, ap, ◌∙◌, subst, arith, nat_lt}
-use Rattle.std.specs.Prelude.{if◌then◌else◌}
-use Rattle.std.proofs.lemmas.Bool.{and_from, and_parts}
-use Rattle.std.proofs.lemmas.Bool.Decides.{nat_tests}
-use Rattle.std.specs.List.{list_all}
+use Rattle.std.proofs.Common.{◌≡◌, ℕ, ◌+◌, ◌*◌, ◌%◌, ◌<◌, ◌≤◌, Bool, true, false, Option, None, List, length, refl, ap, ◌∙◌, subst, arith}
 use Rattle.runs.specs.Lawful.{log_of}
 use Rattle.runs.specs.Run.{Run}
-use Rattle.cookie_copy.proofs.OwnPages.{no_fault_range}
 use Rattle.cookie_copy.specs.declared.fault.Access.{Access}
 use Rattle.cookie_copy.specs.declared.fault.Access.TheVariants.{Read, Write}
 use Rattle.cookie_copy.specs.declared.fault.CopyFault.{CopyFault}
-use Rattle.cookie_copy.specs.Faults.{first_copy_fault, is_aligned, is_aligned_cookie, is_even_word}
+use Rattle.cookie_copy.specs.Faults.{first_copy_fault}
 use Rattle.cookie_copy.specs.Identity.{IsIdentity}
 use Rattle.ldc_queue.specs.declared.end.End.TheVariants.{B}
-use Rattle.map_table.specs.declared.cookie.Cookie.{Cookie}
-use Rattle.map_table.specs.declared.table.Entry.{Entry}
 use Rattle.vdisk_msg.specs.declared.desc.DiskDesc.{DiskDesc}
 use Rattle.vdisk_msg.specs.declared.request.Request.{Request}
 use Rattle.vdisk_msg.specs.declared.request.Request.TheVariants as asks
 use Rattle.vdisk_msg.specs.Pieces.{unit_count}
-use Rattle.vdisk_msg.specs.Requested.{buffer_cookies, buffer_place, cookie_count, descriptor_of, page_cookie, size_of}
+use Rattle.vdisk_msg.specs.Requested.{buffer_place, descriptor_of, size_of}
 use Rattle.disk_model.specs.DiskLog.{after, nothing_yet}
 use Rattle.disk_model.specs.DiskEvent.{DiskEvent, Moved, Works}
 use Rattle.disk_model.specs.LaneState.{IsShape, LaneState, Shape, fresh, pages_of}
@@ -30,62 +23,16 @@ use Rattle.disk_model.specs.ServerState.{Ends, Flushes, Gathers, Gives, Progress
 use Rattle.disk_model.specs.ServerWork.{MovesIn, Reach, data_cookies, desc_of, unit_length}
 use Rattle.lane_laws.proofs.LaneCounting.{run_knows}
 use Rattle.lane_laws.proofs.NoOwnReset.{Working, working}
-use Rattle.lane_laws.proofs.RingCookies.{buffer_spots}
 use Rattle.lane_laws.proofs.RingEnds.{has_work, work_below}
 use Rattle.lane_laws.proofs.RingSessions.{sizes_of}
 use Rattle.lane_laws.proofs.Ruling.{server_may}
 use Rattle.lane_laws.proofs.SlotBytes.{Sizes, fetched_cookies, reads_back, request_size, stated}
+use Rattle.lane_laws.proofs.UnitCopies.{unit_answered}
 use Rattle.lane_laws.specs.Counted.{UnitFits, UnitIn}
 use Rattle.lane_laws.specs.RingAgreed.{ring_in}
 use Rattle.lane_laws.specs.RingSlots.{HoldsIssued, RingOf}
 use Rattle.lane_laws.specs.RuleFacts.{ServerMay}
 use Rattle.lane_laws.specs.Units.{UnitIs, WorkIs}
-
--- A BUFFER is aligned
-page_if : (place size k : ℕ) (b : Bool) → place % 8 ≡ 0 → size % 8 ≡ 0
-    → is_aligned_cookie (if b then record { address = place + 8192 * k; size = min 8192 (size - 8192 * k) } else record { address = 0; size = 0 }) ≡ true
-page_if place size k true even whole =
-    let address : (place + 8192 * k) % 8 ≡ 0 = omega (arith, even) in
-    let rest : min 8192 (size - 8192 * k) % 8 ≡ 0 = omega (arith, whole) in
-    let one : is_even_word (place + 8192 * k) ≡ true = grind (arith, nat_tests) in
-    let other : is_even_word (min 8192 (size - 8192 * k)) ≡ true = grind (arith, nat_tests) in
-    and_from (is_even_word (place + 8192 * k)) (is_even_word (min 8192 (size - 8192 * k))) one other
-page_if place size k false even whole = refl
-
-page_aligned : (place size k : ℕ) → place % 8 ≡ 0 → size % 8 ≡ 0 → is_aligned_cookie (page_cookie place size k) ≡ true
-page_aligned place size k even whole = page_if place size k (nat_lt (8192 * k) size) even whole
-
-taken_aligned : (n : ℕ) (cookies : List Cookie) → list_all is_aligned_cookie cookies ≡ true → list_all is_aligned_cookie (take n cookies) ≡ true
-taken_aligned zero cookies all = refl
-taken_aligned (suc n) [] all = refl
-taken_aligned (suc n) (cookie ∷ cookies) all =
-    let parts = and_parts (is_aligned_cookie cookie) (list_all is_aligned_cookie cookies) all in
-    and_from (is_aligned_cookie cookie) (list_all is_aligned_cookie (take n cookies)) parts.0 (taken_aligned n cookies parts.1)
-
-five_aligned : (place size : ℕ) → place % 8 ≡ 0 → size % 8 ≡ 0 → list_all is_aligned_cookie (buffer_cookies place size) ≡ true
-unfolding buffer_cookies
-five_aligned place size even whole =
-    and_from (is_aligned_cookie (page_cookie place size 0)) _ (page_aligned place size 0 even whole)
-    (and_from (is_aligned_cookie (page_cookie place size 1)) _ (page_aligned place size 1 even whole)
-    (and_from (is_aligned_cookie (page_cookie place size 2)) _ (page_aligned place size 2 even whole)
-    (and_from (is_aligned_cookie (page_cookie place size 3)) _ (page_aligned place size 3 even whole) refl)))
-
--- so a unit of it is copied
-unit_aligned : (size unit : ℕ) (cookies : List Cookie) → size % 8 ≡ 0 → list_all is_aligned_cookie cookies ≡ true → is_aligned cookies (8192 * unit) (min 8192 (size - 8192 * unit)) ≡ true
-unit_aligned size unit cookies whole all =
-    let begins : (8192 * unit) % 8 ≡ 0 = omega arith in
-    let rest : min 8192 (size - 8192 * unit) % 8 ≡ 0 = omega (arith, whole) in
-    let one : is_even_word (8192 * unit) ≡ true = grind (arith, nat_tests) in
-    let other : is_even_word (min 8192 (size - 8192 * unit)) ≡ true = grind (arith, nat_tests) in
-    rw (one, other, all) refl
-
-unit_answered : (access : Access) (table : List (Option Entry)) (pages place size unit : ℕ) → IsIdentity table pages → place % 8 ≡ 0 → size % 8 ≡ 0 → size ≤ 32768 → place + size ≤ 8192 * pages
-    → 8192 * unit < size
-    → first_copy_fault true access table (take (cookie_count size) (buffer_cookies place size)) (8192 * unit) (min 8192 (size - 8192 * unit)) ≡ None
-unit_answered access table pages place size unit identity even whole few room below =
-    let cookies = take (cookie_count size) (buffer_cookies place size) in
-    no_fault_range access table pages cookies place size (8192 * unit) (min 8192 (size - 8192 * unit)) identity (buffer_spots place size few).0 (omega (arith, below)) room
-    (unit_aligned size unit cookies whole (taken_aligned (cookie_count size) (buffer_cookies place size) (five_aligned place size even whole)))
 
 -- THE DESCRIPTOR in work names its slot's buffer
 even_size : (request : Request) → size_of request % 8 ≡ 0
@@ -106,10 +53,11 @@ work_answered access work r ring pages slot id unit n sizes holds both identity 
     let same : (desc_of work).size ≡ size = ap (λ (d : DiskDesc). d.size) (reads_back ring slot id 2 0 work.bytes sizes (omega arith) holds) ∙ stated_size id holds.request slot ring.slots 2 0 in
     let few = request_size ring slot id 2 0 work.bytes holds in
     let units : unit < unit_count size = subst (λ (m : ℕ). unit < unit_count m) same below in
+    let all : n ≡ unit_length size unit = long ∙ ap (λ (m : ℕ). unit_length m unit) same in
+    let even = even_size holds.request in
     ap (λ (up : Bool). first_copy_fault up access r.table (data_cookies work) (8192 * unit) n) both
-    ∙ ap (λ (cs : List Cookie). first_copy_fault true access r.table cs (8192 * unit) n) (fetched_cookies ring slot id work.bytes sizes holds)
-    ∙ ap (λ (m : ℕ). first_copy_fault true access r.table (take (cookie_count size) (buffer_cookies place size)) (8192 * unit) m) (long ∙ ap (λ (m : ℕ). unit_length m unit) same)
-    ∙ unit_answered access r.table pages place size unit identity (omega arith) (even_size holds.request) few (omega (arith, few, room)) (omega (arith, units))
+    ∙ unit_answered access r.table pages place size unit n (data_cookies work) identity even (omega arith) (omega (arith, few, room)) (omega (arith, units, all)) (omega (arith, even, all))
+    (fetched_cookies ring slot id work.bytes sizes holds)
 
 moves_none : (p : Progress) (work : Work) (r : Reach) (ring : RingOf) (pages slot id unit : ℕ) (fault : Option CopyFault) (next : Progress) (new : List ℕ) → Sizes ring slot
     → HoldsIssued ring slot id 2 0 work.bytes → r.both ≡ true → IsIdentity r.table pages → buffer_place ring.slots slot + 32768 ≤ 8192 * pages

@@ -1,9 +1,6 @@
 -- The descriptor in work says what its request asks for; a copy of one of its units is never refused, and is one of the buffer's bytes.
-use Rattle.std.proofs.Common.{◌≡◌, ℕ, zero, suc, ◌+◌, ◌-◌, ◌*◌, ◌%◌, ◌<◌, ◌≤◌, min, Bool, true, false, Option, None, List, [], ◌∷◌, drop, take, length, refl, ap, ◌∙◌, arith}
-use Rattle.std.specs.Prelude.{if◌then◌else◌, nat_lt}
+use Rattle.std.proofs.Common.{◌≡◌, ℕ, ◌+◌, ◌*◌, ◌%◌, ◌<◌, ◌≤◌, true, Option, None, List, drop, take, length, refl, ap, ◌∙◌, arith}
 use Rattle.std.specs.List.{list_all}
-use Rattle.std.proofs.lemmas.Bool.{and_parts}
-use Rattle.std.proofs.lemmas.Bool.Decides.{nat_tests}
 use Rattle.cookie_copy.proofs.OwnPages.{copied_in_range, no_fault_range, own_moved_in}
 use Rattle.cookie_copy.specs.declared.fault.Access.{Access}
 use Rattle.cookie_copy.specs.declared.fault.Access.TheVariants as access
@@ -14,13 +11,13 @@ use Rattle.map_table.specs.declared.cookie.Cookie.{Cookie}
 use Rattle.map_table.specs.declared.table.Entry.{Entry}
 use Rattle.vdisk_msg.specs.declared.desc.DiskDesc.{DiskDesc}
 use Rattle.vdisk_msg.specs.declared.request.Request.{Request}
-use Rattle.vdisk_msg.specs.Requested.{block_of, buffer_cookies, buffer_place, cookie_count, descriptor_of, page_cookie, size_of}
+use Rattle.vdisk_msg.specs.Requested.{block_of, buffer_cookies, buffer_place, cookie_count, descriptor_of, size_of}
 use Rattle.vdisk_msg.specs.Requests.{operation_of}
 use Rattle.vio_bytes.specs.Place.{put_at}
 use Rattle.vio_bytes.specs.Range.{range_at}
 use Rattle.disk_model.specs.ServerState.{Work}
 use Rattle.disk_model.specs.ServerWork.{Reach, desc_of}
-use Rattle.lane_laws.proofs.RingCookies.{buffer_spots}
+use Rattle.lane_laws.proofs.RingCookies.{buffer_bytes, even_word}
 use Rattle.lane_laws.proofs.RingWrites.{into_buffer}
 use Rattle.lane_laws.proofs.SlotBytes.{Sizes, reads_back, stated}
 use Rattle.lane_laws.specs.MemoryStands.{memory_long}
@@ -54,58 +51,27 @@ says r slot id work sizes holds =
       operation = ap (λ (d : DiskDesc). d.operation) read ∙ operation_in id holds.request slot r.slots;
     }
 
--- ITS COOKIES are aligned
-even_word : (n : ℕ) → n % 8 ≡ 0 → is_even_word n ≡ true
-even_word n even = grind (arith, nat_tests)
-
-page_aligned : (b : Bool) (place size k : ℕ) → place % 8 ≡ 0 → size % 8 ≡ 0
-    → is_aligned_cookie (if b then (record { address = place + 8192 * k; size = min 8192 (size - 8192 * k) }) else (record { address = 0; size = 0 })) ≡ true
-page_aligned true place size k at whole =
-    let first : is_even_word (place + 8192 * k) ≡ true = even_word (place + 8192 * k) (omega (arith, at)) in
-    let second : is_even_word (min 8192 (size - 8192 * k)) ≡ true = even_word (min 8192 (size - 8192 * k)) (omega (arith, whole)) in
-    rw (first, second) refl
-page_aligned false place size k at whole = refl
-
-all_of_five : (p : Cookie → Bool) (a b c d e : Cookie) → p a ≡ true → p b ≡ true → p c ≡ true → p d ≡ true → p e ≡ true → list_all p (a ∷ b ∷ c ∷ d ∷ e ∷ []) ≡ true
-all_of_five p a b c d e one two three four five = rw (one, two, three, four, five) refl
-
-all_taken : (p : Cookie → Bool) (n : ℕ) (cookies : List Cookie) → list_all p cookies ≡ true → list_all p (take n cookies) ≡ true
-all_taken p zero cookies all = refl
-all_taken p (suc n) [] all = refl
-all_taken p (suc n) (c ∷ cookies) all =
-    let both = and_parts (p c) (list_all p cookies) all in
-    rw (both.0) (all_taken p n cookies both.1)
-
-buffer_aligned : (place size : ℕ) → place % 8 ≡ 0 → size % 8 ≡ 0 → list_all is_aligned_cookie (buffer_cookies place size) ≡ true
-unfolding buffer_cookies
-buffer_aligned place size at whole =
-    all_of_five is_aligned_cookie (page_cookie place size 0) (page_cookie place size 1) (page_cookie place size 2) (page_cookie place size 3) (record { address = 0; size = 0 })
-    (page_aligned (nat_lt (8192 * 0) size) place size 0 at whole) (page_aligned (nat_lt (8192 * 1) size) place size 1 at whole) (page_aligned (nat_lt (8192 * 2) size) place size 2 at whole)
-    (page_aligned (nat_lt (8192 * 3) size) place size 3 at whole) refl
-
 -- A COPY of a unit is answered
-pub unit_answered : (kind : Access) (table : List (Option Entry)) (pages place size u n : ℕ) (cookies : List Cookie) → IsIdentity table pages → size ≤ 32768 → size % 8 ≡ 0 → place % 8 ≡ 0
+pub unit_answered : (kind : Access) (table : List (Option Entry)) (pages place size u n : ℕ) (cookies : List Cookie) → IsIdentity table pages → size % 8 ≡ 0 → place % 8 ≡ 0
     → place + size ≤ 8192 * pages → 8192 * u + n ≤ size → n % 8 ≡ 0 → cookies ≡ take (cookie_count size) (buffer_cookies place size)
     → first_copy_fault true kind table cookies (8192 * u) n ≡ None
-unit_answered kind table pages place size u n cookies identity few whole at room within even is =
-    let named = buffer_spots place size few in
+unit_answered kind table pages place size u n cookies identity whole at room within even is =
+    let named = buffer_bytes place size in
     let first : is_even_word (8192 * u) ≡ true = even_word (8192 * u) (omega arith) in
     let second : is_even_word n ≡ true = even_word n even in
-    let all : list_all is_aligned_cookie (take (cookie_count size) (buffer_cookies place size)) ≡ true =
-    all_taken is_aligned_cookie (cookie_count size) (buffer_cookies place size) (buffer_aligned place size at whole) in
+    let all : list_all is_aligned_cookie (take (cookie_count size) (buffer_cookies place size)) ≡ true = named.aligned at whole in
     let aligned : is_aligned (take (cookie_count size) (buffer_cookies place size)) (8192 * u) n ≡ true = rw (first, second, all) refl in
     ap (λ (cs : List Cookie). first_copy_fault true kind table cs (8192 * u) n) is
-    ∙ no_fault_range kind table pages (take (cookie_count size) (buffer_cookies place size)) place size (8192 * u) n identity named.0 within room aligned
+    ∙ no_fault_range kind table pages (take (cookie_count size) (buffer_cookies place size)) place size (8192 * u) n identity named.spots_are within room aligned
 
 -- and its bytes are those of the buffer
-pub unit_in : (r : Reach) (pages place size u n : ℕ) (cookies : List Cookie) → IsIdentity r.table pages → size ≤ 32768 → place + size ≤ length r.memory → 8192 * u + n ≤ size
+pub unit_in : (r : Reach) (pages place size u n : ℕ) (cookies : List Cookie) → IsIdentity r.table pages → place + size ≤ length r.memory → 8192 * u + n ≤ size
     → cookies ≡ take (cookie_count size) (buffer_cookies place size) → first_copy_fault r.both access.Read r.table cookies (8192 * u) n ≡ None
     → moved_in r.table r.memory cookies (8192 * u) n ≡ range_at (place + 8192 * u) n r.memory
-unit_in r pages place size u n cookies identity few room within is none =
-    let named = buffer_spots place size few in
+unit_in r pages place size u n cookies identity room within is none =
     own_moved_in r.both access.Read r.table r.memory pages cookies (8192 * u) n identity none
     ∙ ap (λ (cs : List Cookie). copied_in r.memory cs (8192 * u) n) is
-    ∙ copied_in_range r.memory (take (cookie_count size) (buffer_cookies place size)) place size (8192 * u) n named.0 within room
+    ∙ copied_in_range r.memory (take (cookie_count size) (buffer_cookies place size)) place size (8192 * u) n (buffer_bytes place size).spots_are within room
 
 -- IN THE BUFFERS after the ring
 place_split : (slots slot u : ℕ) → buffer_place slots slot + 8192 * u ≡ ring_end slots + (32768 * slot + 8192 * u)
@@ -116,7 +82,7 @@ pub unit_gathered : (r : Reach) (pages slots slot size u n : ℕ) (cookies : Lis
     → moved_in r.table r.memory cookies (8192 * u) n ≡ range_at (32768 * slot + 8192 * u) n (drop (ring_end slots) r.memory)
 unit_gathered r pages slots slot size u n cookies identity few below long within is none =
     let split = place_split slots slot u in
-    unit_in r pages (buffer_place slots slot) size u n cookies identity few (omega (arith, few, below, long)) within is none
+    unit_in r pages (buffer_place slots slot) size u n cookies identity (omega (arith, few, below, long)) within is none
     ∙ ap (λ (p : ℕ). range_at p n r.memory) split
     ∙ range_behind (ring_end slots) (32768 * slot + 8192 * u) n r.memory
 
@@ -124,7 +90,7 @@ pub unit_given : (r : Reach) (pages slots slot size u : ℕ) (bytes : List ℕ) 
     → cookies ≡ take (cookie_count size) (buffer_cookies (buffer_place slots slot) size) → first_copy_fault r.both access.Write r.table cookies (8192 * u) (length bytes) ≡ None
     → drop (ring_end slots) (moved_out r.table r.memory cookies (8192 * u) bytes) ≡ put_at (32768 * slot + 8192 * u) bytes (drop (ring_end slots) r.memory)
 unit_given r pages slots slot size u bytes cookies identity few below long is none =
-    let into = into_buffer r pages (buffer_place slots slot) size u bytes cookies identity few (omega (arith, few, below, long)) is none in
+    let into = into_buffer r pages (buffer_place slots slot) size u bytes cookies identity (omega (arith, few, below, long)) is none in
     let within = into.within in
     let split = place_split slots slot u in
     ap (drop (ring_end slots)) into.written

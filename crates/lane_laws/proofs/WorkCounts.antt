@@ -103,7 +103,7 @@ completed_some s l id operation status bytes t before step =
     let here : SlotsIn n l.work l.wire.wire l.ring (Some k) = subst (SlotsIn n l.work l.wire.wire l.ring) found.1.open_is before.order in
     let first = here.2.each (l.work.done - k.base) (IsDone id status) (omega (arith, turn.based)) (omega (arith, turn.based, some)) found.1.done_is in
     let less : l.work.done - k.base < here.0 =
-    finished_more k.base here.0 here.1 k.published (l.work.done - k.base) id status (IsDone id status) refl here.2.finished_first here.2.descs_first first in
+    finished_more k.base k.announced k.published here.0 here.1 (l.work.done - k.base) id status (IsDone id status) refl first in
     let may : ClientMay s.client at (client_rules.Completes step.step.session) = subst (ClientMay s.client at) step.step.rule (client_may s.client at) in
     let up : l.wire.wire.end_a ≡ Up = subst (λ (w : WireLog). w.wire.end_a ≡ Up) before.known.stands.wire may.0 in
     by_live k here.0 here.1 less found.1.open_is here.3 up (live_or_not l.wire.wire.end_b l.work.server)

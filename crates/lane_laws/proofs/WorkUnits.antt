@@ -82,7 +82,7 @@ answered kind s l work u n before on facts whole within even =
     let slot = on.at.of.counts.finished % l.shape.slots in
     let at : buffer_place l.shape.slots slot % 8 ≡ 0 = omega arith in
     ap (λ (up : Bool). first_copy_fault up kind s.table (data_cookies work) (8192 * u) n) facts.both
-    ∙ unit_answered kind s.table (pages_of l.shape) (buffer_place l.shape.slots slot) (size_of on.request) u n (data_cookies work) before.known.pages.identity facts.small whole at
+    ∙ unit_answered kind s.table (pages_of l.shape) (buffer_place l.shape.slots slot) (size_of on.request) u n (data_cookies work) before.known.pages.identity whole at
     (pages_room s l work on facts) within even facts.cookies
 
 -- what is copied in, and where what is copied out goes

@@ -22,6 +22,7 @@ pub mod Utterances
 pub mod ShakeFits
 pub mod Counted
 pub mod OneSession
+pub mod OnTheWay
 pub mod UpStands
 pub mod CompletesSlot
 pub mod TickBegins

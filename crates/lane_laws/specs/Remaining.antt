@@ -1,7 +1,8 @@
 -- What remains to be done on a disk's lane: a number that each step of an end lowers, where the end isn't idle, off or blocked and nothing
 -- is lost, forged or reset meanwhile. It is a sum: one for each end that isn't up, one for each packet that waits, two for each packet that
 -- an end has still to put (that it is put, and that it is taken), and for each request one that it is published, two for the INFO that
--- announces it, one that it is done, and twelve for the server: ten that it is served and two for the ACK that answers it.
+-- announces it, one that it is done, and twelve for the server: ten that it is served and two for the ACK that answers it. A request counts
+-- as if it were announced and answered alone: an INFO that announces several lowers the number by two for each.
 use Rattle.std.specs.Prelude.{ℕ, ◌+◌, ◌-◌, ◌*◌, ◌/◌, ◌%◌, Bool, true, false, List, [], ◌∷◌, length, Option, Some, None}
 use Rattle.ldc_link.specs.declared.phase.LinkPhase.{LinkPhase}
 use Rattle.ldc_link.specs.declared.phase.LinkPhase.TheVariants as phase

@@ -311,11 +311,15 @@ pub fn the_ring_is_as_its_log_says()
 {}
 
 /// The slots of the ring in order, on a lane that nobody forged, where the client's session is open: around the ring
-/// from the first request that isn't done, the slots of those that the server finished are DONE with their statuses; at
-/// most one is ACCEPTED; the published ones that it hasn't fetched are READY, the announced ones first; all others are
-/// FREE. Each has the bytes of its request's descriptor. What is acknowledged is finished, and what is fetched or asked
-/// for was announced. The counts are those of the server's session where it has one; where it has none and the client's
-/// end is up, nothing is finished or fetched; and of a session that is over they are as they were.
+/// from the first request that isn't done, those that the server finished are DONE with their statuses; at most one is
+/// ACCEPTED; the announced ones that it hasn't fetched are READY; so are the published ones that aren't announced; all
+/// others are FREE. Each has the bytes of its request's descriptor. What is acknowledged is finished, and what is
+/// fetched or asked for was announced. The counts are those of the server's session where it has one. Where it has none
+/// and the client's end is up, nothing is finished or fetched; and of a session that is over they are as they were.
+/// Where the client's end is up, so is the server's, and what is on the way agrees with its place. The INFO that it
+/// hasn't heard begin there, with the seq that it expects. One after the other they name all up to the last that is
+/// announced. The ACK that the client hasn't heard name all from the last that is acknowledged to the last that is
+/// answered. Each packet of them waits for its end, or was lost.
 pub fn slots_stand_in_order()
     ensures { (shape : Shape) (events : List DiskEvent) (s : LaneState) (k : ClientCounts)
         → IsShape shape → Run LaneStep (fresh shape) events s

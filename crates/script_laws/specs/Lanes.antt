@@ -37,7 +37,8 @@ pub record HearsAFront (e : End) (talk : TalkLog) : Type 0 where
 
 -- A LANE AT ONE MOMENT: it stands as its log says, and nobody forged it. An end that is up heard in order what the other
 -- said. Where both sessions are open they are one, and their counts stand in their order. The slots of the ring do where
--- the client's is open, and the counts of what is finished do always.
+-- the client's is open, and where its end is up what is on the way agrees with them. The counts of what is finished do
+-- always.
 pub record StandsAt (s : LaneState) (l : DiskLog) : Type 0 where
   pub agrees : AgreesWithLog s l
   pub unforged : s.wire.forged ≡ false

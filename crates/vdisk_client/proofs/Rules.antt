@@ -6,7 +6,7 @@ use Rattle.cookie_copy.specs.Faults.{is_up}
 use Rattle.ldc_link.specs.Putting.{owes}
 use Rattle.vdisk_msg.specs.declared.request.Request.{Request}
 use Rattle.vio_tag.specs.declared.message.Message.{Message}
-use Rattle.disk_model.specs.ClientRule.{Announces, ClientRule, Completes, Joins, Publishes, Puts, Rests, Says, Takes, client_rule, completes_first, in_session, is_urgent, publishes, puts_first, puts_or_takes, says, takes_first}
+use Rattle.disk_model.specs.ClientRule.{Announces, ClientRule, Completes, Joins, Publishes, Puts, Rests, Says, Takes, announces, client_rule, completes_first, in_session, is_urgent, publishes, puts_first, puts_or_takes, says, takes_first}
 use Rattle.disk_model.specs.ClientState.{ClientSession, ClientState}
 use Rattle.disk_model.specs.Seeing.{Seen}
 
@@ -30,20 +30,22 @@ module _ (s : ClientState) (at : Seen) where
   if_known true x y first second = first refl
   if_known false x y first second = second refl
 
-  publishes_known : (session : ClientSession) (next : Option Request) → s.session ≡ Some session
-      → slice_get s.pending (session.published - session.completed) ≡ next → Known s at (publishes session next)
-  publishes_known session None is next = tt
-  publishes_known session (Some request) is next = (is, next)
-
   more : (a b : ℕ) → nat_lt a b ≡ true → a < b
   more a b is = grind (arith, nat_tests)
 
+  announces_known : (session : ClientSession) → s.session ≡ Some session → owes s.link ≡ false → Known s at (announces session)
+  announces_known session is nothing =
+      if_known (nat_lt session.announced session.published) (Announces session) Rests
+      (λ some. record { is_open = is; some = more session.announced session.published some; nothing = nothing }) (λ _. tt)
+
+  publishes_known : (session : ClientSession) (next : Option Request) → s.session ≡ Some session → owes s.link ≡ false
+      → slice_get s.pending (session.published - session.completed) ≡ next → Known s at (publishes session next)
+  publishes_known session None is nothing next = announces_known session is nothing
+  publishes_known session (Some request) is nothing next = (is, next)
+
   session_known : (session : Option ClientSession) → s.session ≡ session → owes s.link ≡ false → Known s at (in_session s session)
   session_known None is nothing = tt
-  session_known (Some session) is nothing =
-      if_known (nat_lt session.announced session.published) (Announces session) (publishes session (slice_get s.pending (session.published - session.completed)))
-      (λ some. record { is_open = is; some = more session.announced session.published some; nothing = nothing })
-      (λ _. publishes_known session (slice_get s.pending (session.published - session.completed)) is refl)
+  session_known (Some session) is nothing = publishes_known session (slice_get s.pending (session.published - session.completed)) is nothing refl
 
   says_known : (owed : Option Message) → s.shake.owed ≡ owed → owes s.link ≡ false → Known s at (says s owed)
   says_known None is nothing = session_known s.session refl nothing

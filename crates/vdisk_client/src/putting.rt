@@ -1,6 +1,6 @@
 // What is put: the rest of a message, a message that the handshake owes, or the INFO that announces what was published.
 
-ghost use Rattle.std.specs.Prelude.{◌≡◌, ◌≢◌, ◌-◌, ◌<◌, [], length, true, false, Some, IfNone, IfSome, is_some, slice_get};
+ghost use Rattle.std.specs.Prelude.{◌≡◌, ◌≢◌, ◌-◌, ◌<◌, ◌≤◌, [], length, true, false, Some, IfNone, IfSome, is_some, slice_get};
 ghost use Rattle.dring.specs.Slots.{free_slots};
 ghost use Rattle.ldc_link.specs.LinkState.{is_up};
 ghost use Rattle.ldc_link.specs.Putting.{owes};
@@ -25,7 +25,7 @@ const VIO_DRING_ACTIVE: u8 = 1;
 
 impl ClientEnd {
     ghost use Rattle.disk_model.specs.ClientPutting.{announcement, holding, is_announcing};
-    ghost use Rattle.disk_model.specs.ClientRule.{Announces, Says, in_session, publishes, puts_first, says};
+    ghost use Rattle.disk_model.specs.ClientRule.{Announces, Says, announces, in_session, publishes, puts_first, says};
     ghost use Rattle.disk_model.specs.ClientState.{first_id, opened_session};
     ghost use Rattle.disk_model.specs.EndPuts.{EndsShake, ending, put_opens};
     ghost use Rattle.vdisk_client.specs.Calls.{Steps, rule_of};
@@ -96,7 +96,8 @@ impl ClientEnd {
         self.put(channel, memory, out);
     }
 
-    /// In session: what is published is announced, and then the next pending request is published.
+    /// In session: the next pending request is published, and where all are, those that aren't announced are announced
+    /// at once.
     fn go_on(&mut self, channel: &mut Channel, memory: &mut Memory, out: &mut ClientOut)
         requires up { channel.old.wire.end_a ≡ Up }
         requires rule { rule_of self.old channel.old ≡ in_session self.old self.old.session }
@@ -113,10 +114,27 @@ impl ClientEnd {
                 return;
             }
         };
+        if self.has_unpublished(&session) {
+            return self.publish_next(session, memory, out);
+        }
         if session.has_unannounced() {
             return self.announce(session, channel, memory, out);
         }
-        self.publish_next(session, memory, out);
+        *out = ClientOut::Idle;
+    }
+
+    /// Whether a pending request isn't published in this session.
+    fn has_unpublished(&self, session: &OpenSession) -> bool
+        requires { session.now.completed ≤ session.now.published }
+        ensures some { result
+            ≡ is_some (slice_get self.now.pending (session.now.published - session.now.completed)) }
+        ensures none { result ≡ false
+            → publishes session.now (slice_get self.now.pending (session.now.published - session.now.completed))
+            ≡ announces session.now }
+    {
+        self.pending
+            .get(session.published_pending() as usize)
+            .is_some()
     }
 
     /// Offers the INFO that announces all that is published, and puts it.
@@ -286,9 +304,10 @@ impl ClientEnd {
         ring_of(self.slots).clear(memory);
     }
 
-    /// Publishes the first pending request that isn't published in this session, if any.
+    /// Publishes the first pending request that isn't published in this session.
     fn publish_next(&mut self, session: OpenSession, memory: &mut Memory, out: &mut ClientOut)
         requires open { self.old.session ≡ Some session }
+        requires some { is_some (slice_get self.old.pending (session.published - session.completed)) ≡ true }
         requires stands { Stands self.old }
         requires room { HoldsRing self.old.slots memory.old }
         ensures step { (channel : ChannelView)
@@ -299,10 +318,7 @@ impl ClientEnd {
     {
         let request = match self.pending.get(session.published_pending() as usize) {
             Some(request) => request,
-            None => {
-                *out = ClientOut::Idle;
-                return;
-            }
+            None => unreachable!(),
         };
         let id = session.next_id();
         let slot = session.published_slot(self.slots);

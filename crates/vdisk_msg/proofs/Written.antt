@@ -1,10 +1,10 @@
 -- The descriptors of admitted requests, and what is written into a descriptor.
-use Rattle.std.proofs.Common.{◌≡◌, ℕ, zero, suc, ◌+◌, ◌-◌, ◌*◌, ◌/◌, ◌%◌, ◌^◌, ◌<◌, ◌≤◌, min, [], ◌∷◌, ◌++◌, length, replicate, Bool, true, false, not, cond, nat_lt, refl, ap, arith, Option, Some, None}
+use Rattle.std.proofs.Common.{◌≡◌, ℕ, zero, suc, ◌+◌, ◌*◌, ◌/◌, ◌%◌, ◌^◌, ◌<◌, ◌≤◌, [], ◌∷◌, ◌++◌, length, replicate, Bool, true, false, not, cond, nat_lt, refl, ap, arith, Option, Some, None}
+use Rattle.std.specs.Prelude.{if◌then◌else◌}
 use Rattle.std.proofs.lemmas.Bool.Decides.{nat_tests}
 use Rattle.std.specs.List.{AllByRecursion}
 use Rattle.vio_bytes.specs.Place.{put_at}
 use Rattle.map_table.specs.Cookies.{IsCookie}
-use Rattle.map_table.specs.declared.cookie.Cookie.{Cookie}
 use Rattle.vdisk_msg.specs.declared.desc.DiskDesc.{DiskDesc}
 use Rattle.vdisk_msg.specs.declared.desc.DescFault.{DescFault}
 use Rattle.vdisk_msg.specs.declared.desc.DescFault.TheVariants.{Cookies, Size, Range}
@@ -14,7 +14,7 @@ use Rattle.vdisk_msg.specs.declared.request.Request.TheVariants.{Read, Write, Fl
 use Rattle.vdisk_msg.specs.Check.{first_defect, has_size, holds_cookies, is_within}
 use Rattle.vdisk_msg.specs.Descriptor.{HasWidths, canonical}
 use Rattle.vdisk_msg.specs.Pieces.{Finishes, checked_pieces, operation_pieces, pieces, read_pieces, unit_count, write_pieces}
-use Rattle.vdisk_msg.specs.Requested.{block_of, buffer_cookies, buffer_place, cookie_count, descriptor_of, header, page_cookie, size_of, status_word}
+use Rattle.vdisk_msg.specs.Requested.{block_of, buffer_cookies, buffer_place, cookie_count, descriptor_of, header, no_cookie, size_of, status_word}
 use Rattle.vdisk_msg.specs.Requests.{blocks_defect, defect, operation_of}
 
 -- a header put into a descriptor
@@ -75,19 +75,20 @@ is_admitted blocks (Read block count) is = let facts = admitted_count blocks blo
 is_admitted blocks (Write block count fill) is = let facts = admitted_count blocks block count is in record { most = omega (arith, facts.1); within = omega (arith, facts.2); operation = omega arith }
 is_admitted blocks Flush is = record { most = omega arith; within = omega arith; operation = omega arith }
 
-either_cookie : (b : Bool) (a c : Cookie) → IsCookie a → IsCookie c → IsCookie (cond b a c)
-either_cookie true a c one other = one
-either_cookie false a c one other = other
+-- a buffer's cookie has numbers of the fields' widths, and there is one or none
+cookie_in : (b : Bool) (place size : ℕ) → place < 2 ^ 64 → size < 2 ^ 64 → IsCookie (if b then record { address = place; size = size } else no_cookie)
+cookie_in true place size low small = record { address = low; size = small }
+cookie_in false place size low small = record { address = omega arith; size = omega arith }
 
-page_fits : (place size k : ℕ) → place < 2 ^ 32 → k ≤ 3 → IsCookie (page_cookie place size k)
-page_fits place size k low few =
-    let used : Cookie = record { address = place + 8192 * k; size = min 8192 (size - 8192 * k) } in
-    either_cookie (nat_lt (8192 * k) size) used (record { address = 0; size = 0 }) (record { address = omega arith; size = omega arith }) (record { address = omega arith; size = omega arith })
+count_in : (b : Bool) → (if b then 1 else 0) ≤ 1
+count_in true = omega arith
+count_in false = omega arith
 
-cookies_fit : (place size : ℕ) → place < 2 ^ 32 → AllByRecursion IsCookie (buffer_cookies place size)
+cookies_fit : (place size : ℕ) → place < 2 ^ 64 → size < 2 ^ 64 → AllByRecursion IsCookie (buffer_cookies place size)
 unfolding buffer_cookies
-cookies_fit place size low =
-    (page_fits place size 0 low (omega arith), (page_fits place size 1 low (omega arith), (page_fits place size 2 low (omega arith), (page_fits place size 3 low (omega arith), (record { address = omega arith; size = omega arith }, tt)))))
+cookies_fit place size low small =
+    let none : IsCookie no_cookie = record { address = omega arith; size = omega arith } in
+    (cookie_in (nat_lt 0 size) place size low small, (none, (none, (none, (none, tt)))))
 
 five_cookies : (place size : ℕ) → length (buffer_cookies place size) ≡ 5
 unfolding buffer_cookies
@@ -112,10 +113,10 @@ requested_has_widths blocks id request slot slots disk numbered below few is =
         status = omega arith;
         offset = omega (arith, within);
         size = omega (arith, most);
-        count = omega (arith, most);
+        count = omega (arith, count_in (nat_lt 0 (size_of request)));
       };
       five = five_cookies (buffer_place slots slot) (size_of request);
-      cookies = cookies_fit (buffer_place slots slot) (size_of request) (omega arith);
+      cookies = cookies_fit (buffer_place slots slot) (size_of request) (omega arith) (omega (arith, most));
     }
 
 -- two blocks are written from block 3 on: the first request of a ring of eight slots, as its 128 bytes
@@ -124,7 +125,7 @@ pub first_write : (fill : Fill) → canonical (descriptor_of 0 (Write 3 2 fill) 
 unfolding descriptor_of buffer_cookies
 first_write fill = refl
 
--- 64 blocks are read, with the last number of all, in the last slot of a ring of 256: its buffer's four cookies
+-- 64 blocks are read, with the last number of all, in the last slot of a ring of 256: its buffer's one cookie
 pub last_read : descriptor_of 0xffffffffffffffff (Read 1 64) 255 256
     ≡ record {
       state = 2;
@@ -135,8 +136,8 @@ pub last_read : descriptor_of 0xffffffffffffffff (Read 1 64) 255 256
       status = 0;
       offset = 1;
       size = 32768;
-      count = 4;
-      cookies = record { address = 0x800000; size = 8192 } ∷ record { address = 0x802000; size = 8192 } ∷ record { address = 0x804000; size = 8192 } ∷ record { address = 0x806000; size = 8192 } ∷ record { address = 0; size = 0 } ∷ [];
+      count = 1;
+      cookies = record { address = 0x800000; size = 32768 } ∷ replicate 4 no_cookie;
     }
 unfolding descriptor_of buffer_cookies
 last_read = refl
@@ -153,7 +154,7 @@ pub a_flush : descriptor_of 7 Flush 1 2
       offset = 0;
       size = 0;
       count = 0;
-      cookies = record { address = 0; size = 0 } ∷ record { address = 0; size = 0 } ∷ record { address = 0; size = 0 } ∷ record { address = 0; size = 0 } ∷ record { address = 0; size = 0 } ∷ [];
+      cookies = replicate 5 no_cookie;
     }
 unfolding descriptor_of buffer_cookies
 a_flush = refl
@@ -168,9 +169,8 @@ sound_tests blocks block count is =
     let within = facts.2 in
     let whole : 512 * count / 512 ≡ count = omega arith in
     let rest : 512 * count % 512 ≡ 0 = omega arith in
-    let low : 1 ≤ (512 * count + 8191) / 8192 = omega arith in
-    let high : (512 * count + 8191) / 8192 ≤ 5 = omega arith in
-    (grind (arith, nat_tests), grind (arith, nat_tests), grind (arith, nat_tests))
+    let moved : nat_lt 0 (512 * count) ≡ true = grind (arith, nat_tests) in
+    (ap (λ (b : Bool). holds_cookies (if b then 1 else 0)) moved, grind (arith, nat_tests), grind (arith, nat_tests))
 
 data_sound : (cookies size range : Bool) → cookies ≡ true → size ≡ true → range ≡ true
     → cond (not cookies) (Some Cookies) (cond (not size) (Some Size) (cond (not range) (Some Range) None)) ≡ None

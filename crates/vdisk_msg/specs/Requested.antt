@@ -1,5 +1,5 @@
 -- The descriptor by which a disk's client asks for a request, and what its server writes into it.
-use Rattle.std.specs.Prelude.{ℕ, ◌+◌, ◌-◌, ◌*◌, ◌/◌, min, nat_lt, if◌then◌else◌, List, [], ◌∷◌, ◌++◌, replicate}
+use Rattle.std.specs.Prelude.{ℕ, ◌+◌, ◌*◌, ◌/◌, nat_lt, if◌then◌else◌, List, [], ◌∷◌, ◌++◌, replicate}
 use Rattle.byteorder.specs.Endian.{big_bytes}
 use Rattle.vio_bytes.specs.Range.{range_at}
 use Rattle.map_table.specs.declared.cookie.Cookie.{Cookie}
@@ -31,17 +31,22 @@ size_of (Read block count) = 512 * count
 size_of (Write block count fill) = 512 * count
 size_of Flush = 0
 
--- the cookie of the k-th page of a buffer from a place on, as far as the size needs it: page i is granted at index i
-abbrev pub page_cookie : ℕ → ℕ → ℕ → Cookie
-page_cookie place size k = if nat_lt (8192 * k) size then record { address = place + 8192 * k; size = min 8192 (size - 8192 * k) } else record { address = 0; size = 0 }
+-- the cookie of no memory
+abbrev pub no_cookie : Cookie
+no_cookie = record { address = 0; size = 0 }
 
--- one cookie for each page, in order, the last with the rest of the size; the last of five is never used
+-- The one cookie of a buffer from a place on, with the whole size; a request that moves nothing has none. Page i is
+-- granted at index i.
+abbrev pub buffer_cookie : ℕ → ℕ → Cookie
+buffer_cookie place size = if nat_lt 0 size then record { address = place; size = size } else no_cookie
+
+-- the last four of five are never used
 unfoldable pub buffer_cookies : ℕ → ℕ → List Cookie
-buffer_cookies place size = page_cookie place size 0 ∷ page_cookie place size 1 ∷ page_cookie place size 2 ∷ page_cookie place size 3 ∷ record { address = 0; size = 0 } ∷ []
+buffer_cookies place size = buffer_cookie place size ∷ no_cookie ∷ no_cookie ∷ no_cookie ∷ no_cookie ∷ []
 
 -- how many of them are used
 abbrev pub cookie_count : ℕ → ℕ
-cookie_count size = (size + 8191) / 8192
+cookie_count size = if nat_lt 0 size then 1 else 0
 
 -- the descriptor of request `id` in a slot of a ring of so many slots: READY, and an acknowledgement is asked for
 unfoldable pub descriptor_of : ℕ → Request → ℕ → ℕ → DiskDesc

@@ -1,6 +1,6 @@
 // What a server holds of its lane.
 
-ghost use Rattle.std.specs.Prelude.{◌≡◌, false, None, is_some, IfOk, option_map};
+ghost use Rattle.std.specs.Prelude.{◌≡◌, ◌<◌, ◌%◌, false, None, is_some, IfOk, option_map};
 ghost use Rattle.ldc_link.specs.declared.phase.Role.TheVariants.{Responder};
 ghost use Rattle.ldc_queue.specs.ChannelView.{configured_channel};
 ghost use Rattle.ldc_queue.specs.declared.end.End.TheVariants.{B};
@@ -8,6 +8,7 @@ ghost use Rattle.vio_handshake.specs.declared.handshake.Phase.TheVariants.{Open}
 ghost use Rattle.vio_tag.specs.Form.{IsWellFormed};
 ghost use Rattle.disk_model.specs.Offering.{server_offer};
 ghost use Rattle.disk_model.specs.ServerState.{fresh_server, joined_server, peer_ring, restarted_server};
+ghost use Rattle.disk_model.specs.ServerWork.{slot_at};
 ghost use Rattle.vdisk_server.specs.Answering.{channel_after};
 ghost use Rattle.vdisk_server.specs.Fields.{ring_session, state_of};
 ghost use Rattle.vdisk_server.specs.Rules.{in_hand, owed_message, session_owes};
@@ -17,7 +18,7 @@ use crate::fetching::SLOT;
 use crate::session::RingSession;
 use descriptor_work::{ServerOut, UnitBuffer, Work};
 use disk_requests::disk_bytes;
-use dring::PeerRing;
+use dring::{PeerRing, slot_of};
 use flat_store::Region;
 use ldc_link::{Link, Role};
 use ldc_packet::Subtype;
@@ -140,6 +141,16 @@ impl ServerEnd {
         ensures { result ≡ self.now.shake.draft.peer_slots }
     {
         self.agreed().peer_slots
+    }
+
+    /// The slot of a descriptor by its number.
+    pub fn slot_at(&self, number: u64) -> u32
+        requires open { self.now.shake.phase ≡ Open }
+        requires some { 0 < self.now.shake.draft.peer_slots }
+        ensures slot { result ≡ slot_at (state_of self.now) number }
+        ensures within { result < self.now.shake.draft.peer_slots }
+    {
+        slot_of(number, 0, self.peer_slots())
     }
 
     /// The client's ring.

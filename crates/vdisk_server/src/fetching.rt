@@ -16,7 +16,7 @@ use crate::session::RingSession;
 use cookie_copy::CopyFault;
 use descriptor_work::{ServerOut, Work, header_of};
 use dom_memory::Memory;
-use dring::{RingFault, VIO_DESC_ACCEPTED, fetch, mark, slot_of};
+use dring::{RingFault, VIO_DESC_ACCEPTED, fetch, mark};
 use ldc_queue::{Channel, End};
 use map_table::MapTable;
 use vio_tag::Cause;
@@ -47,7 +47,7 @@ impl ServerEnd {
         ensures same_length { length memory.new ≡ length memory.old }
         ensures disk { SameDisk (state_of self.old) (state_of self.new) }
     {
-        let slot = slot_of(session.fetched, 0, self.peer_slots());
+        let slot = self.next_slot(session);
         match &self.fetch_ready(slot, channel, table, memory) {
             Ok(bytes) => {
                 *out = ServerOut::Desc {
@@ -58,6 +58,16 @@ impl ServerEnd {
             }
             Err(cause) => self.reset_for(channel, *cause, None, out),
         }
+    }
+
+    // The slot of the next descriptor: they are fetched in the order in which they were announced.
+    fn next_slot(&self, session: RingSession) -> u32
+        requires open { self.now.shake.phase ≡ Open }
+        requires some { 0 < self.now.shake.draft.peer_slots }
+        ensures slot { result ≡ slot_at (state_of self.now) (ring_session session).descs }
+        ensures within { result < self.now.shake.draft.peer_slots }
+    {
+        self.slot_at(session.fetched)
     }
 
     // One more descriptor was fetched, which has these bytes.

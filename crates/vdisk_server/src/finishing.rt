@@ -16,7 +16,7 @@ use crate::fetching::{SLOT, copy_number};
 use crate::session::RingSession;
 use descriptor_work::{Descriptor, ServerOut};
 use dom_memory::Memory;
-use dring::{VIO_DESC_DONE, mark, put_word, slot_of};
+use dring::{VIO_DESC_DONE, mark, put_word};
 use ldc_queue::{Channel, End};
 use map_table::MapTable;
 use vio_bytes::put_u32;
@@ -50,7 +50,7 @@ impl ServerEnd {
         ensures same_length { length memory.new ≡ length memory.old }
         ensures disk { SameDisk (state_of self.old) (state_of self.new) }
     {
-        let slot = slot_of(session.finished, 0, self.peer_slots());
+        let slot = self.slot_at(session.finished);
         match self.end_slot(slot, status, channel, table, memory) {
             Ok(()) => {
                 self.end_work();

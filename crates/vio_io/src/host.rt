@@ -35,10 +35,13 @@ pub trait Host {
     /// How many disks it gave, modulo 2^64: so each one that it gives changes the count.
     ghost given: { Self → ℕ };
 
-    /// Attaches the image of a name. `least` is how many bytes are wanted of an image that is made by this call.
+    /// Attaches the image of a name. `least` is how many bytes are wanted of an image that is made by this call. Nothing
+    /// was asked of it yet.
     fn attach(&mut self, alloc: Global, name: &str, least: u64) -> Result<Self::Disk, AttachFault>
         ensures gives { IfOk result (λ disk. Self.Disk.content disk ≡ gives self.old name.now least) }
         ensures fresh { IfOk result (λ disk. Self.Disk.faults disk ≡ 0) }
+        ensures calls { IfOk result (λ disk. Self.Disk.calls disk ≡ 0) }
+        ensures flushes { IfOk result (λ disk. Self.Disk.flushes disk ≡ 0) }
         ensures given { OnOk result (given self.new ≡ next_given (given self.old)) }
         ensures none { OnErr result (given self.new ≡ given self.old) }
         ensures ok { OnOk result (faults self.new ≡ faults self.old) }

@@ -1,0 +1,106 @@
+-- Along every run that nobody forged the two ends converse, so that what an end heard is a front of what the other said.
+use Rattle.std.proofs.Common.{◌≡◌, ℕ, ◌≤◌, false, List, [], ◌∷◌, ◌++◌, refl, sym, ap, ◌∙◌, subst, arith}
+use Rattle.runs.specs.Run.{Run}
+use Rattle.ldc_link.specs.declared.phase.Role.{Role}
+use Rattle.ldc_link.specs.declared.phase.Role.TheVariants.{Initiator}
+use Rattle.ldc_queue.proofs.Messages.{messages_front}
+use Rattle.ldc_queue.proofs.Streams.{heard_front, stream_begins}
+use Rattle.ldc_queue.specs.declared.end.ChannelState.{ChannelState}
+use Rattle.ldc_queue.specs.declared.end.ChannelState.TheVariants.{Down, Resetting, Up}
+use Rattle.ldc_queue.specs.declared.end.End.{End}
+use Rattle.ldc_queue.specs.declared.end.End.TheVariants.{A, B}
+use Rattle.ldc_queue.specs.Fragments.{fragments_in}
+use Rattle.ldc_queue.specs.Messages.{messages_heard, whole_in}
+use Rattle.ldc_queue.specs.Numbered.{numbered}
+use Rattle.ldc_queue.specs.OneStream.{IsFront, live}
+use Rattle.ldc_queue.specs.Talk.{Turn, numbered_heard, numbered_said}
+use Rattle.ldc_queue.specs.Wire.{peer_of}
+use Rattle.vio_handshake.specs.declared.session.Offer.{Offer}
+use Rattle.disk_model.proofs.SameSayings.{heard_is, said_is}
+use Rattle.disk_model.specs.Sayings.{heard, said}
+use Rattle.disk_model.specs.TalkLog.{TalkLog, nothing_said, talk_of}
+use Rattle.disk_model.specs.WireAt.{IsUp}
+use Rattle.channel_laws.proofs.Conversations.{anew_converse, missed_converse, put_converse, shut_converse, stays_converse, swap_converse, took_converse, waits_converse}
+use Rattle.channel_laws.proofs.FewLost.{few_begins}
+use Rattle.channel_laws.proofs.Lifting.{ActsKeep, CoreHolds, core_run}
+use Rattle.channel_laws.specs.Conversing.{Converse, queue_log}
+use Rattle.channel_laws.specs.LaneCore.{CoreEvent, CoreFits, CoreStep, LaneCore, fresh_core, talk_behind}
+use Rattle.channel_laws.specs.Sides.{Sides, sides_of}
+
+pub converse_keeps : ActsKeep Converse
+converse_keeps = record {
+  swaps = swap_converse;
+  stays = λ role s t both stays c. stays_converse role s t stays c;
+  waits = λ role s t both waits c. waits_converse role s t both.mine waits c;
+  begins = λ role s t both begins c. anew_converse role s t both.theirs begins c;
+  closes = λ role s t both begins c. shut_converse role s t both.theirs c;
+  takes = λ role s t packet opens both up first hears c. took_converse role s t packet opens up first both.mine both.theirs hears c;
+  puts = λ role s t packet opens both up room says c. put_converse role s t packet opens up (omega (arith, room)) both.mine says c;
+  misses = λ role s packet both first c. missed_converse role s packet first c;
+}
+
+pub first_converse : (entries : ℕ) (asks answers : Offer) → entries ≤ 256 → Converse Initiator (sides_of (fresh_core entries asks answers) nothing_said)
+first_converse entries asks answers few = record {
+  entries = few;
+  lost_mine = 0;
+  lost_theirs = 0;
+  whole = λ full. (refl, refl);
+  stream = stream_begins;
+  to_mine = record { left = omega arith; queue = omega arith; few = few_begins 1 1 2 (omega arith) (omega arith) (omega arith) };
+  to_theirs = record { left = omega arith; queue = omega arith; few = few_begins 1 1 2 (omega arith) (omega arith) (omega arith) };
+}
+
+pub converse_run : (entries : ℕ) (asks answers : Offer) (events : List CoreEvent) (s : LaneCore) → CoreFits entries asks answers
+    → Run CoreStep (fresh_core entries asks answers) events s → CoreHolds Converse s (talk_behind events)
+converse_run entries asks answers events s fits run =
+    core_run Converse converse_keeps entries asks answers events s fits (first_converse entries asks answers fits.most_entries) run
+
+-- WHAT AN END HEARD is a front of what the other said: its packets with numbers, and its messages
+packets_of : (s : LaneCore) (talk : TalkLog) (e : End) → Converse Initiator (sides_of s talk) → IsUp e s.wire.wire
+    → IsFront (numbered_heard (talk_of e talk)) (numbered_said (talk_of (peer_of e) talk))
+packets_of s talk A c up = heard_front (queue_log (sides_of s talk) c.lost_mine c.lost_theirs) A c.stream up
+packets_of s talk B c up = heard_front (queue_log (sides_of s talk) c.lost_mine c.lost_theirs) B c.stream up
+
+pub messages_in_front : (mine theirs : List Turn) → IsFront (numbered_heard mine) (numbered_said theirs) → IsFront (heard mine) (said theirs)
+messages_in_front mine theirs front =
+    subst (λ (xs : List (List ℕ)). IsFront xs (said theirs)) (sym (heard_is mine))
+    (subst (λ (xs : List (List ℕ)). IsFront (messages_heard mine) xs) (sym (said_is theirs)) (messages_front (numbered_heard mine) (numbered_said theirs) front))
+
+pub messages_of : (s : LaneCore) (talk : TalkLog) (e : End) → Converse Initiator (sides_of s talk) → IsUp e s.wire.wire → IsFront (heard (talk_of e talk)) (said (talk_of (peer_of e) talk))
+messages_of s talk e c up = messages_in_front (talk_of e talk) (talk_of (peer_of e) talk) (packets_of s talk e c up)
+
+pub heard_packets : (entries : ℕ) (asks answers : Offer) (events : List CoreEvent) (s : LaneCore) (e : End) → CoreFits entries asks answers
+    → Run CoreStep (fresh_core entries asks answers) events s → s.wire.forged ≡ false → IsUp e s.wire.wire
+    → IsFront (numbered_heard (talk_of e (talk_behind events))) (numbered_said (talk_of (peer_of e) (talk_behind events)))
+heard_packets entries asks answers events s e fits run clean up =
+    packets_of s (talk_behind events) e ((converse_run entries asks answers events s fits run).holds clean) up
+
+pub heard_messages : (entries : ℕ) (asks answers : Offer) (events : List CoreEvent) (s : LaneCore) (e : End) → CoreFits entries asks answers
+    → Run CoreStep (fresh_core entries asks answers) events s → s.wire.forged ≡ false → IsUp e s.wire.wire
+    → IsFront (heard (talk_of e (talk_behind events))) (said (talk_of (peer_of e) (talk_behind events)))
+heard_messages entries asks answers events s e fits run clean up =
+    messages_of s (talk_behind events) e ((converse_run entries asks answers events s fits run).holds clean) up
+
+-- FROM ITS OWN SIDE, an end that is up
+pub mine_packets : (role : Role) (s : Sides) → Converse role s → s.mine.state ≡ Up → IsFront (numbered_heard s.mine.turns) (numbered_said s.theirs.turns)
+mine_packets role s c up = heard_front (queue_log s c.lost_mine c.lost_theirs) A c.stream up
+
+pub mine_messages : (role : Role) (s : Sides) → Converse role s → s.mine.state ≡ Up → IsFront (heard s.mine.turns) (said s.theirs.turns)
+mine_messages role s c up = messages_in_front s.mine.turns s.theirs.turns (mine_packets role s c up)
+
+-- where the other isn't up it heard nothing
+none_live : (x : ChannelState) (packets : List (List ℕ)) → (x ≡ Up → ⊥) → live x packets ≡ []
+none_live Up packets not = absurd (not refl)
+none_live Down packets not = refl
+none_live Resetting packets not = refl
+
+nothing_front : (xs ys : List (List ℕ)) → [] ≡ xs ++ ys → xs ≡ []
+nothing_front [] ys is = refl
+nothing_front (x ∷ xs) ys is = absurd (cc is)
+
+pub unheard : (role : Role) (s : Sides) → Converse role s → s.mine.state ≡ Up → (s.theirs.state ≡ Up → ⊥) → heard s.mine.turns ≡ []
+unheard role s c up not =
+    let way = c.stream.to_a in
+    let nothing : [] ≡ numbered_heard s.mine.turns ++ (way.gone ++ numbered s.mine.waiting) =
+    sym (none_live s.theirs.state (numbered_said s.theirs.turns) not) ∙ way.is ∙ ap (λ (x : ChannelState). live x (numbered_heard s.mine.turns) ++ (way.gone ++ numbered s.mine.waiting)) up in
+    heard_is s.mine.turns ∙ ap (λ (xs : List (List ℕ)). whole_in [] (fragments_in xs)) (nothing_front (numbered_heard s.mine.turns) (way.gone ++ numbered s.mine.waiting) nothing)

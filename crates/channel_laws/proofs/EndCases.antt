@@ -1,0 +1,263 @@
+-- What a packet that an end hears or says comes to, case by case.
+use Rattle.std.proofs.Common.{◌≡◌, ℕ, ◌≤◌, Bool, true, false, ◌||◌, ◌⊎◌, inl, inr, Option, Some, None, List, [], ◌∷◌, ◌++◌, length, refl, sym, ap, ◌∙◌, subst, arith}
+use Rattle.std.specs.Prelude.{◌&&◌, if◌then◌else◌, nat_eq, nat_le, not, Result, Ok, Err}
+use Rattle.std.proofs.lemmas.Bool.{leb-true}
+use Rattle.ldc_packet.specs.declared.packet.Body.TheVariants.{Rdx}
+use Rattle.ldc_packet.specs.declared.packet.Subtype.TheVariants.{Info}
+use Rattle.ldc_packet.specs.Spelling.{canonical as packet_bytes}
+use Rattle.ldc_queue.specs.Talk.{Heard as Heard_, Turn}
+use Rattle.ldc_link.specs.declared.phase.LinkPhase.{LinkPhase}
+use Rattle.ldc_link.specs.declared.phase.LinkPhase.TheVariants as phase
+use Rattle.ldc_link.specs.declared.phase.Role.{Role}
+use Rattle.ldc_link.specs.declared.phase.Role.TheVariants.{Initiator, Responder}
+use Rattle.ldc_link.specs.LinkState.{LinkState, cleared, is_established, is_up}
+use Rattle.ldc_link.specs.Putting.{control}
+use Rattle.ldc_link.specs.Taking.{Heard, TakesBytes, answer_to, counted}
+use Rattle.vio_handshake.specs.declared.handshake.Handshake.{Handshake}
+use Rattle.vio_handshake.specs.Rules.{Faults, Goes, GoesOpen, ShakeTake, opens_by_put, shake_sent, shake_take}
+use Rattle.vio_handshake.specs.State.{shake_up}
+use Rattle.vio_tag.specs.declared.message.Message.{Message}
+use Rattle.vio_tag.specs.declared.message.TagFault.{TagFault}
+use Rattle.vio_tag.specs.Decoding.{Decodes}
+use Rattle.vio_tag.specs.Form.{IsWellFormed}
+use Rattle.vio_tag.specs.Spelling.{SpellsMessage}
+use Rattle.disk_model.specs.EndPuts.{ComesUp, EndsOwn, EndsShake, Goes as GoesOn, PutKind, ending, kind_in, put_opens, shake_behind}
+use Rattle.disk_model.specs.Sayings.{heard}
+use Rattle.channel_laws.proofs.HandshakeCases.{HandshakeTook, goes_took, never_opens, opens_took}
+use Rattle.channel_laws.proofs.LinkCases.{ControlGone, ControlHeard, ControlPut, ControlTaken, LinkHeard, LinkPut, ModeAgreed, ModeAnswered, ModeAsked, ModeOffered, PartGone, PartHeard, ReadyGone, ReadyHeard, VersionAgreed, VersionAnswered, VersionAsked, VersionOffered, VersionRefused, behind_part, behind_ready, canonical_is, link_heard, link_put, put_quiet, ready_loud}
+use Rattle.channel_laws.proofs.TurnCases.{EndsBy, HearsOn, SaysLast, SaysMore, SaysNothing, SaysPart, hears_on, says_last, says_more, says_nothing, says_part}
+use Rattle.channel_laws.specs.EndCore.{EndCore}
+use Rattle.channel_laws.specs.EndStep.{EndHears, EndSays, HandshakeTakes, HearsDecoded, HearsWhole, IsOwn, kind_of, opened_by, risen_at}
+use Rattle.channel_laws.specs.Standing.{EndStands, IsPhaseOf}
+
+-- A MESSAGE that became whole by the packet
+pub record TookMessage (c : EndCore) (turns : List Turn) (packet : List ℕ) (now : LinkState) (message : Message) : Type 0 where
+  pub up : is_up c.link ≡ true
+  pub stays : is_up now ≡ true
+  pub bytes : List ℕ
+  pub whole : now.whole ≡ Some bytes
+  pub messages : heard (Heard_ packet ∷ turns) ≡ heard turns ++ bytes ∷ []
+  pub ends : EndsBy turns packet bytes
+  pub form : IsWellFormed message
+  pub spells : SpellsMessage bytes message
+
+-- WHAT WAS HEARD: no message became whole; or a responder's link came up; or a message of the session did; or one of its handshake
+pub data TookWhat (role : Role) (c : EndCore) (turns : List Turn) (packet : List ℕ) (opens : Bool) (t : EndCore) (now : LinkState) : Type 0 where
+  NoMessage : is_up now ≡ is_up c.link → heard (Heard_ packet ∷ turns) ≡ heard turns → t.handshake ≡ c.handshake → opens ≡ false → t.is_open ≡ c.is_open
+      → TookWhat role c turns packet opens t now
+  Rises : role ≡ Responder → is_up c.link ≡ false → is_up now ≡ true → heard (Heard_ packet ∷ turns) ≡ heard turns → t.handshake ≡ shake_up c.handshake → opens ≡ false
+      → t.is_open ≡ c.is_open → TookWhat role c turns packet opens t now
+  TookOwn : (message : Message) → TookMessage c turns packet now message → IsOwn c.handshake c.is_open message → t.handshake ≡ c.handshake → opens ≡ false
+      → t.is_open ≡ c.is_open → TookWhat role c turns packet opens t now
+  TookShake : (message : Message) → TookMessage c turns packet now message → HandshakeTook c.handshake message t.handshake opens → t.is_open ≡ (opens || c.is_open)
+      → TookWhat role c turns packet opens t now
+
+pub record EndTook (role : Role) (c : EndCore) (turns : List Turn) (packet : List ℕ) (opens : Bool) (t : EndCore) : Type 0 where
+  pub now : LinkState
+  pub takes : TakesBytes c.link packet (Heard now)
+  pub how : LinkHeard c.link packet now
+  pub link : t.link ≡ cleared now
+  pub what : TookWhat role c turns packet opens t now
+
+-- phases of the link's handshake
+pub taken_down : (before : LinkPhase) (bytes : List ℕ) (next : LinkPhase) → ControlTaken before bytes next → (is_established before ≡ false) × (is_established next ≡ false)
+taken_down before bytes next (VersionAsked major minor at packet goes) = (ap is_established at, ap is_established goes ∙ answer_down major)
+  where
+    by_tests : (b c : Bool) → is_established (if b then phase.OwesVersAck else if c then phase.OwesVersNack 0 else phase.OwesVersNack 1) ≡ false
+    by_tests true c = refl
+    by_tests false true = refl
+    by_tests false false = refl
+
+    answer_down : (n : ℕ) → is_established (answer_to n) ≡ false
+    answer_down n = by_tests (nat_eq n 1) (nat_eq n 0)
+taken_down before bytes next (VersionAgreed at packet goes) = (ap is_established at, ap is_established goes)
+taken_down before bytes next (ModeAsked at packet goes) = (ap is_established at, ap is_established goes)
+taken_down before bytes next (ModeAgreed at packet goes) = (ap is_established at, ap is_established goes)
+
+pub put_down : (before : LinkPhase) (bytes : List ℕ) (next : LinkPhase) → ControlPut before bytes next → (is_established before ≡ false) × (is_established next ≡ false)
+put_down before bytes next (VersionOffered at is goes) = (ap is_established at, ap is_established goes)
+put_down before bytes next (VersionAnswered at is goes) = (ap is_established at, ap is_established goes)
+put_down before bytes next (VersionRefused major at is goes) = (ap is_established at, ap is_established goes)
+put_down before bytes next (ModeOffered at is goes) = (ap is_established at, ap is_established goes)
+put_down before bytes next (ModeAnswered at is goes) = (ap is_established at, ap is_established goes)
+
+-- a handshake begins only as a responder's link comes up
+risen_not : (role : Role) (b a : Bool) (h g : Handshake) → (b ≡ false) ⊎ (a ≡ true) → (if b && not a then g else h) ≡ h
+risen_not role true true h g is = refl
+risen_not role true false h g (inl is) = absurd (cc is)
+risen_not role true false h g (inr is) = absurd (cc is)
+risen_not role false a h g is = refl
+
+pub stays_risen : (role : Role) (k m : LinkState) (h : Handshake) → (is_up m ≡ false) ⊎ (is_up k ≡ true) → risen_at role k m h ≡ h
+stays_risen Initiator k m h is = refl
+stays_risen Responder k m h is = risen_not Responder (is_up m) (is_up k) h (shake_up h) is
+
+up_risen : (b a : Bool) (h g : Handshake) → b ≡ true → a ≡ false → (if b && not a then g else h) ≡ g
+up_risen true false h g up down = refl
+up_risen true true h g up down = absurd (cc down)
+up_risen false a h g up down = absurd (cc up)
+
+-- a message that the handshake takes
+shake_takes : (role : Role) (h : Handshake) (was opens : Bool) (message : Message) (take : ShakeTake) (t : EndCore) → h.role ≡ role → shake_take h message ≡ take
+    → HandshakeTakes role was take opens t → HandshakeTook h message t.handshake opens × (t.is_open ≡ (opens || was))
+shake_takes role h was opens message (Goes g) t role_is is takes = (
+  subst (λ (b : Bool). HandshakeTook h message t.handshake b) (sym takes.0)
+      (subst (λ (x : Handshake). HandshakeTook h message x false) (sym takes.1) (goes_took h g message is)),
+  takes.2 ∙ ap (λ (b : Bool). b || was) (sym takes.0),
+)
+shake_takes Initiator h was opens message (GoesOpen g) t role_is is takes = absurd (never_opens h g message role_is (opens_took h g message is))
+shake_takes Responder h was opens message (GoesOpen g) t role_is is takes = (
+  subst (λ (b : Bool). HandshakeTook h message t.handshake b) (sym takes.0)
+      (subst (λ (x : Handshake). HandshakeTook h message x true) (sym takes.1) (opens_took h g message is)),
+  takes.2 ∙ ap (λ (b : Bool). b || was) (sym takes.0),
+)
+shake_takes role h was opens message (Faults cause) t role_is is takes = absurd takes
+
+by_decoded : (role : Role) (c : EndCore) (turns : List Turn) (packet bytes : List ℕ) (opens : Bool) (t : EndCore) (now : LinkState) (d : Result Message TagFault) → EndStands role c turns
+    → is_up c.link ≡ true → is_up now ≡ true → now.whole ≡ Some bytes → HearsOn turns packet (Some bytes) → Decodes bytes d
+    → HearsDecoded role c.handshake c.is_open d opens t → TookWhat role c turns packet opens t now
+by_decoded role c turns packet bytes opens t now (Ok message) stands up stays whole on decodes hears =
+    let took : TookMessage c turns packet now message = record {
+      up = up;
+      stays = stays;
+      bytes = bytes;
+      whole = whole;
+      messages = on.messages;
+      ends = on.ends;
+      form = decodes.message.0;
+      spells = decodes.message.1;
+    } in
+    elim hears [
+      | inl takes ↦
+          let both = shake_takes role c.handshake c.is_open opens message (shake_take c.handshake message) t stands.handshake.role_is refl takes in
+          TookShake message took both.0 both.1
+      | inr own ↦ TookOwn message took own.0 own.2 own.1 own.3
+    ]
+by_decoded role c turns packet bytes opens t now (Err fault) stands up stays whole on decodes hears = absurd hears
+
+by_whole : (role : Role) (c : EndCore) (turns : List Turn) (packet : List ℕ) (opens : Bool) (t : EndCore) (now : LinkState) (whole : Option (List ℕ)) → EndStands role c turns
+    → is_up c.link ≡ true → is_up now ≡ true → now.whole ≡ whole → HearsOn turns packet whole → HearsWhole role c.handshake c.is_open whole opens t
+    → TookWhat role c turns packet opens t now
+by_whole role c turns packet opens t now None stands up stays whole on hears = NoMessage (stays ∙ sym up) on.messages hears.1 hears.0 hears.2
+by_whole role c turns packet opens t now (Some bytes) stands up stays whole on hears =
+    by_decoded role c turns packet bytes opens t now hears.0 stands up stays whole on hears.1 hears.2
+
+pub end_took : (role : Role) (c t : EndCore) (turns : List Turn) (packet : List ℕ) (opens : Bool) → EndStands role c turns → EndHears role c packet opens t
+    → EndTook role c turns packet opens t
+end_took role c t turns packet opens stands hears =
+    record { now = hears.heard; takes = hears.takes; how = how; link = hears.link; what = by_how how }
+  where
+    how : LinkHeard c.link packet hears.heard
+    how = link_heard c.link hears.heard packet hears.takes
+
+    on : HearsOn turns packet hears.heard.whole
+    on = hears_on c.link hears.heard turns packet stands.link.seen stands.link.follows how
+
+    none_on : hears.heard.whole ≡ None → HearsOn turns packet None
+    none_on none = subst (HearsOn turns packet) none on
+
+    quietly : hears.heard.whole ≡ None → (h : Handshake) → risen_at role c.link hears.heard c.handshake ≡ h → HearsWhole role h c.is_open None opens t
+    quietly none h risen =
+        subst (λ (x : Handshake). HearsWhole role x c.is_open None opens t) risen
+        (subst (λ (w : Option (List ℕ)). HearsWhole role (risen_at role c.link hears.heard c.handshake) c.is_open w opens t) none hears.hears)
+
+    by_ready : (r : Role) → role ≡ r → IsPhaseOf r phase.AwaitsRdx → c.link.phase ≡ phase.AwaitsRdx → hears.heard ≡ counted (record c.link { phase = phase.Established })
+        → TookWhat role c turns packet opens t hears.heard
+    by_ready Initiator role_is of at is = absurd of
+    by_ready Responder role_is of at is =
+        let none : hears.heard.whole ≡ None = ap (λ (x : LinkState). x.whole) is ∙ stands.link.seen in
+        let up : is_up hears.heard ≡ true = ap is_up is in
+        let down : is_up c.link ≡ false = ap is_established at in
+        let risen : risen_at role c.link hears.heard c.handshake ≡ shake_up c.handshake =
+        ap (λ (x : Role). risen_at x c.link hears.heard c.handshake) role_is ∙ up_risen (is_up hears.heard) (is_up c.link) c.handshake (shake_up c.handshake) up down in
+        let goes = quietly none (shake_up c.handshake) risen in
+        Rises role_is down up (none_on none).messages goes.1 goes.0 goes.2
+
+    by_how : LinkHeard c.link packet hears.heard → TookWhat role c turns packet opens t hears.heard
+    by_how (ControlHeard next taken is) =
+        let downs = taken_down c.link.phase packet next taken in
+        let none : hears.heard.whole ≡ None = ap (λ (x : LinkState). x.whole) is ∙ stands.link.seen in
+        let below : is_up hears.heard ≡ false = ap is_up is ∙ downs.1 in
+        let goes = quietly none c.handshake (stays_risen role c.link hears.heard c.handshake (inl below)) in
+        NoMessage (below ∙ sym downs.0) (none_on none).messages goes.1 goes.0 goes.2
+    by_how (ReadyHeard at ready number is) = by_ready role refl (subst (IsPhaseOf role) at stands.link.of_role) at is
+    by_how (PartHeard at part may number is) =
+        let up : is_up c.link ≡ true = ap is_established at in
+        let stays : is_up hears.heard ≡ true = ap is_up is ∙ up in
+        by_whole role c turns packet opens t hears.heard hears.heard.whole stands up stays refl on
+        (subst (λ (x : Handshake). HearsWhole role x c.is_open hears.heard.whole opens t) (stays_risen role c.link hears.heard c.handshake (inr up)) hears.hears)
+
+-- WHAT WAS SAID: a packet of the link's handshake; RDX, with which an initiator's link is up; a part that goes on; or the last of a message of
+-- the end's session or of its handshake
+pub data PutWhat (role : Role) (held : EndCore) (turns : List Turn) (packet : List ℕ) (opens : Bool) (t : EndCore) : Type 0 where
+  PutControl : (next : LinkPhase) → ControlPut held.link.phase packet next → t.link ≡ record held.link { phase = next } → SaysNothing turns packet
+      → t.handshake ≡ held.handshake → opens ≡ false → t.is_open ≡ held.is_open → PutWhat role held turns packet opens t
+  PutReady : role ≡ Initiator → held.link.phase ≡ phase.OwesRdx → packet ≡ packet_bytes (control Info held.link.put_next Rdx) → t.link ≡ behind_ready held.link → SaysNothing turns packet
+      → t.handshake ≡ shake_up held.handshake → opens ≡ false → t.is_open ≡ held.is_open → PutWhat role held turns packet opens t
+  PutMore : held.link.phase ≡ phase.Established → t.link ≡ behind_part held.link → SaysMore held.link turns packet → t.handshake ≡ held.handshake → opens ≡ false
+      → t.is_open ≡ held.is_open → PutWhat role held turns packet opens t
+  PutOwn : held.own ≡ true → held.link.phase ≡ phase.Established → t.link ≡ behind_part held.link → SaysLast held.link turns packet → t.handshake ≡ held.handshake
+      → opens ≡ false → t.is_open ≡ held.is_open → PutWhat role held turns packet opens t
+  PutShake : held.own ≡ false → held.link.phase ≡ phase.Established → t.link ≡ behind_part held.link → SaysLast held.link turns packet → t.handshake ≡ shake_sent held.handshake
+      → opens ≡ opens_by_put held.handshake.role held.handshake.phase → t.is_open ≡ (opens || held.is_open) → PutWhat role held turns packet opens t
+
+control_kind : (before : LinkPhase) (bytes : List ℕ) (next : LinkPhase) (k : LinkState) (own : Bool) → ControlPut before bytes next → kind_in before k own ≡ GoesOn
+control_kind before bytes next k own (VersionOffered at is goes) = ap (λ (p : LinkPhase). kind_in p k own) at
+control_kind before bytes next k own (VersionAnswered at is goes) = ap (λ (p : LinkPhase). kind_in p k own) at
+control_kind before bytes next k own (VersionRefused major at is goes) = ap (λ (p : LinkPhase). kind_in p k own) at
+control_kind before bytes next k own (ModeOffered at is goes) = ap (λ (p : LinkPhase). kind_in p k own) at
+control_kind before bytes next k own (ModeAnswered at is goes) = ap (λ (p : LinkPhase). kind_in p k own) at
+
+opened_not : (role : Role) (opens was : Bool) → opens ≡ false → opened_by role opens was ≡ was
+opened_not Initiator opens was not = ap (λ (b : Bool). b || was) not
+opened_not Responder opens was not = refl
+
+opened_or : (role : Role) (h : Handshake) (was : Bool) → h.role ≡ role → opened_by role (opens_by_put h.role h.phase) was ≡ (opens_by_put h.role h.phase || was)
+opened_or Initiator h was is = refl
+opened_or Responder h was is = sym (ap (λ (r : Role). opens_by_put r h.phase || was) is)
+
+pub end_put : (role : Role) (c t : EndCore) (turns : List Turn) (packet : List ℕ) (opens : Bool) → (says : EndSays role c packet opens t) → EndStands role says.held turns
+    → PutWhat role says.held turns packet opens t
+end_put role c t turns packet opens says stands = by_how (link_put held.link t.link packet says.puts)
+  where
+    held : EndCore
+    held = says.held
+
+    goes : (kind : PutKind) → kind_of held ≡ kind → (t.handshake ≡ shake_behind kind held.handshake) × (opens ≡ put_opens kind held.handshake)
+    goes kind is = (
+      says.handshake ∙ ap (λ (x : PutKind). shake_behind x held.handshake) is,
+      says.opens_is ∙ ap (λ (x : PutKind). put_opens x held.handshake) is,
+    )
+
+    stays : opens ≡ false → t.is_open ≡ held.is_open
+    stays not = says.is_open ∙ opened_not role opens held.is_open not
+
+    by_role : (r : Role) → role ≡ r → IsPhaseOf r phase.OwesRdx → role ≡ Initiator
+    by_role Initiator is of = is
+    by_role Responder is of = absurd of
+
+    by_end : (last own : Bool) → nat_le (length held.link.to_send) 56 ≡ last → held.own ≡ own → held.link.phase ≡ phase.Established → 1 ≤ length held.link.to_send
+        → t.link ≡ behind_part held.link → SaysPart held.link packet → PutWhat role held turns packet opens t
+    by_end false own long is at some link part =
+        let kind = goes GoesOn (ap (λ (p : LinkPhase). kind_in p held.link held.own) at ∙ ap (λ (b : Bool). ending b held.own) long) in
+        PutMore at link (says_more held.link turns packet part long) kind.0 kind.1 (stays kind.1)
+    by_end true true short is at some link part =
+        let kind = goes EndsOwn (ap (λ (p : LinkPhase). kind_in p held.link held.own) at ∙ ap (λ (b : Bool). ending b held.own) short ∙ ap (ending true) is) in
+        PutOwn is at link (says_last held.link turns packet part some (leb-true (length held.link.to_send) 56 short) short) kind.0 kind.1 (stays kind.1)
+    by_end true false short is at some link part =
+        let kind = goes EndsShake (ap (λ (p : LinkPhase). kind_in p held.link held.own) at ∙ ap (λ (b : Bool). ending b held.own) short ∙ ap (ending true) is) in
+        PutShake is at link (says_last held.link turns packet part some (leb-true (length held.link.to_send) 56 short) short) kind.0 kind.1
+        (says.is_open ∙ ap (λ (b : Bool). opened_by role b held.is_open) kind.1 ∙ opened_or role held.handshake held.is_open stands.handshake.role_is
+        ∙ ap (λ (b : Bool). b || held.is_open) (sym kind.1))
+
+    by_how : LinkPut held.link packet t.link → PutWhat role held turns packet opens t
+    by_how (ControlGone next gone is) =
+        let kind = goes GoesOn (control_kind held.link.phase packet next held.link held.own gone) in
+        let quiet = put_quiet held.link.phase packet next stands.link.follows.offers gone in
+        PutControl next gone is (says_nothing turns packet quiet.1) kind.0 kind.1 (stays kind.1)
+    by_how (ReadyGone at spelled is) =
+        let kind = goes ComesUp (ap (λ (p : LinkPhase). kind_in p held.link held.own) at) in
+        let quiet = ready_loud packet Info (canonical_is packet Info held.link.put_next Rdx tt (omega (arith, stands.link.follows.puts), tt) spelled) in
+        PutReady (by_role role refl (subst (IsPhaseOf role) at stands.link.of_role)) at spelled is (says_nothing turns packet quiet.1) kind.0 kind.1 (stays kind.1)
+    by_how (PartGone at some spelled is) =
+        by_end (nat_le (length held.link.to_send) 56) held.own refl refl at some is (says_part held.link turns packet stands.link.follows some spelled)

@@ -1,0 +1,16 @@
+pub mod LinkCases
+pub mod TurnCases
+pub mod HandshakeCases
+pub mod Short
+pub mod EndCases
+pub mod EndStanding
+pub mod EndResting
+pub mod Budgets
+pub mod FewLost
+pub mod Conversations
+pub mod Lifting
+pub mod ConversingRuns
+pub mod EndUttering
+pub mod LinkPlaced
+pub mod CoreRuns
+pub mod Numbering

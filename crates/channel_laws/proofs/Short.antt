@@ -1,0 +1,92 @@
+-- What a handshake owes has at most 256 bytes, where its offer has at most 14 cookies and the messages that it took were decoded.
+use Rattle.std.proofs.Common.{◌≡◌, ℕ, ◌*◌, ◌≤◌, Bool, true, false, List, [], ◌∷◌, length, take, drop, refl, ap, arith}
+use Rattle.std.specs.Prelude.{⊤}
+use Rattle.std.proofs.lemmas.List.{length-take}
+use Rattle.map_table.specs.Cookies.{cookies_bytes}
+use Rattle.map_table.specs.declared.cookie.Cookie.{Cookie}
+use Rattle.vio_handshake.specs.Attributes.{answered_attributes, client_attributes, port_attributes, said_attributes, server_attributes}
+use Rattle.vio_handshake.specs.declared.session.Offer.{Offer}
+use Rattle.vio_tag.proofs.Canonical.{length_canonical}
+use Rattle.vio_tag.specs.Attributes.{disk_attr_bytes, disk_attr_of, net_attr_bytes}
+use Rattle.vio_tag.specs.declared.attributes.DiskAttr.{DiskAttr}
+use Rattle.vio_tag.specs.declared.attributes.NetAttr.{NetAttr}
+use Rattle.vio_tag.specs.declared.message.Message.{Message}
+use Rattle.vio_tag.specs.declared.message.MsgBody.{MsgBody}
+use Rattle.vio_tag.specs.declared.message.MsgBody.TheVariants.{Attr, DringData, DringReg, DringUnreg, Mcast, Plain, Rdx, Ver}
+use Rattle.vio_tag.specs.Form.{HasForm, IsWellFormed}
+use Rattle.vio_tag.specs.Spelling.{SpellsBody, SpellsMessage, body_bytes, canonical}
+use Rattle.channel_laws.specs.Standing.{IsShort}
+
+-- what bytes decode to is short, or of no kind that a handshake owes
+abbrev pub ComesShort : MsgBody → Type 0
+ComesShort (Mcast set count addresses) = ⊤
+ComesShort (Ver major minor class) = ⊤
+ComesShort (Attr bytes) = length bytes ≤ 48
+ComesShort (DringReg ident slots slot_size options count cookies) = count ≤ 14
+ComesShort (DringUnreg ident) = ⊤
+ComesShort Rdx = ⊤
+ComesShort (DringData seq ident start end state) = ⊤
+ComesShort (Plain envelope) = ⊤
+
+taken_most : (n : ℕ) (xs : List ℕ) → length (take n xs) ≤ n
+taken_most n xs = omega (arith, length-take n xs)
+
+body_comes : (bytes : List ℕ) (body : MsgBody) → HasForm body → SpellsBody bytes body → ComesShort body
+body_comes bytes (Attr attr) form spells = omega (arith, ap length spells, taken_most 48 (drop 8 bytes))
+body_comes bytes (DringReg ident slots slot_size options count cookies) form spells = form.most
+body_comes bytes (Mcast set count addresses) form spells = tt
+body_comes bytes (Ver major minor class) form spells = tt
+body_comes bytes (DringUnreg ident) form spells = tt
+body_comes bytes Rdx form spells = tt
+body_comes bytes (DringData seq ident start end state) form spells = tt
+body_comes bytes (Plain envelope) form spells = tt
+
+pub message_comes : (bytes : List ℕ) (message : Message) → IsWellFormed message → SpellsMessage bytes message → ComesShort message.body
+message_comes bytes message form spells = body_comes bytes message.body form spells.body
+
+-- A SHORT message has 8 to 256 bytes
+cookies_long : (cookies : List Cookie) → length (cookies_bytes cookies) ≡ 16 * length cookies
+cookies_long [] = refl
+cookies_long (cookie ∷ cookies) = omega (arith, cookies_long cookies)
+
+taken_cookies : (n : ℕ) (cookies : List Cookie) → n ≤ 14 → length (cookies_bytes (take n cookies)) ≤ 224
+taken_cookies n cookies few = omega (arith, few, length-take n cookies, cookies_long (take n cookies))
+
+body_within : (body : MsgBody) → IsShort body → length (body_bytes body) ≤ 248
+body_within (Ver major minor class) short = omega arith
+body_within (Attr bytes) short = omega (arith, short)
+body_within (DringReg ident slots slot_size options count cookies) short = omega (arith, taken_cookies count cookies short)
+body_within (DringUnreg ident) short = omega arith
+body_within Rdx short = omega arith
+body_within (DringData seq ident start end state) short = omega arith
+body_within (Mcast set count addresses) short = absurd short
+body_within (Plain envelope) short = omega arith
+
+pub short_within : (message : Message) → IsShort message.body → length (canonical message) ≤ 256
+short_within message short = omega (arith, length_canonical message, body_within message.body short)
+
+pub some_bytes : (message : Message) → 1 ≤ length (canonical message)
+some_bytes message = omega (arith, length_canonical message)
+
+-- attributes have 48 bytes
+disk_long : (attr : DiskAttr) → length (disk_attr_bytes attr) ≡ 48
+disk_long attr = refl
+
+net_long : (attr : NetAttr) → length (net_attr_bytes attr) ≡ 48
+net_long attr = refl
+
+said_long : (both : Bool) (a : Offer) → a.both_rings ≡ both → length (said_attributes a) ≡ 48
+unfolding said_attributes
+said_long true a is = rw (is) (net_long (port_attributes a))
+said_long false a is = rw (is) (disk_long client_attributes)
+
+answered_long : (both : Bool) (b : Offer) (minor : ℕ) (bytes : List ℕ) → b.both_rings ≡ both → length (answered_attributes b minor bytes) ≡ 48
+unfolding answered_attributes
+answered_long true b minor bytes is = rw (is) (net_long (port_attributes b))
+answered_long false b minor bytes is = rw (is) (disk_long (server_attributes b minor (disk_attr_of bytes)))
+
+pub said_short : (a : Offer) → length (said_attributes a) ≤ 48
+said_short a = omega (arith, said_long a.both_rings a refl)
+
+pub answered_short : (b : Offer) (minor : ℕ) (bytes : List ℕ) → length (answered_attributes b minor bytes) ≤ 48
+answered_short b minor bytes = omega (arith, answered_long b.both_rings b minor bytes refl)

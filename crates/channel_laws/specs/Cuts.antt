@@ -1,0 +1,37 @@
+-- How a link stands to what its end said since it last began, and whose message it holds.
+use Rattle.std.specs.Prelude.{◌≡◌, ◌+◌, ◌≤◌, Bool, true, false, not, List, [], ◌++◌, ℕ, length, Some}
+use Rattle.ldc_link.specs.LinkState.{LinkState}
+use Rattle.ldc_queue.specs.Messages.{is_empty}
+use Rattle.ldc_queue.specs.Talk.{Turn}
+use Rattle.vio_handshake.specs.declared.handshake.Handshake.{Handshake}
+use Rattle.vio_tag.specs.declared.message.Message.{Message}
+use Rattle.vio_tag.specs.Spelling.{canonical}
+use Rattle.disk_model.specs.Sayings.{half_said}
+use Rattle.channel_laws.specs.EndCore.{holds}
+use Rattle.channel_laws.specs.EndStep.{IsOfSession}
+
+-- part of its message is put where part of one was said, what was said of a message and what is left of it are at most 256 bytes, and where
+-- nothing is left nothing of a message was said
+pub record Cuts (k : LinkState) (turns : List Turn) : Type 0 where
+  pub begun : k.begun ≡ not (is_empty (half_said turns))
+  pub most : length (half_said turns) + length k.to_send ≤ 256
+  pub free : k.to_send ≡ [] → half_said turns ≡ []
+
+-- what was put of a message and what is left of it: one of the end's session, or the message that its handshake owes
+pub record CarriesOwed (h : Handshake) (bytes : List ℕ) : Type 0 where
+  pub message : Message
+  pub owed : h.owed ≡ Some message
+  pub is : bytes ≡ canonical message
+
+pub record CarriesOwn (h : Handshake) (bytes : List ℕ) : Type 0 where
+  pub message : Message
+  pub body : IsOfSession message.body
+  pub sid : message.sid ≡ h.draft.sid
+  pub is : bytes ≡ canonical message
+
+abbrev pub Carries : Bool → Handshake → List ℕ → Type 0
+Carries false h bytes = CarriesOwed h bytes
+Carries true h bytes = CarriesOwn h bytes
+
+abbrev pub HoldsIts : Bool → LinkState → Handshake → List Turn → Type 0
+HoldsIts own k h turns = holds k ≡ true → Carries own h (half_said turns ++ k.to_send)

@@ -1,0 +1,13 @@
+pub mod EndCore
+pub mod EndStep
+pub mod LaneCore
+pub mod Sides
+pub mod Cuts
+pub mod Standing
+pub mod Grounds
+pub mod Utterances
+pub mod OneSession
+pub mod Budget
+pub mod Conversing
+pub mod LinkPlaces
+pub mod CoreLog

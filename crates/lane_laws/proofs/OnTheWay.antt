@@ -1,0 +1,249 @@
+-- On a lane that nobody forged, what is on the way between the ends agrees with the server's place: what an end said names, one range after the
+-- other, all from the first number on, and what the other heard is the front of it.
+use Rattle.std.proofs.Common.{◌≡◌, ℕ, ◌+◌, ◌%◌, ◌≤◌, Bool, true, false, Option, Some, None, List, [], ◌∷◌, ◌++◌, cond, drop, drop_at, filter, length, inl, inr, refl, sym, ap, ◌∙◌, subst, arith}
+use Rattle.std.specs.Prelude.{is_some}
+use Rattle.std.proofs.lemmas.Nat.{mod_below}
+use Rattle.runs.specs.Lawful.{log_of}
+use Rattle.runs.specs.Run.{Run}
+use Rattle.ldc_link.specs.declared.phase.Role.{Role}
+use Rattle.ldc_link.specs.declared.phase.Role.TheVariants.{Initiator, Responder}
+use Rattle.ldc_packet.specs.declared.packet.Subtype.TheVariants.{Ack, Info}
+use Rattle.ldc_queue.specs.declared.end.ChannelState.{ChannelState}
+use Rattle.ldc_queue.specs.declared.end.ChannelState.TheVariants.{Up}
+use Rattle.ldc_queue.specs.declared.end.End.TheVariants.{A, B}
+use Rattle.ldc_queue.specs.Numbered.{numbered}
+use Rattle.ldc_queue.specs.OneStream.{IsFront, OneWay, live}
+use Rattle.ldc_queue.specs.Talk.{Turn, numbered_heard, numbered_said}
+use Rattle.vio_handshake.proofs.Places.{AllSaid, Deal, Place}
+use Rattle.disk_model.specs.Agreement.{ServerAgrees}
+use Rattle.disk_model.specs.DiskEvent.{DiskEvent}
+use Rattle.disk_model.specs.DiskLog.{DiskLog, after, nothing_yet}
+use Rattle.disk_model.specs.LaneState.{IsShape, LaneState, Shape, fresh}
+use Rattle.disk_model.specs.LaneStep.{LaneStep}
+use Rattle.disk_model.specs.Messages.{end_of, is_range, range_if, seq_of, start_of}
+use Rattle.disk_model.specs.Ranges.{range_length, wrapped}
+use Rattle.disk_model.specs.Sayings.{heard, said}
+use Rattle.disk_model.specs.ServerState.{ServerSession, Work}
+use Rattle.disk_model.specs.TalkLog.{TalkLog}
+use Rattle.disk_model.specs.WireLog.{WireLog}
+use Rattle.disk_model.specs.WorkLog.{ClientCounts, ServerCounts, length_in, one_in}
+use Rattle.lane_laws.proofs.AckedFinished.{same_ranges}
+use Rattle.lane_laws.proofs.Agreeing.{client_some, talk_is}
+use Rattle.lane_laws.proofs.ClientInSession.{shape_of}
+use Rattle.lane_laws.proofs.EndHearing.{PeerSaid}
+use Rattle.lane_laws.proofs.EndPlaced.{EachData, IsData, code_of, subtype_of, sum_of}
+use Rattle.lane_laws.proofs.EndUttering.{is_open_up}
+use Rattle.lane_laws.proofs.HeardFront.{heard_messages, run_talks}
+use Rattle.lane_laws.proofs.LaneCounting.{Knows, run_knows}
+use Rattle.lane_laws.proofs.LanePlaces.{counted_client, counted_server}
+use Rattle.lane_laws.proofs.LanePlacing.{LanePlaced, client_said, server_said, up_or}
+use Rattle.lane_laws.proofs.OpeningDeal.{deal}
+use Rattle.lane_laws.proofs.OpeningScript.{said_at}
+use Rattle.lane_laws.proofs.PlacedSums.{kind_of, placed_ranges, placed_sum}
+use Rattle.lane_laws.proofs.PlacesAlong.{run_placed}
+use Rattle.lane_laws.proofs.RangesSaid.{end_is, is_data, seq_is, start_is}
+use Rattle.lane_laws.proofs.ServerCounting.{wraps_more}
+use Rattle.lane_laws.proofs.UpRuns.{unheard_client}
+use Rattle.lane_laws.specs.Counted.{ServerOrder, range_count, range_sum}
+use Rattle.lane_laws.specs.LaneTalks.{talk_behind}
+use Rattle.lane_laws.specs.OnTheWay.{NameAll, OnTheWay, SeqsFrom, WaitsOrLost, answered_by, asked_by, expected_by, ranges_behind}
+
+same_names : (slots from other to goal : ℕ) (messages : List (List ℕ)) → from ≡ other → to ≡ goal → NameAll slots from to messages → NameAll slots other goal messages
+same_names slots from other to goal messages begins ends names =
+    subst (λ (n : ℕ). NameAll slots n goal messages) begins (subst (λ (n : ℕ). NameAll slots from n messages) ends names)
+
+-- WHAT IS SAID names all from the first number on
+data_is : (r : Role) (d : Deal) (count sum : ℕ) (bytes : List ℕ) → IsData r d count sum bytes → is_range (code_of r) bytes ≡ true
+data_is Initiator d count sum bytes is = ap (is_range 1) is.bytes_are ∙ is_data 1 d.sid Info is.seq d.sid (sum % d.asks.slots) is.end is.state refl
+data_is Responder d count sum bytes is = ap (is_range 2) is.bytes_are ∙ is_data 2 d.sid Ack is.seq d.sid (sum % d.asks.slots) is.end is.state refl
+
+data_begins : (r : Role) (d : Deal) (count sum : ℕ) (bytes : List ℕ) → d.asks.slots ≤ 256 → (is : IsData r d count sum bytes) → start_of bytes ≡ sum % d.asks.slots
+data_begins r d count sum bytes few is =
+    let ends = is.ends in
+    ap start_of is.bytes_are
+    ∙ start_is (subtype_of r) d.sid is.seq d.sid (sum % d.asks.slots) is.end is.state (omega (arith, mod_below sum d.asks.slots (omega (arith, ends)), few))
+
+data_ends : (r : Role) (d : Deal) (count sum : ℕ) (bytes : List ℕ) → d.asks.slots ≤ 256 → (is : IsData r d count sum bytes) → end_of bytes ≡ is.end
+data_ends r d count sum bytes few is =
+    let ends = is.ends in ap end_of is.bytes_are ∙ end_is (subtype_of r) d.sid is.seq d.sid (sum % d.asks.slots) is.end is.state (omega (arith, ends, few))
+
+names_data : (r : Role) (d : Deal) (count sum : ℕ) (messages : List (List ℕ)) → d.asks.slots ≤ 256 → EachData r d count sum messages
+    → NameAll d.asks.slots sum (sum + sum_of r d messages) (filter (is_range (code_of r)) messages)
+names_data r d count sum [] few each = omega arith
+names_data r d count sum (bytes ∷ messages) few each =
+    let is = each.0 in
+    let rest = filter (is_range (code_of r)) messages in
+    let test : is_range (code_of r) bytes ≡ true = data_is r d count sum bytes is in
+    let spans : length_in d.asks.slots (range_if (is_range (code_of r) bytes) bytes) ≡ range_length d.asks.slots (start_of bytes) (end_of bytes) =
+    ap (λ (b : Bool). length_in d.asks.slots (range_if b bytes)) test in
+    let ends : end_of bytes ≡ is.end = data_ends r d count sum bytes few is in
+    subst (λ (b : Bool). NameAll d.asks.slots sum (sum + sum_of r d (bytes ∷ messages)) (cond b (bytes ∷ rest) rest)) (sym test) (
+      data_begins r d count sum bytes few is,
+      omega (arith, ends, is.ends),
+      same_names d.asks.slots (sum + length_in d.asks.slots (range_if (is_range (code_of r) bytes) bytes)) (sum + range_length d.asks.slots (start_of bytes) (end_of bytes))
+          (sum + length_in d.asks.slots (range_if (is_range (code_of r) bytes) bytes) + sum_of r d messages) (sum + sum_of r d (bytes ∷ messages)) rest
+          (ap (λ (n : ℕ). sum + n) spans) (omega arith) (names_data r d (count + 1) (sum + length_in d.asks.slots (range_if (is_range (code_of r) bytes) bytes)) messages few each.1),
+    )
+
+-- an INFO has the next seq
+seqs_data : (d : Deal) (count sum : ℕ) (messages : List (List ℕ)) → EachData Initiator d count sum messages → SeqsFrom (wrapped (count + 1)) (filter (is_range 1) messages)
+seqs_data d count sum [] each = tt
+seqs_data d count sum (bytes ∷ messages) each =
+    let is = each.0 in
+    let rest = filter (is_range 1) messages in
+    let number : is.seq ≡ wrapped (count + 1) = is.number in
+    let next : wrapped (count + 1 + 1) ≡ wrapped (wrapped (count + 1) + 1) = sym (wraps_more (wrapped (count + 1)) (count + 1) 1 refl) in
+    subst (λ (b : Bool). SeqsFrom (wrapped (count + 1)) (cond b (bytes ∷ rest) rest)) (sym (data_is Initiator d count sum bytes is)) (
+      ap seq_of is.bytes_are ∙ seq_is Info d.sid is.seq d.sid (sum % d.asks.slots) is.end is.state (omega (arith, number)) ∙ number,
+      subst (λ (n : ℕ). SeqsFrom n rest) next (seqs_data d (count + 1) _ messages each.1),
+    )
+
+peer_names : (shape : Shape) (sid : ℕ) (r : Role) (messages : List (List ℕ)) → shape.slots ≤ 256 → PeerSaid (deal shape sid 0) r messages
+    → NameAll shape.slots 0 (range_sum shape.slots (code_of r) messages) (filter (is_range (code_of r)) messages)
+peer_names shape sid r messages few peer =
+    let d = deal shape sid 0 in
+    let k = code_of r in
+    let all : 0 + sum_of r d peer.more ≡ range_sum shape.slots k messages =
+    omega (arith, ap (range_sum shape.slots k) peer.is, placed_sum d r peer.place shape.slots k peer.more (kind_of r)) in
+    subst (λ (xs : List (List ℕ)). NameAll shape.slots 0 (range_sum shape.slots k messages) xs) (sym (ap (filter (is_range k)) peer.is ∙ placed_ranges d r peer.place k peer.more (kind_of r)))
+    (same_names shape.slots 0 0 (0 + sum_of r d peer.more) (range_sum shape.slots k messages) (filter (is_range k) peer.more) refl all (names_data r d 0 0 peer.more few peer.are))
+
+peer_seqs : (shape : Shape) (sid : ℕ) (messages : List (List ℕ)) → PeerSaid (deal shape sid 0) Initiator messages → SeqsFrom 1 (filter (is_range 1) messages)
+peer_seqs shape sid messages peer =
+    subst (SeqsFrom 1) (sym (ap (filter (is_range 1)) peer.is ∙ placed_ranges (deal shape sid 0) Initiator peer.place 1 peer.more (inl refl))) (seqs_data (deal shape sid 0) 0 0 peer.more peer.are)
+
+-- BEHIND A FRONT the rest is named
+one_past : (slots subtype from to sum : ℕ) (b : Bool) (bytes : List ℕ) (rest behind : List (List ℕ)) → ((n : ℕ) → NameAll slots n to rest → NameAll slots (n + sum) to behind)
+    → NameAll slots from to (cond b (bytes ∷ rest) rest) → NameAll slots (from + (length_in slots (range_if b bytes) + sum)) to behind
+one_past slots subtype from to sum true bytes rest behind past names =
+    same_names slots (from + range_length slots (start_of bytes) (end_of bytes) + sum) (from + (range_length slots (start_of bytes) (end_of bytes) + sum)) to to behind (omega arith) refl
+    (past (from + range_length slots (start_of bytes) (end_of bytes)) names.2)
+one_past slots subtype from to sum false bytes rest behind past names =
+    same_names slots (from + sum) (from + (0 + sum)) to to behind (omega arith) refl (past from names)
+
+names_past : (slots subtype from to : ℕ) (xs ys : List (List ℕ)) → NameAll slots from to (filter (is_range subtype) (xs ++ ys))
+    → NameAll slots (from + range_sum slots subtype xs) to (filter (is_range subtype) ys)
+names_past slots subtype from to [] ys names = same_names slots from (from + 0) to to (filter (is_range subtype) ys) (omega arith) refl names
+names_past slots subtype from to (x ∷ xs) ys names =
+    one_past slots subtype from to (range_sum slots subtype xs) (is_range subtype x) x (filter (is_range subtype) (xs ++ ys)) (filter (is_range subtype) ys)
+    (λ n more. names_past slots subtype n to xs ys more) names
+
+seq_past : (count more : ℕ) (b : Bool) (bytes : List ℕ) (rest behind : List (List ℕ)) → ((n : ℕ) → SeqsFrom (wrapped (n + 1)) rest → SeqsFrom (wrapped (n + more + 1)) behind)
+    → SeqsFrom (wrapped (count + 1)) (cond b (bytes ∷ rest) rest) → SeqsFrom (wrapped (count + (one_in (range_if b bytes) + more) + 1)) behind
+seq_past count more true bytes rest behind past seqs =
+    let next : wrapped (wrapped (count + 1) + 1) ≡ wrapped (count + 1 + 1) = wraps_more (wrapped (count + 1)) (count + 1) 1 refl in
+    let same : count + 1 + more + 1 ≡ count + (1 + more) + 1 = omega arith in
+    subst (λ (n : ℕ). SeqsFrom (wrapped n) behind) same (past (count + 1) (subst (λ (n : ℕ). SeqsFrom n rest) next seqs.1))
+seq_past count more false bytes rest behind past seqs =
+    let same : count + more + 1 ≡ count + (0 + more) + 1 = omega arith in
+    subst (λ (n : ℕ). SeqsFrom (wrapped n) behind) same (past count seqs)
+
+seqs_past : (count : ℕ) (xs ys : List (List ℕ)) → SeqsFrom (wrapped (count + 1)) (filter (is_range 1) (xs ++ ys)) → SeqsFrom (wrapped (count + range_count 1 xs + 1)) (filter (is_range 1) ys)
+seqs_past count [] ys seqs =
+    let same : count + 1 ≡ count + 0 + 1 = omega arith in subst (λ (n : ℕ). SeqsFrom (wrapped n) (filter (is_range 1) ys)) same seqs
+seqs_past count (x ∷ xs) ys seqs =
+    seq_past count (range_count 1 xs) (is_range 1 x) x (filter (is_range 1) (xs ++ ys)) (filter (is_range 1) ys) (λ n more. seqs_past n xs ys more) seqs
+
+split : (taken told : List (List ℕ)) → IsFront taken told → told ≡ taken ++ drop (length taken) told
+split taken told front =
+    front.1 ∙ ap (λ (xs : List (List ℕ)). taken ++ xs) (sym (ap (drop (length taken)) front.1 ∙ drop_at taken front.0 (length taken) refl))
+
+behind_names : (slots subtype from to goal : ℕ) (taken told : List (List ℕ)) → IsFront taken told → NameAll slots 0 to (filter (is_range subtype) told) → range_sum slots subtype taken ≡ from → to ≡ goal
+    → NameAll slots from goal (ranges_behind subtype told taken)
+behind_names slots subtype from to goal taken told front names begins ends =
+    same_names slots (0 + range_sum slots subtype taken) from to goal (ranges_behind subtype told taken) (omega (arith, begins)) ends
+    (names_past slots subtype 0 to taken (drop (length taken) told) (subst (λ (xs : List (List ℕ)). NameAll slots 0 to (filter (is_range subtype) xs)) (split taken told front) names))
+
+behind_seqs : (seq : ℕ) (taken told : List (List ℕ)) → IsFront taken told → SeqsFrom 1 (filter (is_range 1) told) → wrapped (range_count 1 taken + 1) ≡ seq → SeqsFrom seq (ranges_behind 1 told taken)
+behind_seqs seq taken told front seqs is =
+    let same : 0 + range_count 1 taken + 1 ≡ range_count 1 taken + 1 = omega arith in
+    subst (λ (n : ℕ). SeqsFrom n (ranges_behind 1 told taken)) (ap wrapped same ∙ is)
+    (seqs_past 0 taken (drop (length taken) told) (subst (λ (xs : List (List ℕ)). SeqsFrom 1 (filter (is_range 1) xs)) (split taken told front) seqs))
+
+-- THE SERVER'S PLACE is counted by what it heard and said
+record PlaceIs (slots : ℕ) (o : Option ServerSession) (q : Option ServerCounts) (turns : List Turn) : Type 0 where
+  asked : range_sum slots 1 (heard turns) ≡ asked_by q
+  answered : range_sum slots 2 (said turns) ≡ answered_by q
+  seq : wrapped (range_count 1 (heard turns) + 1) ≡ expected_by o
+
+place_is : (slots : ℕ) (o : Option ServerSession) (w : Option Work) (q : Option ServerCounts) (turns : List Turn) → ServerOrder slots o q turns → ServerAgrees o w q → PlaceIs slots o q turns
+place_is slots None w None turns order agrees = record { asked = order.asked; answered = order.answered; seq = ap (λ (n : ℕ). wrapped (n + 1)) order.infos }
+place_is slots None w (Some d) turns order agrees = absurd agrees
+place_is slots (Some v) w None turns order agrees = absurd order
+place_is slots (Some v) w (Some d) turns order agrees = record { asked = sym order.asked; answered = sym order.answered; seq = sym order.seq }
+
+-- ONE DIRECTION between two ends that are up
+nothing : (packets : List (List ℕ)) → length packets ≤ 0 → packets ≡ []
+nothing [] none = refl
+nothing (packet ∷ packets) none = absurd (omega (arith, none))
+
+direction : (e f : ChannelState) (put taken waiting : List (List ℕ)) (lost : ℕ) (lossy : Bool) → e ≡ Up → f ≡ Up → OneWay (live e put) (live f taken) waiting lost → (lossy ≡ false → lost ≡ 0)
+    → WaitsOrLost put taken waiting lossy
+direction e f put taken waiting lost lossy up_e up_f way whole =
+    let there : OneWay put taken waiting lost =
+    subst (λ (x : ChannelState). OneWay (live x put) taken waiting lost) up_e (subst (λ (x : ChannelState). OneWay (live e put) (live x taken) waiting lost) up_f way) in
+    record { gone = there.gone; is = there.is; whole = λ calm. nothing there.gone (omega (arith, there.few, whole calm)) }
+
+-- A CLIENT that is up with its session open has a server that is up
+server_up : (shape : Shape) (events : List DiskEvent) (s : LaneState) → IsShape shape → Run LaneStep (fresh shape) events s → (log_of after (nothing_yet shape) events).wire.forged ≡ false
+    → s.wire.wire.end_a ≡ Up → is_some s.client.session ≡ true → s.wire.wire.end_b ≡ Up
+server_up shape events s sound run clean up_a now =
+    let l = log_of after (nothing_yet shape) events in
+    let knows : Knows s l = run_knows shape events s sound run in
+    let placed : LanePlaced shape s l.talk = run_placed shape events s sound run clean in
+    let d = deal shape placed.sid 0 in
+    let at = (placed.client up_a).up (is_open_up Initiator s.client.link s.client.shake (is_some s.client.session) l.talk.client knows.rests.client now) in
+    let clean_s : s.wire.forged ≡ false = ap (λ (w : WireLog). w.forged) knows.all.stands.wire ∙ clean in
+    elim (up_or s.wire.wire.end_b) [
+      | inl up ↦ up
+      | inr not ↦
+          let none : heard l.talk.client ≡ [] = ap (λ (t : TalkLog). heard t.client) (talk_is (nothing_yet shape) events) ∙ unheard_client shape events s sound run clean_s up_a not in
+          let never : [] ≡ said_at d Responder AllSaid ++ at.theirs = sym none ∙ at.heard_is ∙ ap (λ (n : Place). said_at d Responder n ++ at.theirs) (at.opens now) in
+          absurd (cc never)
+    ]
+
+-- ALL OF IT
+pub on_the_way : (shape : Shape) (events : List DiskEvent) (s : LaneState) (k : ClientCounts) → IsShape shape → Run LaneStep (fresh shape) events s
+    → (log_of after (nothing_yet shape) events).wire.forged ≡ false → (log_of after (nothing_yet shape) events).work.client ≡ Some k
+    → (log_of after (nothing_yet shape) events).wire.wire.end_a ≡ Up → OnTheWay s (log_of after (nothing_yet shape) events) k
+on_the_way shape events s k sound run clean is up =
+    let l : DiskLog = log_of after (nothing_yet shape) events in
+    let knows : Knows s l = run_knows shape events s sound run in
+    let shape_is : l.shape ≡ shape = shape_of (nothing_yet shape) events in
+    let wire = knows.all.stands.wire in
+    let talk : talk_behind events ≡ l.talk = sym (talk_is (nothing_yet shape) events) in
+    let clean_s : s.wire.forged ≡ false = ap (λ (w : WireLog). w.forged) wire ∙ clean in
+    let up_a : s.wire.wire.end_a ≡ Up = ap (λ (w : WireLog). w.wire.end_a) wire ∙ up in
+    let now : is_some s.client.session ≡ true = client_some s.client.session l.work.done l.work.client k is knows.counted.client.agrees in
+    let up_b : s.wire.wire.end_b ≡ Up = server_up shape events s sound run clean up_a now in
+    let placed : LanePlaced shape s l.talk = run_placed shape events s sound run clean in
+    let client = counted_client shape s l shape_is knows in
+    let server = counted_server shape s l shape_is knows in
+    let counts = same_ranges s.client.session l.work.done l.work.client k is client.agrees in
+    let place : PlaceIs shape.slots s.server.session l.work.server l.talk.server = place_is shape.slots s.server.session s.server.work l.work.server l.talk.server server.order server.agrees in
+    let asks = client_said shape placed.sid s.client l.talk.client knows.utters.client (placed.client up_a) in
+    let answers = server_said shape placed.sid s.server l.talk.server knows.utters.server (placed.server up_b) in
+    let front_a : IsFront (heard l.talk.client) (said l.talk.server) =
+    subst (λ (t : TalkLog). IsFront (heard t.client) (said t.server)) talk (heard_messages shape events s A sound run clean_s up_a) in
+    let front_b : IsFront (heard l.talk.server) (said l.talk.client) =
+    subst (λ (t : TalkLog). IsFront (heard t.server) (said t.client)) talk (heard_messages shape events s B sound run clean_s up_b) in
+    let talks = (run_talks shape events s sound run).unforged clean_s in
+    let stream = talks.conversation.stream in
+    let to_b = direction s.wire.wire.end_a s.wire.wire.end_b (numbered_said (talk_behind events).client) (numbered_heard (talk_behind events).server) (numbered s.wire.wire.to_b) talks.lost_b s.wire.lossy
+    up_a up_b stream.to_b (λ calm. (talks.whole calm).1) in
+    let to_a = direction s.wire.wire.end_b s.wire.wire.end_a (numbered_said (talk_behind events).server) (numbered_heard (talk_behind events).client) (numbered s.wire.wire.to_a) talks.lost_a s.wire.lossy
+    up_b up_a stream.to_a (λ calm. (talks.whole calm).0) in
+    record {
+      server_up = ap (λ (w : WireLog). w.wire.end_b) (sym wire) ∙ up_b;
+      infos = subst (λ (x : Shape). NameAll x.slots (asked_by l.work.server) k.announced (ranges_behind 1 (said l.talk.client) (heard l.talk.server))) (sym shape_is)
+          (behind_names shape.slots 1 (asked_by l.work.server) (range_sum shape.slots 1 (said l.talk.client)) k.announced (heard l.talk.server) (said l.talk.client) front_b
+          (peer_names shape placed.sid Initiator (said l.talk.client) sound.most_slots asks) place.asked (sym (counts.announced ∙ client.announced)));
+      seqs = behind_seqs (expected_by s.server.session) (heard l.talk.server) (said l.talk.client) front_b (peer_seqs shape placed.sid (said l.talk.client) asks) place.seq;
+      acks = subst (λ (x : Shape). NameAll x.slots k.acked (answered_by l.work.server) (ranges_behind 2 (said l.talk.server) (heard l.talk.client))) (sym shape_is)
+          (behind_names shape.slots 2 k.acked (range_sum shape.slots 2 (said l.talk.server)) (answered_by l.work.server) (heard l.talk.client) (said l.talk.server) front_a
+          (peer_names shape placed.sid Responder (said l.talk.server) sound.most_slots answers) (sym (counts.acked ∙ client.acked)) place.answered);
+      to_server = subst (λ (w : WireLog). WaitsOrLost (numbered_said l.talk.client) (numbered_heard l.talk.server) (numbered w.wire.to_b) w.lossy) wire
+          (subst (λ (t : TalkLog). WaitsOrLost (numbered_said t.client) (numbered_heard t.server) (numbered s.wire.wire.to_b) s.wire.lossy) talk to_b);
+      to_client = subst (λ (w : WireLog). WaitsOrLost (numbered_said l.talk.server) (numbered_heard l.talk.client) (numbered w.wire.to_a) w.lossy) wire
+          (subst (λ (t : TalkLog). WaitsOrLost (numbered_said t.server) (numbered_heard t.client) (numbered s.wire.wire.to_a) s.wire.lossy) talk to_a);
+    }
