@@ -2,7 +2,7 @@
 use Rattle.std.proofs.Common.{ℕ, List, [], ◌∷◌, replicate, true}
 use Rattle.std.specs.Prelude.{codes}
 use Rattle.std.specs.Fmt.{digits}
-use Rattle.hex.specs.Hex.{decode_pairs, encode_with}
+use Rattle.std.specs.Int.RustNames.{count_ones}
 use Rattle.vdisk_msg.specs.declared.request.Fill.{Fill}
 use Rattle.vdisk_msg.specs.declared.request.Request.TheVariants.{Read, Write}
 use Rattle.domain_script.specs.declared.event.DiskDecl.{DiskDecl}
@@ -23,7 +23,7 @@ abbrev word : Fill
 word = record { len = 1; bytes = 171 ∷ replicate 1023 0 }
 
 one_write_one_read : AllSpell (script_lines bytes) no_names (Disk disk ∷ Issue 0 (Write 3 2 word) ∷ Issue 0 (Read 2 3) ∷ Settle ∷ []) (record { disks = disk ∷ []; ended = true })
-unfolding decode_pairs encode_with digits
+unfolding digits count_ones
 one_write_one_read = events_spelled (script_lines bytes) no_names
 
 -- two disks, and rows of their lanes
@@ -37,5 +37,5 @@ rows_of_two_disks : AllSpell (script_lines other_bytes) no_names
     (Disk disk ∷ Blank ∷ Disk other_disk ∷ Step (record { lane = lane.Disk 1; side = Client }) 12 ∷ Round 100
     ∷ Restart (record { lane = lane.Disk 0; side = Server }) ∷ Stop 1 ∷ Tick (lane.Disk 1) ∷ [])
     (record { disks = disk ∷ other_disk ∷ []; ended = true })
-unfolding decode_pairs encode_with digits
+unfolding digits count_ones
 rows_of_two_disks = events_spelled (script_lines other_bytes) no_names

@@ -8,12 +8,19 @@ pub mod WordLemmas
 pub mod NumberLemmas
 pub mod HexWords
 pub mod SameName
+pub mod Naming
+pub mod WordTests
+pub mod NamingTests
 pub mod FieldValues
 pub mod RowLemmas
-pub mod Naming
 pub mod PowersOfTwo
 pub mod Spelling
 pub mod OneEvent
+pub mod CleanWords
+pub mod FirstOf
+pub mod FaultLemmas
+pub mod Faultless
+pub mod PrintedLines
 pub mod ComputedEvents
 mod ExampleScript
 pub mod LowerDigits

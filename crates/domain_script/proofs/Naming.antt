@@ -68,11 +68,8 @@ none_named names word name (Some k) spelled named = tt
 pub lane_within : (names : NamesState) (word : List ℕ) (l : Lane) → NamesLane names word l → IsLane names l
 lane_within names word (lane.Disk disk) named = named_within names.disks named.name disk named.declared_as
 
-one_lane : (names : NamesState) (word : List ℕ) (a b : Lane) → NamesLane names word a → NamesLane names word b → a ≡ b
+pub one_lane : (names : NamesState) (word : List ℕ) (a b : Lane) → NamesLane names word a → NamesLane names word b → a ≡ b
 one_lane names word (lane.Disk j) (lane.Disk k) first second = ap (λ (n : ℕ). lane.Disk n) (names_one_disk names word j k first second)
-
-no_lane : (names : NamesState) (word : List ℕ) (l : Lane) → ((disk : ℕ) → NamesDisk names word disk → ⊥) → NamesLane names word l → ⊥
-no_lane names word (lane.Disk disk) none named = none disk named
 
 -- two sides are written differently
 other_letter : (xs ys : List ℕ) (a b : ℕ) → xs ++ 46 ∷ a ∷ [] ≡ ys ++ 46 ∷ b ∷ [] → a ≡ b
@@ -95,8 +92,8 @@ names_one_end names word a b first second =
     same_end a b (one_lane names second.name a.lane b.lane named second.lane_named) same.1
 
 -- no lane has the name in front of the side
-pub names_no_end : (names : NamesState) (word name : List ℕ) (side : Side) → word ≡ name ++ side_text side → ((disk : ℕ) → NamesDisk names name disk → ⊥)
+pub names_no_end : (names : NamesState) (word name : List ℕ) (side : Side) → word ≡ name ++ side_text side → ((l : Lane) → NamesLane names name l → ⊥)
     → (end : EndName) → NamesEnd names word end → ⊥
 names_no_end names word name side is none end named =
     let same = one_side named.name name end.side side (sym named.spelled ∙ is) in
-    no_lane names name end.lane none (subst (λ (w : List ℕ). NamesLane names w end.lane) same.0 named.lane_named)
+    none end.lane (subst (λ (w : List ℕ). NamesLane names w end.lane) same.0 named.lane_named)

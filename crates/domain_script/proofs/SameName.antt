@@ -1,6 +1,6 @@
 -- Names and ends by their fields.
 use Rattle.std.proofs.Common.{◌≡◌, ℕ, Bool, true, false, ◌&&◌, eqb, List, sym, ◌∙◌, ap}
-use Rattle.std.proofs.lemmas.Bool.{and_parts, eqb-true, eq-eqb}
+use Rattle.std.proofs.lemmas.Bool.{and_parts, eqb-true, eq-eqb, false_from_ne_true}
 use Rattle.std.proofs.lemmas.Slice.Eq.{bytes_eq-Decides}
 use Rattle.std.specs.Str.{bytes_eq}
 use Rattle.domain_script.specs.declared.event.EndName.{EndName}
@@ -30,8 +30,14 @@ both_true : (x y : Bool) → x ≡ true → y ≡ true → (x && y) ≡ true
 both_true true y first second = second
 both_true false y first second = first
 
+pub test_from_name : (a b : Name) → a ≡ b → (eqb a.len b.len && bytes_eq a.bytes b.bytes) ≡ true
+test_from_name a b is =
+    both_true (eqb a.len b.len) (bytes_eq a.bytes b.bytes) (eq-eqb a.len b.len (ap (λ (n : Name). n.len) is))
+    ((bytes_eq-Decides a.bytes b.bytes).1 (ap (λ (n : Name). n.bytes) is))
+
 pub not_from_test : (a b : Name) → false ≡ (eqb a.len b.len && bytes_eq a.bytes b.bytes) → a ≡ b → ⊥
 not_from_test a b other is =
-    let equal = both_true (eqb a.len b.len) (bytes_eq a.bytes b.bytes) (eq-eqb a.len b.len (ap (λ (n : Name). n.len) is))
-    ((bytes_eq-Decides a.bytes b.bytes).1 (ap (λ (n : Name). n.bytes) is)) in
-    let both : false ≡ true = other ∙ equal in cc
+    let both : false ≡ true = other ∙ test_from_name a b is in cc
+
+pub test_from_other : (a b : Name) → (a ≡ b → ⊥) → (eqb a.len b.len && bytes_eq a.bytes b.bytes) ≡ false
+test_from_other a b other = false_from_ne_true _ (λ is. other (name_from_test a b (sym is)))

@@ -1,63 +1,89 @@
 -- From the words of a line to the line, and what a line that spells an event says of the names.
-use Rattle.std.proofs.Common.{◌≡◌, inl, inr, ℕ, true, false, List, [], ◌∷◌, Option, Some, None, Result, IfNone, OnOk, OnSome, sym, subst}
+use Rattle.std.proofs.Common.{◌≡◌, ◌<◌, inl, inr, ℕ, false, List, [], ◌∷◌, length, Option, Some, None, IfNone, OnSome, sym, subst}
 use Rattle.domain_script.specs.declared.event.DiskDecl.{DiskDecl}
 use Rattle.domain_script.specs.declared.event.Event.{Event}
-use Rattle.domain_script.specs.declared.event.Event.TheVariants.{Disk}
-use Rattle.domain_script.specs.declared.event.LineFault.{LineFault}
-use Rattle.domain_script.specs.declared.event.LineFault.TheVariants.{Word}
-use Rattle.std.specs.Option.{ok_or}
+use Rattle.domain_script.specs.declared.event.Event.TheVariants.{Blank, Disk}
+use Rattle.domain_script.specs.declared.fields.LaneKind.TheVariants as lanes
 use Rattle.domain_script.specs.declared.rows.RowKind.{RowKind}
-use Rattle.domain_script.specs.NamesState.{NamesState}
-use Rattle.domain_script.specs.Rows.{MayStand, row_named}
+use Rattle.domain_script.specs.Declarations.{IsDisk}
+use Rattle.domain_script.specs.NamesState.{CanDeclare, CanNote, IsFree, NamesState}
+use Rattle.domain_script.specs.Printed.{CanPrint}
+use Rattle.domain_script.specs.Rows.{row_named}
 use Rattle.domain_script.specs.Words.{words}
 use Rattle.domain_script.specs.Spells.{IsBlank, IsDeclared, Spells, SpellsFound, SpellsWords}
-use Rattle.domain_script.proofs.OneEvent.{blank_or_row}
-use Rattle.domain_script.proofs.RowLemmas.{declared_row}
+use Rattle.domain_script.proofs.PowersOfTwo.{power_from_bit}
+use Rattle.domain_script.proofs.RowLemmas.{row_printable}
 
 -- a line that isn't blank and whose words spell nothing
-pub no_event : (line : List ℕ) (ws : List (List ℕ)) (names : NamesState) → words line ≡ ws → (IsBlank line → false ≡ true)
+no_event : (line : List ℕ) (ws : List (List ℕ)) (names : NamesState) → words line ≡ ws → (IsBlank line → ⊥)
     → ((event : Event) → SpellsWords ws names event → ⊥) → (event : Event) → Spells line names event → ⊥
-no_event line ws names is not_blank none event spells =
-    elim (blank_or_row line names event spells) [
-      | inl blank ↦ let both : false ≡ true = not_blank blank.0 in cc
-      | inr row ↦ none event (subst (λ (l : List (List ℕ)). SpellsWords l names event) is row)
-    ]
+no_event line ws names is not_blank none event (inl blank) = not_blank blank.0
+no_event line ws names is not_blank none event (inr spells) = none event (subst (λ (l : List (List ℕ)). SpellsWords l names event) is spells)
 
-pub none_spelled : (line : List ℕ) (ws : List (List ℕ)) (names : NamesState) (found : Option Unit) → words line ≡ ws → (IsBlank line → false ≡ true)
+pub none_spelled : (line : List ℕ) (ws : List (List ℕ)) (names : NamesState) (found : Option Unit) → words line ≡ ws → (IsBlank line → ⊥)
     → IfNone found ((event : Event) → SpellsWords ws names event → ⊥) → IfNone found ((event : Event) → Spells line names event → ⊥)
 none_spelled line ws names None is not_blank none = no_event line ws names is not_blank none
-none_spelled line ws names (Some event) is not_blank none = tt
+none_spelled line ws names (Some done) is not_blank none = tt
 
-declared_found : (found : Option RowKind) (line : List (List ℕ)) (names : NamesState) (event : Event) → SpellsFound found line names event → IsDeclared names event
-declared_found None line names event spells = absurd spells
-declared_found (Some kind) line names event spells = declared_row kind line names event spells
+-- its words spell what it spells
+pub some_spelled : (line : List ℕ) (ws : List (List ℕ)) (names : NamesState) (event : Event) (found : Option Unit) → words line ≡ ws
+    → OnSome found (SpellsWords ws names event) → OnSome found (Spells line names event)
+some_spelled line ws names event None is spells = tt
+some_spelled line ws names event (Some done) is spells = inr (subst (λ (l : List (List ℕ)). SpellsWords l names event) (sym is) spells)
 
-declared_words : (line : List (List ℕ)) (names : NamesState) (event : Event) → SpellsWords line names event → IsDeclared names event
-declared_words [] names event spells = absurd spells
-declared_words (word ∷ line) names event spells = declared_found (row_named word) line names event spells
+-- A LINE THAT SPELLS AN EVENT says of it what printing it asks for
+blank_printable : (names : NamesState) → CanPrint names Blank
+blank_printable names = record { fits = tt; stands = tt }
 
--- a line that spells an event names disks that are declared
+printable_found : (found : Option RowKind) (line : List (List ℕ)) (names : NamesState) (event : Event) → SpellsFound found line names event → CanPrint names event
+printable_found None line names event spells = absurd spells
+printable_found (Some kind) line names event spells = row_printable kind line names event spells
+
+printable_words : (line : List (List ℕ)) (names : NamesState) (event : Event) → SpellsWords line names event → CanPrint names event
+printable_words [] names event spells = absurd spells
+printable_words (word ∷ line) names event spells = printable_found (row_named word) line names event spells
+
+pub can_print : (line : List ℕ) (names : NamesState) (event : Event) → Spells line names event → CanPrint names event
+can_print line names event (inl blank) = subst (λ (e : Event). CanPrint names e) (sym blank.1) (blank_printable names)
+can_print line names event (inr spells) = printable_words (words line) names event spells
+
 pub is_declared : (line : List ℕ) (names : NamesState) (event : Event) → Spells line names event → IsDeclared names event
-is_declared line names event spells =
-    elim (blank_or_row line names event spells) [
-      | inl blank ↦ subst (IsDeclared names) (sym blank.1) tt
-      | inr row ↦ declared_words (words line) names event row
-    ]
+is_declared line names event spells = (can_print line names event spells).fits
 
-pub found_declared : (line : List ℕ) (names : NamesState) (event : Event) (found : Option Unit) (r : Result Unit LineFault) → r ≡ ok_or found Word
-    → OnSome found (Spells line names event) → OnOk r (IsDeclared names event)
-found_declared line names event None r is spells = subst (λ (x : Result Unit LineFault). OnOk x (IsDeclared names event)) (sym is) tt
-found_declared line names event (Some done) r is spells =
-    subst (λ (x : Result Unit LineFault). OnOk x (IsDeclared names event)) (sym is) (is_declared line names event spells)
+-- so that it may be noted
+note_of : (names : NamesState) (event : Event) → CanPrint names event → CanNote names event
+note_of names (Disk disk) can = can.stands.0
+note_of names event can = tt
+
+pub can_note : (line : List ℕ) (names : NamesState) (event : Event) → Spells line names event → CanNote names event
+can_note line names event spells = note_of names event (can_print line names event spells)
 
 -- a declaration is within the limits, and comes before any other line that isn't blank
-pub declared_first : (line : List ℕ) (names : NamesState) (disk : DiskDecl) → Spells line names (Disk disk) → MayStand names (Disk disk)
-declared_first line names disk spells = of_words (words line) spells
-  where
-    of_found : (found : Option RowKind) (others : List (List ℕ)) → SpellsFound found others names (Disk disk) → MayStand names (Disk disk)
-    of_found None others row = absurd row
-    of_found (Some kind) others row = row.stands
+pub record Declares (names : NamesState) (disk : DiskDecl) : Type 0 where
+  pub open_still : names.ended ≡ false
+  pub few : length names.disks < 8
+  pub free : IsFree disk.name names.disks
+  pub limits : IsDisk disk
 
-    of_words : (line : List (List ℕ)) → SpellsWords line names (Disk disk) → MayStand names (Disk disk)
-    of_words [] row = absurd row
-    of_words (word ∷ others) row = of_found (row_named word) others row
+pub declared_first : (line : List ℕ) (names : NamesState) (disk : DiskDecl) → Spells line names (Disk disk) → Declares names disk
+declared_first line names disk spells =
+    let can : CanPrint names (Disk disk) = can_print line names (Disk disk) spells in
+    let may : CanDeclare names lanes.Disk disk.name = can.stands.0 in
+    let blocks = can.fits.1.0.1 in
+    let ring = can.fits.1.1.0.1 in
+    let queue = can.fits.1.1.1.0.1 in
+    record {
+      open_still = may.open_still;
+      few = may.few;
+      free = may.free;
+      limits = record {
+        some_blocks = blocks.0;
+        most_blocks = blocks.1;
+        least_ring = ring.0;
+        most_ring = ring.1;
+        ring_power = power_from_bit disk.ring ring.1 ring.2;
+        least_queue = queue.0;
+        most_queue = queue.1;
+        queue_power = power_from_bit disk.queue queue.1 queue.2;
+      };
+    }

@@ -8,6 +8,10 @@ pub mod Reader
 pub mod Fills
 pub mod Words
 pub mod Rows
+pub mod Values
 pub mod Spells
+pub mod Naming
+pub mod Faults
+pub mod Printed
 pub mod ScriptEvents
 pub mod Computed

@@ -9,6 +9,10 @@ most_lines = 20000
 abbrev pub most_line_bytes : ℕ
 most_line_bytes = 3100
 
+-- the lanes of a kind
+abbrev pub most_of_a_kind : ℕ
+most_of_a_kind = 8
+
 -- the steps of a line, and its rounds
 abbrev pub most_turns : ℕ
 most_turns = 100

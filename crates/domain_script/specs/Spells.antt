@@ -1,19 +1,23 @@
 -- The rows of a script: which event a line spells.
-use Rattle.std.specs.Prelude.{◌≡◌, ℕ, ◌<◌, nat_le, ◌&&◌, Bool, IsTrue, List, [], ◌∷◌, ◌++◌, length, Option, Some, None, ⊤}
+use Rattle.std.specs.Prelude.{◌≡◌, ℕ, ◌^◌, ◌<◌, ◌⊎◌, nat_le, ◌&&◌, Bool, IsTrue, List, [], ◌∷◌, ◌++◌, length, Option, Some, None, ⊤}
 use Rattle.std.specs.List.{list_all}
 use Rattle.domain_script.specs.declared.event.Event.{Event}
 use Rattle.domain_script.specs.declared.event.EndName.{EndName}
 use Rattle.domain_script.specs.declared.event.Lane.{Lane}
 use Rattle.domain_script.specs.declared.event.Lane.TheVariants as lane
-use Rattle.domain_script.specs.declared.event.Event.TheVariants.{Blank, Issue, Step, Round, Reset, Restart, Stop, Start, Lose, Tick}
+use Rattle.domain_script.specs.declared.event.Event.TheVariants.{Blank}
 use Rattle.domain_script.specs.declared.event.Name.{Name}
 use Rattle.domain_script.specs.declared.event.Side.TheVariants.{Server}
+use Rattle.domain_script.specs.declared.fields.EndKind.{EndKind}
+use Rattle.domain_script.specs.declared.fields.EndKind.TheVariants as ends
+use Rattle.domain_script.specs.declared.fields.Field.{Field}
+use Rattle.domain_script.specs.declared.fields.Field.TheVariants.{NewName, DiskName, LaneName, End, Number, Bytes}
 use Rattle.domain_script.specs.declared.rows.RowKind.{RowKind}
-use Rattle.domain_script.specs.Fills.{IsRequest}
-use Rattle.domain_script.specs.Limits.{AreTurns}
-use Rattle.domain_script.specs.NamesState.{NamesState, IsDiskNamed, IsLane}
-use Rattle.domain_script.specs.Rows.{Bytes, Counted, DiskName, Ended, EndWord, Field, Filled, MayStand, Named, NewName, Number, Value, made, row_named, row_of}
-use Rattle.domain_script.specs.Words.{side_text, words, SpellsNumber, SpellsName, SpellsFill}
+use Rattle.domain_script.specs.Fills.{IsFill}
+use Rattle.domain_script.specs.NamesState.{NamesState, CanDeclare, IsDiskNamed, IsLane}
+use Rattle.domain_script.specs.Rows.{row_named, row_of}
+use Rattle.domain_script.specs.Values.{Said, ValueOf, ValuesOf, made, said}
+use Rattle.domain_script.specs.Words.{side_text, words, IsName, IsWithin, SpellsNumber, SpellsName, SpellsFill}
 
 -- from the space to the tilde
 abbrev pub is_printable : ℕ → Bool
@@ -40,28 +44,33 @@ pub record NamesEnd (names : NamesState) (word : List ℕ) (end : EndName) : Typ
   pub spelled : word ≡ name ++ side_text end.side
   pub lane_named : NamesLane names name end.lane
 
+-- the end is of the kind: all lanes are disks', whose servers have the side `.s`
+abbrev pub IsOfKind : EndKind → EndName → Type 0
+IsOfKind ends.Any end = ⊤
+IsOfKind ends.DiskServer end = end.side ≡ Server
+
 -- the word of a field spells a value
-abbrev pub SpellsField : NamesState → Field → List ℕ → Value → Type 0
-SpellsField names NewName word (Named name) = SpellsName word name
-SpellsField names DiskName word (Counted disk) = NamesDisk names word disk
-SpellsField names EndWord word (Ended end) = NamesEnd names word end
-SpellsField names Number word (Counted n) = SpellsNumber word n
-SpellsField names Bytes word (Filled fill) = SpellsFill word fill
-SpellsField names _ word _ = ⊥
+abbrev pub SpellsField : NamesState → (field : Field) → List ℕ → ValueOf field → Type 0
+SpellsField names (NewName kind) word name = SpellsName word name × CanDeclare names kind name
+SpellsField names DiskName word disk = NamesDisk names word disk
+SpellsField names LaneName word lane = NamesLane names word lane
+SpellsField names (End kind) word end = NamesEnd names word end × IsOfKind kind end
+SpellsField names (Number bounds) word n = SpellsNumber word n × IsWithin bounds n
+SpellsField names Bytes word fill = SpellsFill word fill
 
 -- words spell values, each as its field
-abbrev pub SpellsFields : NamesState → List Field → List (List ℕ) → List Value → Type 0
-SpellsFields names [] [] [] = ⊤
-SpellsFields names (field ∷ fields) (word ∷ others) (value ∷ values) =
-    SpellsField names field word value × SpellsFields names fields others values
-SpellsFields names _ _ _ = ⊥
+abbrev pub SpellsFields : NamesState → (fields : List Field) → List (List ℕ) → ValuesOf fields → Type 0
+SpellsFields names [] [] values = ⊤
+SpellsFields names [] (word ∷ others) values = ⊥
+SpellsFields names (field ∷ fields) [] values = ⊥
+SpellsFields names (field ∷ fields) (word ∷ others) values =
+    SpellsField names field word values.0 × SpellsFields names fields others values.1
 
 -- the words that follow a row's first one spell an event
 pub record SpellsRow (kind : RowKind) (line : List (List ℕ)) (names : NamesState) (event : Event) : Type 0 where
-  pub values : List Value
+  pub values : ValuesOf (row_of kind).fields
   pub spelled : SpellsFields names (row_of kind).fields line values
   pub makes : event ≡ made kind values
-  pub stands : MayStand names event
 
 -- the row that was found, if one was
 abbrev pub SpellsFound : Option RowKind → List (List ℕ) → NamesState → Event → Type 0
@@ -73,20 +82,28 @@ abbrev pub SpellsWords : List (List ℕ) → NamesState → Event → Type 0
 SpellsWords [] names event = ⊥
 SpellsWords (word ∷ line) names event = SpellsFound (row_named word) line names event
 
--- the line spells an event
+-- THE LINE SPELLS AN EVENT: it is blank, or its words spell it
 abbrev pub Spells : List ℕ → NamesState → Event → Type 0
-Spells line names Blank = IsBlank line
-Spells line names event = SpellsWords (words line) names event
+Spells line names event = (IsBlank line × (event ≡ Blank)) ⊎ SpellsWords (words line) names event
 
--- what an event names is declared: the disk of a request, of a stop and a start, and the lane of an end and of a tick
+-- a value that the field may have, where these names are declared
+abbrev pub FitsField : NamesState → (field : Field) → ValueOf field → Type 0
+FitsField names (NewName kind) name = IsName name
+FitsField names DiskName disk = disk < length names.disks
+FitsField names LaneName lane = IsLane names lane
+FitsField names (End kind) end = IsLane names end.lane × IsOfKind kind end
+FitsField names (Number bounds) n = (n < 2 ^ 64) × IsWithin bounds n
+FitsField names Bytes fill = IsFill fill
+
+abbrev pub FitFields : NamesState → (fields : List Field) → ValuesOf fields → Type 0
+FitFields names [] values = ⊤
+FitFields names (field ∷ fields) values = FitsField names field values.0 × FitFields names fields values.1
+
+-- what an event says fits its row: what it names is declared and of the kind that the row asks for, its numbers are
+-- within their bounds, and bytes are a fill
+abbrev pub FitsRow : NamesState → Option Said → Type 0
+FitsRow names None = ⊤
+FitsRow names (Some s) = FitFields names (row_of s.kind).fields s.values
+
 abbrev pub IsDeclared : NamesState → Event → Type 0
-IsDeclared names (Issue disk request) = (disk < length names.disks) × IsRequest request
-IsDeclared names (Step end count) = IsLane names end.lane × AreTurns count
-IsDeclared names (Round count) = AreTurns count
-IsDeclared names (Reset end) = IsLane names end.lane
-IsDeclared names (Restart end) = IsLane names end.lane × (end.side ≡ Server)
-IsDeclared names (Stop disk) = disk < length names.disks
-IsDeclared names (Start disk) = disk < length names.disks
-IsDeclared names (Lose end) = IsLane names end.lane
-IsDeclared names (Tick lane) = IsLane names lane
-IsDeclared names event = ⊤
+IsDeclared names event = FitsRow names (said event)

@@ -1,41 +1,53 @@
-ghost use Rattle.std.specs.Prelude.{◌↔◌, IfNone, IsTrue, OnSome};
+ghost use Rattle.std.specs.Prelude.{◌↔◌, IfNone, IfSome, IsTrue, OnSome};
 ghost use Rattle.domain_script.specs.declared.event.Event.{Event as event_data};
+ghost use Rattle.domain_script.specs.declared.event.Name.{Name as name_data};
 ghost use Rattle.domain_script.specs.declared.rows.RowKind.TheVariants as row;
 ghost use Rattle.domain_script.specs.NamesState.{CanDeclare};
 ghost use Rattle.domain_script.specs.Spells.{SpellsRow};
-ghost use Rattle.domain_script.specs.Words.{words};
+ghost use Rattle.domain_script.specs.Words.{words, SpellsName};
 
+use crate::fields::LaneKind;
 use crate::lane_words::{declared_disk, one_disk};
-use crate::numbers::{MOST_BLOCKS, MOST_SIZE, is_within_limits, number, number_up_to};
+use crate::numbers::{BLOCKS, QUEUE, RING, number, number_within};
 use crate::spellings::{NO_FILL, name, put_fill};
 use crate::words::{four_words, three_words};
-use crate::{DiskDecl, Event, Lane, Names, Request};
+use crate::{DiskDecl, Event, Name, Names, Request};
 
 /// `disk NAME BLOCKS RING QUEUE`, where the disk may be declared.
 pub fn disk_row(fields: &[u8], names: &Names, event: &mut Event) -> Option<()>
     ensures some { OnSome result (SpellsRow row.Disk (words fields.now) names.now event.new) }
     ensures none { IfNone result ((event : event_data) → SpellsRow row.Disk (words fields.now) names.now event → ⊥) }
 {
-    let (word, size, ring, queue) = four_words(fields)?;
+    let (word, blocks, ring, queue) = four_words(fields)?;
     let disk = DiskDecl {
-        name: name(word)?,
-        blocks: number_up_to(size, MOST_BLOCKS)?,
-        ring: number_up_to(ring, MOST_SIZE)?,
-        queue: number_up_to(queue, MOST_SIZE)?,
+        name: new_name(word, names, LaneKind::Disk)?,
+        blocks: number_within(blocks, BLOCKS)? as u32,
+        ring: number_within(ring, RING)? as u32,
+        queue: number_within(queue, QUEUE)? as u32,
     };
-    if can_declare(&disk, names) {
-        *event = Event::Disk(disk);
-        Some(())
+    *event = Event::Disk(disk);
+    Some(())
+}
+
+/// The name that a word spells, where a lane of this kind may be declared under it.
+fn new_name(word: &[u8], names: &Names, kind: LaneKind) -> Option<Name>
+    ensures some { IfSome result (SpellsName word.now) }
+    ensures can { IfSome result (CanDeclare names.now kind) }
+    ensures none { IfNone result ((name : name_data) → SpellsName word.now name → CanDeclare names.now kind name → ⊥) }
+{
+    let name = name(word)?;
+    if can_declare(&name, names, kind) {
+        Some(name)
     } else {
         None
     }
 }
 
-/// Whether a disk may be declared after these names.
-fn can_declare(disk: &DiskDecl, names: &Names) -> bool
-    ensures { IsTrue result ↔ CanDeclare names.now disk.now }
+/// Whether a lane of this kind may be declared under a name.
+fn can_declare(name: &Name, names: &Names, kind: LaneKind) -> bool
+    ensures { IsTrue result ↔ CanDeclare names.now kind name.now }
 {
-    names.is_open() && names.has_room() && names.is_free(&disk.name) && is_within_limits(disk)
+    names.is_open() && names.has_room(kind) && names.is_free(name)
 }
 
 /// `write NAME BLOCK COUNT HEX`
@@ -107,17 +119,5 @@ pub fn start_row(fields: &[u8], names: &Names, event: &mut Event) -> Option<()>
 {
     let disk = one_disk(fields, names)?;
     *event = Event::Start { disk };
-    Some(())
-}
-
-/// `tick NAME`
-pub fn tick_row(fields: &[u8], names: &Names, event: &mut Event) -> Option<()>
-    ensures some { OnSome result (SpellsRow row.Tick (words fields.now) names.now event.new) }
-    ensures none { IfNone result ((event : event_data) → SpellsRow row.Tick (words fields.now) names.now event → ⊥) }
-{
-    let disk = one_disk(fields, names)?;
-    *event = Event::Tick {
-        lane: Lane::Disk(disk),
-    };
     Some(())
 }

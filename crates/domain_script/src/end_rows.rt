@@ -4,10 +4,11 @@ ghost use Rattle.domain_script.specs.declared.rows.RowKind.TheVariants as row;
 ghost use Rattle.domain_script.specs.Spells.{SpellsRow};
 ghost use Rattle.domain_script.specs.Words.{words};
 
-use crate::lane_words::{declared_end, one_end};
-use crate::numbers::turns;
+use crate::fields::EndKind;
+use crate::lane_words::{declared_end, one_end, one_lane};
+use crate::numbers::{TURNS, number_within};
 use crate::words::{one_word, two_words};
-use crate::{Event, Names, Side};
+use crate::{Event, Names};
 
 /// `step END K`
 pub fn step_row(fields: &[u8], names: &Names, event: &mut Event) -> Option<()>
@@ -15,8 +16,8 @@ pub fn step_row(fields: &[u8], names: &Names, event: &mut Event) -> Option<()>
     ensures none { IfNone result ((event : event_data) → SpellsRow row.Step (words fields.now) names.now event → ⊥) }
 {
     let (word, count) = two_words(fields)?;
-    let end = declared_end(word, names)?;
-    let count = turns(count)?;
+    let end = declared_end(word, names, EndKind::Any)?;
+    let count = number_within(count, TURNS)? as u32;
     *event = Event::Step { end, count };
     Some(())
 }
@@ -26,7 +27,7 @@ pub fn round_row(fields: &[u8], names: &Names, event: &mut Event) -> Option<()>
     ensures some { OnSome result (SpellsRow row.Round (words fields.now) names.now event.new) }
     ensures none { IfNone result ((event : event_data) → SpellsRow row.Round (words fields.now) names.now event → ⊥) }
 {
-    let count = turns(one_word(fields)?)?;
+    let count = number_within(one_word(fields)?, TURNS)? as u32;
     *event = Event::Round { count };
     Some(())
 }
@@ -36,24 +37,19 @@ pub fn reset_row(fields: &[u8], names: &Names, event: &mut Event) -> Option<()>
     ensures some { OnSome result (SpellsRow row.Reset (words fields.now) names.now event.new) }
     ensures none { IfNone result ((event : event_data) → SpellsRow row.Reset (words fields.now) names.now event → ⊥) }
 {
-    let end = one_end(fields, names)?;
+    let end = one_end(fields, names, EndKind::Any)?;
     *event = Event::Reset { end };
     Some(())
 }
 
-/// `restart END`, the end being a server.
+/// `restart END`, the end being a disk's server.
 pub fn restart_row(fields: &[u8], names: &Names, event: &mut Event) -> Option<()>
     ensures some { OnSome result (SpellsRow row.Restart (words fields.now) names.now event.new) }
     ensures none { IfNone result ((event : event_data) → SpellsRow row.Restart (words fields.now) names.now event → ⊥) }
 {
-    let end = one_end(fields, names)?;
-    match end.side {
-        Side::Client => None,
-        Side::Server => {
-            *event = Event::Restart { end };
-            Some(())
-        }
-    }
+    let end = one_end(fields, names, EndKind::DiskServer)?;
+    *event = Event::Restart { end };
+    Some(())
 }
 
 /// `drop END`
@@ -61,7 +57,17 @@ pub fn lose_row(fields: &[u8], names: &Names, event: &mut Event) -> Option<()>
     ensures some { OnSome result (SpellsRow row.Lose (words fields.now) names.now event.new) }
     ensures none { IfNone result ((event : event_data) → SpellsRow row.Lose (words fields.now) names.now event → ⊥) }
 {
-    let end = one_end(fields, names)?;
+    let end = one_end(fields, names, EndKind::Any)?;
     *event = Event::Lose { end };
+    Some(())
+}
+
+/// `tick NAME`
+pub fn tick_row(fields: &[u8], names: &Names, event: &mut Event) -> Option<()>
+    ensures some { OnSome result (SpellsRow row.Tick (words fields.now) names.now event.new) }
+    ensures none { IfNone result ((event : event_data) → SpellsRow row.Tick (words fields.now) names.now event → ⊥) }
+{
+    let lane = one_lane(fields, names)?;
+    *event = Event::Tick { lane };
     Some(())
 }

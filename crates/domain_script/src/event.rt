@@ -79,14 +79,55 @@ pub enum Event {
     Tick { lane: Lane },
 }
 
-/// Why a line spells no event.
+/// Why a line spells no event: the first of these that holds, in this order. A dump answers `Hex` alone, for a line that
+/// isn't 128 digits.
 #[derive(Clone, Copy, Debug, PartialEq, Eq, Error)]
 pub enum LineFault {
-    /// The line is none of a script's rows in its place.
+    /// A byte is outside of the space to the tilde.
+    #[error("byte")]
+    Byte,
+
+    /// A space stands first or last, or two stand together, and the line is no comment.
+    #[error("space")]
+    Space,
+
+    /// The first word is none of the table.
     #[error("word")]
     Word,
 
-    /// The line isn't 128 lower-case hexadecimal digits. Only a dump of packets says so.
+    /// The line has another number of words than its first word asks for.
+    #[error("words")]
+    Words,
+
+    /// The name that a declaration gives isn't spelled as a name.
+    #[error("name")]
+    Name,
+
+    /// A declaration stands after a line that is neither blank nor a declaration.
+    #[error("place")]
+    Place,
+
+    /// The name was declared before.
+    #[error("taken")]
+    Taken,
+
+    /// A name or an end isn't declared, or isn't of the kind that the line needs.
+    #[error("unknown")]
+    Unknown,
+
+    /// A number isn't spelled as one.
+    #[error("number")]
+    Number,
+
+    /// A number of a declaration, of steps or of rounds is outside of its limits.
+    #[error("range")]
+    Range,
+
+    /// A word of hexadecimal digits isn't one, or has another length than it may have.
     #[error("hex")]
     Hex,
+
+    /// Eight of the kind are declared already.
+    #[error("many")]
+    Many,
 }

@@ -1,17 +1,24 @@
 //! The script that says what the domains do: its lines, one after another from a source, and the event that each
-//! line spells. The journal and the world stand on it. A line gives an event exactly where it spells one.
+//! line spells. The journal and the world stand on it. A line gives an event exactly where it spells one, and else the
+//! first of twelve faults; each event is printed as its one line.
 #![tactic(auto)]
 
 mod digits;
 mod disk_rows;
 mod end_rows;
 mod event;
+mod faults;
+mod field_faults;
+mod fields;
 mod lane_words;
+mod laws;
 mod lines;
 mod names;
 mod numbers;
 mod parser;
 mod piece;
+mod printing;
+mod putting;
 mod reading;
 mod rows;
 mod spellings;
@@ -19,7 +26,9 @@ mod words;
 
 pub use digits::decode_lower;
 pub use event::{DiskDecl, EndName, Event, Lane, LineFault, Name, Side};
+pub use laws::{faulty_lines_spell_nothing, parsed_lines_are_printed, spells_at_most_one};
 pub use lines::{Lines, LinesFault};
 pub use names::Names;
-pub use parser::{parse, parse_into, spells_at_most_one};
+pub use parser::{parse, parse_into};
+pub use printing::print;
 pub use vdisk_msg::{Fill, Request};

@@ -1,25 +1,32 @@
-ghost use Rattle.std.specs.Prelude.{◌≡◌, ◌↔◌, ℕ, ◌<◌, ◌≤◌, IfNone, IfSome, IsTrue};
-ghost use Rattle.domain_script.specs.Declarations.{IsDisk, IsPowerOfTwo};
-ghost use Rattle.domain_script.specs.Limits.{AreTurns};
-ghost use Rattle.domain_script.specs.Words.{SpellsNumber};
+ghost use Rattle.std.specs.Prelude.{◌≡◌, ℕ, IfNone, IfSome};
+ghost use Rattle.domain_script.specs.Words.{is_number, is_within, IsWithin, SpellsNumber};
 
-use crate::DiskDecl;
+use crate::fields::Bounds;
 use itoa::Buffer;
 
-/// The most blocks of a disk.
-pub const MOST_BLOCKS: u32 = 65_536;
+/// The blocks of a disk.
+pub const BLOCKS: Bounds = Bounds::Between {
+    least: 1,
+    most: 65_536,
+};
 
-/// The fewest slots of a ring.
-const LEAST_RING: u32 = 2;
+/// The slots of its descriptor ring.
+pub const RING: Bounds = Bounds::PowerBetween {
+    least: 2,
+    most: 256,
+};
 
-/// The fewest entries of a channel's queue.
-const LEAST_QUEUE: u32 = 8;
+/// The entries of each queue of its channel.
+pub const QUEUE: Bounds = Bounds::PowerBetween {
+    least: 8,
+    most: 256,
+};
 
-/// The most slots of a ring, and entries of a channel's queue.
-pub const MOST_SIZE: u32 = 256;
-
-/// The most steps or rounds of a line.
-const MOST_TURNS: u32 = 100;
+/// The steps or rounds of a line.
+pub const TURNS: Bounds = Bounds::Between {
+    least: 1,
+    most: 100,
+};
 
 /// The number that a word spells: it is that number's own decimal text.
 pub fn number(word: &[u8]) -> Option<u64>
@@ -35,43 +42,32 @@ pub fn number(word: &[u8]) -> Option<u64>
     }
 }
 
-/// The number that a word spells, where it is at most `most`.
-pub fn number_up_to(word: &[u8], most: u32) -> Option<u32>
+/// Whether a word spells a number.
+pub fn is_number(word: &[u8]) -> bool
+    ensures { result ≡ is_number word.now }
+{
+    number(word).is_some()
+}
+
+/// The number that a word spells, where it is within its bounds.
+pub fn number_within(word: &[u8], bounds: Bounds) -> Option<u64>
     ensures some { IfSome result (SpellsNumber word.now) }
-    ensures within { IfSome result (λ n. n ≤ most) }
-    ensures none { IfNone result ((n : ℕ) → SpellsNumber word.now n → n ≤ most → ⊥) }
+    ensures within { IfSome result (IsWithin bounds) }
+    ensures none { IfNone result ((n : ℕ) → SpellsNumber word.now n → IsWithin bounds n → ⊥) }
 {
     let n = number(word)?;
-    if n <= most as u64 {
-        Some(n as u32)
-    } else {
-        None
+    if is_within(n, bounds) { Some(n) } else { None }
+}
+
+/// Whether a number is within its bounds.
+pub fn is_within(n: u64, bounds: Bounds) -> bool
+    ensures { result ≡ is_within bounds n }
+{
+    match bounds {
+        Bounds::Any => true,
+        Bounds::Between { least, most } => u64::from(least) <= n && n <= u64::from(most),
+        Bounds::PowerBetween { least, most } => {
+            u64::from(least) <= n && n <= u64::from(most) && n.is_power_of_two()
+        }
     }
-}
-
-/// The steps or rounds that a word spells, 1 to 100.
-pub fn turns(word: &[u8]) -> Option<u32>
-    ensures some { IfSome result (SpellsNumber word.now) }
-    ensures within { IfSome result AreTurns }
-    ensures none { IfNone result ((n : ℕ) → SpellsNumber word.now n → AreTurns n → ⊥) }
-{
-    let count = number_up_to(word, MOST_TURNS)?;
-    if count >= 1 { Some(count) } else { None }
-}
-
-/// Whether a disk is within the limits.
-pub fn is_within_limits(disk: &DiskDecl) -> bool
-    ensures { IsTrue result ↔ IsDisk disk.now }
-{
-    disk.blocks >= 1
-        && disk.blocks <= MOST_BLOCKS
-        && is_size(disk.ring, LEAST_RING)
-        && is_size(disk.queue, LEAST_QUEUE)
-}
-
-/// Whether a number of slots or entries is a power of two from `least` on.
-fn is_size(n: u32, least: u32) -> bool
-    ensures { IsTrue result ↔ ((least ≤ n) × (n ≤ 256) × IsPowerOfTwo n) }
-{
-    n >= least && n <= MOST_SIZE && n.is_power_of_two()
 }

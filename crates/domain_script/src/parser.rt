@@ -1,25 +1,29 @@
 ghost use Rattle.std.specs.Prelude.{◌≡◌, ◌↔◌, ℕ, List, IfErr, IfNone, IfOk, IsTrue, OnOk, OnSome};
 ghost use Rattle.std.specs.List.{list_all};
 ghost use Rattle.domain_script.specs.declared.event.Event.{Event as event_data};
-ghost use Rattle.domain_script.specs.NamesState.{CanNote, NamesState};
+ghost use Rattle.domain_script.specs.Faults.{first_fault};
+ghost use Rattle.domain_script.specs.NamesState.{CanNote};
+ghost use Rattle.domain_script.specs.Printed.{CanPrint};
 ghost use Rattle.domain_script.specs.Spells.{is_printable, IsBlank, IsDeclared, Spells};
 
+use crate::faults::fault_of;
 use crate::rows::{row_alone, row_with_fields};
 use crate::words::split_once;
 use crate::{Event, LineFault, Names};
 
-/// The event that a line spells after the lines that were noted. A line, without its line feed, is empty or a
-/// comment, or one of the rows of a script, with one space between two words: `disk NAME BLOCKS RING QUEUE`,
-/// `write NAME BLOCK COUNT HEX`, `read NAME BLOCK COUNT`, `flush NAME`, `step END K`, `round K`, `settle`, `reset END`,
-/// `restart END`, `stop NAME`, `start NAME`, `drop END`, `tick NAME`. An END is a disk's NAME with `.c` or `.s` after it.
-/// `Word` exactly where the line spells no event.
+/// The event that a line spells after the lines that were noted, or what is wrong with it: the first fault of the table
+/// that holds. A line, without its line feed, is empty or a comment, or one of the rows of a script, with one space
+/// between two words: `disk NAME BLOCKS RING QUEUE`, `write NAME BLOCK COUNT HEX`, `read NAME BLOCK COUNT`, `flush NAME`,
+/// `step END K`, `round K`, `settle`, `reset END`, `restart END`, `stop NAME`, `start NAME`, `drop END`, `tick NAME`. An
+/// END is a disk's NAME with `.c` or `.s` after it.
 pub fn parse(line: &[u8], names: &Names) -> Result<Event, LineFault>
     ensures event { IfOk result (Spells line.now names.now) }
-    ensures fault { IfErr result (λ fault. (fault ≡ LineFault.Word) × ((event : event_data) → Spells line.now names.now event → ⊥)) }
+    ensures fault { IfErr result (λ fault. first_fault line.now names.now ≡ Some fault) }
 
-    // What the caller may do with the event.
+    // What the caller may do with the event: note it, run it, print it.
     ensures can { IfOk result (CanNote names.now) }
-    ensures named { IfOk result (IsDeclared names.now) }
+    ensures declared { IfOk result (IsDeclared names.now) }
+    ensures printable { IfOk result (CanPrint names.now) }
 {
     let mut event = Event::Blank;
     parse_into(line, names, &mut event)?;
@@ -30,17 +34,21 @@ pub fn parse(line: &[u8], names: &Names) -> Result<Event, LineFault>
 /// moved from call to call. After a fault what the caller's then is, is not specified.
 pub fn parse_into(line: &[u8], names: &Names, event: &mut Event) -> Result<(), LineFault>
     ensures event { OnOk result (Spells line.now names.now event.new) }
-    ensures fault { IfErr result (λ fault. (fault ≡ LineFault.Word) × ((event : event_data) → Spells line.now names.now event → ⊥)) }
+    ensures fault { IfErr result (λ fault. first_fault line.now names.now ≡ Some fault) }
 
     // What the caller may do with the event.
     ensures can { OnOk result (CanNote names.now event.new) }
-    ensures named { OnOk result (IsDeclared names.now event.new) }
+    ensures declared { OnOk result (IsDeclared names.now event.new) }
+    ensures printable { OnOk result (CanPrint names.now event.new) }
 {
     if is_blank(line) {
         *event = Event::Blank;
         return Ok(());
     }
-    spelled_row(line, names, event).ok_or(LineFault::Word)
+    match spelled_row(line, names, event) {
+        Some(()) => Ok(()),
+        None => Err(fault_of(line, names)),
+    }
 }
 
 /// Writes the event of a line that isn't blank. None where it spells none.
@@ -66,7 +74,7 @@ fn is_blank(line: &[u8]) -> bool
 }
 
 /// Whether bytes are printable. Each is looked at, also after one that isn't, so that many can be at once.
-fn are_printable(bytes: &[u8]) -> bool
+pub fn are_printable(bytes: &[u8]) -> bool
     ensures { result ≡ list_all is_printable bytes.now }
 {
     let mut all = true;
@@ -75,8 +83,3 @@ fn are_printable(bytes: &[u8]) -> bool
     }
     all
 }
-
-/// A line spells at most one event.
-pub fn spells_at_most_one()
-    ensures { (line : List ℕ) (names : NamesState) (a b : event_data) → Spells line names a → Spells line names b → a ≡ b }
-{}

@@ -1,11 +1,13 @@
-ghost use Rattle.std.specs.Prelude.{◌≡◌, [], ◌∷◌, codes, IfNone, OnSome};
+ghost use Rattle.std.specs.Prelude.{◌≡◌, ◌≤◌, [], ◌∷◌, length, codes, IfNone, OnSome};
 ghost use Rattle.domain_script.specs.declared.event.Event.{Event as event_data};
 ghost use Rattle.domain_script.specs.Rows.{row_named, row_of};
 ghost use Rattle.domain_script.specs.Spells.{SpellsWords};
 ghost use Rattle.domain_script.specs.Words.{words};
 
-use crate::disk_rows::{disk_row, flush_row, read_row, start_row, stop_row, tick_row, write_row};
-use crate::end_rows::{lose_row, reset_row, restart_row, round_row, step_row};
+use crate::disk_rows::{disk_row, flush_row, read_row, start_row, stop_row, write_row};
+use crate::end_rows::{lose_row, reset_row, restart_row, round_row, step_row, tick_row};
+use crate::fields::{Bounds, EndKind, Field, LaneKind};
+use crate::numbers::{BLOCKS, QUEUE, RING, TURNS};
 use crate::{Event, Names};
 
 /// The rows of a script.
@@ -68,10 +70,14 @@ const ROWS: [RowKind; 13] = [
     RowKind::Tick,
 ];
 
+/// A number that the script doesn't bound.
+const ANY: Field = Field::Number(Bounds::Any);
+
 impl RowKind {
     /// The word that a row begins with.
-    fn word(self) -> &'static [u8]
-        ensures { result.now ≡ (row_of self).word }
+    pub fn word(self) -> &'static [u8]
+        ensures word { result.now ≡ (row_of self).word }
+        ensures short { length result.now ≤ 7 }
     {
         match self {
             RowKind::Disk => b"disk",
@@ -89,10 +95,33 @@ impl RowKind {
             RowKind::Tick => b"tick",
         }
     }
+
+    /// What the words after it have to be.
+    pub fn fields(self) -> &'static [Field]
+        ensures { result.now ≡ (row_of self).fields }
+    {
+        match self {
+            RowKind::Disk => &[
+                Field::NewName(LaneKind::Disk),
+                Field::Number(BLOCKS),
+                Field::Number(RING),
+                Field::Number(QUEUE),
+            ],
+            RowKind::Write => &[Field::DiskName, ANY, ANY, Field::Bytes],
+            RowKind::Read => &[Field::DiskName, ANY, ANY],
+            RowKind::Flush | RowKind::Stop | RowKind::Start => &[Field::DiskName],
+            RowKind::Step => &[Field::End(EndKind::Any), Field::Number(TURNS)],
+            RowKind::Round => &[Field::Number(TURNS)],
+            RowKind::Settle => &[],
+            RowKind::Reset | RowKind::Lose => &[Field::End(EndKind::Any)],
+            RowKind::Restart => &[Field::End(EndKind::DiskServer)],
+            RowKind::Tick => &[Field::LaneName],
+        }
+    }
 }
 
 /// The row that a word begins.
-fn row_named(word: &[u8]) -> Option<RowKind>
+pub fn row_named(word: &[u8]) -> Option<RowKind>
     ensures { result ≡ row_named word.now }
 {
     for row in ROWS {

@@ -4,7 +4,7 @@ ghost use Rattle.std.specs.List.{list_all};
 ghost use Rattle.domain_script.specs.declared.event.Name.{Name as name_data};
 ghost use Rattle.domain_script.specs.declared.event.Side.{Side as side_data};
 ghost use Rattle.vdisk_msg.specs.declared.request.Fill.{Fill as fill_data};
-ghost use Rattle.domain_script.specs.Words.{is_name_byte, side_text, IsNameWord, SpellsFill, SpellsName};
+ghost use Rattle.domain_script.specs.Words.{begins_name, is_bytes, is_lower_digit, is_name, is_name_byte, side_text, IsNameWord, SpellsFill, SpellsName};
 
 use crate::digits::decode_lower;
 use crate::{Fill, Name, Side};
@@ -45,9 +45,17 @@ pub fn name_and_side(word: &[u8]) -> Option<(&[u8], Side)>
     }
 }
 
+/// Whether a word spells a name.
+pub fn is_name(word: &[u8]) -> bool
+    ensures { result ≡ is_name word.now }
+{
+    is_name_word(word) && word.len() <= 8
+}
+
 /// Whether a word is a letter and letters or digits after it.
 fn is_name_word(word: &[u8]) -> bool
-    ensures { IsTrue result ↔ IsNameWord word.now }
+    ensures letters { IsTrue result ↔ IsNameWord word.now }
+    ensures test { result ≡ begins_name word.now }
 {
     match word {
         [] => false,
@@ -66,6 +74,26 @@ fn is_name_byte(b: u8) -> bool
     ensures { result ≡ is_name_byte b }
 {
     b.is_ascii_lowercase() || b.is_ascii_digit()
+}
+
+/// Whether a word spells 1 to 1,024 bytes in hexadecimal.
+pub fn is_bytes(word: &[u8]) -> bool
+    ensures { result ≡ is_bytes word.now }
+{
+    are_lower_digits(word) && word.len() % 2 == 0 && word.len() >= 2 && word.len() <= 2 * MOST_FILL
+}
+
+fn are_lower_digits(word: &[u8]) -> bool
+    ensures { result ≡ list_all is_lower_digit word.now }
+{
+    word.iter().all(|b| is_lower_digit(*b))
+}
+
+/// Whether a byte is a lower-case hexadecimal digit.
+fn is_lower_digit(b: u8) -> bool
+    ensures { result ≡ is_lower_digit b }
+{
+    b.is_ascii_digit() || b >= b'a' && b <= b'f'
 }
 
 /// Puts the bytes that a word spells in hexadecimal into a fill that was all zeros: the word is their own lower-case

@@ -46,3 +46,16 @@ pub fn four_words(text: &[u8]) -> Option<(&[u8], &[u8], &[u8], &[u8])>
     let (second, third, fourth) = three_words(rest)?;
     Some((first, second, third, fourth))
 }
+
+/// How many words there are.
+pub fn count_words(text: &[u8]) -> usize
+    ensures { result ≡ length (words text.now) }
+{
+    let mut count = 1;
+    for byte in text {
+        if *byte == b' ' {
+            count += 1;
+        }
+    }
+    count
+}

@@ -2,7 +2,7 @@
 use Rattle.std.specs.Prelude.{ℕ, ◌-◌, List, [], ◌++◌, codes, decimal}
 use Rattle.domain_script.specs.declared.event.DiskDecl.{DiskDecl}
 use Rattle.domain_script.specs.declared.event.LineFault.{LineFault}
-use Rattle.domain_script.specs.declared.event.LineFault.TheVariants.{Word, Hex}
+use Rattle.domain_script.specs.declared.event.LineFault.TheVariants as line_fault
 use Rattle.ldom_entries.specs.declared.entry.Entry.{Entry}
 pub use Rattle.kept_journal.specs.Counts.{is_accepted, is_done, is_reset, accepted_count, done_count, reset_count}
 use Rattle.ldom_journal.specs.declared.status.Mode.{Mode}
@@ -15,8 +15,18 @@ use Rattle.ldom_journal.specs.Status.{status_number}
 
 -- why a line spells no event, or no packet
 abbrev pub fault_text : LineFault → List ℕ
-fault_text Word = codes "word"
-fault_text Hex = codes "hex"
+fault_text line_fault.Byte = codes "byte"
+fault_text line_fault.Space = codes "space"
+fault_text line_fault.Word = codes "word"
+fault_text line_fault.Words = codes "words"
+fault_text line_fault.Name = codes "name"
+fault_text line_fault.Place = codes "place"
+fault_text line_fault.Taken = codes "taken"
+fault_text line_fault.Unknown = codes "unknown"
+fault_text line_fault.Number = codes "number"
+fault_text line_fault.Range = codes "range"
+fault_text line_fault.Hex = codes "hex"
+fault_text line_fault.Many = codes "many"
 
 -- the limit that a line is past
 abbrev pub limit_text : LimitKind → List ℕ

@@ -39,8 +39,18 @@ fn fault_bytes(fault: LineFault) -> &'static [u8]
     ensures short { length result.now ≤ 20 }
 {
     match fault {
+        LineFault::Byte => b"byte",
+        LineFault::Space => b"space",
         LineFault::Word => b"word",
+        LineFault::Words => b"words",
+        LineFault::Name => b"name",
+        LineFault::Place => b"place",
+        LineFault::Taken => b"taken",
+        LineFault::Unknown => b"unknown",
+        LineFault::Number => b"number",
+        LineFault::Range => b"range",
         LineFault::Hex => b"hex",
+        LineFault::Many => b"many",
     }
 }
 

@@ -1,8 +1,13 @@
 use Rattle.std.proofs.Common.{◌≡◌, arith}
 use Rattle.std.proofs.lemmas.Grind.{common_steps}
+use Rattle.domain_script.specs.declared.rows.RowKind.TheVariants as row
 use Rattle.domain_script.specs.Words.{words}
-use Rattle.domain_script.proofs.RowLemmas.{if_filled, if_unfilled}
+use Rattle.domain_script.proofs.RowLemmas.{if_filled, if_unfilled, no_row_at}
 use Rattle.domain_script.proofs.disk_rows.write_row.Goals as goal
+
+pub returns-in_err-disk-clause-none : goal.returns-in_err-disk-clause-none
+returns-in_err-disk-clause-none c = rw c.from_residual-in_err-disk.ensures
+    (no_row_at 0 row.Write (words c.args.fields.now) _ c.args.names.now c.in_ok-word.ensures (omega arith) c.in_err-disk.ensures.none)
 
 pub returns-clause-some : goal.returns-clause-some
 returns-clause-some c =

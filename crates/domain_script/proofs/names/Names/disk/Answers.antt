@@ -1,12 +1,7 @@
 use Rattle.std.proofs.Common.{◌≡◌, length, take, arith, ap, sym}
 use Rattle.std.proofs.lemmas.List.{length-take-le}
 use Rattle.std.proofs.lemmas.Option.{slice_get_past}
-use Rattle.domain_script.proofs.Disks.{is_disk_within}
 use Rattle.domain_script.proofs.names.Names.disk.Goals as goal
-
-pub returns-then-k-self-clause-limits : goal.returns-then-k-self-clause-limits
-returns-then-k-self-clause-limits c =
-    is_disk_within c.self.inside.disks c.self.inside.count c.args.k _ c.self.invariant.2 (omega arith) (omega arith)
 
 pub returns-else-k-self-clause-value : goal.returns-else-k-self-clause-value
 returns-else-k-self-clause-value c =

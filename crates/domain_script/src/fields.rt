@@ -1,0 +1,50 @@
+/// The kinds of lanes that a script declares. There are at most eight of each.
+#[derive(Clone, Copy, Debug, PartialEq, Eq)]
+pub enum LaneKind {
+    Disk,
+}
+
+/// The ends that a line may name.
+#[derive(Clone, Copy, Debug, PartialEq, Eq)]
+pub enum EndKind {
+    /// Any end of a declared lane.
+    Any,
+
+    /// The server of a disk.
+    DiskServer,
+}
+
+/// The numbers that a line may have in a place.
+#[derive(Clone, Copy, Debug, PartialEq, Eq)]
+pub enum Bounds {
+    /// Any that it can spell.
+    Any,
+
+    /// Those from the least to the most.
+    Between { least: u32, most: u32 },
+
+    /// The powers of two among them.
+    PowerBetween { least: u32, most: u32 },
+}
+
+/// What a word in its place has to be.
+#[derive(Clone, Copy, Debug, PartialEq, Eq)]
+pub enum Field {
+    /// The name of what the line declares.
+    NewName(LaneKind),
+
+    /// The name of a declared disk.
+    DiskName,
+
+    /// The name of a declared lane.
+    LaneName,
+
+    /// An end of a declared lane: its name, and `.c` or `.s`.
+    End(EndKind),
+
+    /// A number: decimal, without leading zeros, below 2^64.
+    Number(Bounds),
+
+    /// 1 to 1,024 bytes, two lower-case hexadecimal digits each.
+    Bytes,
+}

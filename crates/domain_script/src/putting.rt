@@ -1,0 +1,133 @@
+// The words of a line, put one after another into a buffer.
+ghost use Rattle.std.specs.Prelude.{◌≡◌, ◌+◌, ◌*◌, ◌≤◌, ◌∷◌, ◌++◌, length, take, decimal};
+ghost use Rattle.hex.specs.Hex.{IsBytes, encode_lower};
+ghost use Rattle.domain_script.specs.Fills.{IsFill};
+ghost use Rattle.domain_script.specs.Printed.{HasName, IsLaneNamed, disk_text, end_text, fill_text, lane_text, name_text};
+ghost use Rattle.domain_script.specs.Rows.{row_of};
+ghost use Rattle.domain_script.specs.Words.{side_text, IsName};
+
+use crate::rows::RowKind;
+use crate::{EndName, Fill, Lane, Name, Names, Side};
+use hex::encode_to_slice;
+use itoa::Buffer;
+
+/// Puts bytes after the first `len`. Answers where they end.
+fn put(bytes: &[u8], out: &mut [u8; 3100], len: usize) -> usize
+    requires { len + length bytes.now ≤ 3100 }
+    ensures text { take result out.new ≡ take len out.old ++ bytes.now }
+    ensures len { result ≡ len + length bytes.now }
+{
+    let end = len + bytes.len();
+    out[len..end].copy_from_slice(bytes);
+    end
+}
+
+/// Puts a space and a word.
+fn put_word(word: &[u8], out: &mut [u8; 3100], len: usize) -> usize
+    requires { len + 1 + length word.now ≤ 3100 }
+    ensures text { take result out.new ≡ take len out.old ++ 32 ∷ word.now }
+    ensures len { result ≡ len + 1 + length word.now }
+{
+    out[len] = b' ';
+    put(word, out, len + 1)
+}
+
+/// Puts the word of a row first.
+pub fn put_row(kind: RowKind, out: &mut [u8; 3100]) -> usize
+    ensures text { take result out.new ≡ (row_of kind).word }
+    ensures len { result ≤ 7 }
+{
+    put(kind.word(), out, 0)
+}
+
+/// Puts a number.
+pub fn put_number(n: u64, out: &mut [u8; 3100], len: usize) -> usize
+    requires { len + 41 ≤ 3100 }
+    ensures text { take result out.new ≡ take len out.old ++ 32 ∷ decimal n }
+    ensures len { result ≤ len + 41 }
+{
+    let mut buffer = Buffer::new();
+    put_word(buffer.format(n).as_bytes(), out, len)
+}
+
+/// Puts a name.
+pub fn put_name(name: &Name, out: &mut [u8; 3100], len: usize) -> usize
+    requires name { IsName name.now }
+    requires room { len + 9 ≤ 3100 }
+    ensures text { take result out.new ≡ take len out.old ++ 32 ∷ name_text name.now }
+    ensures len { result ≤ len + 9 }
+{
+    put_word(&name.bytes[..name.len as usize], out, len)
+}
+
+/// Puts the name of a declared disk.
+pub fn put_disk(disk: u32, names: &Names, out: &mut [u8; 3100], len: usize) -> usize
+    requires name { HasName names.now disk }
+    requires room { len + 9 ≤ 3100 }
+    ensures text { take result out.new ≡ take len out.old ++ 32 ∷ disk_text names.now disk }
+    ensures len { result ≤ len + 9 }
+{
+    match names.disk(disk) {
+        Some(declared) => put_name(&declared.name, out, len),
+        None => unreachable!(),
+    }
+}
+
+/// Puts the name of a declared lane.
+pub fn put_lane(lane: Lane, names: &Names, out: &mut [u8; 3100], len: usize) -> usize
+    requires name { IsLaneNamed names.now lane }
+    requires room { len + 9 ≤ 3100 }
+    ensures text { take result out.new ≡ take len out.old ++ 32 ∷ lane_text names.now lane }
+    ensures len { result ≤ len + 9 }
+{
+    match lane {
+        Lane::Disk(disk) => put_disk(disk, names, out, len),
+    }
+}
+
+/// Puts an end: its lane's name, and its side.
+pub fn put_end(end: EndName, names: &Names, out: &mut [u8; 3100], len: usize) -> usize
+    requires name { IsLaneNamed names.now end.lane }
+    requires room { len + 11 ≤ 3100 }
+    ensures text { take result out.new ≡ take len out.old ++ 32 ∷ end_text names.now end }
+    ensures len { result ≤ len + 11 }
+{
+    let len = put_lane(end.lane, names, out, len);
+    put(side_bytes(end.side), out, len)
+}
+
+fn side_bytes(side: Side) -> &'static [u8]
+    ensures text { result.now ≡ side_text side }
+    ensures len { length result.now ≡ 2 }
+{
+    match side {
+        Side::Client => b".c",
+        Side::Server => b".s",
+    }
+}
+
+/// Puts the bytes of a write in hexadecimal.
+pub fn put_fill(fill: &Fill, out: &mut [u8; 3100], len: usize) -> usize
+    requires bytes { IsFill fill.now }
+    requires room { len + 2049 ≤ 3100 }
+    ensures text { take result out.new ≡ take len out.old ++ 32 ∷ fill_text fill.now }
+    ensures len { result ≤ len + 2049 }
+    ensures small { IsBytes (take fill.now.len fill.now.bytes) }
+{
+    out[len] = b' ';
+    put_hex(&fill.bytes[..fill.len as usize], out, len + 1)
+}
+
+/// Puts bytes in hexadecimal, two digits each.
+fn put_hex(bytes: &[u8], out: &mut [u8; 3100], len: usize) -> usize
+    requires { len + 2 * length bytes.now ≤ 3100 }
+    ensures text { take result out.new ≡ take len out.old ++ encode_lower bytes.now }
+    ensures len { result ≡ len + 2 * length bytes.now }
+    ensures small { IsBytes bytes.now }
+{
+    let end = len + 2 * bytes.len();
+    match encode_to_slice(bytes, &mut out[len..end]) {
+        Ok(()) => end,
+        Err(_) => unreachable!(),
+    }
+}
