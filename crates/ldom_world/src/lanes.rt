@@ -1,7 +1,7 @@
 ghost use Rattle.std.specs.Prelude.{◌≡◌, ◌≤◌, ◌<◌, IfOk, length, map, Some, slice_get};
 ghost use Rattle.disk_model.specs.LaneState.{fresh};
 ghost use Rattle.disk_model.specs.Reached.{IsReached};
-ghost use Rattle.domain_script.specs.Declarations.{IsDisk};
+ghost use Rattle.domain_script.specs.Declarations.{AreDisks, IsDisk};
 ghost use Rattle.world_parts.specs.Declared.{shape_of, shapes_of};
 
 use disk_lane::{DiskLane, Region};
@@ -29,6 +29,7 @@ impl Model for Lanes {
 impl Lanes {
     /// The lanes of these declarations, before anything was asked: their disks stand in an image one after another.
     pub fn new(alloc: Global, names: &Names) -> Result<Lanes, NoMemory>
+        requires { AreDisks names.now.disks }
         ensures lanes { IfOk result (λ lanes. lanes ≡ map fresh (shapes_of 0 names.now.disks)) }
         ensures few { IfOk result (λ lanes. length lanes ≤ 8) }
     {
@@ -55,6 +56,7 @@ pub(crate) const MOST_DISKS: usize = 8;
 
 /// The lanes of these declarations, before anything was asked.
 fn lanes_of(alloc: Global, names: &Names) -> Result<Vec<DiskLane>, NoMemory>
+    requires { AreDisks names.now.disks }
     ensures lanes { IfOk result (λ lanes. lanes.items ≡ map fresh (shapes_of 0 names.now.disks)) }
     ensures few { IfOk result (λ lanes. length lanes.items ≤ 8) }
 {

@@ -1,4 +1,5 @@
 ghost use Rattle.std.specs.Prelude.{◌≡◌, ◌≤◌, ◌<◌, ◌↔◌, IfErr, IfOk, IsTrue, length};
+ghost use Rattle.domain_script.specs.Declarations.{AreDisks};
 ghost use Rattle.world_laws.specs.Rounds.{Each};
 ghost use Rattle.world_parts.specs.Declared.{LiesWithin, as_image, bytes_needed, world_of};
 
@@ -44,6 +45,7 @@ impl<D: Store> World<D> {
     /// The world of these declarations over an image that holds all their blocks: the disks stand in it one after
     /// another. Where memory is wanted the image is given back.
     pub fn new(alloc: Global, names: &Names, image: D) -> Result<Self, (NoMemory, D)>
+        requires disks { AreDisks names.now.disks }
         requires image { bytes_needed names.now.disks ≤ D.size image }
         ensures made { IfOk result (λ w. w ≡ world_of names.now.disks
             (as_image D.content D.faults D.calls D.flushes image)) }

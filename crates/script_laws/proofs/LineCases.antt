@@ -1,5 +1,9 @@
 -- What each kind of line does: no other lemma lists the kinds.
 use Rattle.std.proofs.Common.{◌≡◌, ℕ, ◌<◌, true, false, List, [], ◌∷◌, length, refl, ap, arith, ◌⊎◌, inl, inr, IsTrue}
+use Rattle.vdisk_msg.specs.declared.request.Request.TheVariants.{Read, Write, Flush}
+use Rattle.domain_script.specs.Limits.{AreTurns}
+use Rattle.domain_script.specs.Words.{IsWithin}
+use Rattle.domain_script.specs.declared.fields.Bounds.TheVariants.{Between}
 use Rattle.domain_script.specs.declared.event.DiskDecl.{DiskDecl}
 use Rattle.domain_script.specs.declared.event.Event.{Event}
 use Rattle.domain_script.specs.declared.event.Event.TheVariants as line
@@ -88,17 +92,22 @@ ends names e =
 lane_there : (names : NamesState) (l : Lane) → IsLane names l → lane_number l < length names.disks
 lane_there names (the_lane.Disk k) is = is
 
+turns : (count : ℕ) → IsWithin (Between 1 100) count → AreTurns count
+turns count is = (omega (arith, is.0), is.1)
+
 -- the event is for one of the disks that are declared
 pub for_declared : (names : NamesState) (e : Event) → IsDeclared names e → IsForDisks (length names.disks) e
 for_declared names line.Blank is = tt
 for_declared names (line.Disk disk) is = tt
-for_declared names (line.Issue disk request) is = is
+for_declared names (line.Issue disk (Write block count fill)) is = (is.0, is.1.1.1.0)
+for_declared names (line.Issue disk (Read block count)) is = (is.0, tt)
+for_declared names (line.Issue disk Flush) is = (is.0, tt)
 for_declared names line.Settle is = tt
-for_declared names (line.Step end count) is = (lane_there names end.lane is.0, is.1)
-for_declared names (line.Round count) is = is
-for_declared names (line.Reset end) is = lane_there names end.lane is
-for_declared names (line.Restart end) is = (lane_there names end.lane is.0, is.1)
-for_declared names (line.Stop disk) is = is
-for_declared names (line.Start disk) is = is
-for_declared names (line.Lose end) is = lane_there names end.lane is
-for_declared names (line.Tick ticked) is = lane_there names ticked is
+for_declared names (line.Step end count) is = (lane_there names end.lane is.0.0, turns count is.1.0.1)
+for_declared names (line.Round count) is = turns count is.0.1
+for_declared names (line.Reset end) is = lane_there names end.lane is.0.0
+for_declared names (line.Restart end) is = (lane_there names end.lane is.0.0, is.0.1)
+for_declared names (line.Stop disk) is = is.0
+for_declared names (line.Start disk) is = is.0
+for_declared names (line.Lose end) is = lane_there names end.lane is.0.0
+for_declared names (line.Tick ticked) is = lane_there names ticked is.0
