@@ -263,7 +263,7 @@ runs_first_cut start now held event names s t journal number opens fits =
     }
 
 -- nothing but declarations
-declared_stopped : (start now : Option (List ℕ)) (why ended : Status) (names : NamesState) (lines : ℕ)
+abbrev declared_stopped : (start now : Option (List ℕ)) (why ended : Status) (names : NamesState) (lines : ℕ)
     → (opens : OpensAndStops start now why names lines)
     → StopsAt ended opens.stopped.left opens.stopped.held now names opens.stopped.count 0
     → lines ≡ counted_lines ended opens.stopped.count
@@ -365,9 +365,9 @@ refused_faults : {D : Type 0} (fault : AttachFault) (image : Option D) (faults :
 refused_faults Failed image faults = tt
 refused_faults Memory image faults = tt
 
-refused_ends : (fault : AttachFault) (parts : ScriptParts) → journal_of parts ≡ [] → EndsSo (ending (attach_status fault)) parts
-refused_ends Failed parts none = none
-refused_ends Memory parts none = tt
+refused_ends : (fault : AttachFault) (all : ScriptParts) → journal_of all ≡ [] → EndsSo (ending (attach_status fault)) all
+refused_ends Failed all none = none
+refused_ends Memory all none = tt
 
 refused_stop : (fault : AttachFault) (left now : Option (List ℕ)) (held : List ℕ) (names : NamesState) (count : ℕ) → Keeps left (prepend_known held now) → StopsAt (attach_status fault) left held now names count 0
 refused_stop Failed left now held names count kept = kept

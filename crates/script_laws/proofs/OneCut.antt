@@ -161,7 +161,7 @@ first_last line lines (Some last) = refl
 -- LINES over the same disks
 module _ (disks : List DiskDecl) (image : ImageState) (are : AreDisks disks) (few : length disks ≤ 8) where
   -- where some lines led
-  record IsLed (w : WorldState) : Type 0 where
+  pub record IsLed (w : WorldState) : Type 0 where
     before : List (Event × List Entry)
     run : Run LineStep (world_of disks image) before w
 

@@ -82,7 +82,7 @@ module _ (disks : List DiskDecl) (image : ImageState) (whole : List (Event × Li
 
   settles_on : (cut : Option (Event × List Entry)) (v : WorldState) → LastStarts m cut v
       → EachSettles disks image (with_last whole cut)
-  settles_on None v last = whole_settles disks image whole m run
+  settles_on None v last before part behind is = whole_settles disks image whole m run before part behind is
   settles_on (Some line) v last before part behind is =
       cut_at line v last before part behind (place_in whole (line ∷ []) before (Settle, part) behind is)
 
