@@ -3,7 +3,8 @@ use Rattle.std.proofs.Common.{◌≡◌, ℕ, List, [], ◌∷◌, ◌++◌, rep
 use Rattle.std.proofs.lemmas.List.{take-replicate, drop-replicate, length-replicate}
 use Rattle.std.specs.Prelude.{codes, IsSomeAnd}
 use Rattle.std.specs.Fmt.{digits}
-use Rattle.hex.specs.Hex.{decode_pairs, encode_with}
+use Rattle.std.specs.Int.RustNames.{count_ones}
+use Rattle.hex.specs.Hex.{encode_with}
 use Rattle.vio_bytes.specs.Place.{put_at}
 use Rattle.vdisk_msg.specs.declared.request.Fill.{Fill}
 use Rattle.vdisk_msg.specs.declared.request.Request.TheVariants.{Read, Write}
@@ -42,7 +43,7 @@ abbrev names : NamesState
 names = record { disks = disk ∷ []; ended = true }
 
 spelled : AllSpell (script_lines script) no_names events names
-unfolding decode_pairs encode_with digits
+unfolding digits count_ones
 spelled = events_spelled (script_lines script) no_names
 
 -- the words ask for a run over the image of zeros

@@ -1,4 +1,5 @@
 ghost use Rattle.std.specs.Prelude.{◌≡◌, ◌≤◌};
+ghost use Rattle.domain_script.specs.Declarations.{AreDisks};
 ghost use Rattle.world_parts.specs.Declared.{blocks_of};
 
 use domain_script::Names;
@@ -8,6 +9,7 @@ const MOST_DISKS: u32 = 8;
 
 /// How many blocks the disks have together.
 pub fn blocks_declared(names: &Names) -> u64
+    requires { AreDisks names.now.disks }
     ensures declared { result ≡ blocks_of names.now.disks }
     ensures few { result ≤ 524288 }
 {

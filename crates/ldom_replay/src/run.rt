@@ -2,6 +2,7 @@
 ghost use Rattle.std.specs.Prelude.{◌≡◌, ◌≢◌, ℕ, ◌*◌, ◌≤◌, ◌↔◌, List, [], ◌∷◌, true, length, Option, None, IfErr};
 ghost use Rattle.std.specs.Prelude.{IfOk, IfSome, IsSome, IsTrue, OnOk};
 ghost use Rattle.vio_io.specs.Given.{Gave};
+ghost use Rattle.domain_script.specs.Declarations.{AreDisks};
 ghost use Rattle.domain_script.specs.declared.lines.LinesStop.TheVariants.{Going};
 ghost use Rattle.domain_script.specs.LinesState.{to_come};
 ghost use Rattle.domain_script.specs.Spells.{IsDeclared};
@@ -42,6 +43,7 @@ fn read_opening<S: Source>(reader: &mut Reader, source: &mut S) -> Result<Event,
     ensures going { OnOk result (reader.new.lines.stop ≡ Going) }
     ensures ended { OnOk result (reader.new.names.ended ≡ true) }
     ensures most { reader.new.lines.number ≤ most_lines }
+    ensures disks { AreDisks reader.new.names.disks }
     ensures journal { reader.new.journal ≡ reader.old.journal }
 
     ensures stops { IfErr result (λ stop. OpensAndStops (to_come reader.old.lines (S.left source.old))
@@ -165,6 +167,7 @@ fn attach<H: Host, S: Source>(
 ) -> Run<H::Disk>
     requires going { IsSome first → (reader.lines.stop ≡ Going) × (reader.names.ended ≡ true) }
     requires few { reader.lines.number ≤ most_lines }
+    requires disks { AreDisks reader.names.disks }
     requires declared { IfSome first (IsDeclared reader.names) }
     requires journal { reader.journal.entries ≡ [] }
     ensures replayed { (start : Option (List ℕ))
@@ -198,6 +201,7 @@ fn run_over<D: Store, S: Source>(
 ) -> Run<D>
     requires going { IsSome first → (reader.lines.stop ≡ Going) × (reader.names.ended ≡ true) }
     requires few { reader.lines.number ≤ most_lines }
+    requires disks { AreDisks reader.names.disks }
     requires declared { IfSome first (IsDeclared reader.names) }
     requires journal { reader.journal.entries ≡ [] }
     ensures replayed { (start : Option (List ℕ)) (gives : ℕ → Option (List ℕ))

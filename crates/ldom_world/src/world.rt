@@ -1,6 +1,6 @@
 ghost use Rattle.std.specs.Prelude.{◌≡◌, ◌≤◌, ◌<◌, ◌↔◌, IfErr, IfOk, IsTrue, length, map};
 ghost use Rattle.disk_model.specs.LaneState.{fresh};
-ghost use Rattle.domain_script.specs.Declarations.{IsDisk};
+ghost use Rattle.domain_script.specs.Declarations.{AreDisks, IsDisk};
 ghost use Rattle.world_laws.specs.Rounds.{Each};
 ghost use Rattle.world_parts.specs.Declared.{LiesWithin, bytes_needed, image_of, shape_of, shapes_of, world_of};
 
@@ -44,6 +44,7 @@ impl<D: Store> World<D> {
     /// The world of these declarations over an image that holds all their blocks: the disks stand in it one after
     /// another. Where memory is wanted the image is given back.
     pub fn new(alloc: Global, names: &Names, image: D) -> Result<Self, (NoMemory, D)>
+        requires disks { AreDisks names.now.disks }
         requires image { bytes_needed names.now.disks ≤ D.size image }
         ensures made { IfOk result (λ w. w ≡ world_of names.now.disks (image_of (D.content image) (D.faults image))) }
         ensures given_back { IfErr result (λ e. e.1 ≡ image) }
@@ -96,6 +97,7 @@ pub(crate) const MOST_DISKS: usize = 8;
 
 /// The lanes of these declarations, before anything was asked.
 fn lanes_of(alloc: Global, names: &Names) -> Result<Vec<DiskLane>, NoMemory>
+    requires { AreDisks names.now.disks }
     ensures lanes { IfOk result (λ lanes. lanes.items ≡ map fresh (shapes_of 0 names.now.disks)) }
     ensures few { IfOk result (λ lanes. length lanes.items ≤ 8) }
 {

@@ -7,9 +7,10 @@ use Rattle.std.proofs.lemmas.Slice.Eq.{bytes_eq-Decides}
 use Rattle.vio_io.specs.Causes.{Rose}
 use Rattle.disk_model.specs.LaneState.{LaneState}
 use Rattle.domain_script.specs.declared.event.Event.{Event}
+use Rattle.domain_script.specs.declared.event.LineFault.{LineFault}
+use Rattle.domain_script.specs.Faults.{first_fault}
 use Rattle.domain_script.specs.NamesState.{NamesState}
 use Rattle.domain_script.specs.ScriptLines.{script_lines, with_front, TakesLine, BeginsWithLonger, TakesLines}
-use Rattle.domain_script.specs.Spells.{Spells}
 use Rattle.ldom_entries.specs.declared.entry.Entry.{Entry}
 use Rattle.ldom_journal.specs.declared.status.LimitKind.{LimitKind}
 use Rattle.ldom_journal.specs.declared.status.LimitKind.TheVariants.{Lines, Bytes, Entries}
@@ -25,6 +26,7 @@ use Rattle.domain_script.specs.ScriptEvents.{AllSpell, no_names}
 use Rattle.script_laws.specs.Script.{ReadSoFar}
 use Rattle.script_laws.specs.Sized.{SizeIs}
 use Rattle.world_parts.specs.Declared.{blocks_of}
+use Rattle.domain_script.proofs.FaultLemmas.{no_first_fault}
 use Rattle.script_laws.proofs.OneReading.{next_spells, rest_spells}
 use Rattle.script_laws.proofs.Sizes.{blocks_stay, long_enough, zeros_are_long}
 
@@ -40,13 +42,13 @@ all_zero faults none (Some x) = none x
 
 -- no line of a clean script has a fault
 no_fault : (bytes : List ℕ) (first names after : NamesState) (left rest : Option (List ℕ)) (texts : List (List ℕ)) (text : List ℕ) (events all : List Event) → AllSpell (script_lines bytes) first all after → TakesLines (Some bytes) left texts → TakesLine left rest text
-    → AllSpell texts first events names → ((event : Event) → Spells text names event → ⊥) → ⊥
-no_fault bytes first names after None rest texts text events all spelled taken next read nothing = taken
-no_fault bytes first names after (Some left) None texts text events all spelled taken next read nothing = next
-no_fault bytes first names after (Some left) (Some rest) texts text events all spelled taken next read nothing =
+    → AllSpell texts first events names → (fault : LineFault) → first_fault text names ≡ Some fault → ⊥
+no_fault bytes first names after None rest texts text events all spelled taken next read fault is = taken
+no_fault bytes first names after (Some left) None texts text events all spelled taken next read fault is = next
+no_fault bytes first names after (Some left) (Some rest) texts text events all spelled taken next read fault is =
     let lines : script_lines bytes ≡ texts ++ text ∷ script_lines rest = taken.0 ∙ ap (λ (l : List (List ℕ)). texts ++ l) next.0 in
     let spells = next_spells texts (script_lines rest) text first names after events all read (subst (λ (l : List (List ℕ)). AllSpell l first all after) lines spelled) in
-    nothing spells.0 spells.1
+    cc (no_first_fault text names spells.0 spells.1, is)
 
 -- a line after others is short as they are
 short_behind : (texts more : List (List ℕ)) (line : List ℕ) → AreShort (texts ++ line ∷ more) → length line ≤ 3100
@@ -127,7 +129,7 @@ module _ {D : Type 0} (content : D → Option (List ℕ)) (faults : D → ℕ) (
       let left : Option (List ℕ) = prepend_known replayed.stopped.held behind in
       let faulty : IsFaulty replayed.stopped.left left names fault = replayed.stopped.stop.3 in
       let read = replayed.stopped.read in
-      absurd (no_fault bytes no_names names clean.names replayed.stopped.left left read.texts faulty.text replayed.events clean.events clean.spelled read.taken.taken faulty.taken read.spell faulty.nothing)
+      absurd (no_fault bytes no_names names clean.names replayed.stopped.left left read.texts faulty.text replayed.events clean.events clean.spelled read.taken.taken faulty.taken read.spell fault faulty.first)
   by_ran (status.Limit at Lines) ended is replayed = absurd (never_past at Lines replayed replayed.stopped.stop.1)
   by_ran (status.Limit at Bytes) ended is replayed = absurd (never_past at Bytes replayed replayed.stopped.stop.1)
   by_ran (status.Limit at Entries) ended is replayed = inr (inr (subst (λ (w : Status). IsFull w journal) (sym is) replayed.stopped.stop.2))

@@ -1,5 +1,6 @@
 -- What each kind of line does: no other lemma lists the kinds.
 use Rattle.std.proofs.Common.{◌≡◌, ℕ, ◌<◌, true, false, List, [], ◌∷◌, length, refl, ap, arith, ◌⊎◌, inl, inr, IsTrue}
+use Rattle.vdisk_msg.specs.declared.request.Request.TheVariants.{Read, Write, Flush}
 use Rattle.domain_script.specs.declared.event.DiskDecl.{DiskDecl}
 use Rattle.domain_script.specs.declared.event.Event.{Event}
 use Rattle.domain_script.specs.declared.event.Event.TheVariants as line
@@ -92,13 +93,15 @@ lane_there names (the_lane.Disk k) is = is
 pub for_declared : (names : NamesState) (e : Event) → IsDeclared names e → IsForDisks (length names.disks) e
 for_declared names line.Blank is = tt
 for_declared names (line.Disk disk) is = tt
-for_declared names (line.Issue disk request) is = is
+for_declared names (line.Issue disk (Write block count fill)) is = (is.0, is.1.1.1.0)
+for_declared names (line.Issue disk (Read block count)) is = (is.0, tt)
+for_declared names (line.Issue disk Flush) is = (is.0, tt)
 for_declared names line.Settle is = tt
-for_declared names (line.Step end count) is = lane_there names end.lane is.0
+for_declared names (line.Step end count) is = lane_there names end.lane is.0.0
 for_declared names (line.Round count) is = tt
-for_declared names (line.Reset end) is = lane_there names end.lane is
-for_declared names (line.Restart end) is = lane_there names end.lane is.0
-for_declared names (line.Stop disk) is = is
-for_declared names (line.Start disk) is = is
-for_declared names (line.Lose end) is = lane_there names end.lane is
-for_declared names (line.Tick ticked) is = lane_there names ticked is
+for_declared names (line.Reset end) is = lane_there names end.lane is.0.0
+for_declared names (line.Restart end) is = lane_there names end.lane is.0.0
+for_declared names (line.Stop disk) is = is.0
+for_declared names (line.Start disk) is = is.0
+for_declared names (line.Lose end) is = lane_there names end.lane is.0.0
+for_declared names (line.Tick ticked) is = lane_there names ticked is.0

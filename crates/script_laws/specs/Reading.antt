@@ -1,9 +1,9 @@
 -- One line of a script after another, and why no further one is taken up.
-use Rattle.std.specs.Prelude.{◌≡◌, ℕ, ◌+◌, ◌<◌, ◌≤◌, List, length, Option}
+use Rattle.std.specs.Prelude.{◌≡◌, ℕ, ◌+◌, ◌<◌, ◌≤◌, List, length, Option, Some}
 use Rattle.std.specs.Io.KnownBytes.{IsAtEnd, Keeps, prepend_known}
 use Rattle.domain_script.specs.declared.event.Event.{Event}
 use Rattle.domain_script.specs.declared.event.LineFault.{LineFault}
-use Rattle.domain_script.specs.declared.event.LineFault.TheVariants.{Word}
+use Rattle.domain_script.specs.Faults.{first_fault}
 use Rattle.domain_script.specs.NamesState.{NamesState, noted}
 use Rattle.domain_script.specs.Pieces.{DecidesNothing}
 use Rattle.domain_script.specs.ScriptLines.{TakesLine}
@@ -22,13 +22,12 @@ pub record ReadsEvent (rest left : Option (List ℕ)) (names : NamesState) (even
   pub spells : Spells text names event
   pub noted_is : after ≡ noted names event
 
--- the next line spells nothing
+-- the next line has a fault, and this is its first
 pub record IsFaulty (rest left : Option (List ℕ)) (names : NamesState) (fault : LineFault) : Type 0 where
   pub text : List ℕ
   pub taken : TakesLine rest left text
   pub short : length text ≤ most_line_bytes
-  pub nothing : (event : Event) → Spells text names event → ⊥
-  pub word : fault ≡ Word
+  pub first : first_fault text names ≡ Some fault
 
 -- a line came next, whatever it spells
 pub record IsRead (rest left : Option (List ℕ)) : Type 0 where

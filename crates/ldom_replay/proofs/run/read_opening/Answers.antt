@@ -1,6 +1,6 @@
 use Rattle.std.proofs.Common.{◌∙◌, refl}
 use Rattle.domain_script.specs.LinesState.{to_come}
-use Rattle.script_laws.proofs.ReadLemmas.{opens, opens_more}
+use Rattle.script_laws.proofs.ReadLemmas.{opens, opens_more, read_disks}
 use Rattle.ldom_replay.proofs.run.read_opening.Goals as goal
 
 pub loop-event-preserved : goal.loop-event-preserved
@@ -21,3 +21,11 @@ pub returns-then-not-is_opening-clause-opens : goal.returns-then-not-is_opening-
 returns-then-not-is_opening-clause-opens g c =
     opens (to_come c.args.reader.now.lines (g.S.Source.left c.args.source.now)) (to_come c.loop-event.reader.lines (g.S.Source.left c.loop-event.source)) (to_come c.read_event.new.self.lines (g.S.Source.left c.read_event.new.source))
     c.read_event.new.event c.loop-event.reader.names c.read_event.new.self.names c.loop-event.reader.lines.number c.read_event.new.self.lines.number c.loop-event.invariant.so_far c.in_ok-read_event.ensures.event c.in_ok-read_event.ensures.next.0 c.in_ok-read_event.ensures.next.1 (λ opening. (cc (c.if-not-is_opening.ensures.1 opening)))
+
+pub returns-then-not-is_opening-clause-disks : goal.returns-then-not-is_opening-clause-disks
+returns-then-not-is_opening-clause-disks g c =
+    let start = to_come c.args.reader.now.lines (g.S.Source.left c.args.source.now) in
+    let left = to_come c.read_event.new.self.lines (g.S.Source.left c.read_event.new.source) in
+    let opened = opens start (to_come c.loop-event.reader.lines (g.S.Source.left c.loop-event.source)) left
+    c.read_event.new.event c.loop-event.reader.names c.read_event.new.self.names c.loop-event.reader.lines.number c.read_event.new.self.lines.number c.loop-event.invariant.so_far c.in_ok-read_event.ensures.event c.in_ok-read_event.ensures.next.0 c.in_ok-read_event.ensures.next.1 (λ opening. (cc (c.if-not-is_opening.ensures.1 opening))) in
+    read_disks start left _ c.read_event.new.self.names c.read_event.new.self.lines.number opened.read

@@ -1,12 +1,13 @@
 use Rattle.std.proofs.Common.{◌≡◌, ℕ, ◌+◌, ◌≤◌, Some, slice_get, sym, ap, ◌∙◌, arith}
 use Rattle.domain_script.specs.Declarations.{IsDisk}
+use Rattle.domain_script.proofs.Disks.{is_disk_at}
 use Rattle.ldom_world.proofs.Declaring.{all_lanes, few_lanes, first_more, lanes_more, no_more_lanes}
 use Rattle.ldom_world.proofs.world.lanes_of.Goals as goal
 
 pub loop-k-preserved : goal.loop-k-preserved
 loop-k-preserved c =
     let there : slice_get c.args.names.now.disks c.loop-k.k ≡ Some c.in-Some.disk = sym c.in-Some.ensures.value in
-    let limits : IsDisk c.in-Some.disk = c.in-Some.ensures.limits in
+    let limits : IsDisk c.in-Some.disk = is_disk_at c.args.names.now.disks c.loop-k.k c.in-Some.disk c.requires there in
     record {
       lanes =
           lanes_more c.args.names.now.disks c.loop-k.k c.loop-k.first c.in-Some.disk c.loop-k.lanes.items
