@@ -69,6 +69,10 @@ empty_in _ k up quiet = absurd (cc up)
 pub up_empty : (k : LinkState) → is_up k ≡ true → owes k ≡ false → k.to_send ≡ []
 up_empty k up quiet = empty_in k.phase k up quiet
 
+pub opened_phase : (p : Phase) → is_open_in p ≡ true → p ≡ Open
+opened_phase Open is = refl
+opened_phase _ is = absurd (cc is)
+
 -- an end of these parts
 pub stands_as : (role : Role) (c t : EndCore) (k : LinkState) (h : Handshake) (turns : List Turn) → t.link ≡ k → t.handshake ≡ h → t.offer ≡ c.offer → LinkStands role k turns
     → HandshakeStands role c.offer h → t.is_open ≡ is_open_in h.phase → t.more ≤ 256 → (is_up k ≡ false → IsBelow k h turns) → HoldsIts t.own k h turns → EndStands role t turns
@@ -171,7 +175,7 @@ held_stands role c held turns (HoldsOwed message) stands offers =
     offers.more (λ is. subst (λ (b : Bool). Carries b c.handshake (canonical message)) (sym (offers.own is)) (record { message = message; owed = offers.owed; is = refl }))
 held_stands role c held turns (HoldsOwn message) stands offers =
     offered_stands role c held turns message stands (open_up role c turns stands offers.opened) offers.quiet (omega (arith, offers.short)) offers.link offers.handshake offers.offer
-    offers.is_open offers.most (λ is. subst (λ (b : Bool). Carries b c.handshake (canonical message)) (sym offers.own) (record { message = message; body = offers.body; sid = offers.sid; is = refl }))
+    offers.is_open offers.most (λ is. subst (λ (b : Bool). Carries b c.handshake (canonical message)) (sym offers.own) (record { message = message; body = offers.body; sid = offers.sid; opened = opened_phase c.handshake.phase (sym stands.opened ∙ offers.opened); is = refl }))
 
 -- A LINK that heard a packet keeps what it has to send
 pub record SameSending (k m : LinkState) : Type 0 where
@@ -336,15 +340,16 @@ open_declines h t message opens up (ReadyAsked at m is not) = absurd (cc (sym up
 open_declines h t message opens up (Opened r at m is now) = absurd (cc (sym up ∙ at))
 
 -- IT HEARS a packet
-pub opened_phase : (p : Phase) → is_open_in p ≡ true → p ≡ Open
-opened_phase Open is = refl
-opened_phase _ is = absurd (cc is)
-
 -- while the handshake owes nothing the message is one of the session, of the same sid
-keeps_own : (own : Bool) (h g : Handshake) (bytes : List ℕ) → h.owed ≡ None → g.draft ≡ h.draft → Carries own h bytes → Carries own g bytes
-keeps_own false h g bytes none draft carries = let never : None ≡ Some carries.message = sym none ∙ carries.owed in absurd (cc never)
-keeps_own true h g bytes none draft carries =
-    record { message = carries.message; body = carries.body; sid = carries.sid ∙ ap (λ (d : Session). d.sid) (sym draft); is = carries.is }
+keeps_own : (own : Bool) (h g : Handshake) (bytes : List ℕ) → h.owed ≡ None → g.draft ≡ h.draft → g.phase ≡ h.phase → Carries own h bytes → Carries own g bytes
+keeps_own false h g bytes none draft still carries = let never : None ≡ Some carries.message = sym none ∙ carries.owed in absurd (cc never)
+keeps_own true h g bytes none draft still carries = record {
+  message = carries.message;
+  body = carries.body;
+  sid = carries.sid ∙ ap (λ (d : Session). d.sid) (sym draft);
+  opened = still ∙ carries.opened;
+  is = carries.is;
+}
 
 keeps_holding : (k m : LinkState) → m.to_send ≡ k.to_send → is_up m ≡ is_up k → holds (cleared m) ≡ true → holds k ≡ true
 keeps_holding k m left up is = ap (λ (b : Bool). b && not (is_empty k.to_send)) (sym up) ∙ ap (λ (xs : List ℕ). is_up m && not (is_empty xs)) (sym left) ∙ is
@@ -411,7 +416,7 @@ hears_stands role c t turns packet opens stands hears = by_what took.what
             let here = stands.carries was in
             subst (λ (xs : List ℕ). Carries t.own t.handshake (half_said turns ++ xs)) (sym same.left)
             (subst (λ (b : Bool). Carries b t.handshake (half_said turns ++ c.link.to_send)) (sym (hears.own was (ap holds took.link ∙ is)))
-            (keeps_own c.own c.handshake t.handshake (half_said turns ++ c.link.to_send) hears.may.owed (ap (λ (x : Handshake). x.draft) declined) here))
+            (keeps_own c.own c.handshake t.handshake (half_said turns ++ c.link.to_send) hears.may.owed (ap (λ (x : Handshake). x.draft) declined) (ap (λ (x : Handshake). x.phase) declined) here))
 
 -- IT SAYS a packet: what was said of its message and what is left of it
 quiet_cuts : (k m : LinkState) (turns : List Turn) (packet : List ℕ) → m.to_send ≡ k.to_send → m.begun ≡ k.begun → SaysNothing turns packet → Cuts k turns

@@ -1,5 +1,5 @@
 -- What a handshake made of a message that it took, row by row, and what it does once its message was put.
-use Rattle.std.proofs.Common.{◌≡◌, ℕ, ◌≤◌, Bool, true, false, Option, Some, None, List, min, refl, sym, ap, ◌∙◌, subst}
+use Rattle.std.proofs.Common.{◌≡◌, ℕ, ◌≤◌, Bool, true, false, Option, Some, None, List, min, inl, inr, refl, sym, ap, ◌∙◌, subst}
 use Rattle.std.specs.Prelude.{◌==◌, ◌&&◌, nat_le, if◌then◌else◌, ⊤}
 use Rattle.std.proofs.lemmas.Bool.{and_parts, eqb-true, leb-true}
 use Rattle.ldc_link.specs.declared.phase.Role.{Role}
@@ -11,6 +11,7 @@ use Rattle.vio_tag.specs.declared.cause.Cause.{Cause}
 use Rattle.vio_tag.specs.declared.message.Message.{Message}
 use Rattle.vio_tag.specs.declared.message.MsgBody.{MsgBody}
 use Rattle.vio_tag.specs.declared.message.MsgBody.TheVariants.{Attr, DringReg, Rdx, Ver}
+use Rattle.vio_handshake.proofs.PlaceRows.{GoesTo}
 use Rattle.vio_handshake.specs.Acceptance.{accepts_ring}
 use Rattle.vio_handshake.specs.Attributes.{accepts_answered, accepts_said, answered_attributes, said_attributes}
 use Rattle.vio_handshake.specs.declared.handshake.Handshake.{Handshake}
@@ -57,9 +58,14 @@ pub data RowTaken (h : Handshake) (message : Message) (t : Handshake) (opens : B
   ReadyAsked : h.phase ≡ PeerReady → message ≡ info message.sid Rdx → t ≡ owes PeerReadyTaken (ack message.sid Rdx) h → opens ≡ false → RowTaken h message t opens
   Opened : h.role ≡ Responder → h.phase ≡ OwnReady → message ≡ ack message.sid Rdx → t ≡ record h { phase = Open } → opens ≡ true → RowTaken h message t opens
 
+record TookRow (h : Handshake) (message : Message) (t : Handshake) (opens : Bool) : Type 0 where
+  sid : sid_fault h.sid message.sid ≡ None
+  row : RowTaken h message t opens
+
 pub record HandshakeTook (h : Handshake) (message : Message) (t : Handshake) (opens : Bool) : Type 0 where
   pub sid : sid_fault h.sid message.sid ≡ None
   pub row : RowTaken h message t opens
+  pub takes : GoesTo (shake_take h message) t
 
 abbrev RowIs : Handshake → Message → ShakeTake → Type 0
 RowIs h message (Goes t) = RowTaken h message t false
@@ -150,8 +156,8 @@ row_is Initiator phase h subtype sid body role at = tt
 row_is Responder phase h subtype sid body role at = tt
 
 abbrev TookIs : Handshake → Message → ShakeTake → Type 0
-TookIs h message (Goes t) = HandshakeTook h message t false
-TookIs h message (GoesOpen t) = HandshakeTook h message t true
+TookIs h message (Goes t) = TookRow h message t false
+TookIs h message (GoesOpen t) = TookRow h message t true
 TookIs h message (Faults cause) = ⊤
 
 with_sid : (h : Handshake) (message : Message) (take : ShakeTake) → sid_fault h.sid message.sid ≡ None → RowIs h message take → TookIs h message take
@@ -172,10 +178,14 @@ took_is h message =
     (λ test. Declined test refl refl) (λ test. row_is h.role h.phase h message.subtype message.sid message.body refl refl))
 
 pub goes_took : (h t : Handshake) (message : Message) → shake_take h message ≡ Goes t → HandshakeTook h message t false
-goes_took h t message is = let took : TookIs h message (Goes t) = subst (TookIs h message) is (took_is h message) in took
+goes_took h t message is =
+    let took : TookIs h message (Goes t) = subst (TookIs h message) is (took_is h message) in
+    record { sid = took.sid; row = took.row; takes = inl is }
 
 pub opens_took : (h t : Handshake) (message : Message) → shake_take h message ≡ GoesOpen t → HandshakeTook h message t true
-opens_took h t message is = let took : TookIs h message (GoesOpen t) = subst (TookIs h message) is (took_is h message) in took
+opens_took h t message is =
+    let took : TookIs h message (GoesOpen t) = subst (TookIs h message) is (took_is h message) in
+    record { sid = took.sid; row = took.row; takes = inr is }
 
 -- an initiator's session never opens by one
 opens_row : (h t : Handshake) (message : Message) → h.role ≡ Initiator → RowTaken h message t true → ⊥

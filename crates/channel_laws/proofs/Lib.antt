@@ -14,3 +14,7 @@ pub mod EndUttering
 pub mod LinkPlaced
 pub mod CoreRuns
 pub mod Numbering
+pub mod Script
+pub mod HandshakePlaces
+pub mod HandshakesPlaced
+pub mod Sessions

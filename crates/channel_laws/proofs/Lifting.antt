@@ -114,10 +114,10 @@ pub record ActsKeep (Holds : Role → Sides → Type 0) : Type 0 where
 
 pub begins_anew : (role : Role) (c t : EndCore) (turns : List Turn) → EndStands role c turns → EndBegins c t → EndAnew role c t
 begins_anew role c t turns stands begins =
-    record { link = begins.link ∙ ap fresh_link stands.link.role_is; handshake = inl begins.handshake; closed = begins.closed }
+    record { link = begins.link ∙ ap fresh_link stands.link.role_is; handshake = inl begins.handshake; offer = begins.offer; closed = begins.closed }
 
 pub renews_anew : (role : Role) (c t : EndCore) → EndRenews role c t → EndAnew role c t
-renews_anew role c t renews = record { link = renews.link; handshake = inr renews.handshake; closed = renews.closed }
+renews_anew role c t renews = record { link = renews.link; handshake = inr renews.handshake; offer = renews.offer; closed = renews.closed }
 
 pub resets_anew : (g : Giver) (role : Role) (c t : EndCore) (turns : List Turn) (cause : Cause) (packet : Option (List ℕ)) → EndStands role c turns
     → EndStep role c (reset_move g cause packet) t → EndAnew role c t

@@ -278,7 +278,7 @@ agrees_mode_at Responder _ is = absurd (cc is)
 agrees_mode_at Initiator NothingPut is = absurd (cc is)
 agrees_mode_at Initiator _ is = absurd (cc is)
 
-ready_at : (role : Role) (place : LinkPlace) → phase.OwesRdx ≡ phase_at role place → (role ≡ Initiator) × (place ≡ ModeAgreed)
+pub ready_at : (role : Role) (place : LinkPlace) → phase.OwesRdx ≡ phase_at role place → (role ≡ Initiator) × (place ≡ ModeAgreed)
 ready_at Initiator ModeAgreed is = (refl, refl)
 ready_at Initiator _ is = absurd (cc is)
 ready_at Responder NothingPut is = absurd (cc is)

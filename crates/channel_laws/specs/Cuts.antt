@@ -4,6 +4,7 @@ use Rattle.ldc_link.specs.LinkState.{LinkState}
 use Rattle.ldc_queue.specs.Messages.{is_empty}
 use Rattle.ldc_queue.specs.Talk.{Turn}
 use Rattle.vio_handshake.specs.declared.handshake.Handshake.{Handshake}
+use Rattle.vio_handshake.specs.declared.handshake.Phase.TheVariants.{Open}
 use Rattle.vio_tag.specs.declared.message.Message.{Message}
 use Rattle.vio_tag.specs.Spelling.{canonical}
 use Rattle.disk_model.specs.Sayings.{half_said}
@@ -17,7 +18,7 @@ pub record Cuts (k : LinkState) (turns : List Turn) : Type 0 where
   pub most : length (half_said turns) + length k.to_send ≤ 256
   pub free : k.to_send ≡ [] → half_said turns ≡ []
 
--- what was put of a message and what is left of it: one of the end's session, or the message that its handshake owes
+-- what was put of a message and what is left of it: one of the end's session, which is open, or the message that its handshake owes
 pub record CarriesOwed (h : Handshake) (bytes : List ℕ) : Type 0 where
   pub message : Message
   pub owed : h.owed ≡ Some message
@@ -27,6 +28,7 @@ pub record CarriesOwn (h : Handshake) (bytes : List ℕ) : Type 0 where
   pub message : Message
   pub body : IsOfSession message.body
   pub sid : message.sid ≡ h.draft.sid
+  pub opened : h.phase ≡ Open
   pub is : bytes ≡ canonical message
 
 abbrev pub Carries : Bool → Handshake → List ℕ → Type 0

@@ -39,6 +39,7 @@ pub record EndRenews (role : Role) (c t : EndCore) : Type 0 where
 pub record EndAnew (role : Role) (c t : EndCore) : Type 0 where
   pub link : t.link ≡ fresh_link role
   pub handshake : (t.handshake ≡ joined_shake c.handshake) ⊎ (t.handshake ≡ fresh_shake role c.offer)
+  pub offer : t.offer ≡ c.offer
   pub closed : t.is_open ≡ false
 
 -- WHOSE A MESSAGE IS doesn't change while the link holds one

@@ -1,12 +1,11 @@
 -- The two ends of a lane from the side of one of them, and what its acts do to both. What is proved of an act from the side of the end that
 -- acts, by its role, is proved for both ends.
 use Rattle.std.specs.Prelude.{ℕ, Bool, true, false, List, [], ◌∷◌, ◌++◌, drop}
-use Rattle.ldc_link.specs.declared.phase.Role.{Role}
-use Rattle.ldc_link.specs.declared.phase.Role.TheVariants.{Initiator, Responder}
 use Rattle.ldc_queue.specs.declared.end.ChannelState.{ChannelState}
 use Rattle.ldc_queue.specs.declared.end.ChannelState.TheVariants.{Down, Up}
 use Rattle.ldc_queue.specs.Talk.{Heard, Said, Turn}
 use Rattle.ldc_queue.specs.Wire.{peer_behind, queue_behind, upset}
+pub use Rattle.vio_handshake.specs.Pairing.{other}
 use Rattle.disk_model.specs.TalkLog.{TalkLog}
 use Rattle.disk_model.specs.WireLog.{WireLog, lossy_behind}
 use Rattle.channel_laws.specs.EndCore.{EndCore}
@@ -24,10 +23,6 @@ pub record Sides : Type 0 where
   pub lossy : Bool
   pub mine : Side
   pub theirs : Side
-
-abbrev pub other : Role → Role
-other Initiator = Responder
-other Responder = Initiator
 
 abbrev pub swapped : Sides → Sides
 swapped s = record s { mine = s.theirs; theirs = s.mine }

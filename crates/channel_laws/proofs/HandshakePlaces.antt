@@ -1,0 +1,338 @@
+-- Where the two handshakes of a channel that nobody forged stand, whose offers match: each at a place of one deal, having said and heard all that
+-- goes before it; once a session is open, messages of it follow.
+use Rattle.std.proofs.Common.{◌≡◌, ◌≢◌, ℕ, ◌^◌, ◌<◌, Bool, true, false, Option, Some, None, List, [], ◌∷◌, ◌++◌, refl, sym, ap, ◌∙◌, subst, append_assoc, ◌⊎◌, inl, inr}
+use Rattle.std.specs.Prelude.{⊤}
+use Rattle.std.proofs.lemmas.List.{append-nil}
+use Rattle.ldc_link.specs.declared.phase.Role.{Role}
+use Rattle.ldc_link.specs.declared.phase.Role.TheVariants.{Initiator, Responder}
+use Rattle.ldc_link.specs.LinkState.{is_up}
+use Rattle.ldc_queue.specs.declared.end.ChannelState.TheVariants.{Up}
+use Rattle.ldc_queue.specs.OneStream.{IsFront}
+use Rattle.ldc_queue.specs.Talk.{Turn}
+use Rattle.vio_tag.proofs.Canonical.{canonical_spells}
+use Rattle.vio_tag.proofs.Same.{spelled_once}
+use Rattle.vio_tag.specs.declared.message.Message.{Message}
+use Rattle.vio_tag.specs.Form.{IsWellFormed}
+use Rattle.vio_tag.specs.Spelling.{SpellsMessage, canonical}
+use Rattle.vio_handshake.specs.declared.handshake.Handshake.{Handshake}
+use Rattle.vio_handshake.specs.declared.handshake.Phase.TheVariants.{Open}
+use Rattle.vio_handshake.specs.declared.session.Offer.{Offer}
+use Rattle.vio_handshake.specs.Offers.{Match}
+use Rattle.vio_handshake.specs.Rules.{Goes, GoesOpen, ShakeTake, shake_sent, shake_take}
+use Rattle.vio_handshake.specs.State.{begun, joined_shake, next_sid, shake_up}
+use Rattle.vio_handshake.proofs.MessageWidths.{OfferHasWidths, message_has_widths, message_is_well_formed}
+use Rattle.vio_handshake.proofs.PlaceRows.{Fits, GoesTo, put_at, take_at}
+use Rattle.vio_handshake.proofs.Places.{AllSaid, AttributesAnswered, AttributesSaid, Deal, IsPlace, PeerReadyAnswered, PeerReadySaid, PeerRingAnswered, PeerRingSaid, Place, ReadyAnswered, ReadySaid, RingAnswered, RingSaid, VersionAnswered, VersionSaid, message_at, next, owed_by, owner, phase_at, shake_at}
+use Rattle.disk_model.specs.Sayings.{heard, said}
+use Rattle.channel_laws.proofs.Script.{PeerSaid, all_before, bytes_at, hears_beyond, hears_next, not_last, other_next, said_at, said_by, says_next, script}
+use Rattle.channel_laws.specs.EndStep.{IsOfSession}
+use Rattle.channel_laws.specs.LaneCore.{OfferFits}
+use Rattle.channel_laws.specs.Sides.{Sides, other}
+
+-- A MESSAGE OF THE SESSION that a deal makes
+pub record IsOwn (d : Deal) (bytes : List ℕ) : Type 0 where
+  pub message : Message
+  pub body : IsOfSession message.body
+  pub sid : message.sid ≡ d.sid
+  pub is : bytes ≡ canonical message
+
+abbrev pub EachOwn : Deal → List (List ℕ) → Type 0
+EachOwn d [] = ⊤
+EachOwn d (bytes ∷ messages) = IsOwn d bytes × EachOwn d messages
+
+pub own_more : (d : Deal) (messages : List (List ℕ)) (bytes : List ℕ) → EachOwn d messages → IsOwn d bytes → EachOwn d (messages ++ bytes ∷ [])
+own_more d [] bytes each is = (is, tt)
+own_more d (one ∷ messages) bytes each is = (each.0, own_more d messages bytes each.1 is)
+
+own_in : (d : Deal) (messages rest : List (List ℕ)) (bytes : List ℕ) (more : List (List ℕ)) → EachOwn d more → more ≡ (messages ++ bytes ∷ []) ++ rest → IsOwn d bytes
+own_in d [] rest bytes [] each is = absurd (cc is)
+own_in d [] rest bytes (x ∷ more) each is = let same : x ≡ bytes = cc is in subst (IsOwn d) same each.0
+own_in d (one ∷ messages) rest bytes [] each is = absurd (cc is)
+own_in d (one ∷ messages) rest bytes (x ∷ more) each is = own_in d messages rest bytes more each.1 (let tails : more ≡ (messages ++ bytes ∷ []) ++ rest = cc is in tails)
+
+-- AT A PLACE
+pub record AtPlace (both : Bool) (d : Deal) (r : Role) (h : Handshake) (turns : List Turn) : Type 0 where
+  pub place : Place
+  pub here : IsPlace both place
+  pub is : h ≡ shake_at both d r place
+  pub mine : List (List ℕ)
+  pub theirs : List (List ℕ)
+  pub said_is : said turns ≡ said_at both d r place ++ mine
+  pub heard_is : heard turns ≡ said_at both d (other r) place ++ theirs
+  pub only : place ≢ AllSaid → (mine ≡ []) × (theirs ≡ [])
+  pub mine_are : EachOwn d mine
+  pub theirs_are : EachOwn d theirs
+
+-- BOTH ENDS, in one deal: its sid is that of the initiator's link, and the responder never counts sids
+abbrev pub deal : Offer → Offer → ℕ → Deal
+deal asks answers sid = record { asks = asks; answers = answers; sid = sid; last = 0 }
+
+abbrev pub offer_in : Offer → Offer → Role → Offer
+offer_in asks answers Initiator = asks
+offer_in asks answers Responder = answers
+
+pub record HandshakesAt (asks answers : Offer) (role : Role) (s : Sides) : Type 0 where
+  pub sid : ℕ
+  pub small : sid < 2 ^ 32
+  pub offer_mine : s.mine.core.offer ≡ offer_in asks answers role
+  pub offer_theirs : s.theirs.core.offer ≡ offer_in asks answers (other role)
+  pub last_mine : role ≡ Responder → s.mine.core.handshake.last_sid ≡ 0
+  pub last_theirs : other role ≡ Responder → s.theirs.core.handshake.last_sid ≡ 0
+  pub mine : s.mine.state ≡ Up → is_up s.mine.core.link ≡ true → AtPlace asks.both_rings (deal asks answers sid) role s.mine.core.handshake s.mine.turns
+  pub theirs : s.theirs.state ≡ Up → is_up s.theirs.core.link ≡ true
+      → AtPlace asks.both_rings (deal asks answers sid) (other role) s.theirs.core.handshake s.theirs.turns
+
+-- THE OFFERS of a deal
+pub record Matches (asks answers : Offer) : Type 0 where
+  pub asks_fit : OfferFits asks
+  pub answers_fit : OfferFits answers
+  pub matched : Match asks answers
+
+pub deal_fits : (asks answers : Offer) (sid : ℕ) → Match asks answers → Fits asks.both_rings (deal asks answers sid)
+deal_fits asks answers sid matched = record { kind = refl; peer_kind = matched.kind; ring = matched.ring; device = matched.device }
+
+widths : (offer : Offer) → OfferFits offer → OfferHasWidths offer
+widths offer fits = record {
+  minor = fits.minor;
+  class = fits.class;
+  slots = fits.slots;
+  slot_size = fits.slot_size;
+  room = fits.room;
+  cookies = fits.cookies;
+  form = fits.form;
+}
+
+-- the message that bytes of a place spell
+pub message_is : (asks answers : Offer) (sid : ℕ) (n : Place) (m : Message) (bytes : List ℕ) → Matches asks answers → sid < 2 ^ 32 → bytes ≡ bytes_at (deal asks answers sid) n → IsWellFormed m
+    → SpellsMessage bytes m → m ≡ message_at (deal asks answers sid) n
+message_is asks answers sid n m bytes fits small is form spells =
+    let d = deal asks answers sid in
+    let there = message_is_well_formed d n (widths asks fits.asks_fit) (widths answers fits.answers_fit) in
+    spelled_once bytes m (message_at d n) form there spells
+    (subst (λ (xs : List ℕ). SpellsMessage xs (message_at d n)) (sym is)
+    (canonical_spells (message_at d n) there (message_has_widths d n (widths asks fits.asks_fit) (widths answers fits.answers_fit) small)))
+
+-- WHOSE TURN it is
+pub who : (r : Role) (n : Place) → (owner n ≡ Some r) ⊎ ((owner n ≡ Some (other r)) ⊎ (n ≡ AllSaid))
+who Initiator VersionSaid = inl refl
+who Responder VersionSaid = inr (inl refl)
+who Initiator VersionAnswered = inr (inl refl)
+who Responder VersionAnswered = inl refl
+who Initiator AttributesSaid = inl refl
+who Responder AttributesSaid = inr (inl refl)
+who Initiator AttributesAnswered = inr (inl refl)
+who Responder AttributesAnswered = inl refl
+who Initiator RingSaid = inl refl
+who Responder RingSaid = inr (inl refl)
+who Initiator RingAnswered = inr (inl refl)
+who Responder RingAnswered = inl refl
+who Initiator PeerRingSaid = inr (inl refl)
+who Responder PeerRingSaid = inl refl
+who Initiator PeerRingAnswered = inl refl
+who Responder PeerRingAnswered = inr (inl refl)
+who Initiator ReadySaid = inl refl
+who Responder ReadySaid = inr (inl refl)
+who Initiator ReadyAnswered = inr (inl refl)
+who Responder ReadyAnswered = inl refl
+who Initiator PeerReadySaid = inr (inl refl)
+who Responder PeerReadySaid = inl refl
+who Initiator PeerReadyAnswered = inl refl
+who Responder PeerReadyAnswered = inr (inl refl)
+who r AllSaid = inr (inr refl)
+
+twice : (r : Role) → other (other r) ≡ r
+twice Initiator = refl
+twice Responder = refl
+
+next_place : (both : Bool) (n : Place) → IsPlace both n → IsPlace both (next both n)
+next_place true n here = tt
+next_place false VersionSaid here = tt
+next_place false VersionAnswered here = tt
+next_place false AttributesSaid here = tt
+next_place false AttributesAnswered here = tt
+next_place false RingSaid here = tt
+next_place false RingAnswered here = tt
+next_place false PeerRingSaid here = absurd here
+next_place false PeerRingAnswered here = absurd here
+next_place false ReadySaid here = tt
+next_place false ReadyAnswered here = tt
+next_place false PeerReadySaid here = tt
+next_place false PeerReadyAnswered here = tt
+next_place false AllSaid here = tt
+
+-- it owes the message of its place where it is its turn, and is open where all is said
+pub owes_at : (both : Bool) (d : Deal) (r : Role) (n : Place) → owner n ≡ Some r → (shake_at both d r n).owed ≡ Some (message_at d n)
+owes_at both d Initiator n own = ap (λ (w : Option Role). owed_by Initiator w (message_at d n)) own
+owes_at both d Responder n own = ap (λ (w : Option Role). owed_by Responder w (message_at d n)) own
+
+owes_none : (both : Bool) (d : Deal) (r : Role) (n : Place) → n ≡ AllSaid → (shake_at both d r n).owed ≡ None
+owes_none both d Initiator n last = ap (λ (m : Place). owed_by Initiator (owner m) (message_at d m)) last
+owes_none both d Responder n last = ap (λ (m : Place). owed_by Responder (owner m) (message_at d m)) last
+
+pub open_at : (both : Bool) (r : Role) (n : Place) → phase_at both r n ≡ Open → n ≡ AllSaid
+open_at both Initiator AllSaid is = refl
+open_at both Responder AllSaid is = refl
+open_at true Responder RingAnswered is = absurd (cc is)
+open_at false Responder RingAnswered is = absurd (cc is)
+open_at both Initiator _ is = absurd (cc is)
+open_at both Responder _ is = absurd (cc is)
+
+-- ITS LINK COMES UP: it said and heard nothing
+pub begun_at : (both : Bool) (d : Deal) (r : Role) (h : Handshake) (turns : List Turn) → h.role ≡ r → h.offer ≡ (shake_at both d r VersionSaid).offer → (r ≡ Responder → h.last_sid ≡ d.last)
+    → (r ≡ Initiator → d.sid ≡ next_sid h) → IsPlace both VersionSaid → said turns ≡ [] → heard turns ≡ [] → AtPlace both d r (shake_up h) turns
+begun_at both d r h turns role offer last sid here said_none heard_none = record {
+  place = VersionSaid;
+  here = here;
+  is = ap (λ (x : Role). begun x (joined_shake h)) role ∙ by_role r role offer last sid;
+  mine = [];
+  theirs = [];
+  said_is = said_none;
+  heard_is = heard_none;
+  only = λ far. (refl, refl);
+  mine_are = tt;
+  theirs_are = tt;
+}
+  where
+    by_role : (x : Role) → h.role ≡ x → h.offer ≡ (shake_at both d x VersionSaid).offer → (x ≡ Responder → h.last_sid ≡ d.last) → (x ≡ Initiator → d.sid ≡ next_sid h)
+        → begun x (joined_shake h) ≡ shake_at both d x VersionSaid
+    by_role Initiator is of last_is sid_is = let same : next_sid h ≡ d.sid = sym (sid_is refl) in rw (is, of, same) refl
+    by_role Responder is of last_is sid_is = let same : h.last_sid ≡ d.last = last_is refl in rw (is, of, same) refl
+
+-- IT SAYS the message of its place
+pub says_at : (both : Bool) (d : Deal) (r : Role) (h : Handshake) (turns now : List Turn) (bytes : List ℕ) (message : Message) → (at : AtPlace both d r h turns)
+    → h.owed ≡ Some message → bytes ≡ canonical message → said now ≡ said turns ++ bytes ∷ [] → heard now ≡ heard turns → AtPlace both d r (shake_sent h) now
+says_at both d r h turns now bytes message at owed is said_now heard_now =
+    elim (who r at.place) [
+      | inl own ↦
+          let not = not_last r at.place own in
+          let none = at.only not in
+          let same : message ≡ message_at d at.place =
+          (let both_owed : Some message ≡ Some (message_at d at.place) = sym owed ∙ ap (λ (x : Handshake). x.owed) at.is ∙ owes_at both d r at.place own in cc both_owed) in
+          record {
+            place = next both at.place;
+            here = next_place both at.place at.here;
+            is = ap shake_sent at.is ∙ put_at both d r at.place at.here own;
+            mine = [];
+            theirs = [];
+            said_is = said_now ∙ ap (λ (xs : List (List ℕ)). xs ++ bytes ∷ [])
+                (at.said_is ∙ ap (λ (xs : List (List ℕ)). said_at both d r at.place ++ xs) none.0 ∙ append-nil (said_at both d r at.place))
+                ∙ ap (λ (b : List ℕ). said_at both d r at.place ++ b ∷ []) (is ∙ ap canonical same)
+                ∙ sym (says_next both d r at.place at.here own) ∙ sym (append-nil (said_at both d r (next both at.place)));
+            heard_is = heard_now ∙ at.heard_is ∙ ap (λ (xs : List (List ℕ)). said_at both d (other r) at.place ++ xs) none.1
+                ∙ ap (λ (xs : List (List ℕ)). xs ++ []) (sym (other_next both d (other r) at.place at.here (own ∙ ap (λ (x : Role). Some x) (sym (twice r)))));
+            only = λ far. (refl, refl);
+            mine_are = tt;
+            theirs_are = tt;
+          }
+      | inr (inl turn) ↦ absurd (never_owed (ap (λ (x : Handshake). x.owed) at.is) turn)
+      | inr (inr last) ↦ (let wrong : Some message ≡ None = sym owed ∙ ap (λ (x : Handshake). x.owed) at.is ∙ owes_none both d r at.place last in absurd (cc wrong))
+    ]
+  where
+    never_owed : h.owed ≡ (shake_at both d r at.place).owed → owner at.place ≡ Some (other r) → ⊥
+    never_owed same turn = by_role r (sym owed ∙ same) turn
+      where
+        by_role : (x : Role) → Some message ≡ (shake_at both d x at.place).owed → owner at.place ≡ Some (other x) → ⊥
+        by_role Initiator is_owed turn_is =
+            let wrong : Some message ≡ None = is_owed ∙ ap (λ (w : Option Role). owed_by Initiator w (message_at d at.place)) turn_is in cc wrong
+        by_role Responder is_owed turn_is =
+            let wrong : Some message ≡ None = is_owed ∙ ap (λ (w : Option Role). owed_by Responder w (message_at d at.place)) turn_is in cc wrong
+
+-- IT SAYS a message of its session
+pub says_own_at : (both : Bool) (d : Deal) (r : Role) (h g : Handshake) (turns now : List Turn) (bytes : List ℕ) → (at : AtPlace both d r h turns) → g ≡ h → at.place ≡ AllSaid
+    → IsOwn d bytes → said now ≡ said turns ++ bytes ∷ [] → heard now ≡ heard turns → AtPlace both d r g now
+says_own_at both d r h g turns now bytes at same last own said_now heard_now = record {
+  place = at.place;
+  here = at.here;
+  is = same ∙ at.is;
+  mine = at.mine ++ bytes ∷ [];
+  theirs = at.theirs;
+  said_is = said_now ∙ ap (λ (xs : List (List ℕ)). xs ++ bytes ∷ []) at.said_is ∙ append_assoc (said_at both d r at.place) at.mine (bytes ∷ []);
+  heard_is = heard_now ∙ at.heard_is;
+  only = λ far. absurd (far last);
+  mine_are = own_more d at.mine bytes at.mine_are own;
+  theirs_are = at.theirs_are;
+}
+
+-- nothing is said or heard
+pub same_at : (both : Bool) (d : Deal) (r : Role) (h g : Handshake) (turns now : List Turn) → AtPlace both d r h turns → g ≡ h → said now ≡ said turns → heard now ≡ heard turns
+    → AtPlace both d r g now
+same_at both d r h g turns now at same said_now heard_now = record {
+  place = at.place;
+  here = at.here;
+  is = same ∙ at.is;
+  mine = at.mine;
+  theirs = at.theirs;
+  said_is = said_now ∙ at.said_is;
+  heard_is = heard_now ∙ at.heard_is;
+  only = at.only;
+  mine_are = at.mine_are;
+  theirs_are = at.theirs_are;
+}
+
+-- WHAT THE OTHER SAID
+abbrev pub peer_said : (both : Bool) (d : Deal) (r : Role) (h : Handshake) (turns : List Turn) → AtPlace both d r h turns → PeerSaid both d r (said turns)
+peer_said both d r h turns at = record { place = at.place; more = at.mine; is = at.said_is; only = λ far. (at.only far).0 }
+
+-- IT HEARS the message of its place
+goes_alike : (h g : Handshake) (take answer : ShakeTake) → take ≡ answer → GoesTo take h → GoesTo answer g → h ≡ g
+goes_alike h g take answer is (inl one) (inl two) = let same : Goes h ≡ Goes g = sym one ∙ is ∙ two in cc same
+goes_alike h g take answer is (inl one) (inr two) = let same : Goes h ≡ GoesOpen g = sym one ∙ is ∙ two in absurd (cc same)
+goes_alike h g take answer is (inr one) (inl two) = let same : GoesOpen h ≡ Goes g = sym one ∙ is ∙ two in absurd (cc same)
+goes_alike h g take answer is (inr one) (inr two) = let same : GoesOpen h ≡ GoesOpen g = sym one ∙ is ∙ two in cc same
+
+pub hears_at : (asks answers : Offer) (sid : ℕ) (r : Role) (h g : Handshake) (turns now : List Turn) (bytes : List ℕ) (message : Message) (peer : List (List ℕ)) → Matches asks answers → sid < 2 ^ 32
+    → (at : AtPlace asks.both_rings (deal asks answers sid) r h turns) → owner at.place ≡ Some (other r) → PeerSaid asks.both_rings (deal asks answers sid) (other r) peer
+    → IsFront (heard now) peer → heard now ≡ heard turns ++ bytes ∷ [] → said now ≡ said turns → IsWellFormed message → SpellsMessage bytes message → GoesTo (shake_take h message) g
+    → AtPlace asks.both_rings (deal asks answers sid) r g now
+hears_at asks answers sid r h g turns now bytes message peer fits small at turn peer_so front heard_now said_now form spells takes =
+    let both = asks.both_rings in
+    let d = deal asks answers sid in
+    let none = at.only (not_last (other r) at.place turn) in
+    let was : heard turns ≡ said_at both d (other r) at.place =
+    at.heard_is ∙ ap (λ (xs : List (List ℕ)). said_at both d (other r) at.place ++ xs) none.1 ∙ append-nil (said_at both d (other r) at.place) in
+    let is : bytes ≡ bytes_at d at.place =
+    hears_next both d (other r) at.place peer bytes at.here turn peer_so
+    (subst (λ (xs : List (List ℕ)). IsFront xs peer) (heard_now ∙ ap (λ (xs : List (List ℕ)). xs ++ bytes ∷ []) was) front) in
+    let same : message ≡ message_at d at.place = message_is asks answers sid at.place message bytes fits small is form spells in
+    record {
+      place = next both at.place;
+      here = next_place both at.place at.here;
+      is = goes_alike g (shake_at both d r (next both at.place)) (shake_take h message) (shake_take (shake_at both d r at.place) (message_at d at.place))
+          (ap (λ (x : Handshake). shake_take x message) at.is ∙ ap (shake_take (shake_at both d r at.place)) same) takes
+          (take_at both d r at.place (deal_fits asks answers sid fits.matched) at.here turn);
+      mine = [];
+      theirs = [];
+      said_is = said_now ∙ at.said_is ∙ ap (λ (xs : List (List ℕ)). said_at both d r at.place ++ xs) none.0
+          ∙ ap (λ (xs : List (List ℕ)). xs ++ []) (sym (other_next both d r at.place at.here turn));
+      heard_is = heard_now ∙ ap (λ (xs : List (List ℕ)). xs ++ bytes ∷ []) was ∙ ap (λ (b : List ℕ). said_at both d (other r) at.place ++ b ∷ []) is
+          ∙ sym (says_next both d (other r) at.place at.here turn) ∙ sym (append-nil (said_at both d (other r) (next both at.place)));
+      only = λ far. (refl, refl);
+      mine_are = tt;
+      theirs_are = tt;
+    }
+
+-- it hears a message of its session
+pub own_heard : (both : Bool) (d : Deal) (r : Role) (h peer : Handshake) (turns now peer_turns : List Turn) (bytes : List ℕ) → (at : AtPlace both d r h turns) → at.place ≡ AllSaid
+    → AtPlace both d (other r) peer peer_turns → IsFront (heard now) (said peer_turns) → heard now ≡ heard turns ++ bytes ∷ [] → IsOwn d bytes
+own_heard both d r h peer turns now peer_turns bytes at last peer_at front heard_now =
+    let all : heard now ≡ (script both d (other r) ++ at.theirs) ++ bytes ∷ [] =
+    heard_now ∙ ap (λ (xs : List (List ℕ)). xs ++ bytes ∷ []) (at.heard_is ∙ ap (λ (n : Place). said_at both d (other r) n ++ at.theirs) last
+    ∙ ap (λ (ps : List Place). said_by d (other r) ps ++ at.theirs) (all_before both)) in
+    let beyond = hears_beyond both d (other r) (said peer_turns) at.theirs bytes (peer_said both d (other r) peer peer_turns peer_at)
+    (subst (λ (xs : List (List ℕ)). IsFront xs (said peer_turns)) all front) in
+    own_in d at.theirs beyond.0 bytes peer_at.mine peer_at.mine_are beyond.1
+
+pub hears_own_at : (both : Bool) (d : Deal) (r : Role) (h g : Handshake) (turns now : List Turn) (bytes : List ℕ) → (at : AtPlace both d r h turns) → g ≡ h → at.place ≡ AllSaid
+    → IsOwn d bytes → heard now ≡ heard turns ++ bytes ∷ [] → said now ≡ said turns → AtPlace both d r g now
+hears_own_at both d r h g turns now bytes at same last own heard_now said_now = record {
+  place = at.place;
+  here = at.here;
+  is = same ∙ at.is;
+  mine = at.mine;
+  theirs = at.theirs ++ bytes ∷ [];
+  said_is = said_now ∙ at.said_is;
+  heard_is = heard_now ∙ ap (λ (xs : List (List ℕ)). xs ++ bytes ∷ []) at.heard_is ∙ append_assoc (said_at both d (other r) at.place) at.theirs (bytes ∷ []);
+  only = λ far. absurd (far last);
+  mine_are = at.mine_are;
+  theirs_are = own_more d at.theirs bytes at.theirs_are own;
+}

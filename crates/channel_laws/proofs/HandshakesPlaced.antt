@@ -1,0 +1,530 @@
+-- Each act of an end keeps both handshakes at places of one deal, where nobody forged and the offers match.
+use Rattle.std.proofs.Common.{◌≡◌, ℕ, ◌^◌, ◌<◌, ◌≤◌, Bool, true, false, Some, None, List, [], ◌∷◌, ◌++◌, refl, sym, ap, ◌∙◌, subst, arith, ◌⊎◌, inl, inr}
+use Rattle.std.proofs.lemmas.List.{append-nil}
+use Rattle.ldc_link.specs.declared.phase.LinkPhase.{LinkPhase}
+use Rattle.ldc_link.specs.declared.phase.LinkPhase.TheVariants as phase
+use Rattle.ldc_link.specs.declared.phase.Role.{Role}
+use Rattle.ldc_link.specs.declared.phase.Role.TheVariants.{Initiator, Responder}
+use Rattle.ldc_link.specs.LinkState.{LinkState, first_phase, is_established, is_up}
+use Rattle.ldc_packet.specs.declared.packet.Subtype.{Subtype}
+use Rattle.ldc_packet.specs.declared.packet.Subtype.TheVariants.{Info}
+use Rattle.ldc_queue.specs.declared.end.ChannelState.{ChannelState}
+use Rattle.ldc_queue.specs.declared.end.ChannelState.TheVariants.{Down, Resetting, Up}
+use Rattle.ldc_queue.specs.OneStream.{IsFront}
+use Rattle.ldc_queue.specs.Talk.{Heard, Said, Turn}
+use Rattle.ldc_queue.specs.Wire.{peer_behind, upset}
+use Rattle.vio_tag.specs.declared.message.Message.{Message}
+use Rattle.vio_tag.specs.declared.message.MsgBody.{MsgBody}
+use Rattle.vio_tag.specs.declared.message.MsgBody.TheVariants.{DringData, DringUnreg, Mcast, Plain}
+use Rattle.vio_tag.specs.Form.{HasForm}
+use Rattle.vio_tag.specs.Spelling.{SpellsMessage, canonical, envelope_at, envelope_code}
+use Rattle.vio_handshake.specs.declared.handshake.Handshake.{Handshake}
+use Rattle.vio_handshake.specs.declared.handshake.Phase.TheVariants.{Open}
+use Rattle.vio_handshake.specs.declared.session.Offer.{Offer}
+use Rattle.vio_handshake.specs.Rules.{is_declined, shake_sent}
+use Rattle.vio_handshake.specs.State.{begun, joined_shake, next_sid, shake_up}
+use Rattle.vio_handshake.proofs.Places.{AllSaid, IsPlace, Place, VersionSaid, last_at, shake_at}
+use Rattle.disk_model.specs.Sayings.{half_said, heard, said}
+use Rattle.disk_model.specs.TalkLog.{nothing_said}
+use Rattle.channel_laws.proofs.Conversations.{held_phase}
+use Rattle.channel_laws.proofs.ConversingRuns.{converse_keeps, first_converse, mine_messages, unheard}
+use Rattle.channel_laws.proofs.EndCases.{EndTook, NoMessage, PutControl, PutMore, PutOwn, PutReady, PutShake, PutWhat, Rises, TookOwn, TookShake, TookWhat, end_put, end_took, put_down}
+use Rattle.channel_laws.proofs.EndResting.{held_shake}
+use Rattle.channel_laws.proofs.EndStanding.{first_down, held_stands, holds_some, opened_phase}
+use Rattle.channel_laws.proofs.HandshakeCases.{AttributesAgreed, AttributesAsked, AttributesRefused, Declined, OneRingAgreed, Opened, PeerAgreed, ReadyAgreed, ReadyAsked, RingAgreed, RingAsked, RingRefused, RowTaken, VersionAgreed, VersionAsked, VersionRefused}
+use Rattle.channel_laws.proofs.HandshakePlaces.{AtPlace, HandshakesAt, IsOwn, Matches, begun_at, deal, hears_at, hears_own_at, offer_in, open_at, owes_at, own_heard, peer_said, same_at, says_at, says_own_at, who}
+use Rattle.channel_laws.proofs.Lifting.{ActsKeep, BothStand}
+use Rattle.channel_laws.proofs.LinkPlaced.{first_links, links_keep, ready_at}
+use Rattle.channel_laws.proofs.TurnCases.{SaysLast}
+use Rattle.channel_laws.specs.Conversing.{Converse}
+use Rattle.channel_laws.specs.Cuts.{Carries, CarriesOwed, CarriesOwn}
+use Rattle.channel_laws.specs.EndCore.{EndCore}
+use Rattle.channel_laws.specs.EndStep.{EndAnew, EndHears, EndSays, Holding, Holds, HoldsOn, HoldsOwed, HoldsOwn, IsOfSession}
+use Rattle.channel_laws.specs.LaneCore.{fresh_core}
+use Rattle.channel_laws.specs.LinkPlaces.{LinksAt, ModeAgreed, live_phase, phase_at}
+use Rattle.channel_laws.specs.Sides.{Sides, anew, goes_on, other, put, shut, sides_of, swapped, took}
+use Rattle.channel_laws.specs.Standing.{EndStands, IsBelow}
+
+-- ALL THAT TWO ENDS KEEP where nobody forged
+pub record Meets (asks answers : Offer) (role : Role) (s : Sides) : Type 0 where
+  pub converse : Converse role s
+  pub links : LinksAt role s
+  pub handshakes : HandshakesAt asks answers role s
+
+-- FROM THE OTHER SIDE
+swap_handshakes : (asks answers : Offer) (role : Role) (s : Sides) → HandshakesAt asks answers role s → HandshakesAt asks answers (other role) (swapped s)
+swap_handshakes asks answers Initiator s at = record {
+  sid = at.sid;
+  small = at.small;
+  offer_mine = at.offer_theirs;
+  offer_theirs = at.offer_mine;
+  last_mine = at.last_theirs;
+  last_theirs = at.last_mine;
+  mine = at.theirs;
+  theirs = at.mine;
+}
+swap_handshakes asks answers Responder s at = record {
+  sid = at.sid;
+  small = at.small;
+  offer_mine = at.offer_theirs;
+  offer_theirs = at.offer_mine;
+  last_mine = at.last_theirs;
+  last_theirs = at.last_mine;
+  mine = at.theirs;
+  theirs = at.mine;
+}
+
+-- IT GOES ON with the same handshake
+goes_handshakes : (asks answers : Offer) (role : Role) (s : Sides) (t : EndCore) → t.link.phase ≡ s.mine.core.link.phase → t.handshake ≡ s.mine.core.handshake
+    → t.offer ≡ s.mine.core.offer → HandshakesAt asks answers role s → HandshakesAt asks answers role (goes_on t s)
+goes_handshakes asks answers role s t link handshake offer at = record {
+  sid = at.sid;
+  small = at.small;
+  offer_mine = offer ∙ at.offer_mine;
+  offer_theirs = at.offer_theirs;
+  last_mine = λ is. ap (λ (h : Handshake). h.last_sid) handshake ∙ at.last_mine is;
+  last_theirs = at.last_theirs;
+  mine = λ up now.
+      same_at asks.both_rings (deal asks answers at.sid) role s.mine.core.handshake t.handshake s.mine.turns s.mine.turns (at.mine up (sym (ap is_established link) ∙ now)) handshake refl refl;
+  theirs = at.theirs;
+}
+
+held_offer : (c held : EndCore) (what : Holding) → Holds c what held → held.offer ≡ c.offer
+held_offer c held HoldsOn is = ap (λ (x : EndCore). x.offer) is
+held_offer c held (HoldsOwed message) offers = offers.offer
+held_offer c held (HoldsOwn message) offers = offers.offer
+
+-- IT BEGINS, or is closed
+anew_last : (role : Role) (c t : EndCore) → EndAnew role c t → c.handshake.last_sid ≡ 0 → t.handshake.last_sid ≡ 0
+anew_last role c t begins zero =
+    elim begins.handshake [
+      | inl joined ↦ ap (λ (h : Handshake). h.last_sid) joined ∙ zero
+      | inr fresh ↦ ap (λ (h : Handshake). h.last_sid) fresh
+    ]
+
+anew_below : (role : Role) (c t : EndCore) (X : Type 0) → EndAnew role c t → is_up t.link ≡ true → X
+anew_below role c t X begins up = let wrong : true ≡ false = sym up ∙ ap is_up begins.link ∙ first_down role in absurd (cc wrong)
+
+peer_up : (x y : ChannelState) → peer_behind x y ≡ Up → y ≡ Up
+peer_up Up Up is = refl
+peer_up Up Down is = absurd (cc is)
+peer_up Up Resetting is = absurd (cc is)
+peer_up Down y is = is
+peer_up Resetting y is = is
+
+upset_up : (y : ChannelState) (X : Type 0) → upset y ≡ Up → X
+upset_up Up X is = absurd (cc is)
+upset_up Down X is = absurd (cc is)
+upset_up Resetting X is = absurd (cc is)
+
+anew_handshakes : (asks answers : Offer) (role : Role) (s : Sides) (t : EndCore) → EndAnew role s.mine.core t → HandshakesAt asks answers role s → HandshakesAt asks answers role (anew t s)
+anew_handshakes asks answers role s t begins at = record {
+  sid = at.sid;
+  small = at.small;
+  offer_mine = begins.offer ∙ at.offer_mine;
+  offer_theirs = at.offer_theirs;
+  last_mine = λ is. anew_last role s.mine.core t begins (at.last_mine is);
+  last_theirs = at.last_theirs;
+  mine = λ up now. anew_below role s.mine.core t _ begins now;
+  theirs = λ up now. at.theirs (peer_up s.mine.state s.theirs.state up) now;
+}
+
+shut_handshakes : (asks answers : Offer) (role : Role) (s : Sides) (t : EndCore) → EndAnew role s.mine.core t → HandshakesAt asks answers role s → HandshakesAt asks answers role (shut t s)
+shut_handshakes asks answers role s t begins at = record {
+  sid = at.sid;
+  small = at.small;
+  offer_mine = begins.offer ∙ at.offer_mine;
+  offer_theirs = at.offer_theirs;
+  last_mine = λ is. anew_last role s.mine.core t begins (at.last_mine is);
+  last_theirs = at.last_theirs;
+  mine = λ up now. anew_below role s.mine.core t _ begins now;
+  theirs = λ up now. upset_up s.theirs.state _ up;
+}
+
+-- an end at a place: its own offer and count of sids
+placed : (asks answers : Offer) (sid : ℕ) (role : Role) (s : Sides) (t : EndCore) (turns : List Turn) → HandshakesAt asks answers role s → t.offer ≡ s.mine.core.offer
+    → (at_sid : sid < 2 ^ 32)
+    → (role ≡ Responder → t.handshake.last_sid ≡ 0)
+    → (is_up t.link ≡ true → AtPlace asks.both_rings (deal asks answers sid) role t.handshake turns)
+    → (s.theirs.state ≡ Up → is_up s.theirs.core.link ≡ true → AtPlace asks.both_rings (deal asks answers sid) (other role) s.theirs.core.handshake s.theirs.turns)
+    → (waiting peer_waiting : List (List ℕ))
+    → HandshakesAt asks answers role (record s { mine = record s.mine { waiting = waiting; core = t; turns = turns }; theirs = record s.theirs { waiting = peer_waiting } })
+placed asks answers sid role s t turns at offer small last mine theirs waiting peer_waiting = record {
+  sid = sid;
+  small = small;
+  offer_mine = offer ∙ at.offer_mine;
+  offer_theirs = at.offer_theirs;
+  last_mine = last;
+  last_theirs = at.last_theirs;
+  mine = λ up now. mine now;
+  theirs = theirs;
+}
+
+-- at a place a responder's count of sids is none
+place_last : (both : Bool) (asks answers : Offer) (sid : ℕ) (role : Role) (h : Handshake) (turns : List Turn) → AtPlace both (deal asks answers sid) role h turns → role ≡ Responder
+    → h.last_sid ≡ 0
+place_last both asks answers sid role h turns at is = ap (λ (x : Handshake). x.last_sid) at.is ∙ ap (last_at (deal asks answers sid)) is
+
+version_here : (both : Bool) → IsPlace both VersionSaid
+version_here true = tt
+version_here false = tt
+
+same_last : (role : Role) (h g : Handshake) → g ≡ h → (role ≡ Responder → h.last_sid ≡ 0) → role ≡ Responder → g.last_sid ≡ 0
+same_last role h g is last now = ap (λ (x : Handshake). x.last_sid) is ∙ last now
+
+up_last : (role : Role) (h g : Handshake) → h.role ≡ role → g ≡ shake_up h → (role ≡ Responder → h.last_sid ≡ 0) → role ≡ Responder → g.last_sid ≡ 0
+up_last role h g role_is is last now =
+    ap (λ (x : Handshake). x.last_sid) is ∙ ap (λ (r : Role). (begun r (joined_shake h)).last_sid) (role_is ∙ now) ∙ last now
+
+-- IT PUTS a packet
+put_handshakes : (asks answers : Offer) (role : Role) (s : Sides) (t : EndCore) (packet : List ℕ) (opens : Bool) → Matches asks answers → EndStands role s.mine.core s.mine.turns → s.mine.state ≡ Up
+    → EndSays role s.mine.core packet opens t → LinksAt role s → HandshakesAt asks answers role s → HandshakesAt asks answers role (put packet t s)
+put_handshakes asks answers role s t packet opens fits stands up says links at = by_what (end_put role s.mine.core t s.mine.turns packet opens says held_stands_so)
+  where
+    both : Bool
+    both = asks.both_rings
+
+    held : EndCore
+    held = says.held
+
+    now : List Turn
+    now = Said packet ∷ s.mine.turns
+
+    held_stands_so : EndStands role held s.mine.turns
+    held_stands_so = held_stands role s.mine.core held s.mine.turns says.what stands says.holds
+
+    offer : t.offer ≡ s.mine.core.offer
+    offer = says.offer ∙ held_offer s.mine.core held says.what says.holds
+
+    same_shake : held.handshake ≡ s.mine.core.handshake
+    same_shake = held_shake s.mine.core held says.what says.holds
+
+    last : role ≡ Responder → held.handshake.last_sid ≡ 0
+    last is = ap (λ (h : Handshake). h.last_sid) same_shake ∙ at.last_mine is
+
+    phase_is : held.link.phase ≡ s.mine.core.link.phase
+    phase_is = held_phase s.mine.core held says.what says.holds
+
+    -- where its link was up
+    was : held.link.phase ≡ phase.Established → AtPlace both (deal asks answers at.sid) role held.handshake s.mine.turns
+    was est =
+        same_at both (deal asks answers at.sid) role s.mine.core.handshake held.handshake s.mine.turns s.mine.turns (at.mine up (ap is_established (sym phase_is ∙ est))) same_shake refl refl
+
+    goes : (role ≡ Responder → t.handshake.last_sid ≡ 0) → (is_up t.link ≡ true → AtPlace both (deal asks answers at.sid) role t.handshake now) → HandshakesAt asks answers role (put packet t s)
+    goes last_now mine = placed asks answers at.sid role s t now at offer at.small last_now mine at.theirs s.mine.waiting (s.theirs.waiting ++ packet ∷ [])
+
+    -- its link comes up: an initiator begins a session of a new sid, and the other's link isn't up yet
+    their_phase : (x : ChannelState) (first ph : LinkPhase) → x ≡ Up → live_phase x first ph ≡ ph
+    their_phase x first ph is = ap (λ (y : ChannelState). live_phase y first ph) is
+
+    rises : role ≡ Initiator → held.link.phase ≡ phase.OwesRdx → t.handshake ≡ shake_up held.handshake → said now ≡ said s.mine.turns → HandshakesAt asks answers role (put packet t s)
+    rises is owes handshake quiet =
+        placed asks answers (next_sid held.handshake) role s t now at offer (omega arith) (λ responds. let wrong : Initiator ≡ Responder = sym is ∙ responds in absurd (cc wrong))
+        (λ now_up. subst (λ (h : Handshake). AtPlace both (deal asks answers (next_sid held.handshake)) role h now) (sym handshake)
+        (begun_at both (deal asks answers (next_sid held.handshake)) role held.handshake now held_stands_so.handshake.role_is own_offer
+        (λ responds. let wrong : Initiator ≡ Responder = sym is ∙ responds in absurd (cc wrong)) (λ i. refl) (version_here both) (quiet ∙ below.said_none) below.heard_none))
+        (λ their_up their_now. absurd (below_there their_up their_now)) s.mine.waiting (s.theirs.waiting ++ packet ∷ [])
+      where
+        below : IsBelow held.link held.handshake s.mine.turns
+        below = held_stands_so.below (ap is_established owes)
+
+        own_offer : held.handshake.offer ≡ (shake_at both (deal asks answers (next_sid held.handshake)) role VersionSaid).offer
+        own_offer = held_stands_so.handshake.offer_is ∙ held_offer s.mine.core held says.what says.holds ∙ at.offer_mine ∙ by_role role
+          where
+            by_role : (r : Role) → offer_in asks answers r ≡ (shake_at both (deal asks answers (next_sid held.handshake)) r VersionSaid).offer
+            by_role Initiator = refl
+            by_role Responder = refl
+
+        here : phase.OwesRdx ≡ phase_at role links.place
+        here = sym owes ∙ phase_is ∙ sym (their_phase s.mine.state (first_phase role) s.mine.core.link.phase up) ∙ links.mine
+
+        below_there : s.theirs.state ≡ Up → is_up s.theirs.core.link ≡ true → ⊥
+        below_there their_up their_now =
+            let place = ready_at role links.place here in
+            let there : s.theirs.core.link.phase ≡ phase_at (other role) links.place =
+            sym (their_phase s.theirs.state (first_phase (other role)) s.theirs.core.link.phase their_up) ∙ links.theirs in
+            let awaits : s.theirs.core.link.phase ≡ phase.AwaitsRdx = there ∙ ap (phase_at (other role)) place.1 ∙ ap (λ (r : Role). phase_at (other r) ModeAgreed) place.0 in
+            let wrong : true ≡ false = sym their_now ∙ ap is_established awaits in cc wrong
+
+    whole : SaysLast held.link s.mine.turns packet → held.link.phase ≡ phase.Established → Carries held.own held.handshake (half_said s.mine.turns ++ held.link.to_send)
+    whole last_part est = held_stands_so.carries (holds_some held.link (ap is_established est) last_part.some)
+
+    carried_owed : (b : Bool) (bytes : List ℕ) → b ≡ false → Carries b held.handshake bytes → CarriesOwed held.handshake bytes
+    carried_owed false bytes is carries = carries
+    carried_owed true bytes is carries = absurd (cc is)
+
+    carried_own : (b : Bool) (bytes : List ℕ) → b ≡ true → Carries b held.handshake bytes → CarriesOwn held.handshake bytes
+    carried_own true bytes is carries = carries
+    carried_own false bytes is carries = absurd (cc is)
+
+    shakes : held.own ≡ false → (est : held.link.phase ≡ phase.Established) → (last_part : SaysLast held.link s.mine.turns packet) → AtPlace both (deal asks answers at.sid) role (shake_sent held.handshake) now
+    shakes not est last_part =
+        let carries = carried_owed held.own (half_said s.mine.turns ++ held.link.to_send) not (whole last_part est) in
+        says_at both (deal asks answers at.sid) role held.handshake s.mine.turns now (half_said s.mine.turns ++ held.link.to_send) carries.message (was est) carries.owed carries.is last_part.messages refl
+
+    owns : held.own ≡ true → (est : held.link.phase ≡ phase.Established) → (last_part : SaysLast held.link s.mine.turns packet) → t.handshake ≡ held.handshake
+        → AtPlace both (deal asks answers at.sid) role t.handshake now
+    owns own est last_part handshake =
+        let carries = carried_own held.own (half_said s.mine.turns ++ held.link.to_send) own (whole last_part est) in
+        let there = was est in
+        let all_said : there.place ≡ AllSaid = open_at both role there.place (ap (λ (h : Handshake). h.phase) (sym there.is) ∙ carries.opened) in
+        says_own_at both (deal asks answers at.sid) role held.handshake t.handshake s.mine.turns now (half_said s.mine.turns ++ held.link.to_send) there handshake all_said
+        (record { message = carries.message; body = carries.body; sid = carries.sid ∙ ap (λ (h : Handshake). h.draft.sid) there.is ∙ sid_there there.place all_said; is = carries.is })
+        last_part.messages refl
+      where
+        sid_there : (n : Place) → n ≡ AllSaid → (shake_at both (deal asks answers at.sid) role n).draft.sid ≡ at.sid
+        sid_there n is = ap (λ (m : Place). (shake_at both (deal asks answers at.sid) role m).draft.sid) is ∙ by_role both role
+          where
+            by_role : (b : Bool) (r : Role) → (shake_at b (deal asks answers at.sid) r AllSaid).draft.sid ≡ at.sid
+            by_role true Initiator = refl
+            by_role true Responder = refl
+            by_role false Initiator = refl
+            by_role false Responder = refl
+
+    by_what : PutWhat role held s.mine.turns packet opens t → HandshakesAt asks answers role (put packet t s)
+    by_what (PutControl next gone link quiet handshake not is_open) =
+        goes (same_last role held.handshake t.handshake handshake last)
+        (λ now_up. let wrong : true ≡ false = sym now_up ∙ ap is_up link ∙ (put_down held.link.phase packet next gone).1 in absurd (cc wrong))
+    by_what (PutReady role_is owes spelled link quiet handshake not is_open) = rises role_is owes handshake quiet.messages
+    by_what (PutMore est link more handshake not is_open) =
+        goes (same_last role held.handshake t.handshake handshake last)
+        (λ now_up. same_at both (deal asks answers at.sid) role held.handshake t.handshake s.mine.turns now (was est) handshake more.messages refl)
+    by_what (PutOwn own est link last_part handshake not is_open) =
+        goes (same_last role held.handshake t.handshake handshake last) (λ now_up. owns own est last_part handshake)
+    by_what (PutShake not est link last_part handshake flag is_open) =
+        let mine = subst (λ (h : Handshake). AtPlace both (deal asks answers at.sid) role h now) (sym handshake) (shakes not est last_part) in
+        goes (place_last both asks answers at.sid role t.handshake now mine) (λ now_up. mine)
+
+-- IT TAKES a packet: a message of the session isn't one that its handshake declines
+envelope_reads : (m : Message) → IsOfSession m.body → envelope_at (canonical m) ≡ envelope_code m.body
+unfolding canonical
+envelope_reads m is = by_body m.subtype m.sid m.body is
+  where
+    by_body : (s : Subtype) (n : ℕ) (b : MsgBody) → IsOfSession b → envelope_at (canonical (record { subtype = s; sid = n; body = b })) ≡ envelope_code b
+    by_body s n (DringData seq ident start end state) of = refl
+    by_body s n (Mcast set count addresses) of = refl
+    by_body s n _ of = absurd of
+
+own_code : (b : MsgBody) → IsOfSession b → (envelope_code b ≡ 0x0042) ⊎ (envelope_code b ≡ 0x0101)
+own_code (DringData seq ident start end state) of = inl refl
+own_code (Mcast set count addresses) of = inr refl
+own_code _ of = absurd of
+
+declined_code : (s : Subtype) (b : MsgBody) → HasForm b → is_declined s b ≡ true → envelope_code b ≤ 0x0041
+declined_code Info (DringUnreg ident) form is = omega arith
+declined_code Info (Plain envelope) (inl form) is = omega (arith, form)
+declined_code Info (Plain envelope) (inr form) is = omega (arith, form)
+declined_code s b form is = absurd (cc is)
+
+never_declined : (m d : Message) (bytes : List ℕ) → IsOfSession m.body → bytes ≡ canonical m → HasForm d.body → SpellsMessage bytes d → is_declined d.subtype d.body ≡ true → ⊥
+never_declined m d bytes of is form spells declined =
+    let same : envelope_code m.body ≡ envelope_code d.body = sym (envelope_reads m of) ∙ sym (ap envelope_at is) ∙ spells.envelope in
+    elim (own_code m.body of) [
+      | inl one ↦ omega (arith, same, one, declined_code d.subtype d.body form declined)
+      | inr two ↦ omega (arith, same, two, declined_code d.subtype d.body form declined)
+    ]
+
+open_takes : (h t : Handshake) (message : Message) (opens : Bool) → h.phase ≡ Open → RowTaken h message t opens → is_declined message.subtype message.body ≡ true
+open_takes h t message opens up (Declined test is not) = test
+open_takes h t message opens up (VersionAgreed minor class r at m low is not) = absurd (cc (sym up ∙ at))
+open_takes h t message opens up (VersionAsked minor class r at m is not) = absurd (cc (sym up ∙ at))
+open_takes h t message opens up (VersionRefused major minor class other low r at m is not) = absurd (cc (sym up ∙ at))
+open_takes h t message opens up (AttributesAgreed bytes r at m test is not) = absurd (cc (sym up ∙ at))
+open_takes h t message opens up (AttributesAsked bytes r at m test is not) = absurd (cc (sym up ∙ at))
+open_takes h t message opens up (AttributesRefused bytes r at m is not) = absurd (cc (sym up ∙ at))
+open_takes h t message opens up (RingAgreed ident slots slot_size options count cookies r at both m is not) = absurd (cc (sym up ∙ at))
+open_takes h t message opens up (OneRingAgreed ident slots slot_size options count cookies r at one m is not) = absurd (cc (sym up ∙ at))
+open_takes h t message opens up (PeerAgreed ident slots slot_size options count cookies r at m is not) = absurd (cc (sym up ∙ at))
+open_takes h t message opens up (RingAsked ident slots slot_size options count cookies at m test is not) = absurd (cc (sym up ∙ at))
+open_takes h t message opens up (RingRefused ident slots slot_size options count cookies at m is not) = absurd (cc (sym up ∙ at))
+open_takes h t message opens up (ReadyAgreed r at m is not) = absurd (cc (sym up ∙ at))
+open_takes h t message opens up (ReadyAsked at m is not) = absurd (cc (sym up ∙ at))
+open_takes h t message opens up (Opened r at m is now) = absurd (cc (sym up ∙ at))
+
+none_after : (xs rest : List (List ℕ)) (bytes : List ℕ) → [] ≡ (xs ++ bytes ∷ []) ++ rest → ⊥
+none_after [] rest bytes is = cc is
+none_after (x ∷ xs) rest bytes is = cc is
+
+up_or : (x : ChannelState) → (x ≡ Up) ⊎ (x ≡ Up → ⊥)
+up_or Up = inl refl
+up_or Down = inr (λ is. cc is)
+up_or Resetting = inr (λ is. cc is)
+
+link_or : (b : Bool) → (b ≡ true) ⊎ (b ≡ false)
+link_or true = inl refl
+link_or false = inr refl
+
+took_handshakes : (asks answers : Offer) (role : Role) (s : Sides) (t : EndCore) (packet : List ℕ) (opens : Bool) → Matches asks answers → BothStand role s → s.mine.state ≡ Up
+    → EndHears role s.mine.core packet opens t → Converse role (took packet t s) → HandshakesAt asks answers role s → HandshakesAt asks answers role (took packet t s)
+took_handshakes asks answers role s t packet opens fits stands up hears converse at = by_what took_so.what
+  where
+    both : Bool
+    both = asks.both_rings
+
+    c : EndCore
+    c = s.mine.core
+
+    now : List Turn
+    now = Heard packet ∷ s.mine.turns
+
+    took_so : EndTook role c s.mine.turns packet opens t
+    took_so = end_took role c t s.mine.turns packet opens stands.mine hears
+
+    front : IsFront (heard now) (said s.theirs.turns)
+    front = mine_messages role (took packet t s) converse up
+
+    goes : (role ≡ Responder → t.handshake.last_sid ≡ 0) → (is_up t.link ≡ true → AtPlace both (deal asks answers at.sid) role t.handshake now) → HandshakesAt asks answers role (took packet t s)
+    goes last mine = placed asks answers at.sid role s t now at hears.offer at.small last mine at.theirs _ s.theirs.waiting
+
+    -- a message that it heard was said by the other, whose link is up
+    peer : (bytes : List ℕ) → heard now ≡ heard s.mine.turns ++ bytes ∷ [] → AtPlace both (deal asks answers at.sid) (other role) s.theirs.core.handshake s.theirs.turns
+    peer bytes grows =
+        elim (up_or s.theirs.state) [
+          | inl their_up ↦ by_link their_up
+          | inr not ↦ (
+              let nothing : [] ≡ (heard s.mine.turns ++ bytes ∷ []) ++ [] = sym (unheard role (took packet t s) converse up not) ∙ grows ∙ sym (append-nil (heard s.mine.turns ++ bytes ∷ [])) in
+              absurd (none_after (heard s.mine.turns) [] bytes nothing))
+        ]
+      where
+        by_link : s.theirs.state ≡ Up → AtPlace both (deal asks answers at.sid) (other role) s.theirs.core.handshake s.theirs.turns
+        by_link their_up =
+            elim (link_or (is_up s.theirs.core.link)) [
+              | inl now_up ↦ at.theirs their_up now_up
+              | inr down ↦ (
+                  let nothing : [] ≡ (heard s.mine.turns ++ bytes ∷ []) ++ front.0 = sym (stands.theirs.below down).said_none ∙ front.1 ∙ ap (λ (xs : List (List ℕ)). xs ++ front.0) grows in
+                  absurd (none_after (heard s.mine.turns) front.0 bytes nothing))
+            ]
+
+    mine : is_up c.link ≡ true → AtPlace both (deal asks answers at.sid) role c.handshake s.mine.turns
+    mine was = at.mine up was
+
+    rises : role ≡ Responder → is_up c.link ≡ false → heard now ≡ heard s.mine.turns → t.handshake ≡ shake_up c.handshake → AtPlace both (deal asks answers at.sid) role t.handshake now
+    rises is down quiet handshake =
+        let below = stands.mine.below down in
+        subst (λ (h : Handshake). AtPlace both (deal asks answers at.sid) role h now) (sym handshake)
+        (begun_at both (deal asks answers at.sid) role c.handshake now stands.mine.handshake.role_is (stands.mine.handshake.offer_is ∙ at.offer_mine ∙ by_role role) at.last_mine
+        (λ asking. let wrong : Initiator ≡ Responder = sym asking ∙ is in absurd (cc wrong)) (version_here both) below.said_none (quiet ∙ below.heard_none))
+      where
+        by_role : (r : Role) → offer_in asks answers r ≡ (shake_at both (deal asks answers at.sid) r VersionSaid).offer
+        by_role Initiator = refl
+        by_role Responder = refl
+
+    -- at the last place it is a message of the session
+    last_own : (bytes : List ℕ) → (there : AtPlace both (deal asks answers at.sid) role c.handshake s.mine.turns) → there.place ≡ AllSaid → heard now ≡ heard s.mine.turns ++ bytes ∷ []
+        → IsOwn (deal asks answers at.sid) bytes
+    last_own bytes there last grows =
+        own_heard both (deal asks answers at.sid) role c.handshake s.theirs.core.handshake s.mine.turns now s.theirs.turns bytes there last (peer bytes grows) front grows
+
+    open_there : (n : Place) → n ≡ AllSaid → (shake_at both (deal asks answers at.sid) role n).phase ≡ Open
+    open_there n is = ap (λ (m : Place). (shake_at both (deal asks answers at.sid) role m).phase) is ∙ by_role role
+      where
+        by_role : (r : Role) → (shake_at both (deal asks answers at.sid) r AllSaid).phase ≡ Open
+        by_role Initiator = refl
+        by_role Responder = refl
+
+    by_what : TookWhat role c s.mine.turns packet opens t took_so.now → HandshakesAt asks answers role (took packet t s)
+    by_what (NoMessage same quiet handshake not is_open) =
+        goes (same_last role c.handshake t.handshake handshake at.last_mine)
+        (λ now_up. same_at both (deal asks answers at.sid) role c.handshake t.handshake s.mine.turns now
+        (mine (sym same ∙ sym (ap is_up took_so.link) ∙ now_up)) handshake refl quiet)
+    by_what (Rises role_is down now_up quiet handshake not is_open) =
+        goes (up_last role c.handshake t.handshake stands.mine.handshake.role_is handshake at.last_mine) (λ up_now. rises role_is down quiet handshake)
+    by_what (TookOwn message took_message own handshake not is_open) =
+        let there = mine took_message.up in
+        let is_open_now : c.handshake.phase ≡ Open = opened_phase c.handshake.phase (sym stands.mine.opened ∙ own.opened) in
+        let last = open_at both role there.place (ap (λ (h : Handshake). h.phase) (sym there.is) ∙ is_open_now) in
+        goes (same_last role c.handshake t.handshake handshake at.last_mine)
+        (λ now_up. hears_own_at both (deal asks answers at.sid) role c.handshake t.handshake s.mine.turns now took_message.bytes there handshake last
+        (last_own took_message.bytes there last took_message.messages) took_message.messages refl)
+    by_what (TookShake message took_message shake is_open) =
+        let now_at = by_turn (mine took_message.up) in
+        goes (place_last both asks answers at.sid role t.handshake now now_at) (λ now_up. now_at)
+      where
+        by_turn : AtPlace both (deal asks answers at.sid) role c.handshake s.mine.turns → AtPlace both (deal asks answers at.sid) role t.handshake now
+        by_turn there =
+            elim (who role there.place) [
+              | inl own ↦ (
+                  let wrong : None ≡ Some _ = sym hears.may.owed ∙ ap (λ (h : Handshake). h.owed) there.is ∙ owes_at both (deal asks answers at.sid) role there.place own in absurd (cc wrong))
+              | inr (inl turn) ↦
+                  hears_at asks answers at.sid role c.handshake t.handshake s.mine.turns now took_message.bytes message (said s.theirs.turns) fits at.small there turn
+                  (peer_said both (deal asks answers at.sid) (other role) s.theirs.core.handshake s.theirs.turns (peer took_message.bytes took_message.messages)) front took_message.messages refl
+                  took_message.form took_message.spells shake.takes
+              | inr (inr last) ↦ (
+                  let own = last_own took_message.bytes there last took_message.messages in
+                  let opened : c.handshake.phase ≡ Open = ap (λ (h : Handshake). h.phase) there.is ∙ open_there there.place last in
+                  absurd (never_declined own.message message took_message.bytes own.body own.is took_message.form took_message.spells
+                  (open_takes c.handshake t.handshake message opens opened shake.row)))
+            ]
+
+-- ALL ACTS
+pub meets_keep : (asks answers : Offer) → Matches asks answers → ActsKeep (Meets asks answers)
+meets_keep asks answers fits = record {
+  swaps = λ role s m. record {
+    converse = converse_keeps.swaps role s m.converse;
+    links = links_keep.swaps role s m.links;
+    handshakes = swap_handshakes asks answers role s m.handshakes;
+  };
+  stays = λ role s t both stays m. record {
+    converse = converse_keeps.stays role s t both stays m.converse;
+    links = links_keep.stays role s t both stays m.links;
+    handshakes = goes_handshakes asks answers role s t (ap (λ (k : LinkState). k.phase) stays.link) stays.handshake stays.offer m.handshakes;
+  };
+  waits = λ role s t both waits m. record {
+    converse = converse_keeps.waits role s t both waits m.converse;
+    links = links_keep.waits role s t both waits m.links;
+    handshakes = goes_handshakes asks answers role s t (held_phase s.mine.core t waits.what waits.holds) (held_shake s.mine.core t waits.what waits.holds)
+        (held_offer s.mine.core t waits.what waits.holds) m.handshakes;
+  };
+  begins = λ role s t both begins m. record {
+    converse = converse_keeps.begins role s t both begins m.converse;
+    links = links_keep.begins role s t both begins m.links;
+    handshakes = anew_handshakes asks answers role s t begins m.handshakes;
+  };
+  closes = λ role s t both begins m. record {
+    converse = converse_keeps.closes role s t both begins m.converse;
+    links = links_keep.closes role s t both begins m.links;
+    handshakes = shut_handshakes asks answers role s t begins m.handshakes;
+  };
+  takes = λ role s t packet opens both up first hears m.
+      let converse = converse_keeps.takes role s t packet opens both up first hears m.converse in
+      record {
+        converse = converse;
+        links = links_keep.takes role s t packet opens both up first hears m.links;
+        handshakes = took_handshakes asks answers role s t packet opens fits both up hears converse m.handshakes;
+      };
+  puts = λ role s t packet opens both up room says m. record {
+    converse = converse_keeps.puts role s t packet opens both up room says m.converse;
+    links = links_keep.puts role s t packet opens both up room says m.links;
+    handshakes = put_handshakes asks answers role s t packet opens fits both.mine up says m.links m.handshakes;
+  };
+  misses = λ role s packet both first m. record {
+    converse = converse_keeps.misses role s packet both first m.converse;
+    links = links_keep.misses role s packet both first m.links;
+    handshakes = record {
+      sid = m.handshakes.sid;
+      small = m.handshakes.small;
+      offer_mine = m.handshakes.offer_mine;
+      offer_theirs = m.handshakes.offer_theirs;
+      last_mine = m.handshakes.last_mine;
+      last_theirs = m.handshakes.last_theirs;
+      mine = m.handshakes.mine;
+      theirs = m.handshakes.theirs;
+    };
+  };
+}
+
+pub first_meets : (entries : ℕ) (asks answers : Offer) → entries ≤ 256 → Meets asks answers Initiator (sides_of (fresh_core entries asks answers) nothing_said)
+first_meets entries asks answers few = record {
+  converse = first_converse entries asks answers few;
+  links = first_links entries asks answers;
+  handshakes = record {
+    sid = 0;
+    small = omega arith;
+    offer_mine = refl;
+    offer_theirs = refl;
+    last_mine = λ is. refl;
+    last_theirs = λ is. refl;
+    mine = λ up now. absurd (cc up);
+    theirs = λ up now. absurd (cc up);
+  };
+}

@@ -1,0 +1,175 @@
+-- Where both sessions are open and nobody forged, both ends are up, what each heard is as the other has it, and the sessions are one.
+use Rattle.std.proofs.Common.{◌≡◌, ℕ, Bool, true, false, List, [], ◌∷◌, refl, sym, ap, ◌∙◌, subst}
+use Rattle.std.specs.Prelude.{⊤}
+use Rattle.runs.specs.Run.{Run}
+use Rattle.ldc_link.specs.declared.phase.Role.{Role}
+use Rattle.ldc_link.specs.declared.phase.Role.TheVariants.{Initiator, Responder}
+use Rattle.ldc_queue.specs.declared.end.ChannelState.{ChannelState}
+use Rattle.ldc_queue.specs.declared.end.ChannelState.TheVariants.{Down, Resetting, Up}
+use Rattle.ldc_queue.specs.declared.end.End.{End}
+use Rattle.ldc_queue.specs.declared.end.End.TheVariants.{A, B}
+use Rattle.ldc_queue.specs.Talk.{Turn}
+use Rattle.ldc_queue.specs.Wire.{peer_of}
+use Rattle.runs.specs.Lawful.{log_of}
+use Rattle.vio_handshake.specs.declared.handshake.Handshake.{Handshake}
+use Rattle.vio_handshake.specs.declared.session.Offer.{Offer}
+use Rattle.vio_handshake.specs.Messages.{ack, info}
+use Rattle.vio_handshake.specs.Offers.{Match}
+use Rattle.vio_handshake.specs.Pairing.{KnowsBoth}
+use Rattle.vio_handshake.proofs.Places.{AllSaid, Deal, answered_in_all, asked_in_all, shake_at}
+use Rattle.vio_tag.specs.declared.message.Message.{Message}
+use Rattle.vio_tag.specs.declared.message.MsgBody.TheVariants.{Ver}
+use Rattle.disk_model.specs.Sayings.{heard, said}
+use Rattle.disk_model.specs.TalkLog.{TalkLog, talk_of}
+use Rattle.disk_model.specs.WireAt.{IsUp}
+use Rattle.channel_laws.proofs.ConversingRuns.{converse_keeps, first_converse, heard_messages, unheard}
+use Rattle.channel_laws.proofs.CoreRuns.{Knows, knows_run}
+use Rattle.channel_laws.proofs.EndResting.{StandsResting, open_rests}
+use Rattle.channel_laws.proofs.EndStanding.{open_up, opened_phase}
+use Rattle.channel_laws.proofs.EndUttering.{each_front}
+use Rattle.channel_laws.proofs.HandshakePlaces.{AtPlace, deal, open_at}
+use Rattle.channel_laws.proofs.HandshakesPlaced.{Meets, first_meets, meets_keep}
+use Rattle.channel_laws.specs.Conversing.{Converse}
+use Rattle.channel_laws.specs.CoreLog.{CoreLog, after, nothing_yet}
+use Rattle.channel_laws.specs.EndCore.{EndCore}
+use Rattle.channel_laws.specs.Grounds.{Among}
+use Rattle.channel_laws.specs.LaneCore.{CoreEvent, CoreFits, CoreStep, LaneCore, end_of, fresh_core, role_of, talk_after, talk_behind}
+use Rattle.channel_laws.specs.OneSession.{AreOneSession}
+use Rattle.channel_laws.specs.Sides.{Sides, sides_of, swapped}
+use Rattle.channel_laws.specs.Standing.{EndStands}
+use Rattle.channel_laws.specs.Utterances.{SaysEach}
+
+-- THE TALK of a run is that of its log
+pub talk_is : (l : CoreLog) (events : List CoreEvent) → (log_of after l events).talk ≡ log_of talk_after l.talk events
+talk_is l [] = refl
+talk_is l (event ∷ events) = talk_is (after l event) events
+
+-- AN OPEN SESSION heard a message
+not_among : (message : Message) (messages : List (List ℕ)) → messages ≡ [] → Among message messages → ⊥
+not_among message [] is among = among
+not_among message (bytes ∷ messages) is among = cc is
+
+open_heard : (role : Role) (c : EndCore) (turns : List Turn) → StandsResting role c turns → c.is_open ≡ true → heard turns ≡ [] → ⊥
+open_heard Initiator c turns knows is none =
+    let version = (open_rests Initiator c turns knows is).version in
+    not_among (ack c.handshake.draft.sid (Ver 1 c.handshake.draft.minor version.0)) (heard turns) none version.1
+open_heard Responder c turns knows is none =
+    let version = (open_rests Responder c turns knows is).version in
+    not_among (info c.handshake.draft.sid (Ver 1 version.0 version.1)) (heard turns) none version.2
+
+-- BOTH ENDS ARE UP
+record Opens (s : LaneCore) : Type 0 where
+  closed_a : s.wire.wire.end_a ≡ Down → ⊥
+  closed_b : s.wire.wire.end_b ≡ Down → ⊥
+  one : s.wire.wire.end_a ≡ Resetting → s.wire.wire.end_b ≡ Resetting → ⊥
+  hears_a : s.wire.wire.end_a ≡ Up → (s.wire.wire.end_b ≡ Up → ⊥) → ⊥
+  hears_b : s.wire.wire.end_b ≡ Up → (s.wire.wire.end_a ≡ Up → ⊥) → ⊥
+
+both_in : (a b : ChannelState) (s : LaneCore) → s.wire.wire.end_a ≡ a → s.wire.wire.end_b ≡ b → Opens s → IsUp A s.wire.wire × IsUp B s.wire.wire
+both_in Up Up s is_a is_b opens = (is_a, is_b)
+both_in Down b s is_a is_b opens = absurd (opens.closed_a is_a)
+both_in a Down s is_a is_b opens = absurd (opens.closed_b is_b)
+both_in Up Resetting s is_a is_b opens = absurd (opens.hears_a is_a (λ up. let wrong : Up ≡ Resetting = sym up ∙ is_b in cc wrong))
+both_in Resetting Up s is_a is_b opens = absurd (opens.hears_b is_b (λ up. let wrong : Up ≡ Resetting = sym up ∙ is_a in cc wrong))
+both_in Resetting Resetting s is_a is_b opens = absurd (opens.one is_a is_b)
+
+pub both_up : (Holds : Role → Sides → Type 0) (s : LaneCore) (l : CoreLog) → Knows Holds s l → Converse Initiator (sides_of s l.talk) → s.a.is_open ≡ true → s.b.is_open ≡ true
+    → IsUp A s.wire.wire × IsUp B s.wire.wire
+both_up Holds s l knows c opened peer_opened =
+    both_in s.wire.wire.end_a s.wire.wire.end_b s refl refl (record {
+      closed_a = λ down. let wrong : true ≡ false = sym opened ∙ knows.up.closed A down in cc wrong;
+      closed_b = λ down. let wrong : true ≡ false = sym peer_opened ∙ knows.up.closed B down in cc wrong;
+      one = knows.up.one;
+      hears_a = λ up not. open_heard Initiator s.a l.talk.client knows.speaks.a.knows opened (unheard Initiator (sides_of s l.talk) c up not);
+      hears_b = λ up not.
+          open_heard Responder s.b l.talk.server knows.speaks.b.knows peer_opened
+          (unheard Responder (swapped (sides_of s l.talk)) (converse_keeps.swaps Initiator (sides_of s l.talk) c) up not);
+    })
+
+-- THEY ARE ONE
+record AllDone (both : Bool) (d : Deal) (initiator responder : Handshake) : Type 0 where
+  mine : initiator ≡ shake_at both d Initiator AllSaid
+  theirs : responder ≡ shake_at both d Responder AllSaid
+
+one_in : (both : Bool) (d : Deal) → d.asks.both_rings ≡ both → AreOneSession (shake_at both d Initiator AllSaid) (shake_at both d Responder AllSaid)
+one_in true d is = record {
+  sid = refl;
+  minor = refl;
+  smaller = refl;
+  ring = record { ident = refl; ident_own = refl; slots = refl; count = refl; cookies = refl };
+  peer_ring = subst (λ (b : Bool). KnowsBoth b (asked_in_all true d) (answered_in_all true d) d.answers) (sym is)
+      (record { ident = refl; ident_own = refl; slots = refl; count = refl; cookies = refl });
+}
+one_in false d is = record {
+  sid = refl;
+  minor = refl;
+  smaller = refl;
+  ring = record { ident = refl; ident_own = refl; slots = refl; count = refl; cookies = refl };
+  peer_ring = subst (λ (b : Bool). KnowsBoth b (asked_in_all false d) (answered_in_all false d) d.answers) (sym is) tt;
+}
+
+open_done : (both : Bool) (d : Deal) (role : Role) (c : EndCore) (turns : List Turn) → EndStands role c turns → c.is_open ≡ true → AtPlace both d role c.handshake turns
+    → c.handshake ≡ shake_at both d role AllSaid
+open_done both d role c turns stands is at =
+    let opened = opened_phase c.handshake.phase (sym stands.opened ∙ is) in
+    let last = open_at both role at.place (ap (λ (h : Handshake). h.phase) (sym at.is) ∙ opened) in
+    at.is ∙ ap (shake_at both d role) last
+
+pub one_session : (asks answers : Offer) (s : LaneCore) (l : CoreLog) → Knows (Meets asks answers) s l → s.wire.forged ≡ false → s.a.is_open ≡ true → s.b.is_open ≡ true
+    → AreOneSession s.a.handshake s.b.handshake
+one_session asks answers s l knows clean opened peer_opened =
+    let meets = knows.holds.holds clean in
+    let up = both_up (Meets asks answers) s l knows meets.converse opened peer_opened in
+    let both = asks.both_rings in
+    let d = deal asks answers meets.handshakes.sid in
+    let mine = open_done both d Initiator s.a l.talk.client knows.holds.ends.a opened
+    (meets.handshakes.mine up.0 (open_up Initiator s.a l.talk.client knows.holds.ends.a opened)) in
+    let theirs = open_done both d Responder s.b l.talk.server knows.holds.ends.b peer_opened
+    (meets.handshakes.theirs up.1 (open_up Responder s.b l.talk.server knows.holds.ends.b peer_opened)) in
+    subst (λ (h : Handshake). AreOneSession h s.b.handshake) (sym mine) (subst (AreOneSession (shake_at both d Initiator AllSaid)) (sym theirs) (one_in both d refl))
+
+-- ALONG EVERY RUN
+abbrev May : CoreLog → CoreEvent → Type 0
+May l event = ⊤
+
+pub converse_knows : (entries : ℕ) (asks answers : Offer) (events : List CoreEvent) (s : LaneCore) → CoreFits entries asks answers
+    → Run CoreStep (fresh_core entries asks answers) events s → Knows Converse s (log_of after (nothing_yet entries) events)
+converse_knows entries asks answers events s fits run =
+    (knows_run Converse converse_keeps May (λ x l e y knows step. tt) entries asks answers events s fits (first_converse entries asks answers fits.most_entries) run).1
+
+pub meets_knows : (entries : ℕ) (asks answers : Offer) (events : List CoreEvent) (s : LaneCore) → CoreFits entries asks answers → Match asks answers
+    → Run CoreStep (fresh_core entries asks answers) events s → Knows (Meets asks answers) s (log_of after (nothing_yet entries) events)
+meets_knows entries asks answers events s fits matched run =
+    (knows_run (Meets asks answers) (meets_keep asks answers (record { asks_fit = fits.asks_fit; answers_fit = fits.answers_fit; matched = matched })) May (λ x l e y knows step. tt) entries asks answers events s
+    fits (first_meets entries asks answers fits.most_entries) run).1
+
+pub open_sessions_up : (entries : ℕ) (asks answers : Offer) (events : List CoreEvent) (s : LaneCore) → CoreFits entries asks answers
+    → Run CoreStep (fresh_core entries asks answers) events s → s.wire.forged ≡ false → s.a.is_open ≡ true → s.b.is_open ≡ true → IsUp A s.wire.wire × IsUp B s.wire.wire
+open_sessions_up entries asks answers events s fits run clean opened peer_opened =
+    let knows = converse_knows entries asks answers events s fits run in
+    both_up Converse s (log_of after (nothing_yet entries) events) knows (knows.holds.holds clean) opened peer_opened
+
+pub open_sessions_one : (entries : ℕ) (asks answers : Offer) (events : List CoreEvent) (s : LaneCore) → CoreFits entries asks answers → Match asks answers
+    → Run CoreStep (fresh_core entries asks answers) events s → s.wire.forged ≡ false → s.a.is_open ≡ true → s.b.is_open ≡ true → AreOneSession s.a.handshake s.b.handshake
+open_sessions_one entries asks answers events s fits matched run clean opened peer_opened =
+    one_session asks answers s (log_of after (nothing_yet entries) events) (meets_knows entries asks answers events s fits matched run) clean opened peer_opened
+
+-- WHAT IS HEARD is as the other end has it
+said_of : (e : End) (s : LaneCore) (l : CoreLog) → Knows Converse s l
+    → SaysEach (role_of e) (end_of e s).handshake.phase (end_of e s).handshake.offer (end_of e s).handshake.draft (said (talk_of e l.talk))
+said_of A s l knows = knows.speaks.a.utters.said
+said_of B s l knows = knows.speaks.b.utters.said
+
+pub said_as_held : (entries : ℕ) (asks answers : Offer) (events : List CoreEvent) (s : LaneCore) (e : End) → CoreFits entries asks answers
+    → Run CoreStep (fresh_core entries asks answers) events s
+    → SaysEach (role_of e) (end_of e s).handshake.phase (end_of e s).handshake.offer (end_of e s).handshake.draft (said (talk_of e (talk_behind events)))
+said_as_held entries asks answers events s e fits run =
+    subst (λ (talk : TalkLog). SaysEach (role_of e) (end_of e s).handshake.phase (end_of e s).handshake.offer (end_of e s).handshake.draft (said (talk_of e talk)))
+    (talk_is (nothing_yet entries) events) (said_of e s (log_of after (nothing_yet entries) events) (converse_knows entries asks answers events s fits run))
+
+pub heard_as_said : (entries : ℕ) (asks answers : Offer) (events : List CoreEvent) (s : LaneCore) (e : End) → CoreFits entries asks answers
+    → Run CoreStep (fresh_core entries asks answers) events s → s.wire.forged ≡ false → IsUp e s.wire.wire
+    → SaysEach (role_of (peer_of e)) (end_of (peer_of e) s).handshake.phase (end_of (peer_of e) s).handshake.offer (end_of (peer_of e) s).handshake.draft (heard (talk_of e (talk_behind events)))
+heard_as_said entries asks answers events s e fits run clean up =
+    each_front (role_of (peer_of e)) (end_of (peer_of e) s).handshake (heard (talk_of e (talk_behind events))) (said (talk_of (peer_of e) (talk_behind events)))
+    (heard_messages entries asks answers events s e fits run clean up) (said_as_held entries asks answers events s (peer_of e) fits run)
