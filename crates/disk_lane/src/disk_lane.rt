@@ -211,6 +211,7 @@ impl DiskLane {
     pub fn reached(&self)
         ensures { IsReached self.now }
     {
+        let _ = &self.ends;
     }
 
     /// Whether the client's session is open and nothing is pending.

@@ -72,8 +72,7 @@ below_both entries [] more first second =
 below_both entries (line ∷ lines) more first second =
     let behind : List Entry = entries_in lines in
     let same : entries + length (line.1 ++ behind) ≡ entries + length line.1 + length behind =
-    omega (arith, length-append line.1 behind) in
-    (
+    omega (arith, length-append line.1 behind) in (
       first.0,
       below_both (entries + length line.1) lines more first.1 (subst (λ (n : ℕ). BeginBelow n more) same second),
     )

@@ -191,4 +191,3 @@ module _ (disks : List DiskDecl) (image : ImageState) (entries : ℕ) (parts : S
   -- each entry has its words
   pub script_worded : All (HasWords disks) journal
   script_worded = subst (All (HasWords disks)) tells.journal_is (all_words disks tells.tellings told_all)
-

@@ -1,6 +1,14 @@
-use Rattle.std.proofs.Common.{ap}
+use Rattle.std.proofs.Common.{◌≤◌, List, length, ap, subst, sym}
+use Rattle.disk_model.specs.LaneState.{LaneState}
 use Rattle.kept_requests.specs.Bytes.{BytesState}
+use Rattle.world_laws.specs.Rounds.{Each}
+use Rattle.world_parts.specs.Declared.{LiesWithin}
 use Rattle.ldom_world.proofs.world.World.over.Goals as goal
 
 pub invariant_of-result : goal.invariant_of-result
-invariant_of-result g c = (c.requires.few, c.requires.image, ap (λ (b : BytesState). b.items) c.empty.ensures)
+invariant_of-result g c = (
+  subst (λ (l : List LaneState). length l ≤ 8) (sym c.lanes.view_is) c.requires.few,
+  subst (λ (l : List LaneState). Each (LiesWithin (g.D.Store.size c.args.image)) l) (sym c.lanes.view_is)
+      c.requires.image,
+  ap (λ (b : BytesState). b.items) c.empty.ensures,
+)
