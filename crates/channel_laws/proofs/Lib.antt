@@ -27,3 +27,4 @@ pub mod LinkRefuses
 pub mod Resets
 pub mod UnforgedResets
 pub mod Sids
+pub mod CoreLaws
