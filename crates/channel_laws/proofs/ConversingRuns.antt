@@ -1,10 +1,17 @@
 -- Along every run that nobody forged the two ends converse, so that what an end heard is a front of what the other said.
-use Rattle.std.proofs.Common.{◌≡◌, ℕ, ◌≤◌, false, List, [], ◌∷◌, ◌++◌, refl, sym, ap, ◌∙◌, subst, arith}
+use Rattle.std.proofs.Common.{◌≡◌, ℕ, ◌≤◌, false, Some, List, [], ◌∷◌, ◌++◌, refl, sym, ap, ◌∙◌, subst, arith}
+use Rattle.std.specs.Prelude.{slice_get}
 use Rattle.runs.specs.Run.{Run}
 use Rattle.ldc_link.specs.declared.phase.Role.{Role}
 use Rattle.ldc_link.specs.declared.phase.Role.TheVariants.{Initiator}
 use Rattle.ldc_queue.proofs.Messages.{messages_front}
-use Rattle.ldc_queue.proofs.Streams.{heard_front, stream_begins}
+use Rattle.ldc_link.proofs.Following.{takes_follow}
+use Rattle.ldc_link.specs.Following.{Follows}
+use Rattle.ldc_link.specs.LinkState.{LinkState}
+use Rattle.ldc_link.specs.Taking.{Heard, TakesBytes}
+use Rattle.ldc_queue.specs.QueueEvent.{Take}
+use Rattle.ldc_queue.specs.QueueLog.{lost_past}
+use Rattle.ldc_queue.proofs.Streams.{heard_front, stream_begins, stream_step}
 use Rattle.ldc_queue.specs.declared.end.ChannelState.{ChannelState}
 use Rattle.ldc_queue.specs.declared.end.ChannelState.TheVariants.{Down, Resetting, Up}
 use Rattle.ldc_queue.specs.declared.end.End.{End}
@@ -12,7 +19,8 @@ use Rattle.ldc_queue.specs.declared.end.End.TheVariants.{A, B}
 use Rattle.ldc_queue.specs.Fragments.{fragments_in}
 use Rattle.ldc_queue.specs.Messages.{messages_heard, whole_in}
 use Rattle.ldc_queue.specs.Numbered.{numbered}
-use Rattle.ldc_queue.specs.OneStream.{IsFront, live}
+use Rattle.ldc_queue.specs.OneStream.{IsFront, OneStream, live}
+use Rattle.ldc_queue.specs.Talk as turn
 use Rattle.ldc_queue.specs.Talk.{Turn, numbered_heard, numbered_said}
 use Rattle.ldc_queue.specs.Wire.{peer_of}
 use Rattle.vio_handshake.specs.declared.session.Offer.{Offer}
@@ -20,12 +28,12 @@ use Rattle.disk_model.proofs.SameSayings.{heard_is, said_is}
 use Rattle.disk_model.specs.Sayings.{heard, said}
 use Rattle.disk_model.specs.TalkLog.{TalkLog, nothing_said, talk_of}
 use Rattle.disk_model.specs.WireAt.{IsUp}
-use Rattle.channel_laws.proofs.Conversations.{anew_converse, missed_converse, put_converse, shut_converse, stays_converse, swap_converse, took_converse, waits_converse}
-use Rattle.channel_laws.proofs.FewLost.{few_begins}
+use Rattle.channel_laws.proofs.Conversations.{anew_converse, first_waits, missed_converse, put_converse, shut_converse, stays_converse, swap_converse, took_converse, waits_converse}
+use Rattle.channel_laws.proofs.FewLost.{below_turn, few_begins}
 use Rattle.channel_laws.proofs.Lifting.{ActsKeep, CoreHolds, core_run}
 use Rattle.channel_laws.specs.Conversing.{Converse, queue_log}
 use Rattle.channel_laws.specs.LaneCore.{CoreEvent, CoreFits, CoreStep, LaneCore, fresh_core, talk_behind}
-use Rattle.channel_laws.specs.Sides.{Sides, sides_of}
+use Rattle.channel_laws.specs.Sides.{Sides, sides_of, took}
 
 pub converse_keeps : ActsKeep Converse
 converse_keeps = record {
@@ -81,14 +89,8 @@ pub heard_messages : (entries : ℕ) (asks answers : Offer) (events : List CoreE
 heard_messages entries asks answers events s e fits run clean up =
     messages_of s (talk_behind events) e ((converse_run entries asks answers events s fits run).holds clean) up
 
--- FROM ITS OWN SIDE, an end that is up
-pub mine_packets : (role : Role) (s : Sides) → Converse role s → s.mine.state ≡ Up → IsFront (numbered_heard s.mine.turns) (numbered_said s.theirs.turns)
-mine_packets role s c up = heard_front (queue_log s c.lost_mine c.lost_theirs) A c.stream up
-
-pub mine_messages : (role : Role) (s : Sides) → Converse role s → s.mine.state ≡ Up → IsFront (heard s.mine.turns) (said s.theirs.turns)
-mine_messages role s c up = messages_in_front s.mine.turns s.theirs.turns (mine_packets role s c up)
-
--- where the other isn't up it heard nothing
+-- WHAT AN END THAT IS UP HEARD, from its own side, also with the packet that it takes next: a front of what the other said, and nothing where
+-- the other isn't up
 none_live : (x : ChannelState) (packets : List (List ℕ)) → (x ≡ Up → ⊥) → live x packets ≡ []
 none_live Up packets not = absurd (not refl)
 none_live Down packets not = refl
@@ -98,9 +100,32 @@ nothing_front : (xs ys : List (List ℕ)) → [] ≡ xs ++ ys → xs ≡ []
 nothing_front [] ys is = refl
 nothing_front (x ∷ xs) ys is = absurd (cc is)
 
+pub record HeardFrom (s : Sides) (now : List Turn) : Type 0 where
+  pub front : IsFront (heard now) (said s.theirs.turns)
+  pub none : (s.theirs.state ≡ Up → ⊥) → heard now ≡ []
+
+stream_hears : (s : Sides) (lost_mine lost_theirs : ℕ) → OneStream (queue_log s lost_mine lost_theirs) → s.mine.state ≡ Up → HeardFrom s s.mine.turns
+stream_hears s lost_mine lost_theirs stream up = record {
+  front = messages_in_front s.mine.turns s.theirs.turns (heard_front (queue_log s lost_mine lost_theirs) A stream up);
+  none = λ not.
+      let way = stream.to_a in
+      let nothing : [] ≡ numbered_heard s.mine.turns ++ (way.gone ++ numbered s.mine.waiting) =
+      sym (none_live s.theirs.state (numbered_said s.theirs.turns) not) ∙ way.is
+      ∙ ap (λ (x : ChannelState). live x (numbered_heard s.mine.turns) ++ (way.gone ++ numbered s.mine.waiting)) up in
+      heard_is s.mine.turns ∙ ap (λ (xs : List (List ℕ)). whole_in [] (fragments_in xs)) (nothing_front (numbered_heard s.mine.turns) (way.gone ++ numbered s.mine.waiting) nothing);
+}
+
+pub hears_now : (role : Role) (s : Sides) → Converse role s → s.mine.state ≡ Up → HeardFrom s s.mine.turns
+hears_now role s c up = stream_hears s c.lost_mine c.lost_theirs c.stream up
+
+pub hears_next : (role : Role) (s : Sides) (packet : List ℕ) (m : LinkState) → Converse role s → s.mine.state ≡ Up → slice_get s.mine.waiting 0 ≡ Some packet
+    → Follows s.mine.core.link s.mine.turns → TakesBytes s.mine.core.link packet (Heard m) → HeardFrom s (turn.Heard packet ∷ s.mine.turns)
+hears_next role s packet m c up at_front follows takes =
+    let first = first_waits packet s.mine.waiting at_front in
+    let counts = (takes_follow s.mine.core.link s.mine.turns packet m follows takes).0 in
+    let stream = stream_step (queue_log s c.lost_mine c.lost_theirs) (Take A packet) (up, first, counts, λ one. below_turn _ _ _ _ _ _ c.to_mine.few) c.stream in
+    let hears = stream_hears (took packet s.mine.core s) (lost_past (numbered (packet ∷ [])) c.lost_mine) c.lost_theirs stream up in
+    record { front = hears.front; none = hears.none }
+
 pub unheard : (role : Role) (s : Sides) → Converse role s → s.mine.state ≡ Up → (s.theirs.state ≡ Up → ⊥) → heard s.mine.turns ≡ []
-unheard role s c up not =
-    let way = c.stream.to_a in
-    let nothing : [] ≡ numbered_heard s.mine.turns ++ (way.gone ++ numbered s.mine.waiting) =
-    sym (none_live s.theirs.state (numbered_said s.theirs.turns) not) ∙ way.is ∙ ap (λ (x : ChannelState). live x (numbered_heard s.mine.turns) ++ (way.gone ++ numbered s.mine.waiting)) up in
-    heard_is s.mine.turns ∙ ap (λ (xs : List (List ℕ)). whole_in [] (fragments_in xs)) (nothing_front (numbered_heard s.mine.turns) (way.gone ++ numbered s.mine.waiting) nothing)
+unheard role s c up not = (hears_now role s c up).none not

@@ -102,15 +102,22 @@ widths offer fits = record {
   form = fits.form;
 }
 
--- the message that bytes of a place spell
+-- the bytes of a place spell its message
+pub message_at_spelled : (asks answers : Offer) (sid : ℕ) (n : Place) (bytes : List ℕ) → Matches asks answers → sid < 2 ^ 32 → bytes ≡ bytes_at (deal asks answers sid) n
+    → IsWellFormed (message_at (deal asks answers sid) n) × SpellsMessage bytes (message_at (deal asks answers sid) n)
+message_at_spelled asks answers sid n bytes fits small is =
+    let d = deal asks answers sid in
+    let there = message_is_well_formed d n (widths asks fits.asks_fit) (widths answers fits.answers_fit) in (
+      there,
+      subst (λ (xs : List ℕ). SpellsMessage xs (message_at d n)) (sym is)
+          (canonical_spells (message_at d n) there (message_has_widths d n (widths asks fits.asks_fit) (widths answers fits.answers_fit) small)),
+    )
+
+-- and no other
 pub message_is : (asks answers : Offer) (sid : ℕ) (n : Place) (m : Message) (bytes : List ℕ) → Matches asks answers → sid < 2 ^ 32 → bytes ≡ bytes_at (deal asks answers sid) n → IsWellFormed m
     → SpellsMessage bytes m → m ≡ message_at (deal asks answers sid) n
 message_is asks answers sid n m bytes fits small is form spells =
-    let d = deal asks answers sid in
-    let there = message_is_well_formed d n (widths asks fits.asks_fit) (widths answers fits.answers_fit) in
-    spelled_once bytes m (message_at d n) form there spells
-    (subst (λ (xs : List ℕ). SpellsMessage xs (message_at d n)) (sym is)
-    (canonical_spells (message_at d n) there (message_has_widths d n (widths asks fits.asks_fit) (widths answers fits.answers_fit) small)))
+    let there = message_at_spelled asks answers sid n bytes fits small is in spelled_once bytes m (message_at (deal asks answers sid) n) form there.0 spells there.1
 
 -- WHOSE TURN it is
 pub who : (r : Role) (n : Place) → (owner n ≡ Some r) ⊎ ((owner n ≡ Some (other r)) ⊎ (n ≡ AllSaid))
@@ -280,6 +287,18 @@ goes_alike h g take answer is (inl one) (inr two) = let same : Goes h ≡ GoesOp
 goes_alike h g take answer is (inr one) (inl two) = let same : GoesOpen h ≡ Goes g = sym one ∙ is ∙ two in absurd (cc same)
 goes_alike h g take answer is (inr one) (inr two) = let same : GoesOpen h ≡ GoesOpen g = sym one ∙ is ∙ two in cc same
 
+pub place_bytes : (asks answers : Offer) (sid : ℕ) (r : Role) (h : Handshake) (turns now : List Turn) (bytes : List ℕ) (peer : List (List ℕ))
+    → (at : AtPlace asks.both_rings (deal asks answers sid) r h turns) → owner at.place ≡ Some (other r) → PeerSaid asks.both_rings (deal asks answers sid) (other r) peer
+    → IsFront (heard now) peer → heard now ≡ heard turns ++ bytes ∷ [] → bytes ≡ bytes_at (deal asks answers sid) at.place
+place_bytes asks answers sid r h turns now bytes peer at turn peer_so front heard_now =
+    let both = asks.both_rings in
+    let d = deal asks answers sid in
+    let none = at.only (not_last (other r) at.place turn) in
+    let was : heard turns ≡ said_at both d (other r) at.place =
+    at.heard_is ∙ ap (λ (xs : List (List ℕ)). said_at both d (other r) at.place ++ xs) none.1 ∙ append-nil (said_at both d (other r) at.place) in
+    hears_next both d (other r) at.place peer bytes at.here turn peer_so
+    (subst (λ (xs : List (List ℕ)). IsFront xs peer) (heard_now ∙ ap (λ (xs : List (List ℕ)). xs ++ bytes ∷ []) was) front)
+
 pub hears_at : (asks answers : Offer) (sid : ℕ) (r : Role) (h g : Handshake) (turns now : List Turn) (bytes : List ℕ) (message : Message) (peer : List (List ℕ)) → Matches asks answers → sid < 2 ^ 32
     → (at : AtPlace asks.both_rings (deal asks answers sid) r h turns) → owner at.place ≡ Some (other r) → PeerSaid asks.both_rings (deal asks answers sid) (other r) peer
     → IsFront (heard now) peer → heard now ≡ heard turns ++ bytes ∷ [] → said now ≡ said turns → IsWellFormed message → SpellsMessage bytes message → GoesTo (shake_take h message) g
@@ -290,9 +309,7 @@ hears_at asks answers sid r h g turns now bytes message peer fits small at turn 
     let none = at.only (not_last (other r) at.place turn) in
     let was : heard turns ≡ said_at both d (other r) at.place =
     at.heard_is ∙ ap (λ (xs : List (List ℕ)). said_at both d (other r) at.place ++ xs) none.1 ∙ append-nil (said_at both d (other r) at.place) in
-    let is : bytes ≡ bytes_at d at.place =
-    hears_next both d (other r) at.place peer bytes at.here turn peer_so
-    (subst (λ (xs : List (List ℕ)). IsFront xs peer) (heard_now ∙ ap (λ (xs : List (List ℕ)). xs ++ bytes ∷ []) was) front) in
+    let is : bytes ≡ bytes_at d at.place = place_bytes asks answers sid r h turns now bytes peer at turn peer_so front heard_now in
     let same : message ≡ message_at d at.place = message_is asks answers sid at.place message bytes fits small is form spells in
     record {
       place = next both at.place;

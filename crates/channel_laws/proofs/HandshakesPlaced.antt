@@ -1,5 +1,6 @@
 -- Each act of an end keeps both handshakes at places of one deal, where nobody forged and the offers match.
 use Rattle.std.proofs.Common.{◌≡◌, ℕ, ◌^◌, ◌<◌, ◌≤◌, Bool, true, false, Some, None, List, [], ◌∷◌, ◌++◌, refl, sym, ap, ◌∙◌, subst, arith, ◌⊎◌, inl, inr}
+use Rattle.std.specs.Prelude.{slice_get}
 use Rattle.std.proofs.lemmas.List.{append-nil}
 use Rattle.ldc_link.specs.declared.phase.LinkPhase.{LinkPhase}
 use Rattle.ldc_link.specs.declared.phase.LinkPhase.TheVariants as phase
@@ -27,7 +28,7 @@ use Rattle.vio_handshake.proofs.Places.{AllSaid, IsPlace, Place, VersionSaid, la
 use Rattle.disk_model.specs.Sayings.{half_said, heard, said}
 use Rattle.disk_model.specs.TalkLog.{nothing_said}
 use Rattle.channel_laws.proofs.Conversations.{held_phase}
-use Rattle.channel_laws.proofs.ConversingRuns.{converse_keeps, first_converse, mine_messages, unheard}
+use Rattle.channel_laws.proofs.ConversingRuns.{HeardFrom, converse_keeps, first_converse, hears_next}
 use Rattle.channel_laws.proofs.EndCases.{EndTook, NoMessage, PutControl, PutMore, PutOwn, PutReady, PutShake, PutWhat, Rises, TookOwn, TookShake, TookWhat, end_put, end_took, put_down}
 use Rattle.channel_laws.proofs.EndResting.{held_shake}
 use Rattle.channel_laws.proofs.EndStanding.{first_down, held_stands, holds_some, opened_phase}
@@ -354,9 +355,31 @@ link_or : (b : Bool) → (b ≡ true) ⊎ (b ≡ false)
 link_or true = inl refl
 link_or false = inr refl
 
+-- a message that it heard was said by the other, whose link is up
+pub peer_place : (asks answers : Offer) (role : Role) (s : Sides) (now before : List Turn) (bytes : List ℕ) → EndStands (other role) s.theirs.core s.theirs.turns
+    → (at : HandshakesAt asks answers role s) → HeardFrom s now → heard now ≡ heard before ++ bytes ∷ []
+    → AtPlace asks.both_rings (deal asks answers at.sid) (other role) s.theirs.core.handshake s.theirs.turns
+peer_place asks answers role s now before bytes stands at from grows =
+    elim (up_or s.theirs.state) [
+      | inl up ↦ by_link up
+      | inr not ↦ (
+          let nothing : [] ≡ (heard before ++ bytes ∷ []) ++ [] = sym (from.none not) ∙ grows ∙ sym (append-nil (heard before ++ bytes ∷ [])) in
+          absurd (none_after (heard before) [] bytes nothing))
+    ]
+  where
+    by_link : s.theirs.state ≡ Up → AtPlace asks.both_rings (deal asks answers at.sid) (other role) s.theirs.core.handshake s.theirs.turns
+    by_link up =
+        elim (link_or (is_up s.theirs.core.link)) [
+          | inl now_up ↦ at.theirs up now_up
+          | inr down ↦ (
+              let nothing : [] ≡ (heard before ++ bytes ∷ []) ++ from.front.0 =
+              sym (stands.below down).said_none ∙ from.front.1 ∙ ap (λ (xs : List (List ℕ)). xs ++ from.front.0) grows in
+              absurd (none_after (heard before) from.front.0 bytes nothing))
+        ]
+
 took_handshakes : (asks answers : Offer) (role : Role) (s : Sides) (t : EndCore) (packet : List ℕ) (opens : Bool) → Matches asks answers → BothStand role s → s.mine.state ≡ Up
-    → EndHears role s.mine.core packet opens t → Converse role (took packet t s) → HandshakesAt asks answers role s → HandshakesAt asks answers role (took packet t s)
-took_handshakes asks answers role s t packet opens fits stands up hears converse at = by_what took_so.what
+    → slice_get s.mine.waiting 0 ≡ Some packet → EndHears role s.mine.core packet opens t → Converse role s → HandshakesAt asks answers role s → HandshakesAt asks answers role (took packet t s)
+took_handshakes asks answers role s t packet opens fits stands up first hears converse at = by_what took_so.what
   where
     both : Bool
     both = asks.both_rings
@@ -370,30 +393,17 @@ took_handshakes asks answers role s t packet opens fits stands up hears converse
     took_so : EndTook role c s.mine.turns packet opens t
     took_so = end_took role c t s.mine.turns packet opens stands.mine hears
 
+    from : HeardFrom s now
+    from = hears_next role s packet took_so.now converse up first stands.mine.link.follows took_so.takes
+
     front : IsFront (heard now) (said s.theirs.turns)
-    front = mine_messages role (took packet t s) converse up
+    front = from.front
 
     goes : (role ≡ Responder → t.handshake.last_sid ≡ 0) → (is_up t.link ≡ true → AtPlace both (deal asks answers at.sid) role t.handshake now) → HandshakesAt asks answers role (took packet t s)
     goes last mine = placed asks answers at.sid role s t now at hears.offer at.small last mine at.theirs _ s.theirs.waiting
 
-    -- a message that it heard was said by the other, whose link is up
     peer : (bytes : List ℕ) → heard now ≡ heard s.mine.turns ++ bytes ∷ [] → AtPlace both (deal asks answers at.sid) (other role) s.theirs.core.handshake s.theirs.turns
-    peer bytes grows =
-        elim (up_or s.theirs.state) [
-          | inl their_up ↦ by_link their_up
-          | inr not ↦ (
-              let nothing : [] ≡ (heard s.mine.turns ++ bytes ∷ []) ++ [] = sym (unheard role (took packet t s) converse up not) ∙ grows ∙ sym (append-nil (heard s.mine.turns ++ bytes ∷ [])) in
-              absurd (none_after (heard s.mine.turns) [] bytes nothing))
-        ]
-      where
-        by_link : s.theirs.state ≡ Up → AtPlace both (deal asks answers at.sid) (other role) s.theirs.core.handshake s.theirs.turns
-        by_link their_up =
-            elim (link_or (is_up s.theirs.core.link)) [
-              | inl now_up ↦ at.theirs their_up now_up
-              | inr down ↦ (
-                  let nothing : [] ≡ (heard s.mine.turns ++ bytes ∷ []) ++ front.0 = sym (stands.theirs.below down).said_none ∙ front.1 ∙ ap (λ (xs : List (List ℕ)). xs ++ front.0) grows in
-                  absurd (none_after (heard s.mine.turns) front.0 bytes nothing))
-            ]
+    peer bytes grows = peer_place asks answers role s now s.mine.turns bytes stands.theirs at from grows
 
     mine : is_up c.link ≡ true → AtPlace both (deal asks answers at.sid) role c.handshake s.mine.turns
     mine was = at.mine up was
@@ -486,11 +496,10 @@ meets_keep asks answers fits = record {
     handshakes = shut_handshakes asks answers role s t begins m.handshakes;
   };
   takes = λ role s t packet opens both up first hears m.
-      let converse = converse_keeps.takes role s t packet opens both up first hears m.converse in
       record {
-        converse = converse;
+        converse = converse_keeps.takes role s t packet opens both up first hears m.converse;
         links = links_keep.takes role s t packet opens both up first hears m.links;
-        handshakes = took_handshakes asks answers role s t packet opens fits both up hears converse m.handshakes;
+        handshakes = took_handshakes asks answers role s t packet opens fits both up first hears m.converse m.handshakes;
       };
   puts = λ role s t packet opens both up room says m. record {
     converse = converse_keeps.puts role s t packet opens both up room says m.converse;

@@ -18,3 +18,13 @@ pub mod Script
 pub mod HandshakePlaces
 pub mod HandshakesPlaced
 pub mod Sessions
+pub mod NextPacket
+pub mod LinkTurns
+pub mod PartsSaid
+pub mod LinkResets
+pub mod HandshakeResets
+pub mod LinkRefuses
+pub mod Resets
+pub mod UnforgedResets
+pub mod Sids
+pub mod CoreLaws

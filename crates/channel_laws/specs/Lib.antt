@@ -11,3 +11,4 @@ pub mod Budget
 pub mod Conversing
 pub mod LinkPlaces
 pub mod CoreLog
+pub mod Resetting

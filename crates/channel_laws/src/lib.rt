@@ -1,3 +1,18 @@
 //! Two ends on a channel, of any kind of lane: an end as its channel sees it, what may happen to it, and two of them with the wire
 //! between. What always holds of an end by its role, and of both where nobody forged, whatever was lost, reset or closed. It has no code.
 #![tactic(auto)]
+
+mod end_laws;
+mod pair_laws;
+
+pub use end_laws::{
+    a_reset_of_an_end_says_why, an_end_rests_on_what_it_heard,
+    an_end_says_what_its_handshake_holds, an_end_stands_by_its_role,
+    sids_count_how_often_a_link_came_up, what_an_end_hears_may_come,
+    what_an_end_says_is_cut_and_numbered,
+};
+pub use pair_laws::{
+    an_end_resets_itself_behind_a_loss_or_for_its_session, events_stand_by_both_ends,
+    links_stand_at_one_place, open_sessions_of_both_ends_are_one, two_ends_converse,
+    what_an_end_heard_is_as_the_other_has_it,
+};

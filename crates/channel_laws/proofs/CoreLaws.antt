@@ -1,0 +1,68 @@
+-- The laws of two ends on a channel, along every run.
+use Rattle.std.proofs.Common.{◌≡◌, ℕ, ◌+◌, ◌≤◌, true, false, List, sym, ap, ◌∙◌, subst}
+use Rattle.runs.specs.Lawful.{log_of}
+use Rattle.runs.specs.Run.{Run}
+use Rattle.ldc_link.specs.declared.phase.Role.TheVariants.{Initiator, Responder}
+use Rattle.vio_handshake.specs.declared.session.Offer.{Offer}
+use Rattle.disk_model.specs.Sayings.{heard}
+use Rattle.disk_model.specs.TalkLog.{TalkLog}
+use Rattle.channel_laws.proofs.ConversingRuns.{converse_run, first_converse}
+use Rattle.channel_laws.proofs.CoreRuns.{Knows}
+use Rattle.channel_laws.proofs.EndResting.{open_rests}
+use Rattle.channel_laws.proofs.EndUttering.{EndSpeaks, speaks_run}
+use Rattle.channel_laws.proofs.Lifting.{EndsAll, core_run, stand_run}
+use Rattle.channel_laws.proofs.LinkPlaced.{first_links, links_keep}
+use Rattle.channel_laws.proofs.Sessions.{converse_knows}
+use Rattle.channel_laws.specs.Conversing.{Converse}
+use Rattle.channel_laws.specs.CoreLog.{CoreLog, RoomStands, UpStands, after, nothing_yet}
+use Rattle.channel_laws.specs.Grounds.{OpenRests, Rests}
+use Rattle.channel_laws.specs.LaneCore.{CoreEvent, CoreFits, CoreStep, LaneCore, fresh_core, talk_behind}
+use Rattle.channel_laws.specs.LinkPlaces.{LinksAt}
+use Rattle.channel_laws.specs.Sides.{sides_of}
+use Rattle.channel_laws.specs.Standing.{EndStands}
+
+-- AN END
+pub stands_a : (entries : ℕ) (asks answers : Offer) (events : List CoreEvent) (s : LaneCore) → CoreFits entries asks answers
+    → Run CoreStep (fresh_core entries asks answers) events s → EndStands Initiator s.a (talk_behind events).client
+stands_a entries asks answers events s fits run = (stand_run entries asks answers events s fits run).a
+
+pub stands_b : (entries : ℕ) (asks answers : Offer) (events : List CoreEvent) (s : LaneCore) → CoreFits entries asks answers
+    → Run CoreStep (fresh_core entries asks answers) events s → EndStands Responder s.b (talk_behind events).server
+stands_b entries asks answers events s fits run = (stand_run entries asks answers events s fits run).b
+
+pub rests_a : (entries : ℕ) (asks answers : Offer) (events : List CoreEvent) (s : LaneCore) → CoreFits entries asks answers
+    → Run CoreStep (fresh_core entries asks answers) events s → Rests Initiator s.a.handshake (heard (talk_behind events).client)
+rests_a entries asks answers events s fits run = (speaks_run entries asks answers events s fits run).a.knows.rests
+
+pub rests_b : (entries : ℕ) (asks answers : Offer) (events : List CoreEvent) (s : LaneCore) → CoreFits entries asks answers
+    → Run CoreStep (fresh_core entries asks answers) events s → Rests Responder s.b.handshake (heard (talk_behind events).server)
+rests_b entries asks answers events s fits run = (speaks_run entries asks answers events s fits run).b.knows.rests
+
+pub open_a : (entries : ℕ) (asks answers : Offer) (events : List CoreEvent) (s : LaneCore) → CoreFits entries asks answers
+    → Run CoreStep (fresh_core entries asks answers) events s → s.a.is_open ≡ true → OpenRests Initiator s.a.handshake (heard (talk_behind events).client)
+open_a entries asks answers events s fits run opened = open_rests Initiator s.a (talk_behind events).client (speaks_run entries asks answers events s fits run).a.knows opened
+
+pub open_b : (entries : ℕ) (asks answers : Offer) (events : List CoreEvent) (s : LaneCore) → CoreFits entries asks answers
+    → Run CoreStep (fresh_core entries asks answers) events s → s.b.is_open ≡ true → OpenRests Responder s.b.handshake (heard (talk_behind events).server)
+open_b entries asks answers events s fits run opened = open_rests Responder s.b (talk_behind events).server (speaks_run entries asks answers events s fits run).b.knows opened
+
+-- TWO ENDS
+pub conversing : (entries : ℕ) (asks answers : Offer) (events : List CoreEvent) (s : LaneCore) → CoreFits entries asks answers
+    → Run CoreStep (fresh_core entries asks answers) events s → s.wire.forged ≡ false → Converse Initiator (sides_of s (talk_behind events))
+conversing entries asks answers events s fits run clean = (converse_run entries asks answers events s fits run).holds clean
+
+pub links_placed : (entries : ℕ) (asks answers : Offer) (events : List CoreEvent) (s : LaneCore) → CoreFits entries asks answers
+    → Run CoreStep (fresh_core entries asks answers) events s → s.wire.forged ≡ false → LinksAt Initiator (sides_of s (talk_behind events))
+links_placed entries asks answers events s fits run clean = (core_run LinksAt links_keep entries asks answers events s fits (first_links entries asks answers) run).holds clean
+
+pub who_is_up : (entries : ℕ) (asks answers : Offer) (events : List CoreEvent) (s : LaneCore) → CoreFits entries asks answers
+    → Run CoreStep (fresh_core entries asks answers) events s → UpStands s
+who_is_up entries asks answers events s fits run = (converse_knows entries asks answers events s fits run).up
+
+pub room_stands : (entries : ℕ) (asks answers : Offer) (events : List CoreEvent) (s : LaneCore) → CoreFits entries asks answers
+    → Run CoreStep (fresh_core entries asks answers) events s → RoomStands (log_of after (nothing_yet entries) events)
+room_stands entries asks answers events s fits run = (converse_knows entries asks answers events s fits run).room
+
+pub wire_is : (entries : ℕ) (asks answers : Offer) (events : List CoreEvent) (s : LaneCore) → CoreFits entries asks answers
+    → Run CoreStep (fresh_core entries asks answers) events s → s.wire ≡ (log_of after (nothing_yet entries) events).wire
+wire_is entries asks answers events s fits run = (converse_knows entries asks answers events s fits run).wire

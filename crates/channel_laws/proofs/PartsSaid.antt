@@ -1,0 +1,110 @@
+-- Along every run the parts of messages that an end said since it last began are those that may come, one after the other.
+use Rattle.std.proofs.Common.{◌≡◌, ℕ, ◌≤◌, Bool, true, false, List, [], ◌∷◌, ◌++◌, length, take, refl, sym, ap, ◌∙◌, subst, arith}
+use Rattle.std.specs.Prelude.{◌||◌, nat_eq, ◌&&◌}
+use Rattle.std.proofs.lemmas.List.{append-nil, length-take-le}
+use Rattle.runs.specs.Run.{Run}
+use Rattle.ldc_packet.proofs.Canonical.{canonical_spells}
+use Rattle.ldc_packet.specs.declared.packet.Body.{Body}
+use Rattle.ldc_packet.specs.declared.packet.Body.TheVariants.{Part, Rdx, Rtr, Rts, Vers}
+use Rattle.ldc_packet.specs.declared.packet.Subtype.{Subtype}
+use Rattle.ldc_packet.specs.Form.{HasForm}
+use Rattle.ldc_packet.specs.Spelling.{SpellsPacket, ctrl_at, type_at}
+use Rattle.ldc_link.proofs.Following.{parts_more, quiet}
+use Rattle.ldc_link.proofs.Spelled.{has_part, spelled_fragment, spelled_part}
+use Rattle.ldc_link.specs.Conversing.{IsData, fragment_of}
+use Rattle.ldc_queue.specs.Fragments.{Fragment, fragment_at, fragments_in, is_part}
+use Rattle.ldc_queue.specs.Messages.{AllMayCome, MayCome, half_in, half_with}
+use Rattle.ldc_queue.specs.Numbered.{is_numbered}
+use Rattle.ldc_queue.specs.Talk.{Said, Turn, numbered_said}
+use Rattle.disk_model.proofs.SameSayings.{half_said_is}
+use Rattle.disk_model.specs.Sayings.{half_said}
+use Rattle.disk_model.specs.WireAt.{IsSaid, IsSaidPart}
+use Rattle.ldc_link.specs.declared.phase.Role.{Role}
+use Rattle.ldc_link.specs.declared.phase.Role.TheVariants.{Initiator, Responder}
+use Rattle.vio_handshake.specs.declared.session.Offer.{Offer}
+use Rattle.channel_laws.proofs.EndStanding.{fresh_end_stands, stands_step}
+use Rattle.channel_laws.proofs.Lifting.{EndsAll, ends_run}
+use Rattle.channel_laws.proofs.Numbering.{end_said}
+use Rattle.channel_laws.specs.EndCore.{Begins, EndCore, EndMove, Fails, Hears, Renews, Says, Stays, Waits}
+use Rattle.channel_laws.specs.EndStep.{EndStep}
+use Rattle.channel_laws.specs.LaneCore.{CoreEvent, CoreFits, CoreStep, LaneCore, fresh_core, talk_behind, turns_after}
+use Rattle.channel_laws.specs.Standing.{EndStands}
+
+abbrev pub PartsSaid : List Turn → Type 0
+PartsSaid turns = AllMayCome [] (fragments_in (numbered_said turns))
+
+-- one part more after those that may come
+come_more : (half : List ℕ) (xs : List Fragment) (f : Fragment) → AllMayCome half xs → MayCome (half_in half xs) f → AllMayCome half (xs ++ f ∷ [])
+come_more half [] f all may = (may, tt)
+come_more half (x ∷ xs) f all may = (all.0, come_more (half_with x.stop (half ++ x.bytes)) xs f all.1 may)
+
+-- a part has 1 to 56 bytes
+pub carries_part : (b : Body) → has_part b ≡ true → IsData b
+unfolding has_part
+carries_part (Part start stop len bytes) part = tt
+carries_part (Vers major minor) part = absurd (cc part)
+carries_part (Rts mode) part = absurd (cc part)
+carries_part (Rtr mode) part = absurd (cc part)
+carries_part Rdx part = absurd (cc part)
+
+within : (s : Subtype) (b : Body) → IsData b → HasForm s b → (1 ≤ length (fragment_of b).bytes) × (length (fragment_of b).bytes ≤ 56)
+within s (Part start stop len bytes) is form =
+    let long : length (take len bytes) ≡ len = length-take-le len bytes (omega (arith, form.within, form.room)) in
+    (omega (arith, long, form.some), omega (arith, long, form.within))
+within s (Vers major minor) is form = absurd is
+within s (Rts mode) is form = absurd is
+within s (Rtr mode) is form = absurd is
+within s Rdx is form = absurd is
+
+said_within : (turns : List Turn) (bytes : List ℕ) → IsSaid turns bytes → is_part bytes ≡ true → (1 ≤ length (fragment_at bytes).bytes) × (length (fragment_at bytes).bytes ≤ 56)
+said_within turns bytes said part =
+    let spells : SpellsPacket bytes said.packet = subst (λ (xs : List ℕ). SpellsPacket xs said.packet) (sym said.spelled) (canonical_spells said.packet said.formed said.widths) in
+    let carries : IsData said.packet.body = carries_part said.packet.body (sym (spelled_part bytes said.packet spells) ∙ part) in
+    subst (λ (f : Fragment). (1 ≤ length f.bytes) × (length f.bytes ≤ 56)) (sym (spelled_fragment bytes said.packet carries said.formed spells))
+    (within said.packet.subtype said.packet.body carries said.formed)
+
+-- A PACKET that is said
+part_has_number : (bytes : List ℕ) → is_part bytes ≡ true → is_numbered bytes ≡ true
+part_has_number bytes part = ap (λ (b : Bool). b || (nat_eq (type_at bytes) 1 && nat_eq (ctrl_at bytes) 4)) part
+
+may_part : (turns : List Turn) (bytes : List ℕ) → IsSaid turns bytes → is_part bytes ≡ true → MayCome (half_in [] (fragments_in (numbered_said turns))) (fragment_at bytes)
+may_part turns bytes said part =
+    let here : IsSaidPart (half_said turns) (fragment_at bytes) = said.part part in
+    let long = said_within turns bytes said part in
+    subst (λ (half : List ℕ). MayCome half (fragment_at bytes)) (half_said_is turns) (here.start, here.most, long.0, long.1)
+
+says_more : (turns : List Turn) (bytes : List ℕ) → IsSaid turns bytes → PartsSaid turns → PartsSaid (Said bytes ∷ turns)
+says_more turns bytes said all = by_number (is_numbered bytes) refl
+  where
+    by_part : (b : Bool) → is_numbered bytes ≡ true → is_part bytes ≡ b → PartsSaid (Said bytes ∷ turns)
+    by_part true has part =
+        subst (AllMayCome []) (sym (parts_more true bytes (fragment_at bytes) (numbered_said turns) has part (λ one. refl)))
+        (come_more [] (fragments_in (numbered_said turns)) (fragment_at bytes) all (may_part turns bytes said part))
+    by_part false has part =
+        subst (AllMayCome []) (sym (parts_more false bytes (fragment_at bytes) (numbered_said turns) has part (λ never. refl) ∙ append-nil (fragments_in (numbered_said turns)))) all
+
+    by_number : (b : Bool) → is_numbered bytes ≡ b → PartsSaid (Said bytes ∷ turns)
+    by_number true has = by_part (is_part bytes) has refl
+    by_number false has = subst (λ (packets : List (List ℕ)). AllMayCome [] (fragments_in packets)) (sym (quiet bytes (numbered_said turns) has)) all
+
+-- EACH MOVE
+pub record SaysParts (role : Role) (c : EndCore) (turns : List Turn) : Type 0 where
+  pub stands : EndStands role c turns
+  pub parts : PartsSaid turns
+
+parts_move : (role : Role) (c : EndCore) (move : EndMove) (t : EndCore) (turns : List Turn) → SaysParts role c turns → EndStep role c move t → PartsSaid (turns_after turns move)
+parts_move role c Begins t turns says step = tt
+parts_move role c Renews t turns says step = tt
+parts_move role c (Fails cause packet) t turns says step = tt
+parts_move role c (Hears packet opens) t turns says step = says.parts
+parts_move role c (Says packet opens) t turns says step = says_more turns packet (end_said role c t turns packet opens says.stands step) says.parts
+parts_move role c Waits t turns says step = says.parts
+parts_move role c Stays t turns says step = says.parts
+
+pub parts_run : (entries : ℕ) (asks answers : Offer) (events : List CoreEvent) (s : LaneCore) → CoreFits entries asks answers
+    → Run CoreStep (fresh_core entries asks answers) events s → EndsAll SaysParts s (talk_behind events)
+parts_run entries asks answers events s fits run =
+    ends_run SaysParts
+    (λ role c move t turns says step. record { stands = stands_step role c move t turns says.stands step; parts = parts_move role c move t turns says step })
+    entries asks answers events s (record { stands = fresh_end_stands Initiator asks fits.asks_fit.form.most; parts = tt })
+    (record { stands = fresh_end_stands Responder answers fits.answers_fit.form.most; parts = tt }) run

@@ -1,0 +1,236 @@
+-- An initiator's last sid is how often its link came up since its values were made new, modulo 2^32; a responder counts none.
+use Rattle.std.proofs.Common.{◌≡◌, ℕ, ◌+◌, ◌%◌, Bool, true, false, ◌||◌, List, [], ◌∷◌, Option, refl, sym, ap, ◌∙◌, arith}
+use Rattle.std.specs.Prelude.{⊤, nat_eq, ◌&&◌}
+use Rattle.std.proofs.lemmas.Bool.{eqb-true}
+use Rattle.runs.specs.Lawful.{log_of, run_lawful}
+use Rattle.runs.specs.Run.{Run}
+use Rattle.ldc_link.specs.declared.phase.Role.{Role}
+use Rattle.ldc_link.specs.declared.phase.Role.TheVariants.{Initiator, Responder}
+use Rattle.ldc_packet.specs.declared.packet.Body.TheVariants.{Rdx}
+use Rattle.ldc_packet.specs.declared.packet.Subtype.TheVariants.{Info}
+use Rattle.ldc_packet.specs.Spelling.{ctrl_at, type_at}
+use Rattle.ldc_queue.specs.declared.end.End.TheVariants.{A, B}
+use Rattle.ldc_queue.specs.Fragments.{is_part}
+use Rattle.ldc_queue.specs.Numbered.{is_numbered}
+use Rattle.ldc_queue.specs.Talk.{Turn}
+use Rattle.vio_handshake.specs.declared.handshake.Handshake.{Handshake}
+use Rattle.vio_handshake.specs.declared.session.Offer.{Offer}
+use Rattle.vio_handshake.specs.Rules.{shake_sent}
+use Rattle.vio_handshake.specs.State.{begun, joined_shake, shake_up}
+use Rattle.vio_tag.specs.declared.cause.Cause.{Cause}
+use Rattle.vio_tag.specs.declared.message.Message.{Message}
+use Rattle.disk_model.specs.TalkLog.{TalkLog, is_rdx, more_if, nothing_said}
+use Rattle.disk_model.specs.WireEvent.{Blocked, ByRestart, ByScript, ByStep, ByTick, Declines, Giver, Idle, Injected, Joined, Lost, Poked, Reset, Sent, Took, giver}
+use Rattle.channel_laws.proofs.EndCases.{EndTook, NoMessage, PutControl, PutMore, PutOwn, PutReady, PutShake, PutWhat, Rises, TookOwn, TookShake, TookWhat, end_put, end_took}
+use Rattle.channel_laws.proofs.EndResting.{held_shake}
+use Rattle.channel_laws.proofs.EndStanding.{fresh_end_stands, held_stands, stands_step}
+use Rattle.channel_laws.proofs.HandshakeCases.{AttributesAgreed, AttributesAsked, AttributesRefused, Declined, OneRingAgreed, Opened, Opens, Owes, OwnReadyFollows, PeerAgreed, ReadyAgreed, ReadyAsked, ReadyFollows, RingAgreed, RingAsked, RingFollows, RingRefused, RowSent, RowTaken, VersionAgreed, VersionAsked, VersionRefused, row_sent}
+use Rattle.channel_laws.proofs.Lifting.{EndsAll, ends_step}
+use Rattle.channel_laws.proofs.LinkCases.{canonical_is, put_quiet, ready_loud}
+use Rattle.channel_laws.specs.CoreLog.{comings_after, renewed_by}
+use Rattle.channel_laws.specs.EndCore.{Begins, EndCore, EndMove, Fails, Hears, Renews, Says, Stays, Waits}
+use Rattle.channel_laws.specs.EndStep.{EndHears, EndSays, EndStep}
+use Rattle.channel_laws.specs.LaneCore.{Beside, Closes, CoreEvent, CoreFits, CoreStep, LaneCore, OnChannel, fresh_core, move_of, reset_move, talk_after}
+use Rattle.channel_laws.specs.Standing.{EndStands}
+
+-- A PACKET that was put is RDX, or isn't
+quiet_rdx : (packet : List ℕ) → is_numbered packet ≡ false → is_rdx packet ≡ false
+quiet_rdx packet not = by_test (is_part packet) (is_rdx packet) not
+  where
+    by_test : (b c : Bool) → (b || c) ≡ false → c ≡ false
+    by_test true c is = absurd (cc is)
+    by_test false c is = is
+
+loud_rdx : (packet : List ℕ) → is_numbered packet ≡ true → is_part packet ≡ false → is_rdx packet ≡ true
+loud_rdx packet has none = by_test (is_part packet) (is_rdx packet) has none
+  where
+    by_test : (b c : Bool) → (b || c) ≡ true → b ≡ false → c ≡ true
+    by_test false c is not = is
+    by_test true c is not = absurd (cc not)
+
+part_rdx : (packet : List ℕ) → is_part packet ≡ true → is_rdx packet ≡ false
+part_rdx packet part = ap (λ (n : ℕ). nat_eq n 1 && nat_eq (ctrl_at packet) 4) (eqb-true (type_at packet) 2 part)
+
+-- A HANDSHAKE keeps its count but as its link comes up
+row_last : (h t : Handshake) (message : Message) (opens : Bool) → RowTaken h message t opens → t.last_sid ≡ h.last_sid
+row_last h t message opens (Declined test is not) = ap (λ (x : Handshake). x.last_sid) is
+row_last h t message opens (VersionAgreed minor class r at m low is not) = ap (λ (x : Handshake). x.last_sid) is
+row_last h t message opens (VersionAsked minor class r at m is not) = ap (λ (x : Handshake). x.last_sid) is
+row_last h t message opens (VersionRefused major minor class other low r at m is not) = ap (λ (x : Handshake). x.last_sid) is
+row_last h t message opens (AttributesAgreed bytes r at m test is not) = ap (λ (x : Handshake). x.last_sid) is
+row_last h t message opens (AttributesAsked bytes r at m test is not) = ap (λ (x : Handshake). x.last_sid) is
+row_last h t message opens (AttributesRefused bytes r at m is not) = ap (λ (x : Handshake). x.last_sid) is
+row_last h t message opens (RingAgreed ident slots slot_size options count cookies r at both m is not) = ap (λ (x : Handshake). x.last_sid) is
+row_last h t message opens (OneRingAgreed ident slots slot_size options count cookies r at one m is not) = ap (λ (x : Handshake). x.last_sid) is
+row_last h t message opens (PeerAgreed ident slots slot_size options count cookies r at m is not) = ap (λ (x : Handshake). x.last_sid) is
+row_last h t message opens (RingAsked ident slots slot_size options count cookies at m test is not) = ap (λ (x : Handshake). x.last_sid) is
+row_last h t message opens (RingRefused ident slots slot_size options count cookies at m is not) = ap (λ (x : Handshake). x.last_sid) is
+row_last h t message opens (ReadyAgreed r at m is not) = ap (λ (x : Handshake). x.last_sid) is
+row_last h t message opens (ReadyAsked at m is not) = ap (λ (x : Handshake). x.last_sid) is
+row_last h t message opens (Opened r at m is now) = ap (λ (x : Handshake). x.last_sid) is
+
+sent_last : (h t : Handshake) (opens : Bool) → RowSent h t opens → t.last_sid ≡ h.last_sid
+sent_last h t opens (ReadyFollows r at is not) = ap (λ (x : Handshake). x.last_sid) is
+sent_last h t opens (RingFollows r at is not) = ap (λ (x : Handshake). x.last_sid) is
+sent_last h t opens (OwnReadyFollows r at is not) = ap (λ (x : Handshake). x.last_sid) is
+sent_last h t opens (Opens r at is now) = ap (λ (x : Handshake). x.last_sid) is
+sent_last h t opens (Owes follows is not) = ap (λ (x : Handshake). x.last_sid) is
+
+abbrev next_if : Bool → ℕ → ℕ
+next_if true n = (n + 1) % 4294967296
+next_if false n = n
+
+abbrev sid_after : EndMove → ℕ → ℕ
+sid_after Renews n = 0
+sid_after (Says packet opens) n = next_if (is_rdx packet) n
+sid_after _ n = n
+
+up_last : (role : Role) (h : Handshake) → h.role ≡ role → (role ≡ Responder → (shake_up h).last_sid ≡ h.last_sid) × (role ≡ Initiator → (shake_up h).last_sid ≡ (h.last_sid + 1) % 4294967296)
+up_last role h is = (
+  λ responds. ap (λ (r : Role). (begun r (joined_shake h)).last_sid) (is ∙ responds),
+  λ asks. ap (λ (r : Role). (begun r (joined_shake h)).last_sid) (is ∙ asks),
+)
+
+hears_last : (role : Role) (c t : EndCore) (turns : List Turn) (packet : List ℕ) (opens : Bool) → EndStands role c turns → EndHears role c packet opens t
+    → t.handshake.last_sid ≡ c.handshake.last_sid
+hears_last role c t turns packet opens stands hears = by_what took.what
+  where
+    took : EndTook role c turns packet opens t
+    took = end_took role c t turns packet opens stands hears
+
+    by_what : TookWhat role c turns packet opens t took.now → t.handshake.last_sid ≡ c.handshake.last_sid
+    by_what (NoMessage same quiet handshake not is_open) = ap (λ (h : Handshake). h.last_sid) handshake
+    by_what (Rises role_is down up quiet handshake not is_open) = ap (λ (h : Handshake). h.last_sid) handshake ∙ (up_last role c.handshake stands.handshake.role_is).0 role_is
+    by_what (TookOwn message took_message own handshake not is_open) = ap (λ (h : Handshake). h.last_sid) handshake
+    by_what (TookShake message took_message shake is_open) = row_last c.handshake t.handshake message opens shake.row
+
+-- what a packet that it says is, and what becomes of its count
+record SaysSo (role : Role) (c t : EndCore) (packet : List ℕ) : Type 0 where
+  last : t.handshake.last_sid ≡ next_if (is_rdx packet) c.handshake.last_sid
+  never : role ≡ Responder → is_rdx packet ≡ false
+
+says_last : (role : Role) (c t : EndCore) (turns : List Turn) (packet : List ℕ) (opens : Bool) → EndStands role c turns → EndSays role c packet opens t → SaysSo role c t packet
+says_last role c t turns packet opens stands says = by_what (end_put role c t turns packet opens says holds)
+  where
+    holds : EndStands role says.held turns
+    holds = held_stands role c says.held turns says.what stands says.holds
+
+    was : says.held.handshake.last_sid ≡ c.handshake.last_sid
+    was = ap (λ (h : Handshake). h.last_sid) (held_shake c says.held says.what says.holds)
+
+    keeps : is_rdx packet ≡ false → t.handshake.last_sid ≡ says.held.handshake.last_sid → SaysSo role c t packet
+    keeps not same = record { last = same ∙ was ∙ ap (λ (b : Bool). next_if b c.handshake.last_sid) (sym not); never = λ is. not }
+
+    by_what : PutWhat role says.held turns packet opens t → SaysSo role c t packet
+    by_what (PutControl next gone link quiet handshake not is_open) =
+        keeps (quiet_rdx packet (put_quiet says.held.link.phase packet next holds.link.follows.offers gone).0) (ap (λ (h : Handshake). h.last_sid) handshake)
+    by_what (PutReady role_is at spelled link quiet handshake not is_open) =
+        let loud = ready_loud packet Info (canonical_is packet Info says.held.link.put_next Rdx tt (omega (arith, holds.link.follows.puts), tt) spelled) in
+        record {
+          last = ap (λ (h : Handshake). h.last_sid) handshake ∙ (up_last role says.held.handshake holds.handshake.role_is).1 role_is
+              ∙ ap (λ (n : ℕ). (n + 1) % 4294967296) was ∙ ap (λ (b : Bool). next_if b c.handshake.last_sid) (sym (loud_rdx packet loud.0 loud.1));
+          never = λ responds. let wrong : Initiator ≡ Responder = sym role_is ∙ responds in absurd (cc wrong);
+        }
+    by_what (PutMore at link more handshake not is_open) = keeps (part_rdx packet more.part.part) (ap (λ (h : Handshake). h.last_sid) handshake)
+    by_what (PutOwn own at link last handshake not is_open) = keeps (part_rdx packet last.part.part) (ap (λ (h : Handshake). h.last_sid) handshake)
+    by_what (PutShake own at link last handshake flag is_open) =
+        keeps (part_rdx packet last.part.part) (ap (λ (h : Handshake). h.last_sid) handshake ∙ sent_last says.held.handshake (shake_sent says.held.handshake) _ (row_sent says.held.handshake))
+
+-- EACH MOVE
+last_step : (role : Role) (c : EndCore) (move : EndMove) (t : EndCore) (turns : List Turn) → EndStands role c turns → EndStep role c move t
+    → t.handshake.last_sid ≡ sid_after move c.handshake.last_sid
+last_step role c Begins t turns stands step = ap (λ (h : Handshake). h.last_sid) step.handshake
+last_step role c Renews t turns stands step = ap (λ (h : Handshake). h.last_sid) step.handshake
+last_step role c (Fails cause packet) t turns stands step = ap (λ (h : Handshake). h.last_sid) step.1.handshake
+last_step role c (Hears packet opens) t turns stands step = hears_last role c t turns packet opens stands step
+last_step role c (Says packet opens) t turns stands step = (says_last role c t turns packet opens stands step).last
+last_step role c Waits t turns stands step = ap (λ (h : Handshake). h.last_sid) (held_shake c t step.what step.holds)
+last_step role c Stays t turns stands step = ap (λ (h : Handshake). h.last_sid) step.handshake
+
+zero_step : (c : EndCore) (move : EndMove) (t : EndCore) (turns : List Turn) → EndStands Responder c turns → EndStep Responder c move t → c.handshake.last_sid ≡ 0
+    → t.handshake.last_sid ≡ 0
+zero_step c Begins t turns stands step zero = last_step Responder c Begins t turns stands step ∙ zero
+zero_step c Renews t turns stands step zero = last_step Responder c Renews t turns stands step
+zero_step c (Fails cause packet) t turns stands step zero = last_step Responder c (Fails cause packet) t turns stands step ∙ zero
+zero_step c (Hears packet opens) t turns stands step zero = last_step Responder c (Hears packet opens) t turns stands step ∙ zero
+zero_step c (Says packet opens) t turns stands step zero =
+    let says = says_last Responder c t turns packet opens stands step in
+    says.last ∙ ap (λ (b : Bool). next_if b c.handshake.last_sid) (says.never refl) ∙ zero
+zero_step c Waits t turns stands step zero = last_step Responder c Waits t turns stands step ∙ zero
+zero_step c Stays t turns stands step zero = last_step Responder c Stays t turns stands step ∙ zero
+
+-- EACH EVENT
+more_mod : (b : Bool) (last n : ℕ) → last ≡ n % 4294967296 → next_if b last ≡ more_if b n % 4294967296
+more_mod true last n is = omega (arith, is)
+more_mod false last n is = is
+
+reset_count : (g : Giver) (cause : Cause) (packet : Option (List ℕ)) (last n : ℕ) → last ≡ n % 4294967296 → sid_after (reset_move g cause packet) last ≡ renewed_by g n % 4294967296
+reset_count ByStep cause packet last n is = is
+reset_count ByScript cause packet last n is = is
+reset_count ByRestart cause packet last n is = omega arith
+reset_count ByTick cause packet last n is = is
+
+event_count : (event : CoreEvent) (last n : ℕ) → last ≡ n % 4294967296 → sid_after (move_of A event) last ≡ comings_after n event % 4294967296
+event_count (OnChannel (Sent A packet opens)) last n is = more_mod (is_rdx packet) last n is
+event_count (OnChannel (Sent B packet opens)) last n is = is
+event_count (OnChannel (Reset A cause packet lost)) last n is = reset_count (giver cause) cause packet last n is
+event_count (OnChannel (Reset B cause packet lost)) last n is = is
+event_count (OnChannel (Joined A lost)) last n is = is
+event_count (OnChannel (Joined B lost)) last n is = is
+event_count (OnChannel (Took A packet opens)) last n is = is
+event_count (OnChannel (Took B packet opens)) last n is = is
+event_count (OnChannel (Blocked A)) last n is = is
+event_count (OnChannel (Blocked B)) last n is = is
+event_count (OnChannel (Idle e)) last n is = is
+event_count (OnChannel (Lost e packet)) last n is = is
+event_count (OnChannel (Injected e packet)) last n is = is
+event_count (OnChannel (Poked e at bytes)) last n is = is
+event_count (OnChannel (Declines d)) last n is = is
+event_count (Closes A) last n is = omega arith
+event_count (Closes B) last n is = is
+event_count Beside last n is = is
+
+-- ALONG EVERY RUN
+record SidLog : Type 0 where
+  talk : TalkLog
+  comings : ℕ
+
+abbrev sid_log_after : SidLog → CoreEvent → SidLog
+sid_log_after l event = record { talk = talk_after l.talk event; comings = comings_after l.comings event }
+
+record SidsStand (s : LaneCore) (l : SidLog) : Type 0 where
+  ends : EndsAll EndStands s l.talk
+  last : s.a.handshake.last_sid ≡ l.comings % 4294967296
+  zero : s.b.handshake.last_sid ≡ 0
+
+sids_step : (s : LaneCore) (l : SidLog) (event : CoreEvent) (t : LaneCore) → SidsStand s l → CoreStep s event t → SidsStand t (sid_log_after l event)
+sids_step s l event t stand step = record {
+  ends = ends_step EndStands (λ role c move x turns stands moves. stands_step role c move x turns stands moves) s event t l.talk stand.ends step;
+  last = last_step Initiator s.a (move_of A event) t.a l.talk.client stand.ends.a step.a ∙ event_count event s.a.handshake.last_sid l.comings stand.last;
+  zero = zero_step s.b (move_of B event) t.b l.talk.server stand.ends.b step.b stand.zero;
+}
+
+comings_is : (l : SidLog) (events : List CoreEvent) → (log_of sid_log_after l events).comings ≡ log_of comings_after l.comings events
+comings_is l [] = refl
+comings_is l (event ∷ events) = comings_is (sid_log_after l event) events
+
+sids_run : (entries : ℕ) (asks answers : Offer) (events : List CoreEvent) (s : LaneCore) → CoreFits entries asks answers
+    → Run CoreStep (fresh_core entries asks answers) events s → SidsStand s (log_of sid_log_after (record { talk = nothing_said; comings = 0 }) events)
+sids_run entries asks answers events s fits run =
+    (run_lawful CoreStep (λ (l : SidLog) (e : CoreEvent). ⊤) sid_log_after SidsStand
+    (λ (x : LaneCore) (l : SidLog) (e : CoreEvent) (y : LaneCore) stand step. (tt, sids_step x l e y stand step))
+    (fresh_core entries asks answers) s (record { talk = nothing_said; comings = 0 }) events
+    (record {
+      ends = record { a = fresh_end_stands Initiator asks fits.asks_fit.form.most; b = fresh_end_stands Responder answers fits.answers_fit.form.most };
+      last = omega arith;
+      zero = refl;
+    }) run).1
+
+pub last_sid_counts : (entries : ℕ) (asks answers : Offer) (events : List CoreEvent) (s : LaneCore) → CoreFits entries asks answers
+    → Run CoreStep (fresh_core entries asks answers) events s → s.a.handshake.last_sid ≡ log_of comings_after 0 events % 4294967296
+last_sid_counts entries asks answers events s fits run =
+    (sids_run entries asks answers events s fits run).last ∙ ap (λ (n : ℕ). n % 4294967296) (comings_is (record { talk = nothing_said; comings = 0 }) events)
+
+pub last_sid_none : (entries : ℕ) (asks answers : Offer) (events : List CoreEvent) (s : LaneCore) → CoreFits entries asks answers
+    → Run CoreStep (fresh_core entries asks answers) events s → s.b.handshake.last_sid ≡ 0
+last_sid_none entries asks answers events s fits run = (sids_run entries asks answers events s fits run).zero

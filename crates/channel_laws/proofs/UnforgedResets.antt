@@ -1,0 +1,197 @@
+-- Where nobody forged and the offers match, an end resets itself for a gap behind a loss alone, or for a cause of its session.
+use Rattle.std.proofs.Common.{◌≡◌, ℕ, Bool, true, false, Option, Some, None, Ok, Err, List, ◌∷◌, refl, sym, ap, ◌∙◌, subst, ◌⊎◌, inl, inr}
+use Rattle.std.specs.Prelude.{Result, slice_get}
+use Rattle.runs.specs.Lawful.{log_of}
+use Rattle.runs.specs.Run.{Run}
+use Rattle.ldc_link.specs.declared.phase.Role.{Role}
+use Rattle.ldc_link.specs.declared.phase.Role.TheVariants.{Initiator, Responder}
+use Rattle.ldc_link.specs.LinkState.{LinkState, is_established, is_up}
+use Rattle.ldc_link.specs.Taking.{Heard, LinkTake, TakesBytes, Unheard}
+use Rattle.ldc_queue.specs.declared.end.ChannelState.TheVariants.{Up}
+use Rattle.ldc_queue.specs.declared.end.End.{End}
+use Rattle.ldc_queue.specs.declared.end.End.TheVariants.{A, B}
+use Rattle.ldc_queue.specs.Talk as turn
+use Rattle.ldc_queue.specs.Wire.{waiting_for}
+use Rattle.ldc_queue.specs.Talk.{Turn}
+use Rattle.vio_handshake.specs.declared.handshake.Handshake.{Handshake}
+use Rattle.vio_handshake.specs.declared.session.Offer.{Offer}
+use Rattle.vio_handshake.specs.Offers.{Match}
+use Rattle.vio_handshake.specs.Rules.{Faults, Goes, GoesOpen, ShakeTake, shake_take}
+use Rattle.vio_handshake.proofs.PlaceRows.{GoesTo, take_at}
+use Rattle.vio_handshake.proofs.Places.{AllSaid, Place, message_at, next, owner, shake_at}
+use Rattle.vio_tag.proofs.NoFault.{spelled_no_fault}
+use Rattle.vio_tag.specs.declared.cause.Cause.{Cause}
+use Rattle.vio_tag.specs.declared.message.Message.{Message}
+use Rattle.vio_tag.specs.declared.message.TagFault.{TagFault}
+use Rattle.vio_tag.specs.Decoding.{Decodes}
+use Rattle.disk_model.specs.Sayings.{said}
+use Rattle.disk_model.specs.TalkLog.{TalkLog, talk_of}
+use Rattle.disk_model.specs.WireAt.{IsOwnReset, MayReset}
+use Rattle.disk_model.specs.WireEvent.{ByStep, Giver, Reset, giver}
+use Rattle.channel_laws.proofs.ConversingRuns.{HeardFrom, hears_next}
+use Rattle.channel_laws.proofs.CoreRuns.{Knows}
+use Rattle.channel_laws.proofs.EndCases.{stays_risen}
+use Rattle.channel_laws.proofs.EndStanding.{opened_phase}
+use Rattle.channel_laws.proofs.HandshakePlaces.{AtPlace, Matches, deal, deal_fits, message_at_spelled, message_is, open_at, owes_at, peer_said, place_bytes, who}
+use Rattle.channel_laws.proofs.HandshakesPlaced.{Meets, meets_keep, peer_place}
+use Rattle.channel_laws.proofs.Lifting.{BothStand}
+use Rattle.channel_laws.proofs.LinkCases.{ControlHeard, LinkHeard, PartHeard, ReadyHeard, link_heard}
+use Rattle.channel_laws.proofs.LinkRefuses.{link_refuses}
+use Rattle.channel_laws.proofs.PartsSaid.{PartsSaid, parts_run}
+use Rattle.channel_laws.proofs.Script.{bytes_at, not_last}
+use Rattle.channel_laws.proofs.Sessions.{meets_knows, talk_is}
+use Rattle.channel_laws.proofs.TurnCases.{HearsOn, hears_on}
+use Rattle.channel_laws.specs.CoreLog.{after, nothing_yet}
+use Rattle.channel_laws.specs.EndCore.{EndCore}
+use Rattle.channel_laws.specs.EndStep.{DecodedFails, EndFails, EndStep, LinkFails, WholeFails, risen_at}
+use Rattle.channel_laws.specs.LaneCore.{CoreEvent, CoreFits, CoreStep, LaneCore, OnChannel, end_of, fresh_core, reset_move}
+use Rattle.channel_laws.specs.Resetting.{IsGapBehindLoss, LiesInMessage, LiesInSession}
+use Rattle.channel_laws.specs.Sides.{Sides, other, sides_of, swapped}
+use Rattle.channel_laws.specs.Standing.{is_open_in}
+
+-- A MESSAGE that became whole: the link was up before
+whole_up : (k m : LinkState) (packet bytes : List ℕ) → k.whole ≡ None → m.whole ≡ Some bytes → LinkHeard k packet m → is_up k ≡ true
+whole_up k m packet bytes none whole (ControlHeard next taken is) = let wrong : None ≡ Some bytes = sym none ∙ sym (ap (λ (x : LinkState). x.whole) is) ∙ whole in absurd (cc wrong)
+whole_up k m packet bytes none whole (ReadyHeard at ready number is) = let wrong : None ≡ Some bytes = sym none ∙ sym (ap (λ (x : LinkState). x.whole) is) ∙ whole in absurd (cc wrong)
+whole_up k m packet bytes none whole (PartHeard at part may number is) = ap is_established at
+
+never_refused : (take answer : ShakeTake) (h : Handshake) (cause : Cause) → take ≡ answer → GoesTo answer h → take ≡ Faults cause → ⊥
+never_refused take answer h cause is (inl goes) refused = let wrong : Goes h ≡ Faults cause = sym goes ∙ sym is ∙ refused in cc wrong
+never_refused take answer h cause is (inr goes) refused = let wrong : GoesOpen h ≡ Faults cause = sym goes ∙ sym is ∙ refused in cc wrong
+
+-- AN END that resets itself for a packet
+pub side_fails : (asks answers : Offer) (role : Role) (s : Sides) (packet : List ℕ) (cause : Cause) → Matches asks answers → BothStand role s → Meets asks answers role s → PartsSaid s.theirs.turns
+    → s.mine.state ≡ Up → slice_get s.mine.waiting 0 ≡ Some packet → EndFails role s.mine.core cause (Some packet) → IsGapBehindLoss s.lossy cause ⊎ LiesInMessage s.mine.core packet
+side_fails asks answers role s packet cause fits stands meets parts up first fails = by_take fails.take fails.takes fails.fails
+  where
+    c : EndCore
+    c = s.mine.core
+
+    both : Bool
+    both = asks.both_rings
+
+    by_place : (m : LinkState) → TakesBytes c.link packet (Heard m) → (bytes : List ℕ) → m.whole ≡ Some bytes → WholeFails (risen_at role c.link m c.handshake) c.is_open (Some bytes) cause
+        → AtPlace both (deal asks answers meets.handshakes.sid) role c.handshake s.mine.turns → LiesInMessage c packet
+    by_place m takes bytes whole bad at = by_turn
+      where
+        how : LinkHeard c.link packet m
+        how = link_heard c.link m packet takes
+
+        on : HearsOn s.mine.turns packet (Some bytes)
+        on = subst (HearsOn s.mine.turns packet) whole (hears_on c.link m s.mine.turns packet stands.mine.link.seen stands.mine.link.follows how)
+
+        from : HeardFrom s (turn.Heard packet ∷ s.mine.turns)
+        from = hears_next role s packet m meets.converse up first stands.mine.link.follows takes
+
+        was : is_up c.link ≡ true
+        was = whole_up c.link m packet bytes stands.mine.link.seen whole how
+
+        same : risen_at role c.link m c.handshake ≡ c.handshake
+        same = stays_risen role c.link m c.handshake (inr was)
+
+        never_open : c.is_open ≡ true → at.place ≡ AllSaid
+        never_open opened = open_at both role at.place (ap (λ (h : Handshake). h.phase) (sym at.is) ∙ opened_phase c.handshake.phase (sym stands.mine.opened ∙ opened))
+
+        by_decoded : owner at.place ≡ Some (other role) → (d : Result Message TagFault) → Decodes bytes d → DecodedFails (risen_at role c.link m c.handshake) c.is_open d cause → ⊥
+        by_decoded turn_is d decodes bad_message = by_result d decodes bad_message
+          where
+            is : bytes ≡ bytes_at (deal asks answers meets.handshakes.sid) at.place
+            is = place_bytes asks answers meets.handshakes.sid role c.handshake s.mine.turns (turn.Heard packet ∷ s.mine.turns) bytes (said s.theirs.turns) at turn_is
+                (peer_said both (deal asks answers meets.handshakes.sid) (other role) s.theirs.core.handshake s.theirs.turns
+                (peer_place asks answers role s (turn.Heard packet ∷ s.mine.turns) s.mine.turns bytes stands.theirs meets.handshakes from on.messages)) from.front on.messages
+
+            by_result : (x : Result Message TagFault) → Decodes bytes x → DecodedFails (risen_at role c.link m c.handshake) c.is_open x cause → ⊥
+            by_result (Ok one) reads (inl refused) =
+                let named = message_is asks answers meets.handshakes.sid at.place one bytes fits meets.handshakes.small is reads.message.0 reads.message.1 in
+                never_refused (shake_take (risen_at role c.link m c.handshake) one) (shake_take (shake_at both (deal asks answers meets.handshakes.sid) role at.place) (message_at (deal asks answers meets.handshakes.sid) at.place))
+                (shake_at both (deal asks answers meets.handshakes.sid) role (next both at.place)) cause
+                (ap (λ (h : Handshake). shake_take h one) (same ∙ at.is) ∙ ap (shake_take (shake_at both (deal asks answers meets.handshakes.sid) role at.place)) named)
+                (take_at both (deal asks answers meets.handshakes.sid) role at.place (deal_fits asks answers meets.handshakes.sid fits.matched) at.here turn_is) refused
+            by_result (Ok one) reads (inr own) = not_last (other role) at.place turn_is (never_open own.opened)
+            by_result (Err fault) reads is_fault =
+                let spells = message_at_spelled asks answers meets.handshakes.sid at.place bytes fits meets.handshakes.small is in
+                let wrong : Some fault ≡ None = sym reads.fault ∙ spelled_no_fault bytes (message_at (deal asks answers meets.handshakes.sid) at.place) spells.0 spells.1 in cc wrong
+
+        open_there : (n : Place) → n ≡ AllSaid → is_open_in (shake_at both (deal asks answers meets.handshakes.sid) role n).phase ≡ true
+        open_there n is = ap (λ (x : Place). is_open_in (shake_at both (deal asks answers meets.handshakes.sid) role x).phase) is ∙ by_role role
+          where
+            by_role : (r : Role) → is_open_in (shake_at both (deal asks answers meets.handshakes.sid) r AllSaid).phase ≡ true
+            by_role Initiator = refl
+            by_role Responder = refl
+
+        by_turn : LiesInMessage c packet
+        by_turn =
+            elim (who role at.place) [
+              | inl own ↦ (
+                  let wrong : None ≡ Some (message_at (deal asks answers meets.handshakes.sid) at.place) =
+                  sym fails.may.owed ∙ ap (λ (h : Handshake). h.owed) at.is ∙ owes_at both (deal asks answers meets.handshakes.sid) role at.place own in absurd (cc wrong))
+              | inr (inl turn_is) ↦ absurd (by_decoded turn_is bad.0 bad.1 bad.2)
+              | inr (inr last) ↦ record {
+                opened = stands.mine.opened ∙ ap (λ (h : Handshake). is_open_in h.phase) at.is ∙ open_there at.place last;
+                ends = record { part = on.ends.part; stop = on.ends.stop };
+              }
+            ]
+
+    by_whole : (m : LinkState) → TakesBytes c.link packet (Heard m) → (whole : Option (List ℕ)) → m.whole ≡ whole → WholeFails (risen_at role c.link m c.handshake) c.is_open whole cause → LiesInMessage c packet
+    by_whole m takes None is bad = absurd bad
+    by_whole m takes (Some bytes) is bad =
+        by_place m takes bytes is bad (meets.handshakes.mine up (whole_up c.link m packet bytes stands.mine.link.seen is (link_heard c.link m packet takes)))
+
+    by_take : (take : LinkTake) → TakesBytes c.link packet take → LinkFails role c take cause → IsGapBehindLoss s.lossy cause ⊎ LiesInMessage c packet
+    by_take (Unheard why) takes is =
+        inl (subst (IsGapBehindLoss s.lossy) (sym is) (link_refuses role s packet why meets.converse meets.links stands.mine.link.follows parts up first takes))
+    by_take (Heard m) takes bad = inr (by_whole m takes m.whole refl bad)
+
+-- A STEP by which an end resets itself
+by_packet : (asks answers : Offer) (role : Role) (s : Sides) (packet : Option (List ℕ)) (cause : Cause) → Matches asks answers → BothStand role s → Meets asks answers role s → PartsSaid s.theirs.turns
+    → s.mine.state ≡ Up → ((bytes : List ℕ) → packet ≡ Some bytes → slice_get s.mine.waiting 0 ≡ Some bytes) → EndFails role s.mine.core cause packet
+    → IsGapBehindLoss s.lossy cause ⊎ LiesInSession s.mine.core packet
+by_packet asks answers role s None cause fits stands meets parts up first fails = inr fails
+by_packet asks answers role s (Some packet) cause fits stands meets parts up first fails = side_fails asks answers role s packet cause fits stands meets parts up (first packet refl) fails
+
+carried : (e : End) (s : LaneCore) (packet : Option (List ℕ)) → MayReset ByStep packet e s.wire.wire
+    → (bytes : List ℕ) → packet ≡ Some bytes → slice_get (waiting_for e s.wire.wire) 0 ≡ Some bytes
+carried e s (Some packet) may bytes is = let same : packet ≡ bytes = cc is in may.1 ∙ ap (λ (x : List ℕ). Some x) same
+carried e s None may bytes is = absurd (cc is)
+
+own_reset : (lossy : Bool) (c : EndCore) (packet : Option (List ℕ)) (s : LaneCore) (cause : Cause) → s.wire.lossy ≡ lossy → IsGapBehindLoss lossy cause ⊎ LiesInSession c packet
+    → IsOwnReset s.wire cause ⊎ LiesInSession c packet
+own_reset lossy c packet s cause is (inl gap) = inl (record { expected = gap.expected; found = gap.found; gap = gap.gap; lossy = is ∙ gap.lossy_is })
+own_reset lossy c packet s cause is (inr own) = inr own
+
+pub unforged_reset : (entries : ℕ) (asks answers : Offer) (events : List CoreEvent) (s : LaneCore) (e : End) (cause : Cause) (packet : Option (List ℕ)) (lost : ℕ) (t : LaneCore) → CoreFits entries asks answers
+    → Match asks answers → Run CoreStep (fresh_core entries asks answers) events s → s.wire.forged ≡ false → giver cause ≡ ByStep → CoreStep s (OnChannel (Reset e cause packet lost)) t
+    → IsOwnReset s.wire cause ⊎ LiesInSession (end_of e s) packet
+unforged_reset entries asks answers events s e cause packet lost t fits matched run clean by step = by_end e step
+  where
+    l_talk : TalkLog
+    l_talk = (log_of after (nothing_yet entries) events).talk
+
+    knows : Knows (Meets asks answers) s (log_of after (nothing_yet entries) events)
+    knows = meets_knows entries asks answers events s fits matched run
+
+    matches : Matches asks answers
+    matches = record { asks_fit = fits.asks_fit; answers_fit = fits.answers_fit; matched = matched }
+
+    parts : (x : End) → PartsSaid (talk_of x l_talk)
+    parts A = subst (λ (talk : TalkLog). PartsSaid talk.client) (sym (talk_is (nothing_yet entries) events)) (parts_run entries asks answers events s fits run).a.parts
+    parts B = subst (λ (talk : TalkLog). PartsSaid talk.server) (sym (talk_is (nothing_yet entries) events)) (parts_run entries asks answers events s fits run).b.parts
+
+    fails_a : (g : Giver) → g ≡ ByStep → EndStep Initiator s.a (reset_move g cause packet) t.a → EndFails Initiator s.a cause packet
+    fails_a g is moves = (subst (λ (x : Giver). EndStep Initiator s.a (reset_move x cause packet) t.a) is moves).0
+
+    fails_b : (g : Giver) → g ≡ ByStep → EndStep Responder s.b (reset_move g cause packet) t.b → EndFails Responder s.b cause packet
+    fails_b g is moves = (subst (λ (x : Giver). EndStep Responder s.b (reset_move x cause packet) t.b) is moves).0
+
+    by_end : (x : End) → CoreStep s (OnChannel (Reset x cause packet lost)) t → IsOwnReset s.wire cause ⊎ LiesInSession (end_of x s) packet
+    by_end A moves =
+        let may : MayReset ByStep packet A s.wire.wire = subst (λ (g : Giver). MayReset g packet A s.wire.wire) by moves.stands in
+        own_reset s.wire.lossy s.a packet s cause refl
+        (by_packet asks answers Initiator (sides_of s l_talk) packet cause matches (record { mine = knows.holds.ends.a; theirs = knows.holds.ends.b }) (knows.holds.holds clean) (parts B) may.0
+        (carried A s packet may) (fails_a (giver cause) by moves.a))
+    by_end B moves =
+        let may : MayReset ByStep packet B s.wire.wire = subst (λ (g : Giver). MayReset g packet B s.wire.wire) by moves.stands in
+        own_reset s.wire.lossy s.b packet s cause refl
+        (by_packet asks answers Responder (swapped (sides_of s l_talk)) packet cause matches (record { mine = knows.holds.ends.b; theirs = knows.holds.ends.a })
+        ((meets_keep asks answers matches).swaps Initiator (sides_of s l_talk) (knows.holds.holds clean)) (parts A) may.0
+        (carried B s packet may) (fails_b (giver cause) by moves.b))

@@ -1,0 +1,33 @@
+-- Why an end resets itself: the packet that it carries says why, by its own bytes or by those of the message that it ends; or its session is
+-- open, and the cause lies in a message of that which the packet ends, or in no packet.
+use Rattle.std.specs.Prelude.{◌≡◌, ℕ, Bool, true, ◌⊎◌, List, Option, Some, None}
+use Rattle.ldc_queue.specs.Talk.{Turn}
+use Rattle.vio_tag.specs.declared.cause.Cause.{Cause}
+use Rattle.vio_tag.specs.declared.cause.Cause.TheVariants as the_cause
+use Rattle.disk_model.specs.ResetSays.{EndsMessage, PacketSays}
+use Rattle.disk_model.specs.WireAt.{GapOf}
+use Rattle.channel_laws.specs.EndCore.{EndCore}
+
+pub record SaysWhy (turns : List Turn) (packet : List ℕ) (cause : Cause) : Type 0 where
+  pub says : PacketSays turns packet cause
+  pub gap : GapOf turns cause (Some packet)
+
+-- a cause of the session's own
+pub record LiesInMessage (c : EndCore) (packet : List ℕ) : Type 0 where
+  pub opened : c.is_open ≡ true
+  pub ends : EndsMessage packet
+
+abbrev pub LiesInSession : EndCore → Option (List ℕ) → Type 0
+LiesInSession c (Some packet) = LiesInMessage c packet
+LiesInSession c None = c.is_open ≡ true
+
+abbrev pub ResetsFor : EndCore → List Turn → Cause → Option (List ℕ) → Type 0
+ResetsFor c turns cause (Some packet) = SaysWhy turns packet cause ⊎ LiesInMessage c packet
+ResetsFor c turns cause None = c.is_open ≡ true
+
+-- a gap, where a packet was lost since the queues were last emptied
+pub record IsGapBehindLoss (lossy : Bool) (cause : Cause) : Type 0 where
+  pub expected : ℕ
+  pub found : ℕ
+  pub gap : cause ≡ the_cause.Gap expected found
+  pub lossy_is : lossy ≡ true

@@ -1,0 +1,99 @@
+// What always holds of an end by its role, whatever its kind of lane, also where somebody forges packets.
+
+ghost use Rattle.std.specs.Prelude.{◌≡◌, ◌%◌, ℕ, List, Option, true};
+ghost use Rattle.runs.specs.Lawful.{log_of, Lawful};
+ghost use Rattle.runs.specs.Run.{Run};
+ghost use Rattle.ldc_link.specs.declared.phase.Role.TheVariants.{Initiator, Responder};
+ghost use Rattle.ldc_queue.specs.declared.end.End.{End};
+ghost use Rattle.vio_handshake.specs.declared.session.Offer.{Offer};
+ghost use Rattle.vio_tag.specs.declared.cause.Cause.{Cause};
+ghost use Rattle.disk_model.specs.Sayings.{heard, said};
+ghost use Rattle.disk_model.specs.TalkLog.{talk_of};
+ghost use Rattle.disk_model.specs.WireEvent.{ByStep, Reset, giver};
+ghost use Rattle.channel_laws.specs.CoreLog.{after, comings_after, nothing_yet, HeardAt, SaidAt};
+ghost use Rattle.channel_laws.specs.Grounds.{OpenRests, Rests};
+ghost use Rattle.channel_laws.specs.LaneCore.{end_of, fresh_core, role_of, talk_behind, CoreEvent, CoreFits, CoreStep, LaneCore, OnChannel};
+ghost use Rattle.channel_laws.specs.Resetting.{ResetsFor};
+ghost use Rattle.channel_laws.specs.Standing.{EndStands};
+ghost use Rattle.channel_laws.specs.Utterances.{SaysEach};
+
+/// Along every run of two ends on a channel each stands by its role: its link is in a phase of the role and follows what
+/// the end said and heard since it last began, and has shown each whole message; its handshake offers what the end does;
+/// the session is open exactly where the handshake is; before its link is up it holds and owes nothing; and what the
+/// link holds is the rest of the message that the handshake owes, or of one of the open session.
+pub fn an_end_stands_by_its_role()
+    ensures initiator { (entries : ℕ) (asks answers : Offer) (events : List CoreEvent) (s : LaneCore)
+        → CoreFits entries asks answers → Run CoreStep (fresh_core entries asks answers) events s
+        → EndStands Initiator s.a (talk_behind events).client }
+    ensures responder { (entries : ℕ) (asks answers : Offer) (events : List CoreEvent) (s : LaneCore)
+        → CoreFits entries asks answers → Run CoreStep (fresh_core entries asks answers) events s
+        → EndStands Responder s.b (talk_behind events).server }
+{}
+
+/// Along every run of two ends on a channel what an end's handshake knows is of messages that the end heard since it last
+/// began: the version, the agreement to its own ring and the registration of the other's, each as far as the
+/// handshake has come, and all where the session is open. All have the session's sid.
+pub fn an_end_rests_on_what_it_heard()
+    ensures initiator { (entries : ℕ) (asks answers : Offer) (events : List CoreEvent) (s : LaneCore)
+        → CoreFits entries asks answers → Run CoreStep (fresh_core entries asks answers) events s
+        → Rests Initiator s.a.handshake (heard (talk_behind events).client) }
+    ensures responder { (entries : ℕ) (asks answers : Offer) (events : List CoreEvent) (s : LaneCore)
+        → CoreFits entries asks answers → Run CoreStep (fresh_core entries asks answers) events s
+        → Rests Responder s.b.handshake (heard (talk_behind events).server) }
+    ensures initiator_open { (entries : ℕ) (asks answers : Offer) (events : List CoreEvent) (s : LaneCore)
+        → CoreFits entries asks answers → Run CoreStep (fresh_core entries asks answers) events s
+        → s.a.is_open ≡ true → OpenRests Initiator s.a.handshake (heard (talk_behind events).client) }
+    ensures responder_open { (entries : ℕ) (asks answers : Offer) (events : List CoreEvent) (s : LaneCore)
+        → CoreFits entries asks answers → Run CoreStep (fresh_core entries asks answers) events s
+        → s.b.is_open ≡ true → OpenRests Responder s.b.handshake (heard (talk_behind events).server) }
+{}
+
+/// Along every run of two ends on a channel each message that an end said since it last began is as its handshake has it:
+/// an initiator's have its sid and offer its version, a responder's agree to the version that it holds; each registers
+/// its ring as it offers it, and agrees to the other's by the number that it holds.
+pub fn an_end_says_what_its_handshake_holds()
+    ensures { (entries : ℕ) (asks answers : Offer) (events : List CoreEvent) (s : LaneCore) (e : End)
+        → CoreFits entries asks answers → Run CoreStep (fresh_core entries asks answers) events s
+        → SaysEach (role_of e) (end_of e s).handshake.phase (end_of e s).handshake.offer (end_of e s).handshake.draft
+        (said (talk_of e (talk_behind events))) }
+{}
+
+/// Along every run of two ends on a channel each packet that an end puts is the canonical spelling of a packet; where it
+/// has a number, it is one more than how many with numbers the end put before; a part of a message has START exactly
+/// where nothing of one was put, 56 bytes where another part follows, and makes no message above 256 bytes.
+pub fn what_an_end_says_is_cut_and_numbered()
+    ensures { (entries : ℕ) (asks answers : Offer) (events : List CoreEvent) (s : LaneCore)
+        → CoreFits entries asks answers → Run CoreStep (fresh_core entries asks answers) events s
+        → Lawful SaidAt after (nothing_yet entries) events }
+{}
+
+/// Along every run of two ends on a channel each packet that an end takes and doesn't reset itself for is 64 bytes that
+/// spell a packet; where it has a number, it is one more than how many with numbers the end heard before; and a part of
+/// a message has START exactly where nothing of a message had come, and makes no message above 256 bytes.
+pub fn what_an_end_hears_may_come()
+    ensures { (entries : ℕ) (asks answers : Offer) (events : List CoreEvent) (s : LaneCore)
+        → CoreFits entries asks answers → Run CoreStep (fresh_core entries asks answers) events s
+        → Lawful HeardAt after (nothing_yet entries) events }
+{}
+
+/// Where an end on a channel resets itself, the packet that it carries says why, by its own bytes or by those of the
+/// message that it ends, and a gap names the number that was to come and the one that came; or the end's session is
+/// open, and the cause lies in a message of that which the packet ends, or in no packet.
+pub fn a_reset_of_an_end_says_why()
+    ensures { (entries : ℕ) (asks answers : Offer) (events : List CoreEvent) (s : LaneCore) (e : End) (cause : Cause)
+        (packet : Option (List ℕ)) (lost : ℕ) (t : LaneCore)
+        → CoreFits entries asks answers → Run CoreStep (fresh_core entries asks answers) events s
+        → giver cause ≡ ByStep → CoreStep s (OnChannel (Reset e cause packet lost)) t
+        → ResetsFor (end_of e s) (talk_of e (talk_behind events)) cause packet }
+{}
+
+/// Along every run of two ends on a channel the initiator's last sid is how often its link came up since its values were
+/// made new, modulo 2^32; a responder counts none.
+pub fn sids_count_how_often_a_link_came_up()
+    ensures counts { (entries : ℕ) (asks answers : Offer) (events : List CoreEvent) (s : LaneCore)
+        → CoreFits entries asks answers → Run CoreStep (fresh_core entries asks answers) events s
+        → s.a.handshake.last_sid ≡ log_of comings_after 0 events % 4294967296 }
+    ensures none { (entries : ℕ) (asks answers : Offer) (events : List CoreEvent) (s : LaneCore)
+        → CoreFits entries asks answers → Run CoreStep (fresh_core entries asks answers) events s
+        → s.b.handshake.last_sid ≡ 0 }
+{}
