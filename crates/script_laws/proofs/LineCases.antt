@@ -29,7 +29,16 @@ pub by_line : (P : Event → Type 0) → P line.Blank → ((disk : DiskDecl) →
     → ((e : Event) → is_opening e ≡ false → ((names : NamesState) → noted names e ≡ closed names) → P e) → (e : Event) → P e
 by_line P blank declared other line.Blank = blank
 by_line P blank declared other (line.Disk disk) = declared disk
-by_line P blank declared other e = other e refl (λ _. refl)
+by_line P blank declared other (line.Issue disk request) = other (line.Issue disk request) refl (λ _. refl)
+by_line P blank declared other line.Settle = other line.Settle refl (λ _. refl)
+by_line P blank declared other (line.Step end count) = other (line.Step end count) refl (λ _. refl)
+by_line P blank declared other (line.Round count) = other (line.Round count) refl (λ _. refl)
+by_line P blank declared other (line.Reset end) = other (line.Reset end) refl (λ _. refl)
+by_line P blank declared other (line.Restart end) = other (line.Restart end) refl (λ _. refl)
+by_line P blank declared other (line.Stop disk) = other (line.Stop disk) refl (λ _. refl)
+by_line P blank declared other (line.Start disk) = other (line.Start disk) refl (λ _. refl)
+by_line P blank declared other (line.Lose end) = other (line.Lose end) refl (λ _. refl)
+by_line P blank declared other (line.Tick ticked) = other (line.Tick ticked) refl (λ _. refl)
 
 -- a blank line or a declaration gives no entry
 pub silent : (s : WorldState) (e : Event) → IsTrue (is_opening e) → LineStep s (e, []) s
@@ -51,10 +60,18 @@ no_settle lanes = record { rounds = []; now = begin lanes; run = refl; later = [
 
 -- of each line no step may have been made
 pub none_begun : (e : Event) (lanes : List LaneState) → BeginsPart (line_of e) lanes [] lanes
+none_begun line.Blank lanes = refl
+none_begun (line.Disk disk) lanes = refl
+none_begun (line.Issue disk request) lanes = refl
 none_begun line.Settle lanes = no_settle lanes
 none_begun (line.Step end count) lanes = no_steps _
 none_begun (line.Round count) lanes = no_steps _
-none_begun e lanes = refl
+none_begun (line.Reset end) lanes = refl
+none_begun (line.Restart end) lanes = refl
+none_begun (line.Stop disk) lanes = refl
+none_begun (line.Start disk) lanes = refl
+none_begun (line.Lose end) lanes = refl
+none_begun (line.Tick ticked) lanes = refl
 
 -- a declaration alone adds to the disks
 pub noted_disks : (names : NamesState) (e : Event) → ((disk : DiskDecl) × (e ≡ line.Disk disk)) ⊎ ((noted names e).disks ≡ names.disks)
