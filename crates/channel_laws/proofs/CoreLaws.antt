@@ -1,20 +1,18 @@
 -- The laws of two ends on a channel, along every run.
-use Rattle.std.proofs.Common.{◌≡◌, ℕ, ◌+◌, ◌≤◌, true, false, List, sym, ap, ◌∙◌, subst}
+use Rattle.std.proofs.Common.{◌≡◌, ℕ, true, false, List}
 use Rattle.runs.specs.Lawful.{log_of}
 use Rattle.runs.specs.Run.{Run}
 use Rattle.ldc_link.specs.declared.phase.Role.TheVariants.{Initiator, Responder}
 use Rattle.vio_handshake.specs.declared.session.Offer.{Offer}
 use Rattle.disk_model.specs.Sayings.{heard}
-use Rattle.disk_model.specs.TalkLog.{TalkLog}
-use Rattle.channel_laws.proofs.ConversingRuns.{converse_run, first_converse}
-use Rattle.channel_laws.proofs.CoreRuns.{Knows}
+use Rattle.channel_laws.proofs.ConversingRuns.{converse_run}
 use Rattle.channel_laws.proofs.EndResting.{open_rests}
-use Rattle.channel_laws.proofs.EndUttering.{EndSpeaks, speaks_run}
-use Rattle.channel_laws.proofs.Lifting.{EndsAll, core_run, stand_run}
+use Rattle.channel_laws.proofs.EndUttering.{speaks_run}
+use Rattle.channel_laws.proofs.Lifting.{core_run, stand_run}
 use Rattle.channel_laws.proofs.LinkPlaced.{first_links, links_keep}
 use Rattle.channel_laws.proofs.Sessions.{converse_knows}
 use Rattle.channel_laws.specs.Conversing.{Converse}
-use Rattle.channel_laws.specs.CoreLog.{CoreLog, RoomStands, UpStands, after, nothing_yet}
+use Rattle.channel_laws.specs.CoreLog.{RoomStands, UpStands, after, nothing_yet}
 use Rattle.channel_laws.specs.Grounds.{OpenRests, Rests}
 use Rattle.channel_laws.specs.LaneCore.{CoreEvent, CoreFits, CoreStep, LaneCore, fresh_core, talk_behind}
 use Rattle.channel_laws.specs.LinkPlaces.{LinksAt}

@@ -90,7 +90,7 @@ goes_handshakes asks answers role s t link handshake offer at = record {
   theirs = at.theirs;
 }
 
-held_offer : (c held : EndCore) (what : Holding) → Holds c what held → held.offer ≡ c.offer
+pub held_offer : (c held : EndCore) (what : Holding) → Holds c what held → held.offer ≡ c.offer
 held_offer c held HoldsOn is = ap (λ (x : EndCore). x.offer) is
 held_offer c held (HoldsOwed message) offers = offers.offer
 held_offer c held (HoldsOwn message) offers = offers.offer

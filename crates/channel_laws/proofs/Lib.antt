@@ -28,3 +28,6 @@ pub mod Resets
 pub mod UnforgedResets
 pub mod Sids
 pub mod CoreLaws
+pub mod Opening
+pub mod OpeningRows
+pub mod OpeningOrder

@@ -1,15 +1,17 @@
 // What always holds of an end by its role, whatever its kind of lane, also where somebody forges packets.
 
-ghost use Rattle.std.specs.Prelude.{◌≡◌, ◌%◌, ℕ, List, Option, true};
+ghost use Rattle.std.specs.Prelude.{◌≡◌, ◌%◌, ◌∷◌, ℕ, List, Option, true};
 ghost use Rattle.runs.specs.Lawful.{log_of, Lawful};
 ghost use Rattle.runs.specs.Run.{Run};
 ghost use Rattle.ldc_link.specs.declared.phase.Role.TheVariants.{Initiator, Responder};
+ghost use Rattle.ldc_queue.specs.Talk.{Heard, Said};
 ghost use Rattle.ldc_queue.specs.declared.end.End.{End};
 ghost use Rattle.vio_handshake.specs.declared.session.Offer.{Offer};
 ghost use Rattle.vio_tag.specs.declared.cause.Cause.{Cause};
+ghost use Rattle.disk_model.specs.HandshakeOrder.{HandshakeOrder};
 ghost use Rattle.disk_model.specs.Sayings.{heard, said};
 ghost use Rattle.disk_model.specs.TalkLog.{talk_of};
-ghost use Rattle.disk_model.specs.WireEvent.{ByStep, Reset, giver};
+ghost use Rattle.disk_model.specs.WireEvent.{ByStep, Reset, Sent, Took, giver};
 ghost use Rattle.channel_laws.specs.CoreLog.{after, comings_after, nothing_yet, HeardAt, SaidAt};
 ghost use Rattle.channel_laws.specs.Grounds.{OpenRests, Rests};
 ghost use Rattle.channel_laws.specs.LaneCore.{end_of, fresh_core, role_of, talk_behind, CoreEvent, CoreFits, CoreStep, LaneCore, OnChannel};
@@ -18,9 +20,9 @@ ghost use Rattle.channel_laws.specs.Standing.{EndStands};
 ghost use Rattle.channel_laws.specs.Utterances.{SaysEach};
 
 /// Along every run of two ends on a channel each stands by its role: its link is in a phase of the role and follows what
-/// the end said and heard since it last began, and has shown each whole message; its handshake offers what the end does;
-/// the session is open exactly where the handshake is; before its link is up it holds and owes nothing; and what the
-/// link holds is the rest of the message that the handshake owes, or of one of the open session.
+/// the end said and heard since it last began, and has shown each whole message; its handshake offers what the end does,
+/// and that stays; the session is open exactly where the handshake is; before its link is up it holds and owes nothing;
+/// and what the link holds is the rest of the message that the handshake owes, or of one of the open session.
 pub fn an_end_stands_by_its_role()
     ensures initiator { (entries : ℕ) (asks answers : Offer) (events : List CoreEvent) (s : LaneCore)
         → CoreFits entries asks answers → Run CoreStep (fresh_core entries asks answers) events s
@@ -28,6 +30,8 @@ pub fn an_end_stands_by_its_role()
     ensures responder { (entries : ℕ) (asks answers : Offer) (events : List CoreEvent) (s : LaneCore)
         → CoreFits entries asks answers → Run CoreStep (fresh_core entries asks answers) events s
         → EndStands Responder s.b (talk_behind events).server }
+    ensures offers { (entries : ℕ) (asks answers : Offer) (events : List CoreEvent) (s : LaneCore)
+        → Run CoreStep (fresh_core entries asks answers) events s → (s.a.offer ≡ asks) × (s.b.offer ≡ answers) }
 {}
 
 /// Along every run of two ends on a channel what an end's handshake knows is of messages that the end heard since it last
@@ -74,6 +78,22 @@ pub fn what_an_end_hears_may_come()
     ensures { (entries : ℕ) (asks answers : Offer) (events : List CoreEvent) (s : LaneCore)
         → CoreFits entries asks answers → Run CoreStep (fresh_core entries asks answers) events s
         → Lawful HeardAt after (nothing_yet entries) events }
+{}
+
+/// Where the session of an end on a channel opens, by a message that it says or hears, what the end said and heard since it
+/// last began is the row of its handshake, one line after the other, and between them only what may stand aside. Where
+/// both ends have a ring the row has the messages of the responder's too. All messages of the row have one sid.
+pub fn sessions_of_an_end_open_in_order()
+    ensures saying { (entries : ℕ) (asks answers : Offer) (events : List CoreEvent) (s : LaneCore) (e : End)
+        (packet : List ℕ) (t : LaneCore)
+        → CoreFits entries asks answers → Run CoreStep (fresh_core entries asks answers) events s
+        → CoreStep s (OnChannel (Sent e packet true)) t
+        → HandshakeOrder (end_of e s).offer.both_rings (role_of e) (Said packet ∷ talk_of e (talk_behind events)) }
+    ensures hearing { (entries : ℕ) (asks answers : Offer) (events : List CoreEvent) (s : LaneCore) (e : End)
+        (packet : List ℕ) (t : LaneCore)
+        → CoreFits entries asks answers → Run CoreStep (fresh_core entries asks answers) events s
+        → CoreStep s (OnChannel (Took e packet true)) t
+        → HandshakeOrder (end_of e s).offer.both_rings (role_of e) (Heard packet ∷ talk_of e (talk_behind events)) }
 {}
 
 /// Where an end on a channel resets itself, the packet that it carries says why, by its own bytes or by those of the

@@ -8,8 +8,8 @@ mod pair_laws;
 pub use end_laws::{
     a_reset_of_an_end_says_why, an_end_rests_on_what_it_heard,
     an_end_says_what_its_handshake_holds, an_end_stands_by_its_role,
-    sids_count_how_often_a_link_came_up, what_an_end_hears_may_come,
-    what_an_end_says_is_cut_and_numbered,
+    sessions_of_an_end_open_in_order, sids_count_how_often_a_link_came_up,
+    what_an_end_hears_may_come, what_an_end_says_is_cut_and_numbered,
 };
 pub use pair_laws::{
     an_end_resets_itself_behind_a_loss_or_for_its_session, events_stand_by_both_ends,

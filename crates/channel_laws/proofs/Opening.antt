@@ -1,0 +1,267 @@
+-- How far an end has come in the handshake's order, as its link, its handshake and the message that it owes say: its turns are the lines of its row
+-- up to where it stands, and what stands aside.
+use Rattle.std.proofs.Common.{◌≡◌, ℕ, ◌%◌, Bool, true, false, ◌⊎◌, inl, inr, Option, Some, None, List, [], ◌∷◌, ◌++◌, drop, refl, sym, ap, ◌∙◌, subst, arith}
+use Rattle.std.specs.Prelude.{⊤}
+use Rattle.ldc_link.specs.declared.phase.LinkPhase.{LinkPhase}
+use Rattle.ldc_link.specs.declared.phase.LinkPhase.TheVariants as phase
+use Rattle.ldc_link.specs.declared.phase.Role.{Role}
+use Rattle.ldc_link.specs.declared.phase.Role.TheVariants.{Initiator, Responder}
+use Rattle.ldc_link.specs.LinkState.{is_up}
+use Rattle.ldc_packet.specs.declared.packet.Subtype.{Subtype}
+use Rattle.ldc_packet.specs.declared.packet.Subtype.TheVariants.{Nack}
+use Rattle.ldc_packet.specs.Spelling.{subtype_code}
+use Rattle.ldc_queue.specs.Fragments.{fragment_at, is_part}
+use Rattle.ldc_queue.specs.Talk.{Heard, Said, Turn}
+use Rattle.vio_tag.specs.declared.message.Message.{Message}
+use Rattle.vio_tag.specs.declared.message.MsgBody.{MsgBody}
+use Rattle.vio_tag.specs.declared.message.MsgBody.TheVariants.{Attr, DringData, DringReg, DringUnreg, Mcast, Plain, Rdx, Ver}
+use Rattle.vio_tag.specs.Spelling as message_at
+use Rattle.vio_tag.specs.Spelling.{SpellsMessage, canonical, envelope_code}
+use Rattle.vio_handshake.specs.declared.handshake.Handshake.{Handshake}
+use Rattle.vio_handshake.specs.declared.handshake.Phase.{Phase}
+use Rattle.vio_handshake.specs.declared.handshake.Phase.TheVariants.{Attributes, Down, Open, OwnReady, OwnRing, PeerReady, PeerReadyTaken, PeerRing, PeerRingTaken, Version}
+use Rattle.disk_model.specs.HandshakeOrder.{ComesUpBelow, EndsAs, Follows, Hears, HearsControl, Line, MayEnd, Meets, Says, SaysControl, opening_lines, own_ring_lines, row, sid_in}
+use Rattle.disk_model.specs.Sayings.{half_heard, half_said}
+use Rattle.channel_laws.proofs.HandshakeCases.{NothingFollows}
+use Rattle.channel_laws.proofs.TurnCases.{EndsBy}
+use Rattle.channel_laws.specs.EndCore.{EndCore}
+
+-- THE LINK: how many of the opening's lines are to come in a phase, and those that are met
+abbrev pub link_left : LinkPhase → ℕ
+link_left phase.OwesVersInfo = 11
+link_left phase.AwaitsVersInfo = 11
+link_left (phase.OwesVersNack major) = 11
+link_left phase.AwaitsVersAck = 10
+link_left phase.OwesVersAck = 10
+link_left phase.OwesRts = 9
+link_left phase.AwaitsRts = 9
+link_left phase.AwaitsRtr = 8
+link_left phase.OwesRtr = 8
+link_left phase.OwesRdx = 7
+link_left phase.AwaitsRdx = 7
+link_left phase.Established = 6
+
+abbrev pub link_met : Role → LinkPhase → List Line
+link_met role ph = drop (link_left ph) (opening_lines role)
+
+-- THE HANDSHAKE: the lines that are met once its own message of this phase is said
+abbrev pub met : Bool → Role → Phase → List Line
+met both Initiator Version = drop 5 (opening_lines Initiator)
+met both Initiator Attributes = drop 3 (opening_lines Initiator)
+met both Initiator OwnRing = drop 1 (opening_lines Initiator)
+met both Initiator PeerRing = opening_lines Initiator
+met both Initiator PeerRingTaken = drop 4 (row true Initiator)
+met both Initiator OwnReady = drop 3 (row both Initiator)
+met both Initiator PeerReady = drop 2 (row both Initiator)
+met both Initiator PeerReadyTaken = row both Initiator
+met both Responder Version = drop 6 (opening_lines Responder)
+met both Responder Attributes = drop 4 (opening_lines Responder)
+met both Responder PeerRing = drop 2 (opening_lines Responder)
+met both Responder PeerRingTaken = opening_lines Responder
+met both Responder OwnRing = drop 5 (row true Responder)
+met both Responder PeerReady = drop 4 (row both Responder)
+met both Responder PeerReadyTaken = drop 2 (row both Responder)
+met both Responder OwnReady = drop 1 (row both Responder)
+met both role _ = []
+
+-- the phases before the session is open; some only where both ends have a ring
+abbrev pub IsComing : Bool → Role → Phase → Type 0
+IsComing both role Down = ⊥
+IsComing both role Open = ⊥
+IsComing both role PeerRingTaken = both ≡ true
+IsComing both Initiator PeerRing = both ≡ true
+IsComing both Responder OwnRing = both ≡ true
+IsComing both role _ = ⊤
+
+-- the message is the newest of these lines
+abbrev pub IsNoPlain : MsgBody → Type 0
+IsNoPlain (Plain envelope) = ⊥
+IsNoPlain _ = ⊤
+
+pub record IsLine (subtype envelope sid : ℕ) (message : Message) : Type 0 where
+  pub of_subtype : subtype_code message.subtype ≡ subtype
+  pub of_envelope : envelope_code message.body ≡ envelope
+  pub of_sid : message.sid % 4294967296 ≡ sid
+  pub named : IsNoPlain message.body
+
+abbrev pub IsNext : List Line → ℕ → Message → Type 0
+IsNext (Says subtype envelope ∷ lines) sid message = IsLine subtype envelope sid message
+IsNext _ sid message = ⊥
+
+-- what it owes is its own next line; or that is said, and it owes nothing but a refusal
+pub record Owing (both : Bool) (role : Role) (p : Phase) (sid : ℕ) (owed : Option Message) (turns : List Turn) : Type 0 where
+  pub message : Message
+  pub owed_is : owed ≡ Some message
+  pub next : IsNext (met both role p) sid message
+  pub follows : Follows role sid (drop 1 (met both role p)) turns
+
+abbrev pub IsRefusal : Option Message → Type 0
+IsRefusal None = ⊤
+IsRefusal (Some message) = message.subtype ≡ Nack
+
+pub record Waiting (both : Bool) (role : Role) (p : Phase) (sid : ℕ) (owed : Option Message) (turns : List Turn) : Type 0 where
+  pub waits : NothingFollows p
+  pub refusal : IsRefusal owed
+  pub follows : Follows role sid (met both role p) turns
+
+pub record Comes (both : Bool) (role : Role) (p : Phase) (sid : ℕ) (owed : Option Message) (turns : List Turn) : Type 0 where
+  pub coming : IsComing both role p
+  pub stage : Owing both role p sid owed turns ⊎ Waiting both role p sid owed turns
+
+abbrev pub sid_of : Handshake → ℕ
+sid_of h = h.draft.sid % 4294967296
+
+abbrev pub HandshakeComes : Role → Handshake → List Turn → Type 0
+HandshakeComes role h turns = Comes h.offer.both_rings role h.phase (sid_of h) h.owed turns
+
+-- AN END: before its link is up no message was said or heard, so any sid serves; once its session is open its order is behind it
+pub record EndCame (role : Role) (c : EndCore) (turns : List Turn) : Type 0 where
+  pub below : is_up c.link ≡ false → Follows role 0 (link_met role c.link.phase) turns
+  pub above : is_up c.link ≡ true → (c.handshake.phase ≡ Open) ⊎ HandshakeComes role c.handshake turns
+
+-- WHERE NO MESSAGE is among the lines any sid serves
+abbrev HasNoMessage : List Line → Type 0
+HasNoMessage [] = ⊤
+HasNoMessage (SaysControl packet ∷ lines) = HasNoMessage lines
+HasNoMessage (HearsControl packet ∷ lines) = HasNoMessage lines
+HasNoMessage (Says subtype envelope ∷ lines) = ⊥
+HasNoMessage (Hears subtype envelope ∷ lines) = ⊥
+
+any_line : (one other : ℕ) (line : Line) (lines : List Line) (turn : Turn) (turns : List Turn) → HasNoMessage (line ∷ lines) → Meets one line turn turns → Meets other line turn turns
+any_line one other (SaysControl packet) lines (Said bytes) turns none meets = meets
+any_line one other (SaysControl packet) lines (Heard bytes) turns none meets = absurd meets
+any_line one other (HearsControl packet) lines (Said bytes) turns none meets = absurd meets
+any_line one other (HearsControl packet) lines (Heard bytes) turns none meets = meets
+any_line one other (Says subtype envelope) lines turn turns none meets = absurd none
+any_line one other (Hears subtype envelope) lines turn turns none meets = absurd none
+
+other_lines : (line : Line) (lines : List Line) → HasNoMessage (line ∷ lines) → HasNoMessage lines
+other_lines (SaysControl packet) lines none = none
+other_lines (HearsControl packet) lines none = none
+other_lines (Says subtype envelope) lines none = absurd none
+other_lines (Hears subtype envelope) lines none = absurd none
+
+pub any_sid : (role : Role) (one other : ℕ) (lines : List Line) (turns : List Turn) → HasNoMessage lines → Follows role one lines turns → Follows role other lines turns
+any_sid role one other [] [] none follows = tt
+any_sid role one other (line ∷ lines) [] none follows = absurd follows
+any_sid role one other [] (turn ∷ turns) none follows = (follows.0, any_sid role one other [] turns none follows.1)
+any_sid role one other (line ∷ lines) (turn ∷ turns) none (inl meets) =
+    inl (any_line one other line lines turn turns none meets.0, any_sid role one other lines turns (other_lines line lines none) meets.1)
+any_sid role one other (line ∷ lines) (turn ∷ turns) none (inr aside) = inr (aside.0, any_sid role one other (line ∷ lines) turns none aside.1)
+
+-- WHAT STANDS ASIDE: what is heard once the link is up, a control packet that is heard, and a part that ends no message or a refusal
+pub hears_aside : (role : Role) (sid : ℕ) (lines : List Line) (turns : List Turn) (bytes : List ℕ) → ComesUpBelow lines → Follows role sid lines turns
+    → Follows role sid lines (Heard bytes ∷ turns)
+hears_aside role sid [] turns bytes up follows = absurd up
+hears_aside role sid (line ∷ lines) turns bytes up follows = inr (inl up, follows)
+
+pub hears_control : (role : Role) (sid : ℕ) (lines : List Line) (turns : List Turn) (bytes : List ℕ) → is_part bytes ≡ false → Follows role sid lines turns
+    → Follows role sid lines (Heard bytes ∷ turns)
+hears_control role sid [] turns bytes is follows = (inr is, follows)
+hears_control role sid (line ∷ lines) turns bytes is follows = inr (inr is, follows)
+
+pub says_aside : (role : Role) (sid : ℕ) (lines : List Line) (turns : List Turn) (bytes : List ℕ) → ComesUpBelow lines → is_part bytes ≡ true
+    → MayEnd (fragment_at bytes).stop (half_said turns ++ (fragment_at bytes).bytes) → Follows role sid lines turns → Follows role sid lines (Said bytes ∷ turns)
+says_aside role sid [] turns bytes up is may follows = absurd up
+says_aside role sid (line ∷ lines) turns bytes up is may follows = inr (inl (up, is, may), follows)
+
+rows_up : (both : Bool) (role : Role) → ComesUpBelow (own_ring_lines both role ++ opening_lines role)
+rows_up true Initiator = tt
+rows_up true Responder = tt
+rows_up false Initiator = tt
+rows_up false Responder = tt
+
+pub comes_up : (both : Bool) (role : Role) (p : Phase) → IsComing both role p → ComesUpBelow (met both role p)
+comes_up both Initiator Version coming = tt
+comes_up both Initiator Attributes coming = tt
+comes_up both Initiator OwnRing coming = tt
+comes_up both Initiator PeerRing coming = tt
+comes_up both Initiator PeerRingTaken coming = tt
+comes_up both Initiator OwnReady coming = rows_up both Initiator
+comes_up both Initiator PeerReady coming = rows_up both Initiator
+comes_up both Initiator PeerReadyTaken coming = rows_up both Initiator
+comes_up both Responder Version coming = tt
+comes_up both Responder Attributes coming = tt
+comes_up both Responder PeerRing coming = tt
+comes_up both Responder PeerRingTaken coming = tt
+comes_up both Responder OwnRing coming = tt
+comes_up both Responder PeerReady coming = rows_up both Responder
+comes_up both Responder PeerReadyTaken coming = rows_up both Responder
+comes_up both Responder OwnReady coming = rows_up both Responder
+comes_up both Initiator Down coming = absurd coming
+comes_up both Responder Down coming = absurd coming
+comes_up both Initiator Open coming = absurd coming
+comes_up both Responder Open coming = absurd coming
+
+-- A MESSAGE THAT IS HEARD, by its fields
+pub heard_line : (turns : List Turn) (packet bytes : List ℕ) (d : Message) (s : Subtype) (b : MsgBody) (sid : ℕ) → EndsBy turns packet bytes → SpellsMessage bytes d
+    → d ≡ record { subtype = s; sid = d.sid; body = b } → d.sid % 4294967296 ≡ sid → EndsAs (subtype_code s) (envelope_code b) sid (half_heard turns) packet
+heard_line turns packet bytes d s b sid ends spells is same = record {
+  part = ends.part;
+  stop = ends.stop;
+  of_subtype = ap message_at.subtype_at (sym ends.is) ∙ spells.subtype ∙ ap (λ (m : Message). subtype_code m.subtype) is;
+  of_envelope = ap message_at.envelope_at (sym ends.is) ∙ spells.envelope ∙ ap (λ (m : Message). envelope_code m.body) is;
+  of_sid = ap sid_in (sym ends.is) ∙ ap (λ (n : ℕ). n % 4294967296) (sym spells.sid) ∙ same;
+}
+
+-- ONE THAT IS SAID
+pub record SaysWhole (turns : List Turn) (packet : List ℕ) (message : Message) : Type 0 where
+  pub part : is_part packet ≡ true
+  pub stop : (fragment_at packet).stop ≡ true
+  pub whole : half_said turns ++ (fragment_at packet).bytes ≡ canonical message
+
+sid_reads : (m : Message) → sid_in (canonical m) ≡ m.sid % 4294967296
+unfolding canonical
+sid_reads m = omega arith
+
+subtype_reads : (m : Message) → message_at.subtype_at (canonical m) ≡ subtype_code m.subtype
+unfolding canonical
+subtype_reads m = omega arith
+
+envelope_reads : (s : Subtype) (n : ℕ) (b : MsgBody) → IsNoPlain b → message_at.envelope_at (canonical (record { subtype = s; sid = n; body = b })) ≡ envelope_code b
+unfolding canonical
+envelope_reads s n (Ver major minor class) not = refl
+envelope_reads s n (Attr bytes) not = refl
+envelope_reads s n (DringReg ident slots slot_size options count cookies) not = refl
+envelope_reads s n (DringUnreg ident) not = refl
+envelope_reads s n Rdx not = refl
+envelope_reads s n (DringData seq ident start end state) not = refl
+envelope_reads s n (Mcast set count addresses) not = refl
+envelope_reads s n (Plain envelope) not = absurd not
+
+pub said_line : (turns : List Turn) (packet : List ℕ) (message : Message) (subtype envelope sid : ℕ) → SaysWhole turns packet message → IsLine subtype envelope sid message
+    → EndsAs subtype envelope sid (half_said turns) packet
+said_line turns packet message subtype envelope sid says is = record {
+  part = says.part;
+  stop = says.stop;
+  of_subtype = ap message_at.subtype_at says.whole ∙ subtype_reads message ∙ is.of_subtype;
+  of_envelope = ap message_at.envelope_at says.whole ∙ envelope_reads message.subtype message.sid message.body is.named ∙ is.of_envelope;
+  of_sid = ap sid_in says.whole ∙ sid_reads message ∙ is.of_sid;
+}
+
+next_said : (role : Role) (lines : List Line) (sid : ℕ) (message : Message) (turns : List Turn) (packet : List ℕ) → SaysWhole turns packet message → IsNext lines sid message
+    → Follows role sid (drop 1 lines) turns → Follows role sid lines (Said packet ∷ turns)
+next_said role (Says subtype envelope ∷ lines) sid message turns packet says next follows = inl (said_line turns packet message subtype envelope sid says next, follows)
+next_said role (SaysControl control ∷ lines) sid message turns packet says next follows = absurd next
+next_said role (HearsControl control ∷ lines) sid message turns packet says next follows = absurd next
+next_said role (Hears subtype envelope ∷ lines) sid message turns packet says next follows = absurd next
+next_said role [] sid message turns packet says next follows = absurd next
+
+may_end : (b : Bool) (bytes : List ℕ) (message : Message) → b ≡ true → bytes ≡ canonical message → message.subtype ≡ Nack → MayEnd b bytes
+may_end true bytes message stop is refusal = ap message_at.subtype_at is ∙ subtype_reads message ∙ ap subtype_code refusal
+may_end false bytes message stop is refusal = absurd (cc stop)
+
+-- either way the row is followed up to this message, or up to where it was
+pub last_follows : (both : Bool) (role : Role) (p : Phase) (sid : ℕ) (owed : Option Message) (message : Message) (turns : List Turn) (packet : List ℕ) → owed ≡ Some message
+    → SaysWhole turns packet message → Comes both role p sid owed turns → Follows role sid (met both role p) (Said packet ∷ turns)
+last_follows both role p sid owed message turns packet is says comes = of comes.stage
+  where
+    of : Owing both role p sid owed turns ⊎ Waiting both role p sid owed turns → Follows role sid (met both role p) (Said packet ∷ turns)
+    of (inl owing) =
+        let one : Some message ≡ Some owing.message = sym is ∙ owing.owed_is in
+        let same : message ≡ owing.message = cc one in
+        next_said role (met both role p) sid message turns packet says (subst (IsNext (met both role p) sid) (sym same) owing.next) owing.follows
+    of (inr waiting) =
+        let refusal : IsRefusal (Some message) = subst IsRefusal is waiting.refusal in
+        says_aside role sid (met both role p) turns packet (comes_up both role p comes.coming) says.part
+        (may_end (fragment_at packet).stop (half_said turns ++ (fragment_at packet).bytes) message says.stop says.whole refusal) waiting.follows
