@@ -4,6 +4,10 @@ use Rattle.domain_script.proofs.Disks.{is_disk_at}
 use Rattle.ldom_world.proofs.Declaring.{all_lanes, few_lanes, first_more, lanes_more, no_more_lanes}
 use Rattle.ldom_world.proofs.lanes.lanes_of.Goals as goal
 
+pub lane_of-requires : goal.lane_of-requires
+lane_of-requires c =
+    is_disk_at c.args.names.now.disks c.loop-k.k c.in-Some.disk c.requires (sym c.in-Some.ensures.value)
+
 pub loop-k-preserved : goal.loop-k-preserved
 loop-k-preserved c =
     let there : slice_get c.args.names.now.disks c.loop-k.k ≡ Some c.in-Some.disk = sym c.in-Some.ensures.value in
