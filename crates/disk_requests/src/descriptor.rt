@@ -94,11 +94,7 @@ pub(crate) fn descriptor_of(id: u64, request: &Request, slot: u32, slots: u32) -
 fn cookie_count(size: u64) -> u32
     ensures { result ≡ cookie_count size }
 {
-    if size > 0 {
-        1
-    } else {
-        0
-    }
+    if size > 0 { 1 } else { 0 }
 }
 
 /// The cookies of a buffer, of which the last four are never used.

@@ -12,10 +12,15 @@ returns-in_err-new_name-clause-none c = rw c.from_residual-in_err-new_name.ensur
 pub returns-clause-some : goal.returns-clause-some
 returns-clause-some c = record {
   values = (c.in_ok-new_name.field-0, (c.in_ok-number_within.field-0, (c.in_ok-number_within-2.field-0, (c.in_ok-number_within-3.field-0, tt))));
-  spelled = rw c.in_ok-word.ensures
-      ((c.in_ok-new_name.ensures.some, c.in_ok-new_name.ensures.can),
-      ((c.in_ok-number_within.ensures.some, c.in_ok-number_within.ensures.within),
-      ((c.in_ok-number_within-2.ensures.some, c.in_ok-number_within-2.ensures.within),
-      ((c.in_ok-number_within-3.ensures.some, c.in_ok-number_within-3.ensures.within), tt))));
+  spelled = rw c.in_ok-word.ensures (
+    (c.in_ok-new_name.ensures.some, c.in_ok-new_name.ensures.can),
+    (
+      (c.in_ok-number_within.ensures.some, c.in_ok-number_within.ensures.within),
+      (
+        (c.in_ok-number_within-2.ensures.some, c.in_ok-number_within-2.ensures.within),
+        ((c.in_ok-number_within-3.ensures.some, c.in_ok-number_within-3.ensures.within), tt),
+      ),
+    ),
+  );
   makes = refl;
 }

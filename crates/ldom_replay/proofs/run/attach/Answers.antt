@@ -64,7 +64,7 @@ returns-in-Err-attach-clause-replayed g c start opened =
     let read = c.args.reader in
     replayed_as seen start now gives (attach_status c.in-Err-attach.fault) c.into_run-in-Err-attach.result.status read.lines.number c.into_run-in-Err-attach.result.lines
     read.names c.into_run-in-Err-attach.result.names [] c.into_run-in-Err-attach.result.journal.entries None c.into_run-in-Err-attach.result.image None c.into_run-in-Err-attach.result.lanes
-    (c.into_run-in-Err-attach.ensures.status ∙ c.status_of.ensures) (c.into_run-in-Err-attach.ensures.lines ∙ c.number-in-Err-attach.ensures) c.into_run-in-Err-attach.ensures.names
+    (c.into_run-in-Err-attach.ensures.status ∙ c.status_of.ensures) (c.into_run-in-Err-attach.ensures.lines ∙ c.number-lines-in-Err-attach.ensures) c.into_run-in-Err-attach.ensures.names
     (ap (λ (j : JournalState). j.entries) c.into_run-in-Err-attach.ensures.journal ∙ c.requires.journal) c.into_run-in-Err-attach.ensures.image c.into_run-in-Err-attach.ensures.lanes
     (replayed_refused seen start now gives c.in-Err-attach.fault read.lines.held c.args.first read.names read.lines.number opened)
 

@@ -1,4 +1,6 @@
-use Rattle.std.proofs.Common.{◌∙◌, refl}
+use Rattle.std.proofs.Common.{◌∙◌, refl, subst, sym}
+use Rattle.domain_script.specs.Declarations.{AreDisks}
+use Rattle.domain_script.specs.NamesState.{NamesState}
 use Rattle.domain_script.specs.LinesState.{to_come}
 use Rattle.script_laws.proofs.ReadLemmas.{opens, opens_more, read_disks}
 use Rattle.ldom_replay.proofs.run.read_opening.Goals as goal
@@ -29,3 +31,11 @@ returns-then-not-is_opening-clause-disks g c =
     let opened = opens start (to_come c.loop-event.reader.lines (g.S.Source.left c.loop-event.source)) left
     c.read_event.new.event c.loop-event.reader.names c.read_event.new.self.names c.loop-event.reader.lines.number c.read_event.new.self.lines.number c.loop-event.invariant.so_far c.in_ok-read_event.ensures.event c.in_ok-read_event.ensures.next.0 c.in_ok-read_event.ensures.next.1 (λ opening. (cc (c.if-not-is_opening.ensures.1 opening))) in
     read_disks start left _ c.read_event.new.self.names c.read_event.new.self.lines.number opened.read
+
+pub returns-in_err-read_event-clause-disks : goal.returns-in_err-read_event-clause-disks
+returns-in_err-read_event-clause-disks g c =
+    let start = to_come c.args.reader.now.lines (g.S.Source.left c.args.source.now) in
+    let rest = to_come c.loop-event.reader.lines (g.S.Source.left c.loop-event.source) in
+    let so_far = c.loop-event.invariant.so_far in
+    subst (λ (n : NamesState). AreDisks n.disks) (sym c.in_err-read_event.ensures.lines.1)
+    (read_disks start rest so_far.opening c.loop-event.reader.names c.loop-event.reader.lines.number so_far.read)
