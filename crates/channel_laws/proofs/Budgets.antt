@@ -6,15 +6,15 @@ use Rattle.ldc_link.specs.declared.phase.LinkPhase.TheVariants as phase
 use Rattle.ldc_link.specs.declared.phase.Role.{Role}
 use Rattle.ldc_link.specs.declared.phase.Role.TheVariants.{Initiator, Responder}
 use Rattle.ldc_link.specs.LinkState.{LinkState, first_phase, is_established, is_up, offered}
-use Rattle.ldc_queue.specs.Talk.{Turn}
+use Rattle.ldc_queue.specs.Transcript.{Turn}
 use Rattle.vio_handshake.specs.declared.handshake.Handshake.{Handshake}
 use Rattle.vio_handshake.specs.declared.handshake.Phase.{Phase}
 use Rattle.vio_handshake.specs.declared.handshake.Phase.TheVariants.{Open, OwnReady, OwnRing, PeerReadyTaken, PeerRingTaken, Version}
-use Rattle.vio_handshake.specs.Rules.{opens_by_put, shake_sent}
-use Rattle.vio_handshake.specs.State.{begun, joined_shake, shake_up}
+use Rattle.vio_handshake.specs.Rules.{opens_by_put, handshake_sent}
+use Rattle.vio_handshake.specs.State.{begun, joined_handshake, handshake_up}
 use Rattle.vio_tag.specs.declared.message.Message.{Message}
 use Rattle.vio_tag.specs.Spelling.{canonical}
-use Rattle.channel_laws.proofs.EndCases.{PutControl, PutMore, PutOwn, PutReady, PutShake, PutWhat, end_put}
+use Rattle.channel_laws.proofs.EndCases.{PutControl, PutMore, PutOwn, PutReady, PutHandshake, PutWhat, end_put}
 use Rattle.channel_laws.proofs.EndStanding.{held_stands, holds_some, last_none, open_up, owing_up, up_empty}
 use Rattle.channel_laws.proofs.HandshakeCases.{Opens, Owes, OwnReadyFollows, ReadyFollows, RingFollows, RowSent, row_sent}
 use Rattle.channel_laws.proofs.LinkCases.{ControlPut, ModeAnswered, ModeOffered, VersionAnswered, VersionOffered, VersionRefused, behind_part, behind_ready}
@@ -97,15 +97,15 @@ open_none : HasNone Open
 open_none Initiator = (refl, refl)
 open_none Responder = (refl, refl)
 
-begun_phase : (role : Role) (h : Handshake) → (begun role (joined_shake h)).phase ≡ Version
+begun_phase : (role : Role) (h : Handshake) → (begun role (joined_handshake h)).phase ≡ Version
 begun_phase Initiator h = refl
 begun_phase Responder h = refl
 
-up_none : (h : Handshake) → (one_more (shake_up h).role (shake_up h).phase ≡ 0) × (opening_left (shake_up h).role (shake_up h).phase ≡ 0)
+up_none : (h : Handshake) → (one_more (handshake_up h).role (handshake_up h).phase ≡ 0) × (opening_left (handshake_up h).role (handshake_up h).phase ≡ 0)
 up_none h =
     let at = begun_phase h.role h in
-    let none = version_none (shake_up h).role in
-    (ap (one_more (shake_up h).role) at ∙ none.0, ap (opening_left (shake_up h).role) at ∙ none.1)
+    let none = version_none (handshake_up h).role in
+    (ap (one_more (handshake_up h).role) at ∙ none.0, ap (opening_left (handshake_up h).role) at ∙ none.1)
 
 -- once its message was put: the next one was counted, and so were the messages of a session that opens
 record SentLess (h t : Handshake) (opens : Bool) (more now : ℕ) : Type 0 where
@@ -247,7 +247,7 @@ up_budget held t left h at link is handshake less =
     )
 
 ready_budget : (role : Role) (held t : EndCore) (turns : List Turn) → EndStands role held turns → held.link.phase ≡ phase.OwesRdx → t.link ≡ behind_ready held.link
-    → t.handshake ≡ shake_up held.handshake → t.more ≤ held.more → budget t + 1 ≤ budget held
+    → t.handshake ≡ handshake_up held.handshake → t.more ≤ held.more → budget t + 1 ≤ budget held
 ready_budget role held t turns stands at link handshake more =
     let below = stands.below (ap is_established at) in
     let none = up_none held.handshake in
@@ -294,10 +294,10 @@ put_budget role held t turns packet opens stands most more own (PutMore at link 
 put_budget role held t turns packet opens stands most more own (PutOwn is at link last handshake not is_open) =
     last_budget held t turns packet held.handshake at link last handshake
     (omega (arith, ap (λ (b : Bool). owed_left b held.link.to_send held.handshake.owed) is ∙ owed_beside held.link.to_send held.handshake.owed)) (omega (arith, more not))
-put_budget role held t turns packet opens stands most more own (PutShake is at link last handshake flag is_open) =
-    let sent = sent_less held.handshake (shake_sent held.handshake) (opens_by_put held.handshake.role held.handshake.phase) held.more t.more most
+put_budget role held t turns packet opens stands most more own (PutHandshake is at link last handshake flag is_open) =
+    let sent = sent_less held.handshake (handshake_sent held.handshake) (opens_by_put held.handshake.role held.handshake.phase) held.more t.more most
     (λ not. more (flag ∙ not)) (row_sent held.handshake) in
-    last_budget held t turns packet (shake_sent held.handshake) at link last handshake
+    last_budget held t turns packet (handshake_sent held.handshake) at link last handshake
     (omega (arith, sent.owed, ap (λ (b : Bool). owed_left b held.link.to_send held.handshake.owed) is ∙ owed_held held.link.to_send held.handshake.owed last.some)) sent.opening
 
 pub says_budget : (role : Role) (c t : EndCore) (turns : List Turn) (packet : List ℕ) (opens : Bool) → EndStands role c turns → EndSays role c packet opens t → budget t + 1 ≤ budget c

@@ -18,11 +18,11 @@ use Rattle.ldc_queue.specs.declared.end.End.TheVariants.{A}
 use Rattle.ldc_queue.specs.Numbered.{is_numbered, numbered}
 use Rattle.ldc_queue.specs.QueueEvent.{Close, Join, Lose, Put, Take}
 use Rattle.ldc_queue.specs.QueueLog.{IsFirst, lost_behind, lost_past}
-use Rattle.ldc_queue.specs.Talk.{Turn}
+use Rattle.ldc_queue.specs.Transcript.{Turn}
 use Rattle.ldc_queue.specs.Wire.{peer_behind, queue_behind, upset}
 use Rattle.disk_model.specs.WireLog.{lossy_behind}
 use Rattle.channel_laws.proofs.Budgets.{anew_budget, budget_small, says_budget, stays_budget, waits_budget}
-use Rattle.channel_laws.proofs.EndCases.{PutControl, PutMore, PutOwn, PutReady, PutShake, PutWhat, end_put, end_took}
+use Rattle.channel_laws.proofs.EndCases.{PutControl, PutMore, PutOwn, PutReady, PutHandshake, PutWhat, end_put, end_took}
 use Rattle.channel_laws.proofs.EndStanding.{held_stands, stands_step}
 use Rattle.channel_laws.proofs.FewLost.{below_turn, few_begins, few_lost, few_lower, few_peer_lost, few_peer_put, few_peer_took, few_put, few_took, first_length, first_unnumbered, live_lower, live_puts_few, live_small, live_takes_few, unnumbered-append, up_budget, up_puts, up_takes}
 use Rattle.channel_laws.proofs.LinkCases.{ControlHeard, ControlPut, ControlTaken, LinkHeard, ModeAgreed, ModeAnswered, ModeAsked, ModeOffered, PartHeard, ReadyHeard, VersionAgreed, VersionAnswered, VersionAsked, VersionOffered, VersionRefused, behind_part, canonical_is, part_loud, put_quiet, ready_loud, taken_quiet}
@@ -144,7 +144,7 @@ put_advances held t turns packet opens stands (PutReady role_is at spelled link 
     (omega (arith, ap puts_left now)) (omega (arith, ap takes_left now))
 put_advances held t turns packet opens stands (PutMore at link more handshake not is_open) = part_advances held t packet link more.part
 put_advances held t turns packet opens stands (PutOwn own at link last handshake not is_open) = part_advances held t packet link last.part
-put_advances held t turns packet opens stands (PutShake own at link last handshake flag is_open) = part_advances held t packet link last.part
+put_advances held t turns packet opens stands (PutHandshake own at link last handshake flag is_open) = part_advances held t packet link last.part
 
 put_left : (role : Role) (s : Sides) (held t : EndCore) (packet : List ℕ) (opens : Bool) → s.mine.state ≡ Up → held.link.phase ≡ s.mine.core.link.phase
     → EndStands role held s.mine.turns → PutWhat role held s.mine.turns packet opens t

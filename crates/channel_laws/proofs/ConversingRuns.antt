@@ -20,19 +20,19 @@ use Rattle.ldc_queue.specs.Fragments.{fragments_in}
 use Rattle.ldc_queue.specs.Messages.{messages_heard, whole_in}
 use Rattle.ldc_queue.specs.Numbered.{numbered}
 use Rattle.ldc_queue.specs.OneStream.{IsFront, OneStream, live}
-use Rattle.ldc_queue.specs.Talk as turn
-use Rattle.ldc_queue.specs.Talk.{Turn, numbered_heard, numbered_said}
+use Rattle.ldc_queue.specs.Transcript as turn
+use Rattle.ldc_queue.specs.Transcript.{Turn, numbered_heard, numbered_said}
 use Rattle.ldc_queue.specs.Wire.{peer_of}
 use Rattle.vio_handshake.specs.declared.session.Offer.{Offer}
 use Rattle.disk_model.proofs.SameSayings.{heard_is, said_is}
 use Rattle.disk_model.specs.Sayings.{heard, said}
-use Rattle.disk_model.specs.TalkLog.{TalkLog, nothing_said, talk_of}
+use Rattle.disk_model.specs.TranscriptLog.{TranscriptLog, nothing_said, transcript_of}
 use Rattle.disk_model.specs.WireAt.{IsUp}
 use Rattle.channel_laws.proofs.Conversations.{anew_converse, first_waits, missed_converse, put_converse, shut_converse, stays_converse, swap_converse, took_converse, waits_converse}
 use Rattle.channel_laws.proofs.FewLost.{below_turn, few_begins}
 use Rattle.channel_laws.proofs.Lifting.{ActsKeep, CoreHolds, core_run}
 use Rattle.channel_laws.specs.Conversing.{Converse, queue_log}
-use Rattle.channel_laws.specs.LaneCore.{CoreEvent, CoreFits, CoreStep, LaneCore, fresh_core, talk_behind}
+use Rattle.channel_laws.specs.LaneCore.{CoreEvent, CoreFits, CoreStep, LaneCore, fresh_core, transcript_behind}
 use Rattle.channel_laws.specs.Sides.{Sides, sides_of, took}
 
 pub converse_keeps : ActsKeep Converse
@@ -59,35 +59,35 @@ first_converse entries asks answers few = record {
 }
 
 pub converse_run : (entries : ℕ) (asks answers : Offer) (events : List CoreEvent) (s : LaneCore) → CoreFits entries asks answers
-    → Run CoreStep (fresh_core entries asks answers) events s → CoreHolds Converse s (talk_behind events)
+    → Run CoreStep (fresh_core entries asks answers) events s → CoreHolds Converse s (transcript_behind events)
 converse_run entries asks answers events s fits run =
     core_run Converse converse_keeps entries asks answers events s fits (first_converse entries asks answers fits.most_entries) run
 
 -- WHAT AN END HEARD is a front of what the other said: its packets with numbers, and its messages
-packets_of : (s : LaneCore) (talk : TalkLog) (e : End) → Converse Initiator (sides_of s talk) → IsUp e s.wire.wire
-    → IsFront (numbered_heard (talk_of e talk)) (numbered_said (talk_of (peer_of e) talk))
-packets_of s talk A c up = heard_front (queue_log (sides_of s talk) c.lost_mine c.lost_theirs) A c.stream up
-packets_of s talk B c up = heard_front (queue_log (sides_of s talk) c.lost_mine c.lost_theirs) B c.stream up
+packets_of : (s : LaneCore) (transcript : TranscriptLog) (e : End) → Converse Initiator (sides_of s transcript) → IsUp e s.wire.wire
+    → IsFront (numbered_heard (transcript_of e transcript)) (numbered_said (transcript_of (peer_of e) transcript))
+packets_of s transcript A c up = heard_front (queue_log (sides_of s transcript) c.lost_mine c.lost_theirs) A c.stream up
+packets_of s transcript B c up = heard_front (queue_log (sides_of s transcript) c.lost_mine c.lost_theirs) B c.stream up
 
 pub messages_in_front : (mine theirs : List Turn) → IsFront (numbered_heard mine) (numbered_said theirs) → IsFront (heard mine) (said theirs)
 messages_in_front mine theirs front =
     subst (λ (xs : List (List ℕ)). IsFront xs (said theirs)) (sym (heard_is mine))
     (subst (λ (xs : List (List ℕ)). IsFront (messages_heard mine) xs) (sym (said_is theirs)) (messages_front (numbered_heard mine) (numbered_said theirs) front))
 
-pub messages_of : (s : LaneCore) (talk : TalkLog) (e : End) → Converse Initiator (sides_of s talk) → IsUp e s.wire.wire → IsFront (heard (talk_of e talk)) (said (talk_of (peer_of e) talk))
-messages_of s talk e c up = messages_in_front (talk_of e talk) (talk_of (peer_of e) talk) (packets_of s talk e c up)
+pub messages_of : (s : LaneCore) (transcript : TranscriptLog) (e : End) → Converse Initiator (sides_of s transcript) → IsUp e s.wire.wire → IsFront (heard (transcript_of e transcript)) (said (transcript_of (peer_of e) transcript))
+messages_of s transcript e c up = messages_in_front (transcript_of e transcript) (transcript_of (peer_of e) transcript) (packets_of s transcript e c up)
 
 pub heard_packets : (entries : ℕ) (asks answers : Offer) (events : List CoreEvent) (s : LaneCore) (e : End) → CoreFits entries asks answers
     → Run CoreStep (fresh_core entries asks answers) events s → s.wire.forged ≡ false → IsUp e s.wire.wire
-    → IsFront (numbered_heard (talk_of e (talk_behind events))) (numbered_said (talk_of (peer_of e) (talk_behind events)))
+    → IsFront (numbered_heard (transcript_of e (transcript_behind events))) (numbered_said (transcript_of (peer_of e) (transcript_behind events)))
 heard_packets entries asks answers events s e fits run clean up =
-    packets_of s (talk_behind events) e ((converse_run entries asks answers events s fits run).holds clean) up
+    packets_of s (transcript_behind events) e ((converse_run entries asks answers events s fits run).holds clean) up
 
 pub heard_messages : (entries : ℕ) (asks answers : Offer) (events : List CoreEvent) (s : LaneCore) (e : End) → CoreFits entries asks answers
     → Run CoreStep (fresh_core entries asks answers) events s → s.wire.forged ≡ false → IsUp e s.wire.wire
-    → IsFront (heard (talk_of e (talk_behind events))) (said (talk_of (peer_of e) (talk_behind events)))
+    → IsFront (heard (transcript_of e (transcript_behind events))) (said (transcript_of (peer_of e) (transcript_behind events)))
 heard_messages entries asks answers events s e fits run clean up =
-    messages_of s (talk_behind events) e ((converse_run entries asks answers events s fits run).holds clean) up
+    messages_of s (transcript_behind events) e ((converse_run entries asks answers events s fits run).holds clean) up
 
 -- WHAT AN END THAT IS UP HEARD, from its own side, also with the packet that it takes next: a front of what the other said, and nothing where
 -- the other isn't up

@@ -13,44 +13,44 @@ use Rattle.channel_laws.proofs.LinkPlaced.{first_links, links_keep}
 use Rattle.channel_laws.proofs.Sessions.{converse_knows}
 use Rattle.channel_laws.specs.Conversing.{Converse}
 use Rattle.channel_laws.specs.CoreLog.{RoomStands, UpStands, after, nothing_yet}
-use Rattle.channel_laws.specs.Grounds.{OpenRests, Rests}
-use Rattle.channel_laws.specs.LaneCore.{CoreEvent, CoreFits, CoreStep, LaneCore, fresh_core, talk_behind}
+use Rattle.channel_laws.specs.Grounds.{OpenRests, RestsOn}
+use Rattle.channel_laws.specs.LaneCore.{CoreEvent, CoreFits, CoreStep, LaneCore, fresh_core, transcript_behind}
 use Rattle.channel_laws.specs.LinkPlaces.{LinksAt}
 use Rattle.channel_laws.specs.Sides.{sides_of}
 use Rattle.channel_laws.specs.Standing.{EndStands}
 
 -- AN END
 pub stands_a : (entries : ℕ) (asks answers : Offer) (events : List CoreEvent) (s : LaneCore) → CoreFits entries asks answers
-    → Run CoreStep (fresh_core entries asks answers) events s → EndStands Initiator s.a (talk_behind events).client
+    → Run CoreStep (fresh_core entries asks answers) events s → EndStands Initiator s.a (transcript_behind events).client
 stands_a entries asks answers events s fits run = (stand_run entries asks answers events s fits run).a
 
 pub stands_b : (entries : ℕ) (asks answers : Offer) (events : List CoreEvent) (s : LaneCore) → CoreFits entries asks answers
-    → Run CoreStep (fresh_core entries asks answers) events s → EndStands Responder s.b (talk_behind events).server
+    → Run CoreStep (fresh_core entries asks answers) events s → EndStands Responder s.b (transcript_behind events).server
 stands_b entries asks answers events s fits run = (stand_run entries asks answers events s fits run).b
 
 pub rests_a : (entries : ℕ) (asks answers : Offer) (events : List CoreEvent) (s : LaneCore) → CoreFits entries asks answers
-    → Run CoreStep (fresh_core entries asks answers) events s → Rests Initiator s.a.handshake (heard (talk_behind events).client)
+    → Run CoreStep (fresh_core entries asks answers) events s → RestsOn Initiator s.a.handshake (heard (transcript_behind events).client)
 rests_a entries asks answers events s fits run = (speaks_run entries asks answers events s fits run).a.knows.rests
 
 pub rests_b : (entries : ℕ) (asks answers : Offer) (events : List CoreEvent) (s : LaneCore) → CoreFits entries asks answers
-    → Run CoreStep (fresh_core entries asks answers) events s → Rests Responder s.b.handshake (heard (talk_behind events).server)
+    → Run CoreStep (fresh_core entries asks answers) events s → RestsOn Responder s.b.handshake (heard (transcript_behind events).server)
 rests_b entries asks answers events s fits run = (speaks_run entries asks answers events s fits run).b.knows.rests
 
 pub open_a : (entries : ℕ) (asks answers : Offer) (events : List CoreEvent) (s : LaneCore) → CoreFits entries asks answers
-    → Run CoreStep (fresh_core entries asks answers) events s → s.a.is_open ≡ true → OpenRests Initiator s.a.handshake (heard (talk_behind events).client)
-open_a entries asks answers events s fits run opened = open_rests Initiator s.a (talk_behind events).client (speaks_run entries asks answers events s fits run).a.knows opened
+    → Run CoreStep (fresh_core entries asks answers) events s → s.a.is_open ≡ true → OpenRests Initiator s.a.handshake (heard (transcript_behind events).client)
+open_a entries asks answers events s fits run opened = open_rests Initiator s.a (transcript_behind events).client (speaks_run entries asks answers events s fits run).a.knows opened
 
 pub open_b : (entries : ℕ) (asks answers : Offer) (events : List CoreEvent) (s : LaneCore) → CoreFits entries asks answers
-    → Run CoreStep (fresh_core entries asks answers) events s → s.b.is_open ≡ true → OpenRests Responder s.b.handshake (heard (talk_behind events).server)
-open_b entries asks answers events s fits run opened = open_rests Responder s.b (talk_behind events).server (speaks_run entries asks answers events s fits run).b.knows opened
+    → Run CoreStep (fresh_core entries asks answers) events s → s.b.is_open ≡ true → OpenRests Responder s.b.handshake (heard (transcript_behind events).server)
+open_b entries asks answers events s fits run opened = open_rests Responder s.b (transcript_behind events).server (speaks_run entries asks answers events s fits run).b.knows opened
 
 -- TWO ENDS
 pub conversing : (entries : ℕ) (asks answers : Offer) (events : List CoreEvent) (s : LaneCore) → CoreFits entries asks answers
-    → Run CoreStep (fresh_core entries asks answers) events s → s.wire.forged ≡ false → Converse Initiator (sides_of s (talk_behind events))
+    → Run CoreStep (fresh_core entries asks answers) events s → s.wire.forged ≡ false → Converse Initiator (sides_of s (transcript_behind events))
 conversing entries asks answers events s fits run clean = (converse_run entries asks answers events s fits run).holds clean
 
 pub links_placed : (entries : ℕ) (asks answers : Offer) (events : List CoreEvent) (s : LaneCore) → CoreFits entries asks answers
-    → Run CoreStep (fresh_core entries asks answers) events s → s.wire.forged ≡ false → LinksAt Initiator (sides_of s (talk_behind events))
+    → Run CoreStep (fresh_core entries asks answers) events s → s.wire.forged ≡ false → LinksAt Initiator (sides_of s (transcript_behind events))
 links_placed entries asks answers events s fits run clean = (core_run LinksAt links_keep entries asks answers events s fits (first_links entries asks answers) run).holds clean
 
 pub who_is_up : (entries : ℕ) (asks answers : Offer) (events : List CoreEvent) (s : LaneCore) → CoreFits entries asks answers

@@ -10,7 +10,7 @@ use Rattle.ldc_queue.specs.declared.end.End.{End}
 use Rattle.ldc_queue.specs.declared.end.End.TheVariants.{A, B}
 use Rattle.ldc_queue.specs.Wire.{peer_behind, queue_behind, state_of, upset}
 use Rattle.vio_handshake.specs.declared.session.Offer.{Offer}
-use Rattle.disk_model.specs.TalkLog.{nothing_said}
+use Rattle.disk_model.specs.TranscriptLog.{nothing_said}
 use Rattle.disk_model.specs.WireEvent.{Blocked, Declines, Idle, Injected, Joined, Lost, Poked, Reset, Sent, Took, WireEvent}
 use Rattle.disk_model.specs.WireLog.{WireLog, wire_moved}
 use Rattle.channel_laws.proofs.EndStanding.{fresh_end_stands}
@@ -158,8 +158,8 @@ pub record Knows (Holds : Role → Sides → Type 0) (s : LaneCore) (l : CoreLog
   pub entries : s.entries ≡ l.entries
   pub some : 1 ≤ s.entries
   pub wire : s.wire ≡ l.wire
-  pub speaks : EndsAll EndSpeaks s l.talk
-  pub holds : CoreHolds Holds s l.talk
+  pub speaks : EndsAll EndSpeaks s l.transcript
+  pub holds : CoreHolds Holds s l.transcript
   pub room : RoomStands l
   pub up : UpStands s
 
@@ -169,8 +169,8 @@ knows_step Holds keep s l event t knows step = record {
   entries = step.entries ∙ knows.entries;
   some = omega (arith, step.entries, knows.some);
   wire = step.wire ∙ ap (λ (w : WireLog). wire_after w event) knows.wire;
-  speaks = ends_step EndSpeaks (λ role c move x turns speaks moves. speaks_step role c move x turns speaks moves) s event t l.talk knows.speaks step;
-  holds = core_step Holds keep s l.talk event t knows.holds step;
+  speaks = ends_step EndSpeaks (λ role c move x turns speaks moves. speaks_step role c move x turns speaks moves) s event t l.transcript knows.speaks step;
+  holds = core_step Holds keep s l.transcript event t knows.holds step;
   room = record { to_a = room.to_a; to_b = room.to_b };
   up = up_step s event t step knows.up;
 }

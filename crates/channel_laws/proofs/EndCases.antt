@@ -5,7 +5,7 @@ use Rattle.std.proofs.lemmas.Bool.{leb-true}
 use Rattle.ldc_packet.specs.declared.packet.Body.TheVariants.{Rdx}
 use Rattle.ldc_packet.specs.declared.packet.Subtype.TheVariants.{Info}
 use Rattle.ldc_packet.specs.Spelling.{canonical as packet_bytes}
-use Rattle.ldc_queue.specs.Talk.{Heard as Heard_, Turn}
+use Rattle.ldc_queue.specs.Transcript.{Heard as Heard_, Turn}
 use Rattle.ldc_link.specs.declared.phase.LinkPhase.{LinkPhase}
 use Rattle.ldc_link.specs.declared.phase.LinkPhase.TheVariants as phase
 use Rattle.ldc_link.specs.declared.phase.Role.{Role}
@@ -14,14 +14,14 @@ use Rattle.ldc_link.specs.LinkState.{LinkState, cleared, is_established, is_up}
 use Rattle.ldc_link.specs.Putting.{control}
 use Rattle.ldc_link.specs.Taking.{Heard, TakesBytes, answer_to, counted}
 use Rattle.vio_handshake.specs.declared.handshake.Handshake.{Handshake}
-use Rattle.vio_handshake.specs.Rules.{Faults, Goes, GoesOpen, ShakeTake, opens_by_put, shake_sent, shake_take}
-use Rattle.vio_handshake.specs.State.{shake_up}
+use Rattle.vio_handshake.specs.Rules.{Faults, Goes, GoesOpen, HandshakeTake, opens_by_put, handshake_sent, handshake_take}
+use Rattle.vio_handshake.specs.State.{handshake_up}
 use Rattle.vio_tag.specs.declared.message.Message.{Message}
 use Rattle.vio_tag.specs.declared.message.TagFault.{TagFault}
 use Rattle.vio_tag.specs.Decoding.{Decodes}
 use Rattle.vio_tag.specs.Form.{IsWellFormed}
 use Rattle.vio_tag.specs.Spelling.{SpellsMessage}
-use Rattle.disk_model.specs.EndPuts.{ComesUp, EndsOwn, EndsShake, Goes as GoesOn, PutKind, ending, kind_in, put_opens, shake_behind}
+use Rattle.disk_model.specs.EndPuts.{ComesUp, EndsOwn, EndsHandshake, Goes as GoesOn, PutKind, ending, kind_in, put_opens, handshake_behind}
 use Rattle.disk_model.specs.Sayings.{heard}
 use Rattle.channel_laws.proofs.HandshakeCases.{HandshakeTook, goes_took, never_opens, opens_took}
 use Rattle.channel_laws.proofs.LinkCases.{ControlGone, ControlHeard, ControlPut, ControlTaken, LinkHeard, LinkPut, ModeAgreed, ModeAnswered, ModeAsked, ModeOffered, PartGone, PartHeard, ReadyGone, ReadyHeard, VersionAgreed, VersionAnswered, VersionAsked, VersionOffered, VersionRefused, behind_part, behind_ready, canonical_is, link_heard, link_put, put_quiet, ready_loud}
@@ -45,11 +45,11 @@ pub record TookMessage (c : EndCore) (turns : List Turn) (packet : List ℕ) (no
 pub data TookWhat (role : Role) (c : EndCore) (turns : List Turn) (packet : List ℕ) (opens : Bool) (t : EndCore) (now : LinkState) : Type 0 where
   NoMessage : is_up now ≡ is_up c.link → heard (Heard_ packet ∷ turns) ≡ heard turns → t.handshake ≡ c.handshake → opens ≡ false → t.is_open ≡ c.is_open
       → TookWhat role c turns packet opens t now
-  Rises : role ≡ Responder → is_up c.link ≡ false → is_up now ≡ true → heard (Heard_ packet ∷ turns) ≡ heard turns → t.handshake ≡ shake_up c.handshake → opens ≡ false
+  Rises : role ≡ Responder → is_up c.link ≡ false → is_up now ≡ true → heard (Heard_ packet ∷ turns) ≡ heard turns → t.handshake ≡ handshake_up c.handshake → opens ≡ false
       → t.is_open ≡ c.is_open → TookWhat role c turns packet opens t now
   TookOwn : (message : Message) → TookMessage c turns packet now message → IsOwn c.handshake c.is_open message → t.handshake ≡ c.handshake → opens ≡ false
       → t.is_open ≡ c.is_open → TookWhat role c turns packet opens t now
-  TookShake : (message : Message) → TookMessage c turns packet now message → HandshakeTook c.handshake message t.handshake opens → t.is_open ≡ (opens || c.is_open)
+  TookHandshake : (message : Message) → TookMessage c turns packet now message → HandshakeTook c.handshake message t.handshake opens → t.is_open ≡ (opens || c.is_open)
       → TookWhat role c turns packet opens t now
 
 pub record EndTook (role : Role) (c : EndCore) (turns : List Turn) (packet : List ℕ) (opens : Bool) (t : EndCore) : Type 0 where
@@ -90,7 +90,7 @@ risen_not role false a h g is = refl
 
 pub stays_risen : (role : Role) (k m : LinkState) (h : Handshake) → (is_up m ≡ false) ⊎ (is_up k ≡ true) → risen_at role k m h ≡ h
 stays_risen Initiator k m h is = refl
-stays_risen Responder k m h is = risen_not Responder (is_up m) (is_up k) h (shake_up h) is
+stays_risen Responder k m h is = risen_not Responder (is_up m) (is_up k) h (handshake_up h) is
 
 up_risen : (b a : Bool) (h g : Handshake) → b ≡ true → a ≡ false → (if b && not a then g else h) ≡ g
 up_risen true false h g up down = refl
@@ -98,20 +98,20 @@ up_risen true true h g up down = absurd (cc down)
 up_risen false a h g up down = absurd (cc up)
 
 -- a message that the handshake takes
-shake_takes : (role : Role) (h : Handshake) (was opens : Bool) (message : Message) (take : ShakeTake) (t : EndCore) → h.role ≡ role → shake_take h message ≡ take
+handshake_takes : (role : Role) (h : Handshake) (was opens : Bool) (message : Message) (take : HandshakeTake) (t : EndCore) → h.role ≡ role → handshake_take h message ≡ take
     → HandshakeTakes role was take opens t → HandshakeTook h message t.handshake opens × (t.is_open ≡ (opens || was))
-shake_takes role h was opens message (Goes g) t role_is is takes = (
+handshake_takes role h was opens message (Goes g) t role_is is takes = (
   subst (λ (b : Bool). HandshakeTook h message t.handshake b) (sym takes.0)
       (subst (λ (x : Handshake). HandshakeTook h message x false) (sym takes.1) (goes_took h g message is)),
   takes.2 ∙ ap (λ (b : Bool). b || was) (sym takes.0),
 )
-shake_takes Initiator h was opens message (GoesOpen g) t role_is is takes = absurd (never_opens h g message role_is (opens_took h g message is))
-shake_takes Responder h was opens message (GoesOpen g) t role_is is takes = (
+handshake_takes Initiator h was opens message (GoesOpen g) t role_is is takes = absurd (never_opens h g message role_is (opens_took h g message is))
+handshake_takes Responder h was opens message (GoesOpen g) t role_is is takes = (
   subst (λ (b : Bool). HandshakeTook h message t.handshake b) (sym takes.0)
       (subst (λ (x : Handshake). HandshakeTook h message x true) (sym takes.1) (opens_took h g message is)),
   takes.2 ∙ ap (λ (b : Bool). b || was) (sym takes.0),
 )
-shake_takes role h was opens message (Faults cause) t role_is is takes = absurd takes
+handshake_takes role h was opens message (Faults cause) t role_is is takes = absurd takes
 
 by_decoded : (role : Role) (c : EndCore) (turns : List Turn) (packet bytes : List ℕ) (opens : Bool) (t : EndCore) (now : LinkState) (d : Result Message TagFault) → EndStands role c turns
     → is_up c.link ≡ true → is_up now ≡ true → now.whole ≡ Some bytes → HearsOn turns packet (Some bytes) → Decodes bytes d
@@ -129,8 +129,8 @@ by_decoded role c turns packet bytes opens t now (Ok message) stands up stays wh
     } in
     elim hears [
       | inl takes ↦
-          let both = shake_takes role c.handshake c.is_open opens message (shake_take c.handshake message) t stands.handshake.role_is refl takes in
-          TookShake message took both.0 both.1
+          let both = handshake_takes role c.handshake c.is_open opens message (handshake_take c.handshake message) t stands.handshake.role_is refl takes in
+          TookHandshake message took both.0 both.1
       | inr own ↦ TookOwn message took own.0 own.2 own.1 own.3
     ]
 by_decoded role c turns packet bytes opens t now (Err fault) stands up stays whole on decodes hears = absurd hears
@@ -168,9 +168,9 @@ end_took role c t turns packet opens stands hears =
         let none : hears.heard.whole ≡ None = ap (λ (x : LinkState). x.whole) is ∙ stands.link.seen in
         let up : is_up hears.heard ≡ true = ap is_up is in
         let down : is_up c.link ≡ false = ap is_established at in
-        let risen : risen_at role c.link hears.heard c.handshake ≡ shake_up c.handshake =
-        ap (λ (x : Role). risen_at x c.link hears.heard c.handshake) role_is ∙ up_risen (is_up hears.heard) (is_up c.link) c.handshake (shake_up c.handshake) up down in
-        let goes = quietly none (shake_up c.handshake) risen in
+        let risen : risen_at role c.link hears.heard c.handshake ≡ handshake_up c.handshake =
+        ap (λ (x : Role). risen_at x c.link hears.heard c.handshake) role_is ∙ up_risen (is_up hears.heard) (is_up c.link) c.handshake (handshake_up c.handshake) up down in
+        let goes = quietly none (handshake_up c.handshake) risen in
         Rises role_is down up (none_on none).messages goes.1 goes.0 goes.2
 
     by_how : LinkHeard c.link packet hears.heard → TookWhat role c turns packet opens t hears.heard
@@ -193,12 +193,12 @@ pub data PutWhat (role : Role) (held : EndCore) (turns : List Turn) (packet : Li
   PutControl : (next : LinkPhase) → ControlPut held.link.phase packet next → t.link ≡ record held.link { phase = next } → SaysNothing turns packet
       → t.handshake ≡ held.handshake → opens ≡ false → t.is_open ≡ held.is_open → PutWhat role held turns packet opens t
   PutReady : role ≡ Initiator → held.link.phase ≡ phase.OwesRdx → packet ≡ packet_bytes (control Info held.link.put_next Rdx) → t.link ≡ behind_ready held.link → SaysNothing turns packet
-      → t.handshake ≡ shake_up held.handshake → opens ≡ false → t.is_open ≡ held.is_open → PutWhat role held turns packet opens t
+      → t.handshake ≡ handshake_up held.handshake → opens ≡ false → t.is_open ≡ held.is_open → PutWhat role held turns packet opens t
   PutMore : held.link.phase ≡ phase.Established → t.link ≡ behind_part held.link → SaysMore held.link turns packet → t.handshake ≡ held.handshake → opens ≡ false
       → t.is_open ≡ held.is_open → PutWhat role held turns packet opens t
   PutOwn : held.own ≡ true → held.link.phase ≡ phase.Established → t.link ≡ behind_part held.link → SaysLast held.link turns packet → t.handshake ≡ held.handshake
       → opens ≡ false → t.is_open ≡ held.is_open → PutWhat role held turns packet opens t
-  PutShake : held.own ≡ false → held.link.phase ≡ phase.Established → t.link ≡ behind_part held.link → SaysLast held.link turns packet → t.handshake ≡ shake_sent held.handshake
+  PutHandshake : held.own ≡ false → held.link.phase ≡ phase.Established → t.link ≡ behind_part held.link → SaysLast held.link turns packet → t.handshake ≡ handshake_sent held.handshake
       → opens ≡ opens_by_put held.handshake.role held.handshake.phase → t.is_open ≡ (opens || held.is_open) → PutWhat role held turns packet opens t
 
 control_kind : (before : LinkPhase) (bytes : List ℕ) (next : LinkPhase) (k : LinkState) (own : Bool) → ControlPut before bytes next → kind_in before k own ≡ GoesOn
@@ -223,9 +223,9 @@ end_put role c t turns packet opens says stands = by_how (link_put held.link t.l
     held : EndCore
     held = says.held
 
-    goes : (kind : PutKind) → kind_of held ≡ kind → (t.handshake ≡ shake_behind kind held.handshake) × (opens ≡ put_opens kind held.handshake)
+    goes : (kind : PutKind) → kind_of held ≡ kind → (t.handshake ≡ handshake_behind kind held.handshake) × (opens ≡ put_opens kind held.handshake)
     goes kind is = (
-      says.handshake ∙ ap (λ (x : PutKind). shake_behind x held.handshake) is,
+      says.handshake ∙ ap (λ (x : PutKind). handshake_behind x held.handshake) is,
       says.opens_is ∙ ap (λ (x : PutKind). put_opens x held.handshake) is,
     )
 
@@ -245,8 +245,8 @@ end_put role c t turns packet opens says stands = by_how (link_put held.link t.l
         let kind = goes EndsOwn (ap (λ (p : LinkPhase). kind_in p held.link held.own) at ∙ ap (λ (b : Bool). ending b held.own) short ∙ ap (ending true) is) in
         PutOwn is at link (says_last held.link turns packet part some (leb-true (length held.link.to_send) 56 short) short) kind.0 kind.1 (stays kind.1)
     by_end true false short is at some link part =
-        let kind = goes EndsShake (ap (λ (p : LinkPhase). kind_in p held.link held.own) at ∙ ap (λ (b : Bool). ending b held.own) short ∙ ap (ending true) is) in
-        PutShake is at link (says_last held.link turns packet part some (leb-true (length held.link.to_send) 56 short) short) kind.0 kind.1
+        let kind = goes EndsHandshake (ap (λ (p : LinkPhase). kind_in p held.link held.own) at ∙ ap (λ (b : Bool). ending b held.own) short ∙ ap (ending true) is) in
+        PutHandshake is at link (says_last held.link turns packet part some (leb-true (length held.link.to_send) 56 short) short) kind.0 kind.1
         (says.is_open ∙ ap (λ (b : Bool). opened_by role b held.is_open) kind.1 ∙ opened_or role held.handshake held.is_open stands.handshake.role_is
         ∙ ap (λ (b : Bool). b || held.is_open) (sym kind.1))
 

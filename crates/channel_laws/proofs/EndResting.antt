@@ -4,7 +4,7 @@ use Rattle.std.specs.Prelude.{◌==◌, ◌&&◌, ◌||◌, if◌then◌else◌}
 use Rattle.std.proofs.lemmas.Bool.{eqb-true}
 use Rattle.ldc_link.specs.declared.phase.Role.{Role}
 use Rattle.ldc_link.specs.declared.phase.Role.TheVariants.{Initiator, Responder}
-use Rattle.ldc_queue.specs.Talk.{Heard, Turn}
+use Rattle.ldc_queue.specs.Transcript.{Heard, Turn}
 use Rattle.map_table.specs.declared.cookie.Cookie.{Cookie}
 use Rattle.ldc_link.specs.LinkState.{LinkState}
 use Rattle.vio_handshake.specs.declared.handshake.Handshake.{Handshake}
@@ -12,20 +12,20 @@ use Rattle.vio_handshake.specs.declared.handshake.Phase.{Phase}
 use Rattle.vio_handshake.specs.declared.handshake.Phase.TheVariants.{Attributes, Open, OwnReady, OwnRing, PeerReady, PeerReadyTaken, PeerRing, PeerRingTaken, Version}
 use Rattle.vio_handshake.specs.declared.session.Session.{Session}
 use Rattle.vio_handshake.specs.Messages.{ack, info, nack}
-use Rattle.vio_handshake.specs.Rules.{behind_ring, owes, peer_named, shake_sent, sid_fault}
-use Rattle.vio_handshake.specs.State.{begun, fresh_shake, joined_shake, session_in, session_of, shake_up}
+use Rattle.vio_handshake.specs.Rules.{behind_ring, owes, peer_named, handshake_sent, sid_fault}
+use Rattle.vio_handshake.specs.State.{begun, fresh_handshake, joined_handshake, session_in, session_of, handshake_up}
 use Rattle.vio_tag.specs.declared.cause.Cause.TheVariants.{Sid}
 use Rattle.vio_tag.specs.declared.message.Message.{Message}
 use Rattle.vio_tag.specs.declared.message.MsgBody.TheVariants.{DringReg, Ver}
 use Rattle.vio_tag.specs.Form.{IsWellFormed}
 use Rattle.vio_tag.specs.Spelling.{SpellsMessage}
 use Rattle.disk_model.specs.Sayings.{heard}
-use Rattle.channel_laws.proofs.EndCases.{NoMessage, PutControl, PutMore, PutOwn, PutReady, PutShake, PutWhat, Rises, TookMessage, TookOwn, TookShake, TookWhat, end_put, end_took}
+use Rattle.channel_laws.proofs.EndCases.{NoMessage, PutControl, PutMore, PutOwn, PutReady, PutHandshake, PutWhat, Rises, TookMessage, TookOwn, TookHandshake, TookWhat, end_put, end_took}
 use Rattle.channel_laws.proofs.EndStanding.{held_stands, opened_phase, stands_step}
 use Rattle.channel_laws.proofs.HandshakeCases.{AttributesAgreed, AttributesAsked, AttributesRefused, Declined, OneRingAgreed, Opened, Opens, Owes, OwnReadyFollows, PeerAgreed, ReadyAgreed, ReadyAsked, ReadyFollows, RingAgreed, RingAsked, RingFollows, RingRefused, RowSent, RowTaken, VersionAgreed, VersionAsked, VersionRefused, row_sent}
 use Rattle.channel_laws.specs.EndCore.{Begins, EndCore, EndMove, Fails, Hears, Renews, Says, Stays, Waits}
 use Rattle.channel_laws.specs.EndStep.{EndBegins, EndHears, EndSays, EndStep, Holding, Holds, HoldsOn, HoldsOwed, HoldsOwn}
-use Rattle.channel_laws.specs.Grounds.{Among, OpenRests, OwnHeard, PeerHeard, Rests, RestsIn, VersionHeard, When, answers, has_named, knows_own, knows_peer, knows_sid, knows_version}
+use Rattle.channel_laws.specs.Grounds.{Among, OpenRests, OwnHeard, PeerHeard, RestsOn, RestsIn, VersionHeard, When, answers, has_named, knows_own, knows_peer, knows_sid, knows_version}
 use Rattle.channel_laws.specs.LaneCore.{turns_after}
 use Rattle.channel_laws.specs.Standing.{EndStands}
 
@@ -66,7 +66,7 @@ when_known : (b : Bool) (P : Type 0) → b ≡ true → When b P → P
 when_known true P is holds = holds
 when_known false P is holds = absurd (cc is)
 
-rests_grow : (role : Role) (h : Handshake) (before now : List (List ℕ)) → Grows before now → Rests role h before → Rests role h now
+rests_grow : (role : Role) (h : Handshake) (before now : List (List ℕ)) → Grows before now → RestsOn role h before → RestsOn role h now
 rests_grow role h before now grows rests = record {
   role_is = rests.role_is;
   sid = rests.sid;
@@ -77,17 +77,17 @@ rests_grow role h before now grows rests = record {
 }
 
 -- A HANDSHAKE of this role in this phase, and one that it becomes
-at_phase : (role r : Role) (p : Phase) (h : Handshake) (now : List (List ℕ)) → Rests role h now → h.role ≡ r → h.phase ≡ p → RestsIn r p h now
+at_phase : (role r : Role) (p : Phase) (h : Handshake) (now : List (List ℕ)) → RestsOn role h now → h.role ≡ r → h.phase ≡ p → RestsIn r p h now
 at_phase role r p h now rests is at =
     subst (λ (x : Role). RestsIn x p h now) (sym rests.role_is ∙ is) (subst (λ (x : Phase). RestsIn role x h now) at rests)
 
-rests_to : (role r : Role) (h t x : Handshake) (now : List (List ℕ)) → Rests role h now → h.role ≡ r → t ≡ x → Rests r x now → Rests role t now
+rests_to : (role r : Role) (h t x : Handshake) (now : List (List ℕ)) → RestsOn role h now → h.role ≡ r → t ≡ x → RestsOn r x now → RestsOn role t now
 rests_to role r h t x now rests is to behind =
-    subst (λ (y : Role). Rests y t now) (sym is ∙ rests.role_is) (subst (λ (y : Handshake). Rests r y now) (sym to) behind)
+    subst (λ (y : Role). RestsOn y t now) (sym is ∙ rests.role_is) (subst (λ (y : Handshake). RestsOn r y now) (sym to) behind)
 
 -- with the same draft, where as much is known
 same_rests : (role : Role) (p q : Phase) (h : Handshake) (owed : Option Message) (now : List (List ℕ)) → h.phase ≡ p → knows_sid q role ≡ knows_sid p role
-    → knows_version q ≡ knows_version p → knows_own role h.offer.both_rings q ≡ knows_own role h.offer.both_rings p → has_named role q ≡ has_named role p → Rests role h now → Rests role (record h { phase = q; owed = owed }) now
+    → knows_version q ≡ knows_version p → knows_own role h.offer.both_rings q ≡ knows_own role h.offer.both_rings p → has_named role q ≡ has_named role p → RestsOn role h now → RestsOn role (record h { phase = q; owed = owed }) now
 same_rests role p q h owed now at sid version own named rests = record {
   role_is = rests.role_is;
   sid = subst (λ (b : Bool). When b (h.sid ≡ Some h.draft.sid)) (ap (λ (x : Phase). knows_sid x role) at ∙ sym sid) rests.sid;
@@ -112,7 +112,7 @@ among_is message other now is among = subst (λ (x : Message). Among x now) is a
 -- A MESSAGE that is one of what was heard, row by row
 ring_rests : (role : Role) (both : Bool) (h : Handshake) (message : Message) (owed : Message) (ident slots slot_size options count : ℕ) (cookies : List Cookie) (now : List (List ℕ))
     → h.offer.both_rings ≡ both → RestsIn role PeerRing h now → message ≡ info message.sid (DringReg ident slots slot_size options count cookies)
-    → message.sid ≡ h.draft.sid → Among message now → Rests role (owes (behind_ring both) owed (peer_named h message.sid slots count cookies)) now
+    → message.sid ≡ h.draft.sid → Among message now → RestsOn role (owes (behind_ring both) owed (peer_named h message.sid slots count cookies)) now
 ring_rests role both h message owed ident slots slot_size options count cookies now has rests m sid among = by_role role both has rests
   where
     peer : PeerHeard (peer_named h message.sid slots count cookies).draft now
@@ -125,7 +125,7 @@ ring_rests role both h message owed ident slots slot_size options count cookies 
       sid,
     )
 
-    by_role : (r : Role) (b : Bool) → h.offer.both_rings ≡ b → RestsIn r PeerRing h now → Rests r (owes (behind_ring b) owed (peer_named h message.sid slots count cookies)) now
+    by_role : (r : Role) (b : Bool) → h.offer.both_rings ≡ b → RestsIn r PeerRing h now → RestsOn r (owes (behind_ring b) owed (peer_named h message.sid slots count cookies)) now
     by_role Initiator true is here = record { role_is = here.role_is; sid = here.sid; version = here.version; own = here.own; peer = when_have h.offer.both_rings _ peer }
     by_role Initiator false is here = record { role_is = here.role_is; sid = here.sid; version = here.version; own = here.own; peer = when_have h.offer.both_rings _ peer }
     by_role Responder true is here = record { role_is = here.role_is; sid = here.sid; version = here.version; own = tt; peer = peer }
@@ -140,8 +140,8 @@ asked_again : (r : Role) → (knows_sid PeerReady r ≡ true) × (knows_sid Peer
 asked_again Initiator = (refl, refl)
 asked_again Responder = (refl, refl)
 
-row_rests : (role : Role) (h t : Handshake) (message : Message) (opens : Bool) (now : List (List ℕ)) → Rests role h now → Among message now → sid_fault h.sid message.sid ≡ None
-    → RowTaken h message t opens → Rests role t now
+row_rests : (role : Role) (h t : Handshake) (message : Message) (opens : Bool) (now : List (List ℕ)) → RestsOn role h now → Among message now → sid_fault h.sid message.sid ≡ None
+    → RowTaken h message t opens → RestsOn role t now
 row_rests role h t message opens now rests among fine (Declined test is not) =
     rests_to role role h t _ now rests rests.role_is is (same_rests role h.phase h.phase h (Some (nack message.sid message.body)) now refl refl refl refl refl rests)
 row_rests role h t message opens now rests among fine (VersionAgreed minor class r at m low is not) =
@@ -223,105 +223,105 @@ row_rests role h t message opens now rests among fine (RingAsked ident slots slo
 row_rests role h t message opens now rests among fine (RingRefused ident slots slot_size options count cookies at m is not) =
     rests_to role role h t _ now rests rests.role_is is (same_rests role PeerRing PeerRing h _ now at refl refl refl refl rests)
 row_rests role h t message opens now rests among fine (ReadyAgreed r at m is not) =
-    rests_to role Initiator h t _ now rests r is (same_rests Initiator OwnReady PeerReady h h.owed now at refl refl refl refl (subst (λ (y : Role). Rests y h now) (sym rests.role_is ∙ r) rests))
+    rests_to role Initiator h t _ now rests r is (same_rests Initiator OwnReady PeerReady h h.owed now at refl refl refl refl (subst (λ (y : Role). RestsOn y h now) (sym rests.role_is ∙ r) rests))
 row_rests role h t message opens now rests among fine (ReadyAsked at m is not) =
     rests_to role role h t _ now rests rests.role_is is (same_rests role PeerReady PeerReadyTaken h _ now at refl refl refl refl rests)
 row_rests role h t message opens now rests among fine (Opened r at m is now_open) =
-    rests_to role Responder h t _ now rests r is (same_rests Responder OwnReady Open h h.owed now at refl refl refl refl (subst (λ (y : Role). Rests y h now) (sym rests.role_is ∙ r) rests))
+    rests_to role Responder h t _ now rests r is (same_rests Responder OwnReady Open h h.owed now at refl refl refl refl (subst (λ (y : Role). RestsOn y h now) (sym rests.role_is ∙ r) rests))
 
 -- ONE THAT IS PUT
-sent_rests : (role : Role) (h t : Handshake) (opens : Bool) (now : List (List ℕ)) → Rests role h now → RowSent h t opens → Rests role t now
+sent_rests : (role : Role) (h t : Handshake) (opens : Bool) (now : List (List ℕ)) → RestsOn role h now → RowSent h t opens → RestsOn role t now
 sent_rests role h t opens now rests (ReadyFollows r at is not) =
     rests_to role Initiator h t _ now rests r is
-    (same_rests Initiator PeerRingTaken OwnReady h _ now at refl refl refl refl (subst (λ (y : Role). Rests y h now) (sym rests.role_is ∙ r) rests))
+    (same_rests Initiator PeerRingTaken OwnReady h _ now at refl refl refl refl (subst (λ (y : Role). RestsOn y h now) (sym rests.role_is ∙ r) rests))
 sent_rests role h t opens now rests (RingFollows r at is not) =
     rests_to role Responder h t _ now rests r is
-    (same_rests Responder PeerRingTaken OwnRing h _ now at refl refl refl refl (subst (λ (y : Role). Rests y h now) (sym rests.role_is ∙ r) rests))
+    (same_rests Responder PeerRingTaken OwnRing h _ now at refl refl refl refl (subst (λ (y : Role). RestsOn y h now) (sym rests.role_is ∙ r) rests))
 sent_rests role h t opens now rests (OwnReadyFollows r at is not) =
     rests_to role Responder h t _ now rests r is
-    (same_rests Responder PeerReadyTaken OwnReady h _ now at refl refl refl refl (subst (λ (y : Role). Rests y h now) (sym rests.role_is ∙ r) rests))
+    (same_rests Responder PeerReadyTaken OwnReady h _ now at refl refl refl refl (subst (λ (y : Role). RestsOn y h now) (sym rests.role_is ∙ r) rests))
 sent_rests role h t opens now rests (Opens r at is now_open) =
     rests_to role Initiator h t _ now rests r is
-    (same_rests Initiator PeerReadyTaken Open h None now at refl refl refl refl (subst (λ (y : Role). Rests y h now) (sym rests.role_is ∙ r) rests))
+    (same_rests Initiator PeerReadyTaken Open h None now at refl refl refl refl (subst (λ (y : Role). RestsOn y h now) (sym rests.role_is ∙ r) rests))
 sent_rests role h t opens now rests (Owes follows is not) =
     rests_to role role h t _ now rests rests.role_is is (same_rests role h.phase h.phase h None now refl refl refl refl refl rests)
 
 -- IT BEGINS, and as its link comes up
-begun_rests : (role : Role) (h : Handshake) (now : List (List ℕ)) → h.role ≡ role → Rests role (begun role (joined_shake h)) now
+begun_rests : (role : Role) (h : Handshake) (now : List (List ℕ)) → h.role ≡ role → RestsOn role (begun role (joined_handshake h)) now
 begun_rests Initiator h now is = record { role_is = is; sid = refl; version = tt; own = tt; peer = tt }
 begun_rests Responder h now is = record { role_is = is; sid = tt; version = tt; own = tt; peer = tt }
 
-up_rests : (role : Role) (h : Handshake) (now : List (List ℕ)) → h.role ≡ role → Rests role (shake_up h) now
-up_rests role h now is = subst (λ (r : Role). Rests role (begun r (joined_shake h)) now) (sym is) (begun_rests role h now is)
+up_rests : (role : Role) (h : Handshake) (now : List (List ℕ)) → h.role ≡ role → RestsOn role (handshake_up h) now
+up_rests role h now is = subst (λ (r : Role). RestsOn role (begun r (joined_handshake h)) now) (sym is) (begun_rests role h now is)
 
 -- EACH MOVE
 pub record StandsResting (role : Role) (c : EndCore) (turns : List Turn) : Type 0 where
   pub stands : EndStands role c turns
-  pub rests : Rests role c.handshake (heard turns)
+  pub rests : RestsOn role c.handshake (heard turns)
 
-same_shake : (role : Role) (h g : Handshake) (now : List (List ℕ)) → g ≡ h → Rests role h now → Rests role g now
-same_shake role h g now is rests = subst (λ (x : Handshake). Rests role x now) (sym is) rests
+same_handshake : (role : Role) (h g : Handshake) (now : List (List ℕ)) → g ≡ h → RestsOn role h now → RestsOn role g now
+same_handshake role h g now is rests = subst (λ (x : Handshake). RestsOn role x now) (sym is) rests
 
-begins_rests : (role : Role) (c t : EndCore) (turns : List Turn) → EndStands role c turns → EndBegins c t → Rests role t.handshake []
+begins_rests : (role : Role) (c t : EndCore) (turns : List Turn) → EndStands role c turns → EndBegins c t → RestsOn role t.handshake []
 begins_rests role c t turns stands begins =
-    same_shake role (joined_shake c.handshake) t.handshake [] begins.handshake (record { role_is = stands.handshake.role_is; sid = tt; version = tt; own = tt; peer = tt })
+    same_handshake role (joined_handshake c.handshake) t.handshake [] begins.handshake (record { role_is = stands.handshake.role_is; sid = tt; version = tt; own = tt; peer = tt })
 
-pub held_shake : (c held : EndCore) (what : Holding) → Holds c what held → held.handshake ≡ c.handshake
-held_shake c held HoldsOn is = ap (λ (x : EndCore). x.handshake) is
-held_shake c held (HoldsOwed message) offers = offers.handshake
-held_shake c held (HoldsOwn message) offers = offers.handshake
+pub held_handshake : (c held : EndCore) (what : Holding) → Holds c what held → held.handshake ≡ c.handshake
+held_handshake c held HoldsOn is = ap (λ (x : EndCore). x.handshake) is
+held_handshake c held (HoldsOwed message) offers = offers.handshake
+held_handshake c held (HoldsOwn message) offers = offers.handshake
 
 hears_rests : (role : Role) (c t : EndCore) (turns : List Turn) (packet : List ℕ) (opens : Bool) → StandsResting role c turns → EndHears role c packet opens t
-    → Rests role t.handshake (heard (Heard packet ∷ turns))
+    → RestsOn role t.handshake (heard (Heard packet ∷ turns))
 hears_rests role c t turns packet opens all hears = by_what (end_took role c t turns packet opens all.stands hears).what
   where
     now : List (List ℕ)
     now = heard (Heard packet ∷ turns)
 
-    grown : (message : Message) (k : LinkState) → TookMessage c turns packet k message → Rests role c.handshake now × Among message now
+    grown : (message : Message) (k : LinkState) → TookMessage c turns packet k message → RestsOn role c.handshake now × Among message now
     grown message k took = (
-      subst (Rests role c.handshake) (sym took.messages) (rests_grow role c.handshake (heard turns) (heard turns ++ took.bytes ∷ []) (more_heard (heard turns) (took.bytes ∷ [])) all.rests),
+      subst (RestsOn role c.handshake) (sym took.messages) (rests_grow role c.handshake (heard turns) (heard turns ++ took.bytes ∷ []) (more_heard (heard turns) (took.bytes ∷ [])) all.rests),
       subst (Among message) (sym took.messages) (last_heard (heard turns) took.bytes message took.form took.spells),
     )
 
-    by_what : TookWhat role c turns packet opens t (end_took role c t turns packet opens all.stands hears).now → Rests role t.handshake now
-    by_what (NoMessage up messages handshake not is_open) = same_shake role c.handshake t.handshake now handshake (subst (Rests role c.handshake) (sym messages) all.rests)
+    by_what : TookWhat role c turns packet opens t (end_took role c t turns packet opens all.stands hears).now → RestsOn role t.handshake now
+    by_what (NoMessage up messages handshake not is_open) = same_handshake role c.handshake t.handshake now handshake (subst (RestsOn role c.handshake) (sym messages) all.rests)
     by_what (Rises role_is down up messages handshake not is_open) =
-        same_shake role (shake_up c.handshake) t.handshake now handshake (up_rests role c.handshake now all.stands.handshake.role_is)
-    by_what (TookOwn message took own handshake not is_open) = same_shake role c.handshake t.handshake now handshake (grown message _ took).0
-    by_what (TookShake message took shake is_open) =
-        let both = grown message _ took in row_rests role c.handshake t.handshake message opens now both.0 both.1 shake.sid shake.row
+        same_handshake role (handshake_up c.handshake) t.handshake now handshake (up_rests role c.handshake now all.stands.handshake.role_is)
+    by_what (TookOwn message took own handshake not is_open) = same_handshake role c.handshake t.handshake now handshake (grown message _ took).0
+    by_what (TookHandshake message took handshake is_open) =
+        let both = grown message _ took in row_rests role c.handshake t.handshake message opens now both.0 both.1 handshake.sid handshake.row
 
 says_rests : (role : Role) (c t : EndCore) (turns : List Turn) (packet : List ℕ) (opens : Bool) → StandsResting role c turns → EndSays role c packet opens t
-    → Rests role t.handshake (heard turns)
+    → RestsOn role t.handshake (heard turns)
 says_rests role c t turns packet opens all says = by_what (end_put role c t turns packet opens says held)
   where
     held : EndStands role says.held turns
     held = held_stands role c says.held turns says.what all.stands says.holds
 
-    rests : Rests role says.held.handshake (heard turns)
-    rests = same_shake role c.handshake says.held.handshake (heard turns) (held_shake c says.held says.what says.holds) all.rests
+    rests : RestsOn role says.held.handshake (heard turns)
+    rests = same_handshake role c.handshake says.held.handshake (heard turns) (held_handshake c says.held says.what says.holds) all.rests
 
-    by_what : PutWhat role says.held turns packet opens t → Rests role t.handshake (heard turns)
-    by_what (PutControl next gone link quiet handshake not is_open) = same_shake role says.held.handshake t.handshake (heard turns) handshake rests
+    by_what : PutWhat role says.held turns packet opens t → RestsOn role t.handshake (heard turns)
+    by_what (PutControl next gone link quiet handshake not is_open) = same_handshake role says.held.handshake t.handshake (heard turns) handshake rests
     by_what (PutReady role_is at spelled link quiet handshake not is_open) =
-        same_shake role (shake_up says.held.handshake) t.handshake (heard turns) handshake (up_rests role says.held.handshake (heard turns) held.handshake.role_is)
-    by_what (PutMore at link more handshake not is_open) = same_shake role says.held.handshake t.handshake (heard turns) handshake rests
-    by_what (PutOwn own at link last handshake not is_open) = same_shake role says.held.handshake t.handshake (heard turns) handshake rests
-    by_what (PutShake own at link last handshake flag is_open) =
-        same_shake role (shake_sent says.held.handshake) t.handshake (heard turns) handshake
-        (sent_rests role says.held.handshake (shake_sent says.held.handshake) _ (heard turns) rests (row_sent says.held.handshake))
+        same_handshake role (handshake_up says.held.handshake) t.handshake (heard turns) handshake (up_rests role says.held.handshake (heard turns) held.handshake.role_is)
+    by_what (PutMore at link more handshake not is_open) = same_handshake role says.held.handshake t.handshake (heard turns) handshake rests
+    by_what (PutOwn own at link last handshake not is_open) = same_handshake role says.held.handshake t.handshake (heard turns) handshake rests
+    by_what (PutHandshake own at link last handshake flag is_open) =
+        same_handshake role (handshake_sent says.held.handshake) t.handshake (heard turns) handshake
+        (sent_rests role says.held.handshake (handshake_sent says.held.handshake) _ (heard turns) rests (row_sent says.held.handshake))
 
 rests_step : (role : Role) (c : EndCore) (move : EndMove) (t : EndCore) (turns : List Turn) → StandsResting role c turns → EndStep role c move t
-    → Rests role t.handshake (heard (turns_after turns move))
+    → RestsOn role t.handshake (heard (turns_after turns move))
 rests_step role c Begins t turns all step = begins_rests role c t turns all.stands step
 rests_step role c Renews t turns all step =
-    same_shake role (fresh_shake role c.offer) t.handshake [] step.handshake (record { role_is = refl; sid = tt; version = tt; own = tt; peer = tt })
+    same_handshake role (fresh_handshake role c.offer) t.handshake [] step.handshake (record { role_is = refl; sid = tt; version = tt; own = tt; peer = tt })
 rests_step role c (Fails cause packet) t turns all step = begins_rests role c t turns all.stands step.1
 rests_step role c (Hears packet opens) t turns all step = hears_rests role c t turns packet opens all step
 rests_step role c (Says packet opens) t turns all step = says_rests role c t turns packet opens all step
-rests_step role c Waits t turns all step = same_shake role c.handshake t.handshake (heard turns) (held_shake c t step.what step.holds) all.rests
-rests_step role c Stays t turns all step = same_shake role c.handshake t.handshake (heard turns) step.handshake all.rests
+rests_step role c Waits t turns all step = same_handshake role c.handshake t.handshake (heard turns) (held_handshake c t step.what step.holds) all.rests
+rests_step role c Stays t turns all step = same_handshake role c.handshake t.handshake (heard turns) step.handshake all.rests
 
 pub resting_step : (role : Role) (c : EndCore) (move : EndMove) (t : EndCore) (turns : List Turn) → StandsResting role c turns → EndStep role c move t
     → StandsResting role t (turns_after turns move)

@@ -15,7 +15,7 @@ use Rattle.ldc_link.specs.LinkState.{LinkState, cleared, first_phase, fresh_link
 use Rattle.ldc_link.specs.Putting.{owed_in, owes, part_owed}
 use Rattle.ldc_link.specs.Taking.{Heard, TakesBytes}
 use Rattle.ldc_queue.specs.Messages.{is_empty}
-use Rattle.ldc_queue.specs.Talk.{Heard as Heard_, Said as Said_, Turn}
+use Rattle.ldc_queue.specs.Transcript.{Heard as Heard_, Said as Said_, Turn}
 use Rattle.ldc_packet.specs.declared.packet.Subtype.{Subtype}
 use Rattle.ldc_packet.specs.declared.packet.Subtype.TheVariants.{Info}
 use Rattle.vio_handshake.specs.declared.handshake.Handshake.{Handshake}
@@ -23,14 +23,14 @@ use Rattle.vio_handshake.specs.declared.handshake.Phase.{Phase}
 use Rattle.vio_handshake.specs.declared.handshake.Phase.TheVariants.{Down, Open}
 use Rattle.vio_handshake.specs.declared.session.Offer.{Offer}
 use Rattle.vio_handshake.specs.declared.session.Session.{Session}
-use Rattle.vio_handshake.specs.Rules.{behind_ring, is_declined, opens_by_put, shake_sent}
-use Rattle.vio_handshake.specs.State.{begun, fresh_shake, joined_shake, shake_up}
+use Rattle.vio_handshake.specs.Rules.{behind_ring, is_declined, opens_by_put, handshake_sent}
+use Rattle.vio_handshake.specs.State.{begun, fresh_handshake, joined_handshake, handshake_up}
 use Rattle.vio_tag.specs.declared.message.Message.{Message}
 use Rattle.vio_tag.specs.declared.message.MsgBody.{MsgBody}
 use Rattle.vio_tag.specs.declared.message.MsgBody.TheVariants.{DringUnreg, Plain}
 use Rattle.vio_tag.specs.Spelling.{canonical}
 use Rattle.disk_model.specs.Sayings.{half_said}
-use Rattle.channel_laws.proofs.EndCases.{EndTook, NoMessage, PutControl, PutMore, PutOwn, PutReady, PutShake, PutWhat, Rises, TookOwn, TookShake, TookWhat, end_put, end_took, put_down}
+use Rattle.channel_laws.proofs.EndCases.{EndTook, NoMessage, PutControl, PutMore, PutOwn, PutReady, PutHandshake, PutWhat, Rises, TookOwn, TookHandshake, TookWhat, end_put, end_took, put_down}
 use Rattle.channel_laws.proofs.HandshakeCases.{AttributesAgreed, AttributesAsked, AttributesRefused, Declined, OneRingAgreed, Opened, Opens, Owes, OwnReadyFollows, PeerAgreed, ReadyAgreed, ReadyAsked, ReadyFollows, RingAgreed, RingAsked, RingFollows, RingRefused, RowSent, RowTaken, VersionAgreed, VersionAsked, VersionRefused, row_sent}
 use Rattle.channel_laws.proofs.LinkCases.{ControlHeard, ControlPut, ControlTaken, LinkHeard, ModeAnswered, ModeOffered, PartHeard, ReadyHeard, VersionAnswered, VersionOffered, behind_part, behind_ready}
 use Rattle.channel_laws.proofs.LinkCases as link_cases
@@ -113,17 +113,17 @@ anew_stands role c t h link handshake offer closed more down owed stands =
 
 begins_stands : (role : Role) (c t : EndCore) (turns : List Turn) → EndStands role c turns → EndBegins c t → EndStands role t []
 begins_stands role c t turns stands begins =
-    anew_stands role c t (joined_shake c.handshake) (begins.link ∙ ap fresh_link stands.link.role_is) begins.handshake begins.offer begins.closed begins.more refl refl
+    anew_stands role c t (joined_handshake c.handshake) (begins.link ∙ ap fresh_link stands.link.role_is) begins.handshake begins.offer begins.closed begins.more refl refl
     (record { role_is = stands.handshake.role_is; offer_is = stands.handshake.offer_is; few = stands.handshake.few; owed = tt })
 
 renews_stands : (role : Role) (c t : EndCore) (turns : List Turn) → EndStands role c turns → EndRenews role c t → EndStands role t []
 renews_stands role c t turns stands renews =
-    anew_stands role c t (fresh_shake role c.offer) renews.link renews.handshake renews.offer renews.closed renews.more refl refl
+    anew_stands role c t (fresh_handshake role c.offer) renews.link renews.handshake renews.offer renews.closed renews.more refl refl
     (record { role_is = refl; offer_is = refl; few = stands.handshake.few; owed = tt })
 
 pub fresh_end_stands : (role : Role) (offer : Offer) → offer.count ≤ 14 → EndStands role (fresh_end role offer) []
 fresh_end_stands role offer few =
-    anew_stands role (fresh_end role offer) (fresh_end role offer) (fresh_shake role offer) refl refl refl refl refl refl refl
+    anew_stands role (fresh_end role offer) (fresh_end role offer) (fresh_handshake role offer) refl refl refl refl refl refl refl
     (record { role_is = refl; offer_is = refl; few = few; owed = tt })
 
 -- IT GOES ON
@@ -213,7 +213,7 @@ up_of role m is = subst (IsPhaseOf role) (sym is) (every role)
     every Initiator = tt
     every Responder = tt
 
-heard_of : (role : Role) (k m : LinkState) (bytes : List ℕ) → IsPhaseOf role k.phase → LinkHeard k bytes m → IsPhaseOf role m.phase
+pub heard_of : (role : Role) (k m : LinkState) (bytes : List ℕ) → IsPhaseOf role k.phase → LinkHeard k bytes m → IsPhaseOf role m.phase
 heard_of role k m bytes of (ControlHeard next taken is) = subst (IsPhaseOf role) (sym (ap (λ (x : LinkState). x.phase) is)) (taken_of role k.phase next bytes of taken)
 heard_of role k m bytes of (ReadyHeard at packet number is) = up_of role m (ap (λ (x : LinkState). x.phase) is)
 heard_of role k m bytes of (PartHeard at part may number is) = up_of role m (ap (λ (x : LinkState). x.phase) is ∙ at)
@@ -270,7 +270,7 @@ row_goes role offer h t message opens comes stands (Declined test is not) =
       opened = sym (ap (λ (b : Bool). b || is_open_in h.phase) not);
     })
 row_goes role offer h t message opens comes stands (VersionAgreed minor class r at m low is not) =
-    goes_as role offer h t _ opens is refl refl (said_short h.offer) not (ap is_open_in at) refl stands
+    goes_as role offer h t _ opens is refl refl (said_short h.offer minor) not (ap is_open_in at) refl stands
 row_goes role offer h t message opens comes stands (VersionAsked minor class r at m is not) = goes_as role offer h t _ opens is refl refl tt not (ap is_open_in at) refl stands
 row_goes role offer h t message opens comes stands (VersionRefused major minor class other low r at m is not) =
     goes_as role offer h t _ opens is refl refl tt not (ap is_open_in at) refl stands
@@ -313,10 +313,10 @@ sent_goes role offer h t opens stands (Owes follows is not) =
       opened = sym (ap (λ (b : Bool). b || is_open_in h.phase) not);
     })
 
-up_stands : (role : Role) (offer : Offer) (h : Handshake) → HandshakeStands role offer h → HandshakeStands role offer (shake_up h) × (is_open_in (shake_up h).phase ≡ false)
+up_stands : (role : Role) (offer : Offer) (h : Handshake) → HandshakeStands role offer h → HandshakeStands role offer (handshake_up h) × (is_open_in (handshake_up h).phase ≡ false)
 up_stands role offer h stands = by_role h.role
   where
-    by_role : (r : Role) → HandshakeStands role offer (begun r (joined_shake h)) × (is_open_in (begun r (joined_shake h)).phase ≡ false)
+    by_role : (r : Role) → HandshakeStands role offer (begun r (joined_handshake h)) × (is_open_in (begun r (joined_handshake h)).phase ≡ false)
     by_role Initiator = (record { role_is = stands.role_is; offer_is = stands.offer_is; few = stands.few; owed = tt }, refl)
     by_role Responder = (record { role_is = stands.role_is; offer_is = stands.offer_is; few = stands.few; owed = tt }, refl)
 
@@ -394,23 +394,23 @@ hears_stands role c t turns packet opens stands hears = by_what took.what
     by_what (Rises role_is down up messages handshake not is_open) =
         let goes = up_stands role c.offer c.handshake stands.handshake in
         let below = stands.below down in
-        stands_so (shake_up c.handshake) handshake goes.0 (is_open ∙ stands.opened ∙ ap is_open_in below.down ∙ sym goes.1) (never_down up (shake_up c.handshake))
+        stands_so (handshake_up c.handshake) handshake goes.0 (is_open ∙ stands.opened ∙ ap is_open_in below.down ∙ sym goes.1) (never_down up (handshake_up c.handshake))
         (λ is. absurd (holds_none (cleared now) (same.left ∙ below.left) is))
     by_what (TookOwn message took_message own handshake not is_open) =
         stands_so c.handshake handshake stands.handshake (is_open ∙ stands.opened) (never_down took_message.stays c.handshake)
         (same_carries c t now turns packet same (took_message.stays ∙ sym took_message.up) hears.own took.link stands.carries)
-    by_what (TookShake message took_message shake is_open) =
-        let goes = row_goes role c.offer c.handshake t.handshake message opens (message_comes took_message.bytes message took_message.form took_message.spells) stands.handshake shake.row in
+    by_what (TookHandshake message took_message handshake is_open) =
+        let goes = row_goes role c.offer c.handshake t.handshake message opens (message_comes took_message.bytes message took_message.form took_message.spells) stands.handshake handshake.row in
         stands_so t.handshake refl goes.stands (is_open ∙ ap (λ (b : Bool). opens || b) stands.opened ∙ sym goes.opened) (never_down took_message.stays t.handshake)
-        (shake_carries c.is_open refl shake.row took_message.up took_message.stays)
+        (handshake_carries c.is_open refl handshake.row took_message.up took_message.stays)
       where
         still : (b : Bool) → c.is_open ≡ b → is_up c.link ≡ true → b ≡ false → c.link.to_send ≡ []
         still b is up closed = up_empty c.link up (hears.may.quiet (is ∙ closed))
 
-        shake_carries : (b : Bool) → c.is_open ≡ b → RowTaken c.handshake message t.handshake opens → is_up c.link ≡ true → is_up now ≡ true
+        handshake_carries : (b : Bool) → c.is_open ≡ b → RowTaken c.handshake message t.handshake opens → is_up c.link ≡ true → is_up now ≡ true
             → HoldsIts t.own (cleared now) t.handshake (Heard_ packet ∷ turns)
-        shake_carries false closed row up stays is = absurd (holds_none (cleared now) (same.left ∙ still false closed up refl) is)
-        shake_carries true opened row up stays is =
+        handshake_carries false closed row up stays is = absurd (holds_none (cleared now) (same.left ∙ still false closed up refl) is)
+        handshake_carries true opened row up stays is =
             let declined = (open_declines c.handshake t.handshake message opens (opened_phase c.handshake.phase (sym stands.opened ∙ opened)) row).0 in
             let was : holds c.link ≡ true = keeps_holding c.link now same.left (stays ∙ sym up) is in
             let here = stands.carries was in
@@ -513,9 +513,9 @@ says_stands role c t turns packet opens stands says = by_what (end_put role c t 
     by_what (PutReady role_is at spelled link quiet handshake not is_open) =
         let below = holds_so.below (ap is_established at) in
         let goes = up_stands role held.offer held.handshake holds_so.handshake in
-        stands_so (behind_ready held.link) (shake_up held.handshake) link handshake refl (up_of role (behind_ready held.link) refl) refl
+        stands_so (behind_ready held.link) (handshake_up held.handshake) link handshake refl (up_of role (behind_ready held.link) refl) refl
         (quiet_cuts held.link (behind_ready held.link) turns packet refl refl quiet holds_so.link.cuts) goes.0
-        (is_open ∙ holds_so.opened ∙ ap is_open_in below.down ∙ sym goes.1) (up_now (behind_ready held.link) (shake_up held.handshake) refl)
+        (is_open ∙ holds_so.opened ∙ ap is_open_in below.down ∙ sym goes.1) (up_now (behind_ready held.link) (handshake_up held.handshake) refl)
         (λ is. absurd (holds_none (behind_ready held.link) below.left is))
     by_what (PutMore at link more handshake not is_open) =
         stands_so (behind_part held.link) held.handshake link handshake refl (part_of at) refl (more_cuts held.link turns packet more holds_so.link.cuts) holds_so.handshake
@@ -535,11 +535,11 @@ says_stands role c t turns packet opens stands says = by_what (end_put role c t 
         stands_so (behind_part held.link) held.handshake link handshake refl (part_of at) refl (last_cuts held.link turns packet last) holds_so.handshake
         (is_open ∙ holds_so.opened) (up_now (behind_part held.link) held.handshake (part_up at))
         (λ is. absurd (holds_none (behind_part held.link) (last_none held.link turns packet last) is))
-    by_what (PutShake own at link last handshake flag is_open) =
-        let goes = sent_goes role held.offer held.handshake (shake_sent held.handshake) (opens_by_put held.handshake.role held.handshake.phase) holds_so.handshake (row_sent held.handshake) in
-        stands_so (behind_part held.link) (shake_sent held.handshake) link handshake refl (part_of at) refl (last_cuts held.link turns packet last) goes.stands
+    by_what (PutHandshake own at link last handshake flag is_open) =
+        let goes = sent_goes role held.offer held.handshake (handshake_sent held.handshake) (opens_by_put held.handshake.role held.handshake.phase) holds_so.handshake (row_sent held.handshake) in
+        stands_so (behind_part held.link) (handshake_sent held.handshake) link handshake refl (part_of at) refl (last_cuts held.link turns packet last) goes.stands
         (is_open ∙ ap (λ (b : Bool). b || held.is_open) flag ∙ ap (λ (b : Bool). opens_by_put held.handshake.role held.handshake.phase || b) holds_so.opened ∙ sym goes.opened)
-        (up_now (behind_part held.link) (shake_sent held.handshake) (part_up at))
+        (up_now (behind_part held.link) (handshake_sent held.handshake) (part_up at))
         (λ is. absurd (holds_none (behind_part held.link) (last_none held.link turns packet last) is))
 
 -- EACH MOVE

@@ -8,7 +8,7 @@ use Rattle.ldc_link.specs.LinkState.{is_established}
 use Rattle.ldc_packet.specs.declared.packet.Subtype.{Subtype}
 use Rattle.ldc_packet.specs.declared.packet.Subtype.TheVariants.{Ack, Info, Nack}
 use Rattle.ldc_queue.specs.OneStream.{IsFront}
-use Rattle.ldc_queue.specs.Talk.{Said, Turn}
+use Rattle.ldc_queue.specs.Transcript.{Said, Turn}
 use Rattle.map_table.specs.declared.cookie.Cookie.{Cookie}
 use Rattle.vio_handshake.specs.Attributes.{answered_attributes, said_attributes}
 use Rattle.vio_handshake.specs.declared.handshake.Handshake.{Handshake}
@@ -16,14 +16,14 @@ use Rattle.vio_handshake.specs.declared.handshake.Phase.{Phase}
 use Rattle.vio_handshake.specs.declared.handshake.Phase.TheVariants.{Attributes, Down, Open, OwnReady, OwnRing, PeerReady, PeerReadyTaken, PeerRing, PeerRingTaken, Version}
 use Rattle.vio_handshake.specs.declared.session.Offer.{Offer}
 use Rattle.vio_handshake.specs.Messages.{ack, info, nack, own_ring}
-use Rattle.vio_handshake.specs.Rules.{agrees_minor, behind_ring, knows, owes, own_named, peer_named, refuses_version, shake_sent}
-use Rattle.vio_handshake.specs.State.{begun, fresh_shake, joined_shake, shake_up}
+use Rattle.vio_handshake.specs.Rules.{agrees_minor, behind_ring, knows, owes, own_named, peer_named, refuses_version, handshake_sent}
+use Rattle.vio_handshake.specs.State.{begun, fresh_handshake, joined_handshake, handshake_up}
 use Rattle.vio_tag.specs.declared.message.Message.{Message}
 use Rattle.vio_tag.specs.declared.message.MsgBody.{MsgBody}
 use Rattle.vio_tag.specs.declared.message.MsgBody.TheVariants.{Attr, DringData, DringReg, Mcast, Rdx, Ver}
 use Rattle.disk_model.specs.Sayings.{half_said, said}
-use Rattle.channel_laws.proofs.EndCases.{EndTook, NoMessage, PutControl, PutMore, PutOwn, PutReady, PutShake, PutWhat, Rises, TookOwn, TookShake, TookWhat, end_put, end_took}
-use Rattle.channel_laws.proofs.EndResting.{StandsResting, held_shake, of_sid, resting_step}
+use Rattle.channel_laws.proofs.EndCases.{EndTook, NoMessage, PutControl, PutMore, PutOwn, PutReady, PutHandshake, PutWhat, Rises, TookOwn, TookHandshake, TookWhat, end_put, end_took}
+use Rattle.channel_laws.proofs.EndResting.{StandsResting, held_handshake, of_sid, resting_step}
 use Rattle.channel_laws.proofs.EndStanding.{fresh_end_stands, held_stands, holds_some}
 use Rattle.channel_laws.proofs.HandshakeCases.{AttributesAgreed, AttributesAsked, AttributesRefused, Declined, OneRingAgreed, Opened, Opens, Owes, OwnReadyFollows, PeerAgreed, ReadyAgreed, ReadyAsked, ReadyFollows, RingAgreed, RingAsked, RingFollows, RingRefused, RowSent, RowTaken, VersionAgreed, VersionAsked, VersionRefused, row_sent}
 use Rattle.channel_laws.proofs.Lifting.{EndsAll, ends_run}
@@ -32,9 +32,9 @@ use Rattle.channel_laws.specs.Cuts.{Carries}
 use Rattle.channel_laws.specs.EndCore.{Begins, EndCore, fresh_end, EndMove, Fails, Hears, Renews, Says as Says_, Stays, Waits}
 use Rattle.channel_laws.specs.EndStep.{EndHears, EndSays, EndStep, IsOfSession}
 use Rattle.channel_laws.specs.Grounds.{When, has_named, knows_sid, knows_version}
-use Rattle.channel_laws.specs.LaneCore.{CoreEvent, CoreFits, CoreStep, LaneCore, fresh_core, talk_behind, turns_after}
+use Rattle.channel_laws.specs.LaneCore.{CoreEvent, CoreFits, CoreStep, LaneCore, fresh_core, transcript_behind, turns_after}
 use Rattle.channel_laws.specs.Standing.{EndStands}
-use Rattle.channel_laws.specs.Utterances.{Only, OwesSo, Says, SaysBody, SaysBytes, SaysEach, SaysSid, Utters}
+use Rattle.channel_laws.specs.Utterances.{Only, OwesSo, SaysByPhase, SaysBody, SaysBytes, SaysEach, SaysSid, Utters}
 
 -- WHAT A MESSAGE that was said may speak of stays
 record KeepsWords (role : Role) (h t : Handshake) : Type 0 where
@@ -68,7 +68,7 @@ body_keeps role h t Ack (DringReg ident slots slot_size options count cookies) k
     only_keeps (has_named role h.phase) (has_named role t.phase) ident h.draft.ident_peer t.draft.ident_peer keeps.ident says
 body_keeps role h t subtype body keeps says = tt
 
-says_keep : (role : Role) (h t : Handshake) (message : Message) → KeepsWords role h t → Says role h.phase h.offer h.draft message → Says role t.phase t.offer t.draft message
+says_keep : (role : Role) (h t : Handshake) (message : Message) → KeepsWords role h t → SaysByPhase role h.phase h.offer h.draft message → SaysByPhase role t.phase t.offer t.draft message
 says_keep role h t message keeps says = (sid_keeps role h t message.sid keeps says.0, body_keeps role h t message.subtype message.body keeps says.1)
 
 each_keep : (role : Role) (h t : Handshake) (messages : List (List ℕ)) → KeepsWords role h t → SaysEach role h.phase h.offer h.draft messages
@@ -125,7 +125,7 @@ sid_said Initiator h sid is = by_known (knows_sid h.phase Initiator) refl
     by_known false known = tt
 sid_said Responder h sid is = tt
 
-refusal_says : (role : Role) (h : Handshake) (sid : ℕ) (body : MsgBody) → SaysSid role h.phase h.draft sid → Says role h.phase h.offer h.draft (nack sid body)
+refusal_says : (role : Role) (h : Handshake) (sid : ℕ) (body : MsgBody) → SaysSid role h.phase h.draft sid → SaysByPhase role h.phase h.offer h.draft (nack sid body)
 refusal_says Initiator h sid body own = (own, tt)
 refusal_says Responder h sid body own = (own, tt)
 
@@ -175,7 +175,7 @@ ring_words Responder false h sid slots slot_size options count cookies has at ow
   taken = λ is. absurd (cc is);
 }
 
-ready_says : (role : Role) (h : Handshake) (sid : ℕ) → h.phase ≡ PeerReady → Own role h sid → Says role PeerReadyTaken h.offer h.draft (ack sid Rdx)
+ready_says : (role : Role) (h : Handshake) (sid : ℕ) → h.phase ≡ PeerReady → Own role h sid → SaysByPhase role PeerReadyTaken h.offer h.draft (ack sid Rdx)
 ready_says Initiator h sid at own = (own refl (ap (λ (p : Phase). knows_sid p Initiator) at), tt)
 ready_says Responder h sid at own = (tt, tt)
 
@@ -189,7 +189,7 @@ row_words role h t message opens messages role_is own utters (Declined test is n
     })
 row_words role h t message opens messages role_is own utters (VersionAgreed minor class r at m low is not) =
     at_role role Initiator h t _ role_is r is (record {
-      keeps = own_words h (owes Attributes (info message.sid (Attr (said_attributes h.offer))) (agrees_minor minor h)) refl (ap (λ (p : Phase). knows_sid p Initiator) at) refl
+      keeps = own_words h (owes Attributes (info message.sid (Attr (said_attributes h.offer minor))) (agrees_minor minor h)) refl (ap (λ (p : Phase). knows_sid p Initiator) at) refl
           (unnamed Initiator h Version _ at refl);
       owed = (own (sym role_is ∙ r) (ap (λ (p : Phase). knows_sid p Initiator) at), tt);
       taken = λ at_ring. absurd (cc at_ring);
@@ -254,7 +254,7 @@ row_words role h t message opens messages role_is own utters (RingAsked ident sl
 row_words role h t message opens messages role_is own utters (RingRefused ident slots slot_size options count cookies at m is not) =
     goes_to role h t _ is (record {
       keeps = same_words role PeerRing PeerRing h (Some (nack message.sid (DringReg ident slots slot_size options count cookies))) at (λ r now. now) (λ known. known) (λ known. known);
-      owed = subst (λ (p : Phase). Says role p h.offer h.draft (nack message.sid (DringReg ident slots slot_size options count cookies))) at
+      owed = subst (λ (p : Phase). SaysByPhase role p h.offer h.draft (nack message.sid (DringReg ident slots slot_size options count cookies))) at
           (refusal_says role h message.sid (DringReg ident slots slot_size options count cookies) (sid_said role h message.sid own));
       taken = λ at_ring. absurd (cc at_ring);
     })
@@ -313,12 +313,12 @@ sent_words role h t opens messages role_is utters (Owes follows is not) =
     })
 
 -- ITS LINK COMES UP, or it begins
-begun_utters : (role : Role) (h : Handshake) → Utters role (begun role (joined_shake h)) []
+begun_utters : (role : Role) (h : Handshake) → Utters role (begun role (joined_handshake h)) []
 begun_utters Initiator h = record { said = tt; owed = (refl, refl); small = λ is now. omega arith; taken = λ at_ring. absurd (cc at_ring) }
 begun_utters Responder h = record { said = tt; owed = tt; small = λ is. absurd (cc is); taken = λ at_ring. absurd (cc at_ring) }
 
-up_utters : (role : Role) (h : Handshake) → h.role ≡ role → Utters role (shake_up h) []
-up_utters role h is = subst (λ (r : Role). Utters role (begun r (joined_shake h)) []) (sym is) (begun_utters role h)
+up_utters : (role : Role) (h : Handshake) → h.role ≡ role → Utters role (handshake_up h) []
+up_utters role h is = subst (λ (r : Role). Utters role (begun r (joined_handshake h)) []) (sym is) (begun_utters role h)
 
 down_utters : (role : Role) (h : Handshake) → h.phase ≡ Down → h.owed ≡ None → Utters role h []
 down_utters role h down none = record {
@@ -329,7 +329,7 @@ down_utters role h down none = record {
 }
 
 -- WHAT A LINK HOLDS is said as its handshake has it
-own_says : (role : Role) (h : Handshake) (message : Message) → IsOfSession message.body → message.sid ≡ h.draft.sid → Says role h.phase h.offer h.draft message
+own_says : (role : Role) (h : Handshake) (message : Message) → IsOfSession message.body → message.sid ≡ h.draft.sid → SaysByPhase role h.phase h.offer h.draft message
 own_says role h message of sid = (sid_said role h message.sid (λ is now. sid), by_body role message.subtype message.body of)
   where
     by_body : (r : Role) (subtype : Subtype) (body : MsgBody) → IsOfSession body → SaysBody r h.phase h.offer h.draft subtype body
@@ -371,16 +371,16 @@ hears_utters role c t turns packet opens all hears = by_what took.what
     by_what : TookWhat role c turns packet opens t took.now → Utters role t.handshake (said turns)
     by_what (NoMessage up messages handshake not is_open) = same_utters role c.handshake t.handshake (said turns) (said turns) handshake refl all.utters
     by_what (Rises role_is down up messages handshake not is_open) =
-        same_utters role (shake_up c.handshake) t.handshake [] (said turns) handshake (all.knows.stands.below down).said_none
+        same_utters role (handshake_up c.handshake) t.handshake [] (said turns) handshake (all.knows.stands.below down).said_none
         (up_utters role c.handshake all.knows.stands.handshake.role_is)
     by_what (TookOwn message took_message own handshake not is_open) = same_utters role c.handshake t.handshake (said turns) (said turns) handshake refl all.utters
-    by_what (TookShake message took_message shake is_open) =
+    by_what (TookHandshake message took_message handshake is_open) =
         utters_behind role c.handshake t.handshake (said turns)
-        (row_words role c.handshake t.handshake message opens (said turns) all.knows.stands.handshake.role_is own all.utters shake.row) all.utters
+        (row_words role c.handshake t.handshake message opens (said turns) all.knows.stands.handshake.role_is own all.utters handshake.row) all.utters
       where
         own : Own role c.handshake message.sid
         own is known =
-            of_sid c.handshake message.sid shake.sid
+            of_sid c.handshake message.sid handshake.sid
             (subst (λ (b : Bool). When b (c.handshake.sid ≡ Some c.handshake.draft.sid)) (ap (knows_sid c.handshake.phase) is ∙ known) all.knows.rests.sid)
 
 says_utters : (role : Role) (c t : EndCore) (turns : List Turn) (packet : List ℕ) (opens : Bool) → EndSpeaks role c turns → EndSays role c packet opens t
@@ -394,7 +394,7 @@ says_utters role c t turns packet opens all says = by_what (end_put role c t tur
     stands = held_stands role c held turns says.what all.knows.stands says.holds
 
     utters : Utters role held.handshake (said turns)
-    utters = same_utters role c.handshake held.handshake (said turns) (said turns) (held_shake c held says.what says.holds) refl all.utters
+    utters = same_utters role c.handshake held.handshake (said turns) (said turns) (held_handshake c held says.what says.holds) refl all.utters
 
     whole : held.link.phase ≡ phase.Established → SaysLast held.link turns packet → Utters role held.handshake (said (Said packet ∷ turns))
     whole at last =
@@ -407,16 +407,16 @@ says_utters role c t turns packet opens all says = by_what (end_put role c t tur
     by_what (PutControl next gone link quiet handshake not is_open) =
         same_utters role held.handshake t.handshake (said turns) (said (Said packet ∷ turns)) handshake quiet.messages utters
     by_what (PutReady role_is at spelled link quiet handshake not is_open) =
-        same_utters role (shake_up held.handshake) t.handshake [] (said (Said packet ∷ turns)) handshake (quiet.messages ∙ (stands.below (ap is_established at)).said_none)
+        same_utters role (handshake_up held.handshake) t.handshake [] (said (Said packet ∷ turns)) handshake (quiet.messages ∙ (stands.below (ap is_established at)).said_none)
         (up_utters role held.handshake stands.handshake.role_is)
     by_what (PutMore at link more handshake not is_open) =
         same_utters role held.handshake t.handshake (said turns) (said (Said packet ∷ turns)) handshake more.messages utters
     by_what (PutOwn own at link last handshake not is_open) =
         same_utters role held.handshake t.handshake (said (Said packet ∷ turns)) (said (Said packet ∷ turns)) handshake refl (whole at last)
-    by_what (PutShake own at link last handshake flag is_open) =
-        same_utters role (shake_sent held.handshake) t.handshake (said (Said packet ∷ turns)) (said (Said packet ∷ turns)) handshake refl
-        (utters_behind role held.handshake (shake_sent held.handshake) (said (Said packet ∷ turns))
-        (sent_words role held.handshake (shake_sent held.handshake) _ (said (Said packet ∷ turns)) stands.handshake.role_is (whole at last) (row_sent held.handshake)) (whole at last))
+    by_what (PutHandshake own at link last handshake flag is_open) =
+        same_utters role (handshake_sent held.handshake) t.handshake (said (Said packet ∷ turns)) (said (Said packet ∷ turns)) handshake refl
+        (utters_behind role held.handshake (handshake_sent held.handshake) (said (Said packet ∷ turns))
+        (sent_words role held.handshake (handshake_sent held.handshake) _ (said (Said packet ∷ turns)) stands.handshake.role_is (whole at last) (row_sent held.handshake)) (whole at last))
 
 utters_step : (role : Role) (c : EndCore) (move : EndMove) (t : EndCore) (turns : List Turn) → EndSpeaks role c turns → EndStep role c move t
     → Utters role t.handshake (said (turns_after turns move))
@@ -427,7 +427,7 @@ utters_step role c (Fails cause packet) t turns all step =
 utters_step role c (Hears packet opens) t turns all step = hears_utters role c t turns packet opens all step
 utters_step role c (Says_ packet opens) t turns all step = says_utters role c t turns packet opens all step
 utters_step role c Waits t turns all step =
-    same_utters role c.handshake t.handshake (said turns) (said turns) (held_shake c t step.what step.holds) refl all.utters
+    same_utters role c.handshake t.handshake (said turns) (said turns) (held_handshake c t step.what step.holds) refl all.utters
 utters_step role c Stays t turns all step = same_utters role c.handshake t.handshake (said turns) (said turns) step.handshake refl all.utters
 
 pub speaks_step : (role : Role) (c : EndCore) (move : EndMove) (t : EndCore) (turns : List Turn) → EndSpeaks role c turns → EndStep role c move t
@@ -438,12 +438,12 @@ speaks_step role c move t turns all step =
 pub fresh_speaks : (role : Role) (offer : Offer) → offer.count ≤ 14 → EndSpeaks role (fresh_end role offer) []
 fresh_speaks role offer few = record {
   knows = record { stands = fresh_end_stands role offer few; rests = record { role_is = refl; sid = tt; version = tt; own = tt; peer = tt } };
-  utters = down_utters role (fresh_shake role offer) refl refl;
+  utters = down_utters role (fresh_handshake role offer) refl refl;
 }
 
 -- ALONG EVERY RUN
 pub speaks_run : (entries : ℕ) (asks answers : Offer) (events : List CoreEvent) (s : LaneCore) → CoreFits entries asks answers
-    → Run CoreStep (fresh_core entries asks answers) events s → EndsAll EndSpeaks s (talk_behind events)
+    → Run CoreStep (fresh_core entries asks answers) events s → EndsAll EndSpeaks s (transcript_behind events)
 speaks_run entries asks answers events s fits run =
     ends_run EndSpeaks (λ role c move t turns speaks step. speaks_step role c move t turns speaks step) entries asks answers events s
     (fresh_speaks Initiator asks fits.asks_fit.form.most) (fresh_speaks Responder answers fits.answers_fit.form.most) run

@@ -18,14 +18,14 @@ use Rattle.vio_handshake.specs.declared.handshake.Handshake.{Handshake}
 use Rattle.vio_handshake.specs.declared.handshake.Phase.{Phase}
 use Rattle.vio_handshake.specs.declared.handshake.Phase.TheVariants.{Attributes, Open, OwnReady, OwnRing, PeerReady, PeerReadyTaken, PeerRing, PeerRingTaken, Version}
 use Rattle.vio_handshake.specs.Messages.{ack, info, nack, own_ring}
-use Rattle.vio_handshake.specs.Rules.{Faults, Goes, GoesOpen, ShakeTake, agrees_minor, answered, asked, behind_ring, fault_or, is_declined, knows, opens_by_put, own_named, owes, peer_named, put_in, refuses_version, ring_asked, row, shake_hear, shake_sent, shake_take, sid_fault}
+use Rattle.vio_handshake.specs.Rules.{Faults, Goes, GoesOpen, HandshakeTake, agrees_minor, answered, asked, behind_ring, fault_or, is_declined, knows, opens_by_put, own_named, owes, peer_named, put_in, refuses_version, ring_asked, row, handshake_hear, handshake_sent, handshake_take, sid_fault}
 
 -- A MESSAGE THAT WAS TAKEN: what the handshake is after it, and whether its session opens by it
 pub data RowTaken (h : Handshake) (message : Message) (t : Handshake) (opens : Bool) : Type 0 where
   Declined : is_declined message.subtype message.body ≡ true → t ≡ record h { owed = Some (nack message.sid message.body) } → opens ≡ false
       → RowTaken h message t opens
   VersionAgreed : (minor class : ℕ) → h.role ≡ Initiator → h.phase ≡ Version → message ≡ ack message.sid (Ver 1 minor class) → minor ≤ h.offer.minor
-      → t ≡ owes Attributes (info message.sid (Attr (said_attributes h.offer))) (agrees_minor minor h) → opens ≡ false → RowTaken h message t opens
+      → t ≡ owes Attributes (info message.sid (Attr (said_attributes h.offer minor))) (agrees_minor minor h) → opens ≡ false → RowTaken h message t opens
   VersionAsked : (minor class : ℕ) → h.role ≡ Responder → h.phase ≡ Version → message ≡ info message.sid (Ver 1 minor class)
       → t ≡ owes Attributes (ack message.sid (Ver 1 (min minor h.offer.minor) h.offer.class)) (agrees_minor (min minor h.offer.minor) (knows message.sid h))
       → opens ≡ false → RowTaken h message t opens
@@ -33,7 +33,7 @@ pub data RowTaken (h : Handshake) (message : Message) (t : Handshake) (opens : B
       → t ≡ refuses_version message.sid other low class (knows message.sid h) → opens ≡ false → RowTaken h message t opens
   AttributesAgreed : (bytes : List ℕ) → h.role ≡ Initiator → h.phase ≡ Attributes → message ≡ ack message.sid (Attr bytes)
       → accepts_answered h.offer h.draft.minor bytes ≡ true → t ≡ owes OwnRing (info message.sid (own_ring h.offer)) h → opens ≡ false → RowTaken h message t opens
-  AttributesAsked : (bytes : List ℕ) → h.role ≡ Responder → h.phase ≡ Attributes → message ≡ info message.sid (Attr bytes) → accepts_said h.offer bytes ≡ true
+  AttributesAsked : (bytes : List ℕ) → h.role ≡ Responder → h.phase ≡ Attributes → message ≡ info message.sid (Attr bytes) → accepts_said h.offer h.draft.minor bytes ≡ true
       → t ≡ owes PeerRing (ack message.sid (Attr (answered_attributes h.offer h.draft.minor bytes))) h → opens ≡ false → RowTaken h message t opens
   AttributesRefused : (bytes : List ℕ) → h.role ≡ Responder → h.phase ≡ Attributes → message ≡ info message.sid (Attr bytes)
       → t ≡ owes Attributes (nack message.sid (Attr bytes)) h → opens ≡ false → RowTaken h message t opens
@@ -65,9 +65,9 @@ record TookRow (h : Handshake) (message : Message) (t : Handshake) (opens : Bool
 pub record HandshakeTook (h : Handshake) (message : Message) (t : Handshake) (opens : Bool) : Type 0 where
   pub sid : sid_fault h.sid message.sid ≡ None
   pub row : RowTaken h message t opens
-  pub takes : GoesTo (shake_take h message) t
+  pub takes : GoesTo (handshake_take h message) t
 
-abbrev RowIs : Handshake → Message → ShakeTake → Type 0
+abbrev RowIs : Handshake → Message → HandshakeTake → Type 0
 RowIs h message (Goes t) = RowTaken h message t false
 RowIs h message (GoesOpen t) = RowTaken h message t true
 RowIs h message (Faults cause) = ⊤
@@ -75,19 +75,19 @@ RowIs h message (Faults cause) = ⊤
 abbrev made : Subtype → ℕ → MsgBody → Message
 made subtype sid body = record { subtype = subtype; sid = sid; body = body }
 
-answered_is : (h : Handshake) (subtype : Subtype) (sid : ℕ) (body : MsgBody) (judged : ShakeTake) → (made subtype sid body ≡ ack sid body → RowIs h (made subtype sid body) judged)
+answered_is : (h : Handshake) (subtype : Subtype) (sid : ℕ) (body : MsgBody) (judged : HandshakeTake) → (made subtype sid body ≡ ack sid body → RowIs h (made subtype sid body) judged)
     → RowIs h (made subtype sid body) (answered subtype judged)
 answered_is h Info sid body judged is = tt
 answered_is h Ack sid body judged is = is refl
 answered_is h Nack sid body judged is = tt
 
-asked_is : (h : Handshake) (subtype : Subtype) (sid : ℕ) (body : MsgBody) (judged : ShakeTake) → (made subtype sid body ≡ info sid body → RowIs h (made subtype sid body) judged)
+asked_is : (h : Handshake) (subtype : Subtype) (sid : ℕ) (body : MsgBody) (judged : HandshakeTake) → (made subtype sid body ≡ info sid body → RowIs h (made subtype sid body) judged)
     → RowIs h (made subtype sid body) (asked subtype judged)
 asked_is h Info sid body judged is = is refl
 asked_is h Ack sid body judged is = tt
 asked_is h Nack sid body judged is = tt
 
-either_is : (h : Handshake) (message : Message) (test : Bool) (x y : ShakeTake) → (test ≡ true → RowIs h message x) → (test ≡ false → RowIs h message y)
+either_is : (h : Handshake) (message : Message) (test : Bool) (x y : HandshakeTake) → (test ≡ true → RowIs h message x) → (test ≡ false → RowIs h message y)
     → RowIs h message (if test then x else y)
 either_is h message true x y one other = one refl
 either_is h message false x y one other = other refl
@@ -134,7 +134,7 @@ row_is Initiator Attributes h subtype sid (Attr bytes) role at =
     (λ is. either_is h (made subtype sid (Attr bytes)) (accepts_answered h.offer h.draft.minor bytes) _ _ (λ test. AttributesAgreed bytes role at is test refl refl) (λ test. tt))
 row_is Responder Attributes h subtype sid (Attr bytes) role at =
     asked_is h subtype sid (Attr bytes) _
-    (λ is. goes_is h (made subtype sid (Attr bytes)) (accepts_said h.offer bytes) _ _
+    (λ is. goes_is h (made subtype sid (Attr bytes)) (accepts_said h.offer h.draft.minor bytes) _ _
     (λ test. AttributesAsked bytes role at is test refl refl) (λ test. AttributesRefused bytes role at is refl refl))
 row_is Initiator OwnRing h subtype sid (DringReg ident slots slot_size options count cookies) role at =
     answered_is h subtype sid (DringReg ident slots slot_size options count cookies) _
@@ -155,34 +155,34 @@ row_is Responder PeerReady h subtype sid Rdx role at = asked_is h subtype sid Rd
 row_is Initiator phase h subtype sid body role at = tt
 row_is Responder phase h subtype sid body role at = tt
 
-abbrev TookIs : Handshake → Message → ShakeTake → Type 0
+abbrev TookIs : Handshake → Message → HandshakeTake → Type 0
 TookIs h message (Goes t) = TookRow h message t false
 TookIs h message (GoesOpen t) = TookRow h message t true
 TookIs h message (Faults cause) = ⊤
 
-with_sid : (h : Handshake) (message : Message) (take : ShakeTake) → sid_fault h.sid message.sid ≡ None → RowIs h message take → TookIs h message take
+with_sid : (h : Handshake) (message : Message) (take : HandshakeTake) → sid_fault h.sid message.sid ≡ None → RowIs h message take → TookIs h message take
 with_sid h message (Goes t) fine is = record { sid = fine; row = is }
 with_sid h message (GoesOpen t) fine is = record { sid = fine; row = is }
 with_sid h message (Faults cause) fine is = tt
 
-fine_is : (h : Handshake) (message : Message) (fault : Option Cause) (rest : ShakeTake) → sid_fault h.sid message.sid ≡ fault → RowIs h message rest
+fine_is : (h : Handshake) (message : Message) (fault : Option Cause) (rest : HandshakeTake) → sid_fault h.sid message.sid ≡ fault → RowIs h message rest
     → TookIs h message (fault_or fault rest)
 fine_is h message None rest fine is = with_sid h message rest fine is
 fine_is h message (Some cause) rest fine is = tt
 
-took_is : (h : Handshake) (message : Message) → TookIs h message (shake_take h message)
+took_is : (h : Handshake) (message : Message) → TookIs h message (handshake_take h message)
 took_is h message =
-    fine_is h message (sid_fault h.sid message.sid) (shake_hear h message.subtype message.sid message.body) refl
+    fine_is h message (sid_fault h.sid message.sid) (handshake_hear h message.subtype message.sid message.body) refl
     (either_is h message (is_declined message.subtype message.body) (Goes (record h { owed = Some (nack message.sid message.body) }))
     (row h.role h.phase h message.subtype message.sid message.body)
     (λ test. Declined test refl refl) (λ test. row_is h.role h.phase h message.subtype message.sid message.body refl refl))
 
-pub goes_took : (h t : Handshake) (message : Message) → shake_take h message ≡ Goes t → HandshakeTook h message t false
+pub goes_took : (h t : Handshake) (message : Message) → handshake_take h message ≡ Goes t → HandshakeTook h message t false
 goes_took h t message is =
     let took : TookIs h message (Goes t) = subst (TookIs h message) is (took_is h message) in
     record { sid = took.sid; row = took.row; takes = inl is }
 
-pub opens_took : (h t : Handshake) (message : Message) → shake_take h message ≡ GoesOpen t → HandshakeTook h message t true
+pub opens_took : (h t : Handshake) (message : Message) → handshake_take h message ≡ GoesOpen t → HandshakeTook h message t true
 opens_took h t message is =
     let took : TookIs h message (GoesOpen t) = subst (TookIs h message) is (took_is h message) in
     record { sid = took.sid; row = took.row; takes = inr is }
@@ -229,5 +229,5 @@ sent_in Responder PeerReadyTaken h role at = OwnReadyFollows role at refl refl
 sent_in Initiator phase h role at = Owes (subst NothingFollows (sym at) tt) refl refl
 sent_in Responder phase h role at = Owes (subst NothingFollows (sym at) tt) refl refl
 
-pub row_sent : (h : Handshake) → RowSent h (shake_sent h) (opens_by_put h.role h.phase)
+pub row_sent : (h : Handshake) → RowSent h (handshake_sent h) (opens_by_put h.role h.phase)
 row_sent h = sent_in h.role h.phase h refl refl

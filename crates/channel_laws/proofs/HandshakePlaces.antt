@@ -8,7 +8,7 @@ use Rattle.ldc_link.specs.declared.phase.Role.TheVariants.{Initiator, Responder}
 use Rattle.ldc_link.specs.LinkState.{is_up}
 use Rattle.ldc_queue.specs.declared.end.ChannelState.TheVariants.{Up}
 use Rattle.ldc_queue.specs.OneStream.{IsFront}
-use Rattle.ldc_queue.specs.Talk.{Turn}
+use Rattle.ldc_queue.specs.Transcript.{Turn}
 use Rattle.vio_tag.proofs.Canonical.{canonical_spells}
 use Rattle.vio_tag.proofs.Same.{spelled_once}
 use Rattle.vio_tag.specs.declared.message.Message.{Message}
@@ -18,11 +18,11 @@ use Rattle.vio_handshake.specs.declared.handshake.Handshake.{Handshake}
 use Rattle.vio_handshake.specs.declared.handshake.Phase.TheVariants.{Open}
 use Rattle.vio_handshake.specs.declared.session.Offer.{Offer}
 use Rattle.vio_handshake.specs.Offers.{Match}
-use Rattle.vio_handshake.specs.Rules.{Goes, GoesOpen, ShakeTake, shake_sent, shake_take}
-use Rattle.vio_handshake.specs.State.{begun, joined_shake, next_sid, shake_up}
+use Rattle.vio_handshake.specs.Rules.{Goes, GoesOpen, HandshakeTake, handshake_sent, handshake_take}
+use Rattle.vio_handshake.specs.State.{begun, joined_handshake, next_sid, handshake_up}
 use Rattle.vio_handshake.proofs.MessageWidths.{OfferHasWidths, message_has_widths, message_is_well_formed}
 use Rattle.vio_handshake.proofs.PlaceRows.{Fits, GoesTo, put_at, take_at}
-use Rattle.vio_handshake.proofs.Places.{AllSaid, AttributesAnswered, AttributesSaid, Deal, IsPlace, PeerReadyAnswered, PeerReadySaid, PeerRingAnswered, PeerRingSaid, Place, ReadyAnswered, ReadySaid, RingAnswered, RingSaid, VersionAnswered, VersionSaid, message_at, next, owed_by, owner, phase_at, shake_at}
+use Rattle.vio_handshake.proofs.Places.{AllSaid, AttributesAnswered, AttributesSaid, Deal, IsPlace, PeerReadyAnswered, PeerReadySaid, PeerRingAnswered, PeerRingSaid, Place, ReadyAnswered, ReadySaid, RingAnswered, RingSaid, VersionAnswered, VersionSaid, message_at, next, owed_by, owner, phase_at, handshake_at}
 use Rattle.disk_model.specs.Sayings.{heard, said}
 use Rattle.channel_laws.proofs.Script.{PeerSaid, all_before, bytes_at, hears_beyond, hears_next, not_last, other_next, said_at, said_by, says_next, script}
 use Rattle.channel_laws.specs.EndStep.{IsOfSession}
@@ -54,7 +54,7 @@ own_in d (one ∷ messages) rest bytes (x ∷ more) each is = own_in d messages 
 pub record AtPlace (both : Bool) (d : Deal) (r : Role) (h : Handshake) (turns : List Turn) : Type 0 where
   pub place : Place
   pub here : IsPlace both place
-  pub is : h ≡ shake_at both d r place
+  pub is : h ≡ handshake_at both d r place
   pub mine : List (List ℕ)
   pub theirs : List (List ℕ)
   pub said_is : said turns ≡ said_at both d r place ++ mine
@@ -168,11 +168,11 @@ next_place false PeerReadyAnswered here = tt
 next_place false AllSaid here = tt
 
 -- it owes the message of its place where it is its turn, and is open where all is said
-pub owes_at : (both : Bool) (d : Deal) (r : Role) (n : Place) → owner n ≡ Some r → (shake_at both d r n).owed ≡ Some (message_at d n)
+pub owes_at : (both : Bool) (d : Deal) (r : Role) (n : Place) → owner n ≡ Some r → (handshake_at both d r n).owed ≡ Some (message_at d n)
 owes_at both d Initiator n own = ap (λ (w : Option Role). owed_by Initiator w (message_at d n)) own
 owes_at both d Responder n own = ap (λ (w : Option Role). owed_by Responder w (message_at d n)) own
 
-owes_none : (both : Bool) (d : Deal) (r : Role) (n : Place) → n ≡ AllSaid → (shake_at both d r n).owed ≡ None
+owes_none : (both : Bool) (d : Deal) (r : Role) (n : Place) → n ≡ AllSaid → (handshake_at both d r n).owed ≡ None
 owes_none both d Initiator n last = ap (λ (m : Place). owed_by Initiator (owner m) (message_at d m)) last
 owes_none both d Responder n last = ap (λ (m : Place). owed_by Responder (owner m) (message_at d m)) last
 
@@ -185,12 +185,12 @@ open_at both Initiator _ is = absurd (cc is)
 open_at both Responder _ is = absurd (cc is)
 
 -- ITS LINK COMES UP: it said and heard nothing
-pub begun_at : (both : Bool) (d : Deal) (r : Role) (h : Handshake) (turns : List Turn) → h.role ≡ r → h.offer ≡ (shake_at both d r VersionSaid).offer → (r ≡ Responder → h.last_sid ≡ d.last)
-    → (r ≡ Initiator → d.sid ≡ next_sid h) → IsPlace both VersionSaid → said turns ≡ [] → heard turns ≡ [] → AtPlace both d r (shake_up h) turns
+pub begun_at : (both : Bool) (d : Deal) (r : Role) (h : Handshake) (turns : List Turn) → h.role ≡ r → h.offer ≡ (handshake_at both d r VersionSaid).offer → (r ≡ Responder → h.last_sid ≡ d.last)
+    → (r ≡ Initiator → d.sid ≡ next_sid h) → IsPlace both VersionSaid → said turns ≡ [] → heard turns ≡ [] → AtPlace both d r (handshake_up h) turns
 begun_at both d r h turns role offer last sid here said_none heard_none = record {
   place = VersionSaid;
   here = here;
-  is = ap (λ (x : Role). begun x (joined_shake h)) role ∙ by_role r role offer last sid;
+  is = ap (λ (x : Role). begun x (joined_handshake h)) role ∙ by_role r role offer last sid;
   mine = [];
   theirs = [];
   said_is = said_none;
@@ -200,14 +200,14 @@ begun_at both d r h turns role offer last sid here said_none heard_none = record
   theirs_are = tt;
 }
   where
-    by_role : (x : Role) → h.role ≡ x → h.offer ≡ (shake_at both d x VersionSaid).offer → (x ≡ Responder → h.last_sid ≡ d.last) → (x ≡ Initiator → d.sid ≡ next_sid h)
-        → begun x (joined_shake h) ≡ shake_at both d x VersionSaid
+    by_role : (x : Role) → h.role ≡ x → h.offer ≡ (handshake_at both d x VersionSaid).offer → (x ≡ Responder → h.last_sid ≡ d.last) → (x ≡ Initiator → d.sid ≡ next_sid h)
+        → begun x (joined_handshake h) ≡ handshake_at both d x VersionSaid
     by_role Initiator is of last_is sid_is = let same : next_sid h ≡ d.sid = sym (sid_is refl) in rw (is, of, same) refl
     by_role Responder is of last_is sid_is = let same : h.last_sid ≡ d.last = last_is refl in rw (is, of, same) refl
 
 -- IT SAYS the message of its place
 pub says_at : (both : Bool) (d : Deal) (r : Role) (h : Handshake) (turns now : List Turn) (bytes : List ℕ) (message : Message) → (at : AtPlace both d r h turns)
-    → h.owed ≡ Some message → bytes ≡ canonical message → said now ≡ said turns ++ bytes ∷ [] → heard now ≡ heard turns → AtPlace both d r (shake_sent h) now
+    → h.owed ≡ Some message → bytes ≡ canonical message → said now ≡ said turns ++ bytes ∷ [] → heard now ≡ heard turns → AtPlace both d r (handshake_sent h) now
 says_at both d r h turns now bytes message at owed is said_now heard_now =
     elim (who r at.place) [
       | inl own ↦
@@ -218,7 +218,7 @@ says_at both d r h turns now bytes message at owed is said_now heard_now =
           record {
             place = next both at.place;
             here = next_place both at.place at.here;
-            is = ap shake_sent at.is ∙ put_at both d r at.place at.here own;
+            is = ap handshake_sent at.is ∙ put_at both d r at.place at.here own;
             mine = [];
             theirs = [];
             said_is = said_now ∙ ap (λ (xs : List (List ℕ)). xs ++ bytes ∷ [])
@@ -235,10 +235,10 @@ says_at both d r h turns now bytes message at owed is said_now heard_now =
       | inr (inr last) ↦ (let wrong : Some message ≡ None = sym owed ∙ ap (λ (x : Handshake). x.owed) at.is ∙ owes_none both d r at.place last in absurd (cc wrong))
     ]
   where
-    never_owed : h.owed ≡ (shake_at both d r at.place).owed → owner at.place ≡ Some (other r) → ⊥
+    never_owed : h.owed ≡ (handshake_at both d r at.place).owed → owner at.place ≡ Some (other r) → ⊥
     never_owed same turn = by_role r (sym owed ∙ same) turn
       where
-        by_role : (x : Role) → Some message ≡ (shake_at both d x at.place).owed → owner at.place ≡ Some (other x) → ⊥
+        by_role : (x : Role) → Some message ≡ (handshake_at both d x at.place).owed → owner at.place ≡ Some (other x) → ⊥
         by_role Initiator is_owed turn_is =
             let wrong : Some message ≡ None = is_owed ∙ ap (λ (w : Option Role). owed_by Initiator w (message_at d at.place)) turn_is in cc wrong
         by_role Responder is_owed turn_is =
@@ -281,7 +281,7 @@ abbrev pub peer_said : (both : Bool) (d : Deal) (r : Role) (h : Handshake) (turn
 peer_said both d r h turns at = record { place = at.place; more = at.mine; is = at.said_is; only = λ far. (at.only far).0 }
 
 -- IT HEARS the message of its place
-goes_alike : (h g : Handshake) (take answer : ShakeTake) → take ≡ answer → GoesTo take h → GoesTo answer g → h ≡ g
+goes_alike : (h g : Handshake) (take answer : HandshakeTake) → take ≡ answer → GoesTo take h → GoesTo answer g → h ≡ g
 goes_alike h g take answer is (inl one) (inl two) = let same : Goes h ≡ Goes g = sym one ∙ is ∙ two in cc same
 goes_alike h g take answer is (inl one) (inr two) = let same : Goes h ≡ GoesOpen g = sym one ∙ is ∙ two in absurd (cc same)
 goes_alike h g take answer is (inr one) (inl two) = let same : GoesOpen h ≡ Goes g = sym one ∙ is ∙ two in absurd (cc same)
@@ -301,7 +301,7 @@ place_bytes asks answers sid r h turns now bytes peer at turn peer_so front hear
 
 pub hears_at : (asks answers : Offer) (sid : ℕ) (r : Role) (h g : Handshake) (turns now : List Turn) (bytes : List ℕ) (message : Message) (peer : List (List ℕ)) → Matches asks answers → sid < 2 ^ 32
     → (at : AtPlace asks.both_rings (deal asks answers sid) r h turns) → owner at.place ≡ Some (other r) → PeerSaid asks.both_rings (deal asks answers sid) (other r) peer
-    → IsFront (heard now) peer → heard now ≡ heard turns ++ bytes ∷ [] → said now ≡ said turns → IsWellFormed message → SpellsMessage bytes message → GoesTo (shake_take h message) g
+    → IsFront (heard now) peer → heard now ≡ heard turns ++ bytes ∷ [] → said now ≡ said turns → IsWellFormed message → SpellsMessage bytes message → GoesTo (handshake_take h message) g
     → AtPlace asks.both_rings (deal asks answers sid) r g now
 hears_at asks answers sid r h g turns now bytes message peer fits small at turn peer_so front heard_now said_now form spells takes =
     let both = asks.both_rings in
@@ -314,8 +314,8 @@ hears_at asks answers sid r h g turns now bytes message peer fits small at turn 
     record {
       place = next both at.place;
       here = next_place both at.place at.here;
-      is = goes_alike g (shake_at both d r (next both at.place)) (shake_take h message) (shake_take (shake_at both d r at.place) (message_at d at.place))
-          (ap (λ (x : Handshake). shake_take x message) at.is ∙ ap (shake_take (shake_at both d r at.place)) same) takes
+      is = goes_alike g (handshake_at both d r (next both at.place)) (handshake_take h message) (handshake_take (handshake_at both d r at.place) (message_at d at.place))
+          (ap (λ (x : Handshake). handshake_take x message) at.is ∙ ap (handshake_take (handshake_at both d r at.place)) same) takes
           (take_at both d r at.place (deal_fits asks answers sid fits.matched) at.here turn);
       mine = [];
       theirs = [];

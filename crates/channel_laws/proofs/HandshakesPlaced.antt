@@ -12,7 +12,7 @@ use Rattle.ldc_packet.specs.declared.packet.Subtype.TheVariants.{Info}
 use Rattle.ldc_queue.specs.declared.end.ChannelState.{ChannelState}
 use Rattle.ldc_queue.specs.declared.end.ChannelState.TheVariants.{Down, Resetting, Up}
 use Rattle.ldc_queue.specs.OneStream.{IsFront}
-use Rattle.ldc_queue.specs.Talk.{Heard, Said, Turn}
+use Rattle.ldc_queue.specs.Transcript.{Heard, Said, Turn}
 use Rattle.ldc_queue.specs.Wire.{peer_behind, upset}
 use Rattle.vio_tag.specs.declared.message.Message.{Message}
 use Rattle.vio_tag.specs.declared.message.MsgBody.{MsgBody}
@@ -22,15 +22,15 @@ use Rattle.vio_tag.specs.Spelling.{SpellsMessage, canonical, envelope_at, envelo
 use Rattle.vio_handshake.specs.declared.handshake.Handshake.{Handshake}
 use Rattle.vio_handshake.specs.declared.handshake.Phase.TheVariants.{Open}
 use Rattle.vio_handshake.specs.declared.session.Offer.{Offer}
-use Rattle.vio_handshake.specs.Rules.{is_declined, shake_sent}
-use Rattle.vio_handshake.specs.State.{begun, joined_shake, next_sid, shake_up}
-use Rattle.vio_handshake.proofs.Places.{AllSaid, IsPlace, Place, VersionSaid, last_at, shake_at}
+use Rattle.vio_handshake.specs.Rules.{is_declined, handshake_sent}
+use Rattle.vio_handshake.specs.State.{begun, joined_handshake, next_sid, handshake_up}
+use Rattle.vio_handshake.proofs.Places.{AllSaid, IsPlace, Place, VersionSaid, last_at, handshake_at}
 use Rattle.disk_model.specs.Sayings.{half_said, heard, said}
-use Rattle.disk_model.specs.TalkLog.{nothing_said}
+use Rattle.disk_model.specs.TranscriptLog.{nothing_said}
 use Rattle.channel_laws.proofs.Conversations.{held_phase}
 use Rattle.channel_laws.proofs.ConversingRuns.{HeardFrom, converse_keeps, first_converse, hears_next}
-use Rattle.channel_laws.proofs.EndCases.{EndTook, NoMessage, PutControl, PutMore, PutOwn, PutReady, PutShake, PutWhat, Rises, TookOwn, TookShake, TookWhat, end_put, end_took, put_down}
-use Rattle.channel_laws.proofs.EndResting.{held_shake}
+use Rattle.channel_laws.proofs.EndCases.{EndTook, NoMessage, PutControl, PutMore, PutOwn, PutReady, PutHandshake, PutWhat, Rises, TookOwn, TookHandshake, TookWhat, end_put, end_took, put_down}
+use Rattle.channel_laws.proofs.EndResting.{held_handshake}
 use Rattle.channel_laws.proofs.EndStanding.{first_down, held_stands, holds_some, opened_phase}
 use Rattle.channel_laws.proofs.HandshakeCases.{AttributesAgreed, AttributesAsked, AttributesRefused, Declined, OneRingAgreed, Opened, PeerAgreed, ReadyAgreed, ReadyAsked, RingAgreed, RingAsked, RingRefused, RowTaken, VersionAgreed, VersionAsked, VersionRefused}
 use Rattle.channel_laws.proofs.HandshakePlaces.{AtPlace, HandshakesAt, IsOwn, Matches, begun_at, deal, hears_at, hears_own_at, offer_in, open_at, owes_at, own_heard, peer_said, same_at, says_at, says_own_at, who}
@@ -173,9 +173,9 @@ version_here false = tt
 same_last : (role : Role) (h g : Handshake) → g ≡ h → (role ≡ Responder → h.last_sid ≡ 0) → role ≡ Responder → g.last_sid ≡ 0
 same_last role h g is last now = ap (λ (x : Handshake). x.last_sid) is ∙ last now
 
-up_last : (role : Role) (h g : Handshake) → h.role ≡ role → g ≡ shake_up h → (role ≡ Responder → h.last_sid ≡ 0) → role ≡ Responder → g.last_sid ≡ 0
+up_last : (role : Role) (h g : Handshake) → h.role ≡ role → g ≡ handshake_up h → (role ≡ Responder → h.last_sid ≡ 0) → role ≡ Responder → g.last_sid ≡ 0
 up_last role h g role_is is last now =
-    ap (λ (x : Handshake). x.last_sid) is ∙ ap (λ (r : Role). (begun r (joined_shake h)).last_sid) (role_is ∙ now) ∙ last now
+    ap (λ (x : Handshake). x.last_sid) is ∙ ap (λ (r : Role). (begun r (joined_handshake h)).last_sid) (role_is ∙ now) ∙ last now
 
 -- IT PUTS a packet
 put_handshakes : (asks answers : Offer) (role : Role) (s : Sides) (t : EndCore) (packet : List ℕ) (opens : Bool) → Matches asks answers → EndStands role s.mine.core s.mine.turns → s.mine.state ≡ Up
@@ -197,11 +197,11 @@ put_handshakes asks answers role s t packet opens fits stands up says links at =
     offer : t.offer ≡ s.mine.core.offer
     offer = says.offer ∙ held_offer s.mine.core held says.what says.holds
 
-    same_shake : held.handshake ≡ s.mine.core.handshake
-    same_shake = held_shake s.mine.core held says.what says.holds
+    same_handshake : held.handshake ≡ s.mine.core.handshake
+    same_handshake = held_handshake s.mine.core held says.what says.holds
 
     last : role ≡ Responder → held.handshake.last_sid ≡ 0
-    last is = ap (λ (h : Handshake). h.last_sid) same_shake ∙ at.last_mine is
+    last is = ap (λ (h : Handshake). h.last_sid) same_handshake ∙ at.last_mine is
 
     phase_is : held.link.phase ≡ s.mine.core.link.phase
     phase_is = held_phase s.mine.core held says.what says.holds
@@ -209,7 +209,7 @@ put_handshakes asks answers role s t packet opens fits stands up says links at =
     -- where its link was up
     was : held.link.phase ≡ phase.Established → AtPlace both (deal asks answers at.sid) role held.handshake s.mine.turns
     was est =
-        same_at both (deal asks answers at.sid) role s.mine.core.handshake held.handshake s.mine.turns s.mine.turns (at.mine up (ap is_established (sym phase_is ∙ est))) same_shake refl refl
+        same_at both (deal asks answers at.sid) role s.mine.core.handshake held.handshake s.mine.turns s.mine.turns (at.mine up (ap is_established (sym phase_is ∙ est))) same_handshake refl refl
 
     goes : (role ≡ Responder → t.handshake.last_sid ≡ 0) → (is_up t.link ≡ true → AtPlace both (deal asks answers at.sid) role t.handshake now) → HandshakesAt asks answers role (put packet t s)
     goes last_now mine = placed asks answers at.sid role s t now at offer at.small last_now mine at.theirs s.mine.waiting (s.theirs.waiting ++ packet ∷ [])
@@ -218,7 +218,7 @@ put_handshakes asks answers role s t packet opens fits stands up says links at =
     their_phase : (x : ChannelState) (first ph : LinkPhase) → x ≡ Up → live_phase x first ph ≡ ph
     their_phase x first ph is = ap (λ (y : ChannelState). live_phase y first ph) is
 
-    rises : role ≡ Initiator → held.link.phase ≡ phase.OwesRdx → t.handshake ≡ shake_up held.handshake → said now ≡ said s.mine.turns → HandshakesAt asks answers role (put packet t s)
+    rises : role ≡ Initiator → held.link.phase ≡ phase.OwesRdx → t.handshake ≡ handshake_up held.handshake → said now ≡ said s.mine.turns → HandshakesAt asks answers role (put packet t s)
     rises is owes handshake quiet =
         placed asks answers (next_sid held.handshake) role s t now at offer (omega arith) (λ responds. let wrong : Initiator ≡ Responder = sym is ∙ responds in absurd (cc wrong))
         (λ now_up. subst (λ (h : Handshake). AtPlace both (deal asks answers (next_sid held.handshake)) role h now) (sym handshake)
@@ -229,10 +229,10 @@ put_handshakes asks answers role s t packet opens fits stands up says links at =
         below : IsBelow held.link held.handshake s.mine.turns
         below = held_stands_so.below (ap is_established owes)
 
-        own_offer : held.handshake.offer ≡ (shake_at both (deal asks answers (next_sid held.handshake)) role VersionSaid).offer
+        own_offer : held.handshake.offer ≡ (handshake_at both (deal asks answers (next_sid held.handshake)) role VersionSaid).offer
         own_offer = held_stands_so.handshake.offer_is ∙ held_offer s.mine.core held says.what says.holds ∙ at.offer_mine ∙ by_role role
           where
-            by_role : (r : Role) → offer_in asks answers r ≡ (shake_at both (deal asks answers (next_sid held.handshake)) r VersionSaid).offer
+            by_role : (r : Role) → offer_in asks answers r ≡ (handshake_at both (deal asks answers (next_sid held.handshake)) r VersionSaid).offer
             by_role Initiator = refl
             by_role Responder = refl
 
@@ -258,8 +258,8 @@ put_handshakes asks answers role s t packet opens fits stands up says links at =
     carried_own true bytes is carries = carries
     carried_own false bytes is carries = absurd (cc is)
 
-    shakes : held.own ≡ false → (est : held.link.phase ≡ phase.Established) → (last_part : SaysLast held.link s.mine.turns packet) → AtPlace both (deal asks answers at.sid) role (shake_sent held.handshake) now
-    shakes not est last_part =
+    handshakes : held.own ≡ false → (est : held.link.phase ≡ phase.Established) → (last_part : SaysLast held.link s.mine.turns packet) → AtPlace both (deal asks answers at.sid) role (handshake_sent held.handshake) now
+    handshakes not est last_part =
         let carries = carried_owed held.own (half_said s.mine.turns ++ held.link.to_send) not (whole last_part est) in
         says_at both (deal asks answers at.sid) role held.handshake s.mine.turns now (half_said s.mine.turns ++ held.link.to_send) carries.message (was est) carries.owed carries.is last_part.messages refl
 
@@ -273,10 +273,10 @@ put_handshakes asks answers role s t packet opens fits stands up says links at =
         (record { message = carries.message; body = carries.body; sid = carries.sid ∙ ap (λ (h : Handshake). h.draft.sid) there.is ∙ sid_there there.place all_said; is = carries.is })
         last_part.messages refl
       where
-        sid_there : (n : Place) → n ≡ AllSaid → (shake_at both (deal asks answers at.sid) role n).draft.sid ≡ at.sid
-        sid_there n is = ap (λ (m : Place). (shake_at both (deal asks answers at.sid) role m).draft.sid) is ∙ by_role both role
+        sid_there : (n : Place) → n ≡ AllSaid → (handshake_at both (deal asks answers at.sid) role n).draft.sid ≡ at.sid
+        sid_there n is = ap (λ (m : Place). (handshake_at both (deal asks answers at.sid) role m).draft.sid) is ∙ by_role both role
           where
-            by_role : (b : Bool) (r : Role) → (shake_at b (deal asks answers at.sid) r AllSaid).draft.sid ≡ at.sid
+            by_role : (b : Bool) (r : Role) → (handshake_at b (deal asks answers at.sid) r AllSaid).draft.sid ≡ at.sid
             by_role true Initiator = refl
             by_role true Responder = refl
             by_role false Initiator = refl
@@ -292,8 +292,8 @@ put_handshakes asks answers role s t packet opens fits stands up says links at =
         (λ now_up. same_at both (deal asks answers at.sid) role held.handshake t.handshake s.mine.turns now (was est) handshake more.messages refl)
     by_what (PutOwn own est link last_part handshake not is_open) =
         goes (same_last role held.handshake t.handshake handshake last) (λ now_up. owns own est last_part handshake)
-    by_what (PutShake not est link last_part handshake flag is_open) =
-        let mine = subst (λ (h : Handshake). AtPlace both (deal asks answers at.sid) role h now) (sym handshake) (shakes not est last_part) in
+    by_what (PutHandshake not est link last_part handshake flag is_open) =
+        let mine = subst (λ (h : Handshake). AtPlace both (deal asks answers at.sid) role h now) (sym handshake) (handshakes not est last_part) in
         goes (place_last both asks answers at.sid role t.handshake now mine) (λ now_up. mine)
 
 -- IT TAKES a packet: a message of the session isn't one that its handshake declines
@@ -408,14 +408,14 @@ took_handshakes asks answers role s t packet opens fits stands up first hears co
     mine : is_up c.link ≡ true → AtPlace both (deal asks answers at.sid) role c.handshake s.mine.turns
     mine was = at.mine up was
 
-    rises : role ≡ Responder → is_up c.link ≡ false → heard now ≡ heard s.mine.turns → t.handshake ≡ shake_up c.handshake → AtPlace both (deal asks answers at.sid) role t.handshake now
+    rises : role ≡ Responder → is_up c.link ≡ false → heard now ≡ heard s.mine.turns → t.handshake ≡ handshake_up c.handshake → AtPlace both (deal asks answers at.sid) role t.handshake now
     rises is down quiet handshake =
         let below = stands.mine.below down in
         subst (λ (h : Handshake). AtPlace both (deal asks answers at.sid) role h now) (sym handshake)
         (begun_at both (deal asks answers at.sid) role c.handshake now stands.mine.handshake.role_is (stands.mine.handshake.offer_is ∙ at.offer_mine ∙ by_role role) at.last_mine
         (λ asking. let wrong : Initiator ≡ Responder = sym asking ∙ is in absurd (cc wrong)) (version_here both) below.said_none (quiet ∙ below.heard_none))
       where
-        by_role : (r : Role) → offer_in asks answers r ≡ (shake_at both (deal asks answers at.sid) r VersionSaid).offer
+        by_role : (r : Role) → offer_in asks answers r ≡ (handshake_at both (deal asks answers at.sid) r VersionSaid).offer
         by_role Initiator = refl
         by_role Responder = refl
 
@@ -425,10 +425,10 @@ took_handshakes asks answers role s t packet opens fits stands up first hears co
     last_own bytes there last grows =
         own_heard both (deal asks answers at.sid) role c.handshake s.theirs.core.handshake s.mine.turns now s.theirs.turns bytes there last (peer bytes grows) front grows
 
-    open_there : (n : Place) → n ≡ AllSaid → (shake_at both (deal asks answers at.sid) role n).phase ≡ Open
-    open_there n is = ap (λ (m : Place). (shake_at both (deal asks answers at.sid) role m).phase) is ∙ by_role role
+    open_there : (n : Place) → n ≡ AllSaid → (handshake_at both (deal asks answers at.sid) role n).phase ≡ Open
+    open_there n is = ap (λ (m : Place). (handshake_at both (deal asks answers at.sid) role m).phase) is ∙ by_role role
       where
-        by_role : (r : Role) → (shake_at both (deal asks answers at.sid) r AllSaid).phase ≡ Open
+        by_role : (r : Role) → (handshake_at both (deal asks answers at.sid) r AllSaid).phase ≡ Open
         by_role Initiator = refl
         by_role Responder = refl
 
@@ -446,7 +446,7 @@ took_handshakes asks answers role s t packet opens fits stands up first hears co
         goes (same_last role c.handshake t.handshake handshake at.last_mine)
         (λ now_up. hears_own_at both (deal asks answers at.sid) role c.handshake t.handshake s.mine.turns now took_message.bytes there handshake last
         (last_own took_message.bytes there last took_message.messages) took_message.messages refl)
-    by_what (TookShake message took_message shake is_open) =
+    by_what (TookHandshake message took_message handshake is_open) =
         let now_at = by_turn (mine took_message.up) in
         goes (place_last both asks answers at.sid role t.handshake now now_at) (λ now_up. now_at)
       where
@@ -458,12 +458,12 @@ took_handshakes asks answers role s t packet opens fits stands up first hears co
               | inr (inl turn) ↦
                   hears_at asks answers at.sid role c.handshake t.handshake s.mine.turns now took_message.bytes message (said s.theirs.turns) fits at.small there turn
                   (peer_said both (deal asks answers at.sid) (other role) s.theirs.core.handshake s.theirs.turns (peer took_message.bytes took_message.messages)) front took_message.messages refl
-                  took_message.form took_message.spells shake.takes
+                  took_message.form took_message.spells handshake.takes
               | inr (inr last) ↦ (
                   let own = last_own took_message.bytes there last took_message.messages in
                   let opened : c.handshake.phase ≡ Open = ap (λ (h : Handshake). h.phase) there.is ∙ open_there there.place last in
                   absurd (never_declined own.message message took_message.bytes own.body own.is took_message.form took_message.spells
-                  (open_takes c.handshake t.handshake message opens opened shake.row)))
+                  (open_takes c.handshake t.handshake message opens opened handshake.row)))
             ]
 
 -- ALL ACTS
@@ -482,7 +482,7 @@ meets_keep asks answers fits = record {
   waits = λ role s t both waits m. record {
     converse = converse_keeps.waits role s t both waits m.converse;
     links = links_keep.waits role s t both waits m.links;
-    handshakes = goes_handshakes asks answers role s t (held_phase s.mine.core t waits.what waits.holds) (held_shake s.mine.core t waits.what waits.holds)
+    handshakes = goes_handshakes asks answers role s t (held_phase s.mine.core t waits.what waits.holds) (held_handshake s.mine.core t waits.what waits.holds)
         (held_offer s.mine.core t waits.what waits.holds) m.handshakes;
   };
   begins = λ role s t both begins m. record {

@@ -31,3 +31,4 @@ pub mod CoreLaws
 pub mod Opening
 pub mod OpeningRows
 pub mod OpeningOrder
+pub mod ToyRuns

@@ -10,16 +10,16 @@ use Rattle.ldc_link.specs.LinkState.{fresh_link}
 use Rattle.ldc_queue.specs.declared.end.ChannelState.TheVariants.{Up}
 use Rattle.ldc_queue.specs.declared.end.End.{End}
 use Rattle.ldc_queue.specs.declared.end.End.TheVariants.{A, B}
-use Rattle.ldc_queue.specs.Talk.{Turn}
+use Rattle.ldc_queue.specs.Transcript.{Turn}
 use Rattle.vio_handshake.specs.declared.session.Offer.{Offer}
 use Rattle.vio_tag.specs.declared.cause.Cause.{Cause}
-use Rattle.disk_model.specs.TalkLog.{TalkLog, nothing_said, talk_of}
+use Rattle.disk_model.specs.TranscriptLog.{TranscriptLog, nothing_said, transcript_of}
 use Rattle.disk_model.specs.WireEvent.{Blocked, ByRestart, ByScript, ByStep, ByTick, Declines, Giver, Idle, Injected, Joined, Lost, Poked, Reset, Sent, Took, giver}
 use Rattle.disk_model.specs.WireLog.{WireLog, wire_moved}
 use Rattle.channel_laws.proofs.EndStanding.{fresh_end_stands, stands_step}
 use Rattle.channel_laws.specs.EndCore.{EndCore, EndMove, Stays, fresh_end}
 use Rattle.channel_laws.specs.EndStep.{EndAnew, EndBegins, EndHears, EndRenews, EndSays, EndStays, EndStep, EndWaits}
-use Rattle.channel_laws.specs.LaneCore.{Beside, Closes, CoreEvent, CoreFits, CoreStep, LaneCore, OnChannel, end_of, fresh_core, move_of, reset_move, role_of, talk_after, talk_behind, turns_after, wire_after}
+use Rattle.channel_laws.specs.LaneCore.{Beside, Closes, CoreEvent, CoreFits, CoreStep, LaneCore, OnChannel, end_of, fresh_core, move_of, reset_move, role_of, transcript_after, transcript_behind, turns_after, wire_after}
 use Rattle.channel_laws.specs.Sides.{Sides, anew, goes_on, missed, other, put, shut, sides_in, sides_of, swapped, took}
 use Rattle.channel_laws.specs.Standing.{EndStands}
 
@@ -30,67 +30,67 @@ reset_turns ByScript turns cause packet = refl
 reset_turns ByRestart turns cause packet = refl
 reset_turns ByTick turns cause packet = refl
 
-pub talk_turns : (e : End) (l : TalkLog) (event : CoreEvent) → talk_of e (talk_after l event) ≡ turns_after (talk_of e l) (move_of e event)
-talk_turns A l (OnChannel (Joined A lost)) = refl
-talk_turns A l (OnChannel (Joined B lost)) = refl
-talk_turns B l (OnChannel (Joined A lost)) = refl
-talk_turns B l (OnChannel (Joined B lost)) = refl
-talk_turns A l (OnChannel (Reset A cause packet lost)) = sym (reset_turns (giver cause) l.client cause packet)
-talk_turns A l (OnChannel (Reset B cause packet lost)) = refl
-talk_turns B l (OnChannel (Reset A cause packet lost)) = refl
-talk_turns B l (OnChannel (Reset B cause packet lost)) = sym (reset_turns (giver cause) l.server cause packet)
-talk_turns A l (OnChannel (Took A packet opens)) = refl
-talk_turns A l (OnChannel (Took B packet opens)) = refl
-talk_turns B l (OnChannel (Took A packet opens)) = refl
-talk_turns B l (OnChannel (Took B packet opens)) = refl
-talk_turns A l (OnChannel (Sent A packet opens)) = refl
-talk_turns A l (OnChannel (Sent B packet opens)) = refl
-talk_turns B l (OnChannel (Sent A packet opens)) = refl
-talk_turns B l (OnChannel (Sent B packet opens)) = refl
-talk_turns A l (OnChannel (Blocked A)) = refl
-talk_turns A l (OnChannel (Blocked B)) = refl
-talk_turns B l (OnChannel (Blocked A)) = refl
-talk_turns B l (OnChannel (Blocked B)) = refl
-talk_turns e l (OnChannel (Idle end)) = refl
-talk_turns e l (OnChannel (Lost end packet)) = refl
-talk_turns e l (OnChannel (Injected end packet)) = refl
-talk_turns e l (OnChannel (Poked end at bytes)) = refl
-talk_turns e l (OnChannel (Declines d)) = refl
-talk_turns A l (Closes A) = refl
-talk_turns A l (Closes B) = refl
-talk_turns B l (Closes A) = refl
-talk_turns B l (Closes B) = refl
-talk_turns e l Beside = refl
+pub transcript_turns : (e : End) (l : TranscriptLog) (event : CoreEvent) → transcript_of e (transcript_after l event) ≡ turns_after (transcript_of e l) (move_of e event)
+transcript_turns A l (OnChannel (Joined A lost)) = refl
+transcript_turns A l (OnChannel (Joined B lost)) = refl
+transcript_turns B l (OnChannel (Joined A lost)) = refl
+transcript_turns B l (OnChannel (Joined B lost)) = refl
+transcript_turns A l (OnChannel (Reset A cause packet lost)) = sym (reset_turns (giver cause) l.client cause packet)
+transcript_turns A l (OnChannel (Reset B cause packet lost)) = refl
+transcript_turns B l (OnChannel (Reset A cause packet lost)) = refl
+transcript_turns B l (OnChannel (Reset B cause packet lost)) = sym (reset_turns (giver cause) l.server cause packet)
+transcript_turns A l (OnChannel (Took A packet opens)) = refl
+transcript_turns A l (OnChannel (Took B packet opens)) = refl
+transcript_turns B l (OnChannel (Took A packet opens)) = refl
+transcript_turns B l (OnChannel (Took B packet opens)) = refl
+transcript_turns A l (OnChannel (Sent A packet opens)) = refl
+transcript_turns A l (OnChannel (Sent B packet opens)) = refl
+transcript_turns B l (OnChannel (Sent A packet opens)) = refl
+transcript_turns B l (OnChannel (Sent B packet opens)) = refl
+transcript_turns A l (OnChannel (Blocked A)) = refl
+transcript_turns A l (OnChannel (Blocked B)) = refl
+transcript_turns B l (OnChannel (Blocked A)) = refl
+transcript_turns B l (OnChannel (Blocked B)) = refl
+transcript_turns e l (OnChannel (Idle end)) = refl
+transcript_turns e l (OnChannel (Lost end packet)) = refl
+transcript_turns e l (OnChannel (Injected end packet)) = refl
+transcript_turns e l (OnChannel (Poked end at bytes)) = refl
+transcript_turns e l (OnChannel (Declines d)) = refl
+transcript_turns A l (Closes A) = refl
+transcript_turns A l (Closes B) = refl
+transcript_turns B l (Closes A) = refl
+transcript_turns B l (Closes B) = refl
+transcript_turns e l Beside = refl
 
 pub end_step : (e : End) (s t : LaneCore) (event : CoreEvent) → CoreStep s event t → EndStep (role_of e) (end_of e s) (move_of e event) (end_of e t)
 end_step A s t event step = step.a
 end_step B s t event step = step.b
 
 -- A LAW OF ONE END, each move keeping it, is one of both ends along every run
-pub record EndsAll (P : Role → EndCore → List Turn → Type 0) (s : LaneCore) (talk : TalkLog) : Type 0 where
-  pub a : P Initiator s.a talk.client
-  pub b : P Responder s.b talk.server
+pub record EndsAll (P : Role → EndCore → List Turn → Type 0) (s : LaneCore) (transcript : TranscriptLog) : Type 0 where
+  pub a : P Initiator s.a transcript.client
+  pub b : P Responder s.b transcript.server
 
 abbrev pub MovesKeep : (Role → EndCore → List Turn → Type 0) → Type 0
 MovesKeep P = (role : Role) (c : EndCore) (move : EndMove) (t : EndCore) (turns : List Turn) → P role c turns → EndStep role c move t → P role t (turns_after turns move)
 
-pub ends_step : (P : Role → EndCore → List Turn → Type 0) → MovesKeep P → (s : LaneCore) (event : CoreEvent) (t : LaneCore) (talk : TalkLog) → EndsAll P s talk → CoreStep s event t
-    → EndsAll P t (talk_after talk event)
-ends_step P keeps s event t talk all step = record {
-  a = subst (P Initiator t.a) (sym (talk_turns A talk event)) (keeps Initiator s.a (move_of A event) t.a talk.client all.a step.a);
-  b = subst (P Responder t.b) (sym (talk_turns B talk event)) (keeps Responder s.b (move_of B event) t.b talk.server all.b step.b);
+pub ends_step : (P : Role → EndCore → List Turn → Type 0) → MovesKeep P → (s : LaneCore) (event : CoreEvent) (t : LaneCore) (transcript : TranscriptLog) → EndsAll P s transcript → CoreStep s event t
+    → EndsAll P t (transcript_after transcript event)
+ends_step P keeps s event t transcript all step = record {
+  a = subst (P Initiator t.a) (sym (transcript_turns A transcript event)) (keeps Initiator s.a (move_of A event) t.a transcript.client all.a step.a);
+  b = subst (P Responder t.b) (sym (transcript_turns B transcript event)) (keeps Responder s.b (move_of B event) t.b transcript.server all.b step.b);
 }
 
 pub ends_run : (P : Role → EndCore → List Turn → Type 0) → MovesKeep P → (entries : ℕ) (asks answers : Offer) (events : List CoreEvent) (s : LaneCore)
     → P Initiator (fresh_end Initiator asks) [] → P Responder (fresh_end Responder answers) [] → Run CoreStep (fresh_core entries asks answers) events s
-    → EndsAll P s (talk_behind events)
+    → EndsAll P s (transcript_behind events)
 ends_run P keeps entries asks answers events s first second run =
-    (run_lawful CoreStep (λ (l : TalkLog) (e : CoreEvent). ⊤) talk_after (EndsAll P)
-    (λ (x : LaneCore) (l : TalkLog) (e : CoreEvent) (y : LaneCore) all step. (tt, ends_step P keeps x e y l all step))
+    (run_lawful CoreStep (λ (l : TranscriptLog) (e : CoreEvent). ⊤) transcript_after (EndsAll P)
+    (λ (x : LaneCore) (l : TranscriptLog) (e : CoreEvent) (y : LaneCore) all step. (tt, ends_step P keeps x e y l all step))
     (fresh_core entries asks answers) s nothing_said events (record { a = first; b = second }) run).1
 
 pub stand_run : (entries : ℕ) (asks answers : Offer) (events : List CoreEvent) (s : LaneCore) → CoreFits entries asks answers
-    → Run CoreStep (fresh_core entries asks answers) events s → EndsAll EndStands s (talk_behind events)
+    → Run CoreStep (fresh_core entries asks answers) events s → EndsAll EndStands s (transcript_behind events)
 stand_run entries asks answers events s fits run =
     ends_run EndStands (λ role c move t turns stands step. stands_step role c move t turns stands step) entries asks answers events s
     (fresh_end_stands Initiator asks fits.asks_fit.form.most) (fresh_end_stands Responder answers fits.answers_fit.form.most) run
@@ -127,114 +127,114 @@ resets_anew ByRestart role c t turns cause packet stands step = renews_anew role
 resets_anew ByTick role c t turns cause packet stands step = begins_anew role c t turns stands step
 
 -- both ends and what holds of them, from the side of each
-record Kept (Holds : Role → Sides → Type 0) (n : ℕ) (w : WireLog) (a b : EndCore) (talk : TalkLog) : Type 0 where
-  stand : BothStand Initiator (sides_in n w a b talk)
-  holds : Holds Initiator (sides_in n w a b talk)
+record Kept (Holds : Role → Sides → Type 0) (n : ℕ) (w : WireLog) (a b : EndCore) (transcript : TranscriptLog) : Type 0 where
+  stand : BothStand Initiator (sides_in n w a b transcript)
+  holds : Holds Initiator (sides_in n w a b transcript)
 
-record FromB (Holds : Role → Sides → Type 0) (n : ℕ) (w : WireLog) (a b : EndCore) (talk : TalkLog) : Type 0 where
-  stand : BothStand Responder (swapped (sides_in n w a b talk))
-  holds : Holds Responder (swapped (sides_in n w a b talk))
+record FromB (Holds : Role → Sides → Type 0) (n : ℕ) (w : WireLog) (a b : EndCore) (transcript : TranscriptLog) : Type 0 where
+  stand : BothStand Responder (swapped (sides_in n w a b transcript))
+  holds : Holds Responder (swapped (sides_in n w a b transcript))
 
-from_b : (Holds : Role → Sides → Type 0) → ActsKeep Holds → (n : ℕ) (w : WireLog) (a b : EndCore) (talk : TalkLog) → Kept Holds n w a b talk → FromB Holds n w a b talk
-from_b Holds keep n w a b talk kept = record {
+from_b : (Holds : Role → Sides → Type 0) → ActsKeep Holds → (n : ℕ) (w : WireLog) (a b : EndCore) (transcript : TranscriptLog) → Kept Holds n w a b transcript → FromB Holds n w a b transcript
+from_b Holds keep n w a b transcript kept = record {
   stand = record { mine = kept.stand.theirs; theirs = kept.stand.mine };
-  holds = keep.swaps Initiator (sides_in n w a b talk) kept.holds;
+  holds = keep.swaps Initiator (sides_in n w a b transcript) kept.holds;
 }
 
 -- one end stays
-a_stays : (Holds : Role → Sides → Type 0) → ActsKeep Holds → (n : ℕ) (w : WireLog) (a t b : EndCore) (talk : TalkLog) → EndStays a t → Kept Holds n w a b talk → Kept Holds n w t b talk
-a_stays Holds keep n w a t b talk step kept = record {
-  stand = record { mine = stands_step Initiator a Stays t talk.client kept.stand.mine step; theirs = kept.stand.theirs };
-  holds = keep.stays Initiator (sides_in n w a b talk) t kept.stand step kept.holds;
+a_stays : (Holds : Role → Sides → Type 0) → ActsKeep Holds → (n : ℕ) (w : WireLog) (a t b : EndCore) (transcript : TranscriptLog) → EndStays a t → Kept Holds n w a b transcript → Kept Holds n w t b transcript
+a_stays Holds keep n w a t b transcript step kept = record {
+  stand = record { mine = stands_step Initiator a Stays t transcript.client kept.stand.mine step; theirs = kept.stand.theirs };
+  holds = keep.stays Initiator (sides_in n w a b transcript) t kept.stand step kept.holds;
 }
 
-b_stays : (Holds : Role → Sides → Type 0) → ActsKeep Holds → (n : ℕ) (w : WireLog) (a b t : EndCore) (talk : TalkLog) → EndStays b t → Kept Holds n w a b talk → Kept Holds n w a t talk
-b_stays Holds keep n w a b t talk step kept =
-    let seen = from_b Holds keep n w a b talk kept in
+b_stays : (Holds : Role → Sides → Type 0) → ActsKeep Holds → (n : ℕ) (w : WireLog) (a b t : EndCore) (transcript : TranscriptLog) → EndStays b t → Kept Holds n w a b transcript → Kept Holds n w a t transcript
+b_stays Holds keep n w a b t transcript step kept =
+    let seen = from_b Holds keep n w a b transcript kept in
     record {
-      stand = record { mine = kept.stand.mine; theirs = stands_step Responder b Stays t talk.server kept.stand.theirs step };
-      holds = keep.swaps Responder (goes_on t (swapped (sides_in n w a b talk))) (keep.stays Responder (swapped (sides_in n w a b talk)) t seen.stand step seen.holds);
+      stand = record { mine = kept.stand.mine; theirs = stands_step Responder b Stays t transcript.server kept.stand.theirs step };
+      holds = keep.swaps Responder (goes_on t (swapped (sides_in n w a b transcript))) (keep.stays Responder (swapped (sides_in n w a b transcript)) t seen.stand step seen.holds);
     }
 
--- AN EVENT, with the wire and the talk after it
-abbrev Behind : (Role → Sides → Type 0) → LaneCore → LaneCore → TalkLog → CoreEvent → Type 0
-Behind Holds s t talk event = Holds Initiator (sides_in s.entries (wire_after s.wire event) t.a t.b (talk_after talk event))
+-- AN EVENT, with the wire and the transcript after it
+abbrev Behind : (Role → Sides → Type 0) → LaneCore → LaneCore → TranscriptLog → CoreEvent → Type 0
+Behind Holds s t transcript event = Holds Initiator (sides_in s.entries (wire_after s.wire event) t.a t.b (transcript_after transcript event))
 
 forged_never : (w : WireLog) (P : Type 0) → w.forged ≡ true → w.forged ≡ false → P
 forged_never w P forged clean = let never : true ≡ false = sym forged ∙ clean in absurd (cc never)
 
-event_behind : (Holds : Role → Sides → Type 0) → ActsKeep Holds → (s t : LaneCore) (talk : TalkLog) (event : CoreEvent) → Kept Holds s.entries s.wire s.a s.b talk → CoreStep s event t
-    → (wire_after s.wire event).forged ≡ false → Behind Holds s t talk event
-event_behind Holds keep s t talk (OnChannel (Joined A lost)) kept step clean =
-    let k = b_stays Holds keep s.entries s.wire s.a s.b t.b talk step.b kept in
-    keep.begins Initiator (sides_in s.entries s.wire s.a t.b talk) t.a k.stand (begins_anew Initiator s.a t.a talk.client k.stand.mine step.a) k.holds
-event_behind Holds keep s t talk (OnChannel (Joined B lost)) kept step clean =
-    let k = a_stays Holds keep s.entries s.wire s.a t.a s.b talk step.a kept in
-    let seen = from_b Holds keep s.entries s.wire t.a s.b talk k in
-    keep.swaps Responder (anew t.b (swapped (sides_in s.entries s.wire t.a s.b talk)))
-    (keep.begins Responder (swapped (sides_in s.entries s.wire t.a s.b talk)) t.b seen.stand (begins_anew Responder s.b t.b talk.server seen.stand.mine step.b) seen.holds)
-event_behind Holds keep s t talk (OnChannel (Reset A cause packet lost)) kept step clean =
-    let k = b_stays Holds keep s.entries s.wire s.a s.b t.b talk step.b kept in
-    keep.begins Initiator (sides_in s.entries s.wire s.a t.b talk) t.a k.stand (resets_anew (giver cause) Initiator s.a t.a talk.client cause packet k.stand.mine step.a) k.holds
-event_behind Holds keep s t talk (OnChannel (Reset B cause packet lost)) kept step clean =
-    let k = a_stays Holds keep s.entries s.wire s.a t.a s.b talk step.a kept in
-    let seen = from_b Holds keep s.entries s.wire t.a s.b talk k in
-    keep.swaps Responder (anew t.b (swapped (sides_in s.entries s.wire t.a s.b talk)))
-    (keep.begins Responder (swapped (sides_in s.entries s.wire t.a s.b talk)) t.b seen.stand
-    (resets_anew (giver cause) Responder s.b t.b talk.server cause packet seen.stand.mine step.b) seen.holds)
-event_behind Holds keep s t talk (OnChannel (Took A packet opens)) kept step clean =
-    let k = b_stays Holds keep s.entries s.wire s.a s.b t.b talk step.b kept in
-    keep.takes Initiator (sides_in s.entries s.wire s.a t.b talk) t.a packet opens k.stand step.stands.0 step.stands.1 step.a k.holds
-event_behind Holds keep s t talk (OnChannel (Took B packet opens)) kept step clean =
-    let k = a_stays Holds keep s.entries s.wire s.a t.a s.b talk step.a kept in
-    let seen = from_b Holds keep s.entries s.wire t.a s.b talk k in
-    keep.swaps Responder (took packet t.b (swapped (sides_in s.entries s.wire t.a s.b talk)))
-    (keep.takes Responder (swapped (sides_in s.entries s.wire t.a s.b talk)) t.b packet opens seen.stand step.stands.0 step.stands.1 step.b seen.holds)
-event_behind Holds keep s t talk (OnChannel (Sent A packet opens)) kept step clean =
-    let k = b_stays Holds keep s.entries s.wire s.a s.b t.b talk step.b kept in
-    keep.puts Initiator (sides_in s.entries s.wire s.a t.b talk) t.a packet opens k.stand step.stands.0 step.stands.1 step.a k.holds
-event_behind Holds keep s t talk (OnChannel (Sent B packet opens)) kept step clean =
-    let k = a_stays Holds keep s.entries s.wire s.a t.a s.b talk step.a kept in
-    let seen = from_b Holds keep s.entries s.wire t.a s.b talk k in
-    keep.swaps Responder (put packet t.b (swapped (sides_in s.entries s.wire t.a s.b talk)))
-    (keep.puts Responder (swapped (sides_in s.entries s.wire t.a s.b talk)) t.b packet opens seen.stand step.stands.0 step.stands.1 step.b seen.holds)
-event_behind Holds keep s t talk (OnChannel (Blocked A)) kept step clean =
-    let k = b_stays Holds keep s.entries s.wire s.a s.b t.b talk step.b kept in
-    keep.waits Initiator (sides_in s.entries s.wire s.a t.b talk) t.a k.stand step.a k.holds
-event_behind Holds keep s t talk (OnChannel (Blocked B)) kept step clean =
-    let k = a_stays Holds keep s.entries s.wire s.a t.a s.b talk step.a kept in
-    let seen = from_b Holds keep s.entries s.wire t.a s.b talk k in
-    keep.swaps Responder (goes_on t.b (swapped (sides_in s.entries s.wire t.a s.b talk)))
-    (keep.waits Responder (swapped (sides_in s.entries s.wire t.a s.b talk)) t.b seen.stand step.b seen.holds)
-event_behind Holds keep s t talk (OnChannel (Lost A packet)) kept step clean =
-    let k = b_stays Holds keep s.entries s.wire t.a s.b t.b talk step.b (a_stays Holds keep s.entries s.wire s.a t.a s.b talk step.a kept) in
-    keep.misses Initiator (sides_in s.entries s.wire t.a t.b talk) packet k.stand step.stands k.holds
-event_behind Holds keep s t talk (OnChannel (Lost B packet)) kept step clean =
-    let k = b_stays Holds keep s.entries s.wire t.a s.b t.b talk step.b (a_stays Holds keep s.entries s.wire s.a t.a s.b talk step.a kept) in
-    let seen = from_b Holds keep s.entries s.wire t.a t.b talk k in
-    keep.swaps Responder (missed (swapped (sides_in s.entries s.wire t.a t.b talk)))
-    (keep.misses Responder (swapped (sides_in s.entries s.wire t.a t.b talk)) packet seen.stand step.stands seen.holds)
-event_behind Holds keep s t talk (OnChannel (Idle e)) kept step clean =
-    (b_stays Holds keep s.entries s.wire t.a s.b t.b talk step.b (a_stays Holds keep s.entries s.wire s.a t.a s.b talk step.a kept)).holds
-event_behind Holds keep s t talk (OnChannel (Injected e packet)) kept step clean = absurd (forged_never (wire_moved s.wire (Injected e packet)) ⊥ refl clean)
-event_behind Holds keep s t talk (OnChannel (Poked e at bytes)) kept step clean = absurd (forged_never (wire_moved s.wire (Poked e at bytes)) ⊥ refl clean)
-event_behind Holds keep s t talk (OnChannel (Declines d)) kept step clean =
-    (b_stays Holds keep s.entries s.wire t.a s.b t.b talk step.b (a_stays Holds keep s.entries s.wire s.a t.a s.b talk step.a kept)).holds
-event_behind Holds keep s t talk (Closes A) kept step clean =
-    let k = b_stays Holds keep s.entries s.wire s.a s.b t.b talk step.b kept in
-    keep.closes Initiator (sides_in s.entries s.wire s.a t.b talk) t.a k.stand (renews_anew Initiator s.a t.a step.a) k.holds
-event_behind Holds keep s t talk (Closes B) kept step clean =
-    let k = a_stays Holds keep s.entries s.wire s.a t.a s.b talk step.a kept in
-    let seen = from_b Holds keep s.entries s.wire t.a s.b talk k in
-    keep.swaps Responder (shut t.b (swapped (sides_in s.entries s.wire t.a s.b talk)))
-    (keep.closes Responder (swapped (sides_in s.entries s.wire t.a s.b talk)) t.b seen.stand (renews_anew Responder s.b t.b step.b) seen.holds)
-event_behind Holds keep s t talk Beside kept step clean =
-    (b_stays Holds keep s.entries s.wire t.a s.b t.b talk step.b (a_stays Holds keep s.entries s.wire s.a t.a s.b talk step.a kept)).holds
+event_behind : (Holds : Role → Sides → Type 0) → ActsKeep Holds → (s t : LaneCore) (transcript : TranscriptLog) (event : CoreEvent) → Kept Holds s.entries s.wire s.a s.b transcript → CoreStep s event t
+    → (wire_after s.wire event).forged ≡ false → Behind Holds s t transcript event
+event_behind Holds keep s t transcript (OnChannel (Joined A lost)) kept step clean =
+    let k = b_stays Holds keep s.entries s.wire s.a s.b t.b transcript step.b kept in
+    keep.begins Initiator (sides_in s.entries s.wire s.a t.b transcript) t.a k.stand (begins_anew Initiator s.a t.a transcript.client k.stand.mine step.a) k.holds
+event_behind Holds keep s t transcript (OnChannel (Joined B lost)) kept step clean =
+    let k = a_stays Holds keep s.entries s.wire s.a t.a s.b transcript step.a kept in
+    let seen = from_b Holds keep s.entries s.wire t.a s.b transcript k in
+    keep.swaps Responder (anew t.b (swapped (sides_in s.entries s.wire t.a s.b transcript)))
+    (keep.begins Responder (swapped (sides_in s.entries s.wire t.a s.b transcript)) t.b seen.stand (begins_anew Responder s.b t.b transcript.server seen.stand.mine step.b) seen.holds)
+event_behind Holds keep s t transcript (OnChannel (Reset A cause packet lost)) kept step clean =
+    let k = b_stays Holds keep s.entries s.wire s.a s.b t.b transcript step.b kept in
+    keep.begins Initiator (sides_in s.entries s.wire s.a t.b transcript) t.a k.stand (resets_anew (giver cause) Initiator s.a t.a transcript.client cause packet k.stand.mine step.a) k.holds
+event_behind Holds keep s t transcript (OnChannel (Reset B cause packet lost)) kept step clean =
+    let k = a_stays Holds keep s.entries s.wire s.a t.a s.b transcript step.a kept in
+    let seen = from_b Holds keep s.entries s.wire t.a s.b transcript k in
+    keep.swaps Responder (anew t.b (swapped (sides_in s.entries s.wire t.a s.b transcript)))
+    (keep.begins Responder (swapped (sides_in s.entries s.wire t.a s.b transcript)) t.b seen.stand
+    (resets_anew (giver cause) Responder s.b t.b transcript.server cause packet seen.stand.mine step.b) seen.holds)
+event_behind Holds keep s t transcript (OnChannel (Took A packet opens)) kept step clean =
+    let k = b_stays Holds keep s.entries s.wire s.a s.b t.b transcript step.b kept in
+    keep.takes Initiator (sides_in s.entries s.wire s.a t.b transcript) t.a packet opens k.stand step.stands.0 step.stands.1 step.a k.holds
+event_behind Holds keep s t transcript (OnChannel (Took B packet opens)) kept step clean =
+    let k = a_stays Holds keep s.entries s.wire s.a t.a s.b transcript step.a kept in
+    let seen = from_b Holds keep s.entries s.wire t.a s.b transcript k in
+    keep.swaps Responder (took packet t.b (swapped (sides_in s.entries s.wire t.a s.b transcript)))
+    (keep.takes Responder (swapped (sides_in s.entries s.wire t.a s.b transcript)) t.b packet opens seen.stand step.stands.0 step.stands.1 step.b seen.holds)
+event_behind Holds keep s t transcript (OnChannel (Sent A packet opens)) kept step clean =
+    let k = b_stays Holds keep s.entries s.wire s.a s.b t.b transcript step.b kept in
+    keep.puts Initiator (sides_in s.entries s.wire s.a t.b transcript) t.a packet opens k.stand step.stands.0 step.stands.1 step.a k.holds
+event_behind Holds keep s t transcript (OnChannel (Sent B packet opens)) kept step clean =
+    let k = a_stays Holds keep s.entries s.wire s.a t.a s.b transcript step.a kept in
+    let seen = from_b Holds keep s.entries s.wire t.a s.b transcript k in
+    keep.swaps Responder (put packet t.b (swapped (sides_in s.entries s.wire t.a s.b transcript)))
+    (keep.puts Responder (swapped (sides_in s.entries s.wire t.a s.b transcript)) t.b packet opens seen.stand step.stands.0 step.stands.1 step.b seen.holds)
+event_behind Holds keep s t transcript (OnChannel (Blocked A)) kept step clean =
+    let k = b_stays Holds keep s.entries s.wire s.a s.b t.b transcript step.b kept in
+    keep.waits Initiator (sides_in s.entries s.wire s.a t.b transcript) t.a k.stand step.a k.holds
+event_behind Holds keep s t transcript (OnChannel (Blocked B)) kept step clean =
+    let k = a_stays Holds keep s.entries s.wire s.a t.a s.b transcript step.a kept in
+    let seen = from_b Holds keep s.entries s.wire t.a s.b transcript k in
+    keep.swaps Responder (goes_on t.b (swapped (sides_in s.entries s.wire t.a s.b transcript)))
+    (keep.waits Responder (swapped (sides_in s.entries s.wire t.a s.b transcript)) t.b seen.stand step.b seen.holds)
+event_behind Holds keep s t transcript (OnChannel (Lost A packet)) kept step clean =
+    let k = b_stays Holds keep s.entries s.wire t.a s.b t.b transcript step.b (a_stays Holds keep s.entries s.wire s.a t.a s.b transcript step.a kept) in
+    keep.misses Initiator (sides_in s.entries s.wire t.a t.b transcript) packet k.stand step.stands k.holds
+event_behind Holds keep s t transcript (OnChannel (Lost B packet)) kept step clean =
+    let k = b_stays Holds keep s.entries s.wire t.a s.b t.b transcript step.b (a_stays Holds keep s.entries s.wire s.a t.a s.b transcript step.a kept) in
+    let seen = from_b Holds keep s.entries s.wire t.a t.b transcript k in
+    keep.swaps Responder (missed (swapped (sides_in s.entries s.wire t.a t.b transcript)))
+    (keep.misses Responder (swapped (sides_in s.entries s.wire t.a t.b transcript)) packet seen.stand step.stands seen.holds)
+event_behind Holds keep s t transcript (OnChannel (Idle e)) kept step clean =
+    (b_stays Holds keep s.entries s.wire t.a s.b t.b transcript step.b (a_stays Holds keep s.entries s.wire s.a t.a s.b transcript step.a kept)).holds
+event_behind Holds keep s t transcript (OnChannel (Injected e packet)) kept step clean = absurd (forged_never (wire_moved s.wire (Injected e packet)) ⊥ refl clean)
+event_behind Holds keep s t transcript (OnChannel (Poked e at bytes)) kept step clean = absurd (forged_never (wire_moved s.wire (Poked e at bytes)) ⊥ refl clean)
+event_behind Holds keep s t transcript (OnChannel (Declines d)) kept step clean =
+    (b_stays Holds keep s.entries s.wire t.a s.b t.b transcript step.b (a_stays Holds keep s.entries s.wire s.a t.a s.b transcript step.a kept)).holds
+event_behind Holds keep s t transcript (Closes A) kept step clean =
+    let k = b_stays Holds keep s.entries s.wire s.a s.b t.b transcript step.b kept in
+    keep.closes Initiator (sides_in s.entries s.wire s.a t.b transcript) t.a k.stand (renews_anew Initiator s.a t.a step.a) k.holds
+event_behind Holds keep s t transcript (Closes B) kept step clean =
+    let k = a_stays Holds keep s.entries s.wire s.a t.a s.b transcript step.a kept in
+    let seen = from_b Holds keep s.entries s.wire t.a s.b transcript k in
+    keep.swaps Responder (shut t.b (swapped (sides_in s.entries s.wire t.a s.b transcript)))
+    (keep.closes Responder (swapped (sides_in s.entries s.wire t.a s.b transcript)) t.b seen.stand (renews_anew Responder s.b t.b step.b) seen.holds)
+event_behind Holds keep s t transcript Beside kept step clean =
+    (b_stays Holds keep s.entries s.wire t.a s.b t.b transcript step.b (a_stays Holds keep s.entries s.wire s.a t.a s.b transcript step.a kept)).holds
 
 -- ALONG EVERY RUN, where nobody forged
-pub record CoreHolds (Holds : Role → Sides → Type 0) (s : LaneCore) (talk : TalkLog) : Type 0 where
-  pub ends : EndsAll EndStands s talk
-  pub holds : s.wire.forged ≡ false → Holds Initiator (sides_of s talk)
+pub record CoreHolds (Holds : Role → Sides → Type 0) (s : LaneCore) (transcript : TranscriptLog) : Type 0 where
+  pub ends : EndsAll EndStands s transcript
+  pub holds : s.wire.forged ≡ false → Holds Initiator (sides_of s transcript)
 
 -- nobody had forged before
 was_clean : (w : WireLog) (event : CoreEvent) → (wire_after w event).forged ≡ false → w.forged ≡ false
@@ -244,23 +244,23 @@ was_clean w (OnChannel event) clean = clean
 was_clean w (Closes e) clean = clean
 was_clean w Beside clean = clean
 
-pub core_step : (Holds : Role → Sides → Type 0) → ActsKeep Holds → (s : LaneCore) (talk : TalkLog) (event : CoreEvent) (t : LaneCore) → CoreHolds Holds s talk → CoreStep s event t
-    → CoreHolds Holds t (talk_after talk event)
-core_step Holds keep s talk event t all step = record {
-  ends = ends_step EndStands (λ role c move x turns stands moves. stands_step role c move x turns stands moves) s event t talk all.ends step;
+pub core_step : (Holds : Role → Sides → Type 0) → ActsKeep Holds → (s : LaneCore) (transcript : TranscriptLog) (event : CoreEvent) (t : LaneCore) → CoreHolds Holds s transcript → CoreStep s event t
+    → CoreHolds Holds t (transcript_after transcript event)
+core_step Holds keep s transcript event t all step = record {
+  ends = ends_step EndStands (λ role c move x turns stands moves. stands_step role c move x turns stands moves) s event t transcript all.ends step;
   holds = λ clean.
       let here : (wire_after s.wire event).forged ≡ false = sym (ap (λ (w : WireLog). w.forged) step.wire) ∙ clean in
-      let kept : Kept Holds s.entries s.wire s.a s.b talk =
+      let kept : Kept Holds s.entries s.wire s.a s.b transcript =
       record { stand = record { mine = all.ends.a; theirs = all.ends.b }; holds = all.holds (was_clean s.wire event here) } in
-      subst (λ (n : ℕ). Holds Initiator (sides_in n t.wire t.a t.b (talk_after talk event))) (sym step.entries)
-      (subst (λ (w : WireLog). Holds Initiator (sides_in s.entries w t.a t.b (talk_after talk event))) (sym step.wire) (event_behind Holds keep s t talk event kept step here));
+      subst (λ (n : ℕ). Holds Initiator (sides_in n t.wire t.a t.b (transcript_after transcript event))) (sym step.entries)
+      (subst (λ (w : WireLog). Holds Initiator (sides_in s.entries w t.a t.b (transcript_after transcript event))) (sym step.wire) (event_behind Holds keep s t transcript event kept step here));
 }
 
 pub core_run : (Holds : Role → Sides → Type 0) → ActsKeep Holds → (entries : ℕ) (asks answers : Offer) (events : List CoreEvent) (s : LaneCore) → CoreFits entries asks answers
-    → Holds Initiator (sides_of (fresh_core entries asks answers) nothing_said) → Run CoreStep (fresh_core entries asks answers) events s → CoreHolds Holds s (talk_behind events)
+    → Holds Initiator (sides_of (fresh_core entries asks answers) nothing_said) → Run CoreStep (fresh_core entries asks answers) events s → CoreHolds Holds s (transcript_behind events)
 core_run Holds keep entries asks answers events s fits first run =
-    (run_lawful CoreStep (λ (l : TalkLog) (e : CoreEvent). ⊤) talk_after (CoreHolds Holds)
-    (λ (x : LaneCore) (l : TalkLog) (e : CoreEvent) (y : LaneCore) all step. (tt, core_step Holds keep x l e y all step))
+    (run_lawful CoreStep (λ (l : TranscriptLog) (e : CoreEvent). ⊤) transcript_after (CoreHolds Holds)
+    (λ (x : LaneCore) (l : TranscriptLog) (e : CoreEvent) (y : LaneCore) all step. (tt, core_step Holds keep x l e y all step))
     (fresh_core entries asks answers) s nothing_said events
     (record {
       ends = record { a = fresh_end_stands Initiator asks fits.asks_fit.form.most; b = fresh_end_stands Responder answers fits.answers_fit.form.most };

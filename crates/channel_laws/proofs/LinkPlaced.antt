@@ -22,9 +22,9 @@ use Rattle.ldc_queue.specs.declared.end.ChannelState.{ChannelState}
 use Rattle.ldc_queue.specs.declared.end.ChannelState.TheVariants.{Down, Resetting, Up}
 use Rattle.ldc_queue.specs.Numbered.{is_numbered, numbered}
 use Rattle.ldc_queue.specs.OneStream.{live}
-use Rattle.ldc_queue.specs.Talk.{Turn, numbered_heard, numbered_said}
+use Rattle.ldc_queue.specs.Transcript.{Turn, numbered_heard, numbered_said}
 use Rattle.vio_handshake.specs.declared.session.Offer.{Offer}
-use Rattle.disk_model.specs.TalkLog.{nothing_said}
+use Rattle.disk_model.specs.TranscriptLog.{nothing_said}
 use Rattle.ldc_queue.specs.Wire.{peer_behind, queue_behind, upset}
 use Rattle.disk_model.specs.WireLog.{lossy_behind}
 use Rattle.channel_laws.proofs.Conversations.{held_phase}

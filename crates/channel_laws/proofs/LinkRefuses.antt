@@ -14,7 +14,7 @@ use Rattle.ldc_queue.specs.Messages.{AllMayCome}
 use Rattle.ldc_queue.specs.Numbered.{is_numbered, numbered}
 use Rattle.ldc_queue.specs.OneStream.{OneWay, live}
 use Rattle.ldc_queue.specs.QueueLog.{IsFirst}
-use Rattle.ldc_queue.specs.Talk.{Turn, numbered_heard, numbered_said}
+use Rattle.ldc_queue.specs.Transcript.{Turn, numbered_heard, numbered_said}
 use Rattle.vio_tag.specs.declared.cause.Cause.{Cause}
 use Rattle.channel_laws.proofs.Conversations.{first_waits}
 use Rattle.channel_laws.proofs.FewLost.{below_turn}

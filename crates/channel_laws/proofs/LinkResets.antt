@@ -21,7 +21,7 @@ use Rattle.ldc_packet.specs.Fault.{first_fault}
 use Rattle.ldc_packet.specs.Spelling.{SpellsBody, ctrl_at, env_at, seqid_at, subtype_at, subtype_code, type_at, type_code}
 use Rattle.ldc_queue.specs.Fragments.{Fragment, fragment_at, is_part}
 use Rattle.ldc_queue.specs.Numbered.{is_numbered}
-use Rattle.ldc_queue.specs.Talk.{Turn}
+use Rattle.ldc_queue.specs.Transcript.{Turn}
 use Rattle.vio_bytes.specs.Place.{number_at}
 use Rattle.vio_tag.specs.declared.cause.Cause.{Cause}
 use Rattle.vio_tag.specs.declared.cause.Cause.TheVariants as the_cause
@@ -39,7 +39,7 @@ WhyLink turns bytes (Heard k) = ⊤
 WhyLink turns bytes (Unheard cause) = SaysWhy turns bytes cause
 
 unexpected : (turns : List Turn) (bytes : List ℕ) → first_fault bytes ≡ None → SaysWhy turns bytes the_cause.Unexpected
-unexpected turns bytes sound = record { says = sound; gap = tt }
+unexpected turns bytes sound = record { says = sound; gap = tt; carried = tt }
 
 goes_why : (turns : List Turn) (bytes : List ℕ) (k : LinkState) (r : Result LinkPhase Cause) → WhyPhase turns bytes r → WhyLink turns bytes (goes_to k r)
 goes_why turns bytes k (Ok p) why = tt
@@ -79,6 +79,7 @@ refuses_version turns bytes false major minor sound kind spells subtype is = rec
     },
   );
   gap = tt;
+  carried = tt;
 }
 
 vers_why : (turns : List Turn) (bytes : List ℕ) (p : LinkPhase) (s : Subtype) (major minor : ℕ) → first_fault bytes ≡ None → type_at bytes ≡ 1 → SpellsBody bytes (Vers major minor)
@@ -87,7 +88,7 @@ vers_why turns bytes phase.AwaitsVersInfo Info major minor sound kind spells sub
 vers_why turns bytes phase.AwaitsVersAck Ack major minor sound kind spells subtype =
     refuses_version turns bytes (nat_eq major 1 && nat_eq minor 0) major minor sound kind spells subtype refl
 vers_why turns bytes phase.AwaitsVersAck Nack major minor sound kind spells subtype =
-    record { says = (sound, record { control = kind; kind = spells.0; answer = inl subtype }); gap = tt }
+    record { says = (sound, record { control = kind; kind = spells.0; answer = inl subtype }); gap = tt; carried = tt }
 vers_why turns bytes _ _ major minor sound kind spells subtype = unexpected turns bytes sound
 
 rts_why : (turns : List Turn) (bytes : List ℕ) (p : LinkPhase) (s : Subtype) → first_fault bytes ≡ None → WhyPhase turns bytes (phase_behind_rts p s)
@@ -109,6 +110,7 @@ mode_why turns bytes true mode r sound control kind env is why = why
 mode_why turns bytes false mode r sound control kind env is why = record {
   says = (sound, record { control = control; kind = kind; mode = env; other = other_number mode 1 (sym is) });
   gap = tt;
+  carried = tt;
 }
 
 -- a number that isn't the next
@@ -119,6 +121,7 @@ turn_why turns bytes true next seqid answer sound has expected found is why = co
 turn_why turns bytes false next seqid answer sound has expected found is why = record {
   says = sound;
   gap = record { has_number = has; next = expected; is = sym found; other = λ same. other_number seqid next (sym is) (sym same) };
+  carried = tt;
 }
 
 -- a part that makes no message
@@ -126,7 +129,7 @@ part_why : (turns : List Turn) (bytes : List ℕ) (k : LinkState) (up come : Boo
     → come ≡ may_come (half_heard turns) (fragment_at bytes)
     → WhyLink turns bytes (if up then (if come then Heard (with_part k part) else Unheard the_cause.Fragment) else Unheard the_cause.Unexpected)
 part_why turns bytes k true true part sound is may = tt
-part_why turns bytes k true false part sound is may = record { says = (sound, record { part = is; broken = sym may }); gap = tt }
+part_why turns bytes k true false part sound is may = record { says = (sound, record { part = is; broken = sym may }); gap = tt; carried = tt }
 part_why turns bytes k false come part sound is may = unexpected turns bytes sound
 
 body_why : (turns : List Turn) (bytes : List ℕ) (k : LinkState) (s : Subtype) (n : ℕ) (b : Body) → Follows k turns → first_fault bytes ≡ None → type_at bytes ≡ type_code b
@@ -159,7 +162,7 @@ decoded_why turns bytes k (Ok p) follows unpacks =
     let spells = unpacks.packet.1 in
     body_why turns bytes k p.subtype p.seqid p.body follows (spelled_no_fault bytes p form spells) spells.kind spells.subtype spells.seqid spells.body
     (spelled_numbered bytes p spells) (spelled_part bytes p spells) (λ carries. spelled_fragment bytes p carries form spells)
-decoded_why turns bytes k (Err fault) follows unpacks = record { says = unpacks.fault; gap = tt }
+decoded_why turns bytes k (Err fault) follows unpacks = record { says = unpacks.fault; gap = tt; carried = tt }
 
 -- A LINK that doesn't take a packet
 pub link_why : (turns : List Turn) (bytes : List ℕ) (k : LinkState) (cause : Cause) → Follows k turns → TakesBytes k bytes (Unheard cause) → SaysWhy turns bytes cause

@@ -21,7 +21,7 @@ use Rattle.ldc_queue.specs.Messages.{AllMayCome, MayCome, half_in, half_with, is
 use Rattle.ldc_queue.specs.Numbered.{is_numbered, numbered}
 use Rattle.ldc_queue.specs.OneStream.{OneWay}
 use Rattle.ldc_queue.specs.QueueLog.{IsFirst}
-use Rattle.ldc_queue.specs.Talk.{Turn, numbered_heard}
+use Rattle.ldc_queue.specs.Transcript.{Turn, numbered_heard}
 use Rattle.vio_tag.specs.declared.cause.Cause.{Cause}
 use Rattle.vio_tag.specs.declared.cause.Cause.TheVariants as the_cause
 use Rattle.channel_laws.specs.Resetting.{IsGapBehindLoss}

@@ -31,12 +31,12 @@ use Rattle.ldc_queue.specs.declared.end.End.TheVariants.{A, B}
 use Rattle.ldc_queue.specs.Fragments.{Fragment, fragment_at, is_part}
 use Rattle.ldc_queue.specs.Messages.{is_empty}
 use Rattle.ldc_queue.specs.Numbered.{CountUp, is_numbered, kept}
-use Rattle.ldc_queue.specs.Talk as turn
-use Rattle.ldc_queue.specs.Talk.{Turn, numbered_heard, numbered_said}
+use Rattle.ldc_queue.specs.Transcript as turn
+use Rattle.ldc_queue.specs.Transcript.{Turn, numbered_heard, numbered_said}
 use Rattle.vio_handshake.specs.declared.session.Offer.{Offer}
 use Rattle.disk_model.proofs.SameSayings.{half_heard_is}
 use Rattle.disk_model.specs.Sayings.{count_heard, count_said, half_heard, half_said}
-use Rattle.disk_model.specs.TalkLog.{more_if}
+use Rattle.disk_model.specs.TranscriptLog.{more_if}
 use Rattle.disk_model.specs.WireAt.{IsHeard, IsHeardPart, IsSaid, IsSaidPart, WireHeardAt, WireSaidAt, counts_next}
 use Rattle.disk_model.specs.WireLog.{WireLog}
 use Rattle.disk_model.specs.WireEvent.{Blocked, Declines, Idle, Injected, Joined, Lost, Poked, Reset, Sent, Took, WireEvent}
@@ -53,7 +53,7 @@ use Rattle.channel_laws.specs.EndStep.{EndHears, EndSays}
 use Rattle.channel_laws.specs.LaneCore.{Beside, Closes, CoreEvent, CoreFits, CoreStands, CoreStep, LaneCore, OnChannel, fresh_core}
 use Rattle.channel_laws.specs.Standing.{EndStands}
 
--- THE COUNTS of a talk
+-- THE COUNTS of a transcript
 kept_more : (b : Bool) (packet : List ℕ) (n : ℕ) (xs : List (List ℕ)) → n ≡ length xs → more_if b n ≡ length (xs ++ kept b packet [])
 kept_more true packet n xs is = omega (arith, is, length-append xs (packet ∷ []))
 kept_more false packet n xs is = omega (arith, is, length-append xs [])
@@ -161,9 +161,9 @@ pub end_heard : (role : Role) (c t : EndCore) (turns : List Turn) (packet : List
 end_heard role c t turns packet opens stands hears = heard_so c.link turns packet hears.heard stands.link.follows hears.takes
 
 -- ALONG EVERY RUN
-said_wire : (s : LaneCore) (l : CoreLog) (event : WireEvent) (t : LaneCore) → Knows Converse s l → CoreStep s (OnChannel event) t → WireSaidAt l.talk event
-said_wire s l (Sent A packet opens) t knows step = end_said Initiator s.a t.a l.talk.client packet opens knows.holds.ends.a step.a
-said_wire s l (Sent B packet opens) t knows step = end_said Responder s.b t.b l.talk.server packet opens knows.holds.ends.b step.b
+said_wire : (s : LaneCore) (l : CoreLog) (event : WireEvent) (t : LaneCore) → Knows Converse s l → CoreStep s (OnChannel event) t → WireSaidAt l.transcript event
+said_wire s l (Sent A packet opens) t knows step = end_said Initiator s.a t.a l.transcript.client packet opens knows.holds.ends.a step.a
+said_wire s l (Sent B packet opens) t knows step = end_said Responder s.b t.b l.transcript.server packet opens knows.holds.ends.b step.b
 said_wire s l (Joined e lost) t knows step = tt
 said_wire s l (Reset e cause packet lost) t knows step = tt
 said_wire s l (Took e packet opens) t knows step = tt
@@ -174,9 +174,9 @@ said_wire s l (Injected e packet) t knows step = tt
 said_wire s l (Poked e at bytes) t knows step = tt
 said_wire s l (Declines d) t knows step = tt
 
-heard_wire : (s : LaneCore) (l : CoreLog) (event : WireEvent) (t : LaneCore) → Knows Converse s l → CoreStep s (OnChannel event) t → WireHeardAt l.talk event
-heard_wire s l (Took A packet opens) t knows step = end_heard Initiator s.a t.a l.talk.client packet opens knows.holds.ends.a step.a
-heard_wire s l (Took B packet opens) t knows step = end_heard Responder s.b t.b l.talk.server packet opens knows.holds.ends.b step.b
+heard_wire : (s : LaneCore) (l : CoreLog) (event : WireEvent) (t : LaneCore) → Knows Converse s l → CoreStep s (OnChannel event) t → WireHeardAt l.transcript event
+heard_wire s l (Took A packet opens) t knows step = end_heard Initiator s.a t.a l.transcript.client packet opens knows.holds.ends.a step.a
+heard_wire s l (Took B packet opens) t knows step = end_heard Responder s.b t.b l.transcript.server packet opens knows.holds.ends.b step.b
 heard_wire s l (Joined e lost) t knows step = tt
 heard_wire s l (Reset e cause packet lost) t knows step = tt
 heard_wire s l (Sent e packet opens) t knows step = tt

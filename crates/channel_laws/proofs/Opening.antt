@@ -11,7 +11,7 @@ use Rattle.ldc_packet.specs.declared.packet.Subtype.{Subtype}
 use Rattle.ldc_packet.specs.declared.packet.Subtype.TheVariants.{Nack}
 use Rattle.ldc_packet.specs.Spelling.{subtype_code}
 use Rattle.ldc_queue.specs.Fragments.{fragment_at, is_part}
-use Rattle.ldc_queue.specs.Talk.{Heard, Said, Turn}
+use Rattle.ldc_queue.specs.Transcript.{Heard, Said, Turn}
 use Rattle.vio_tag.specs.declared.message.Message.{Message}
 use Rattle.vio_tag.specs.declared.message.MsgBody.{MsgBody}
 use Rattle.vio_tag.specs.declared.message.MsgBody.TheVariants.{Attr, DringData, DringReg, DringUnreg, Mcast, Plain, Rdx, Ver}
@@ -20,7 +20,7 @@ use Rattle.vio_tag.specs.Spelling.{SpellsMessage, canonical, envelope_code}
 use Rattle.vio_handshake.specs.declared.handshake.Handshake.{Handshake}
 use Rattle.vio_handshake.specs.declared.handshake.Phase.{Phase}
 use Rattle.vio_handshake.specs.declared.handshake.Phase.TheVariants.{Attributes, Down, Open, OwnReady, OwnRing, PeerReady, PeerReadyTaken, PeerRing, PeerRingTaken, Version}
-use Rattle.disk_model.specs.HandshakeOrder.{ComesUpBelow, EndsAs, Follows, Hears, HearsControl, Line, MayEnd, Meets, Says, SaysControl, opening_lines, own_ring_lines, row, sid_in}
+use Rattle.disk_model.specs.HandshakeOrder.{ComesUpBelow, EndsAs, FollowsRow, Hears, HearsControl, Line, MayEnd, Meets, Says, SaysControl, opening_lines, own_ring_lines, row, sid_in_bytes}
 use Rattle.disk_model.specs.Sayings.{half_heard, half_said}
 use Rattle.channel_laws.proofs.HandshakeCases.{NothingFollows}
 use Rattle.channel_laws.proofs.TurnCases.{EndsBy}
@@ -93,7 +93,7 @@ pub record Owing (both : Bool) (role : Role) (p : Phase) (sid : ℕ) (owed : Opt
   pub message : Message
   pub owed_is : owed ≡ Some message
   pub next : IsNext (met both role p) sid message
-  pub follows : Follows role sid (drop 1 (met both role p)) turns
+  pub follows : FollowsRow role sid (drop 1 (met both role p)) turns
 
 abbrev pub IsRefusal : Option Message → Type 0
 IsRefusal None = ⊤
@@ -102,7 +102,7 @@ IsRefusal (Some message) = message.subtype ≡ Nack
 pub record Waiting (both : Bool) (role : Role) (p : Phase) (sid : ℕ) (owed : Option Message) (turns : List Turn) : Type 0 where
   pub waits : NothingFollows p
   pub refusal : IsRefusal owed
-  pub follows : Follows role sid (met both role p) turns
+  pub follows : FollowsRow role sid (met both role p) turns
 
 pub record Comes (both : Bool) (role : Role) (p : Phase) (sid : ℕ) (owed : Option Message) (turns : List Turn) : Type 0 where
   pub coming : IsComing both role p
@@ -116,7 +116,7 @@ HandshakeComes role h turns = Comes h.offer.both_rings role h.phase (sid_of h) h
 
 -- AN END: before its link is up no message was said or heard, so any sid serves; once its session is open its order is behind it
 pub record EndCame (role : Role) (c : EndCore) (turns : List Turn) : Type 0 where
-  pub below : is_up c.link ≡ false → Follows role 0 (link_met role c.link.phase) turns
+  pub below : is_up c.link ≡ false → FollowsRow role 0 (link_met role c.link.phase) turns
   pub above : is_up c.link ≡ true → (c.handshake.phase ≡ Open) ⊎ HandshakeComes role c.handshake turns
 
 -- WHERE NO MESSAGE is among the lines any sid serves
@@ -141,7 +141,7 @@ other_lines (HearsControl packet) lines none = none
 other_lines (Says subtype envelope) lines none = absurd none
 other_lines (Hears subtype envelope) lines none = absurd none
 
-pub any_sid : (role : Role) (one other : ℕ) (lines : List Line) (turns : List Turn) → HasNoMessage lines → Follows role one lines turns → Follows role other lines turns
+pub any_sid : (role : Role) (one other : ℕ) (lines : List Line) (turns : List Turn) → HasNoMessage lines → FollowsRow role one lines turns → FollowsRow role other lines turns
 any_sid role one other [] [] none follows = tt
 any_sid role one other (line ∷ lines) [] none follows = absurd follows
 any_sid role one other [] (turn ∷ turns) none follows = (follows.0, any_sid role one other [] turns none follows.1)
@@ -150,18 +150,18 @@ any_sid role one other (line ∷ lines) (turn ∷ turns) none (inl meets) =
 any_sid role one other (line ∷ lines) (turn ∷ turns) none (inr aside) = inr (aside.0, any_sid role one other (line ∷ lines) turns none aside.1)
 
 -- WHAT STANDS ASIDE: what is heard once the link is up, a control packet that is heard, and a part that ends no message or a refusal
-pub hears_aside : (role : Role) (sid : ℕ) (lines : List Line) (turns : List Turn) (bytes : List ℕ) → ComesUpBelow lines → Follows role sid lines turns
-    → Follows role sid lines (Heard bytes ∷ turns)
+pub hears_aside : (role : Role) (sid : ℕ) (lines : List Line) (turns : List Turn) (bytes : List ℕ) → ComesUpBelow lines → FollowsRow role sid lines turns
+    → FollowsRow role sid lines (Heard bytes ∷ turns)
 hears_aside role sid [] turns bytes up follows = absurd up
 hears_aside role sid (line ∷ lines) turns bytes up follows = inr (inl up, follows)
 
-pub hears_control : (role : Role) (sid : ℕ) (lines : List Line) (turns : List Turn) (bytes : List ℕ) → is_part bytes ≡ false → Follows role sid lines turns
-    → Follows role sid lines (Heard bytes ∷ turns)
+pub hears_control : (role : Role) (sid : ℕ) (lines : List Line) (turns : List Turn) (bytes : List ℕ) → is_part bytes ≡ false → FollowsRow role sid lines turns
+    → FollowsRow role sid lines (Heard bytes ∷ turns)
 hears_control role sid [] turns bytes is follows = (inr is, follows)
 hears_control role sid (line ∷ lines) turns bytes is follows = inr (inr is, follows)
 
 pub says_aside : (role : Role) (sid : ℕ) (lines : List Line) (turns : List Turn) (bytes : List ℕ) → ComesUpBelow lines → is_part bytes ≡ true
-    → MayEnd (fragment_at bytes).stop (half_said turns ++ (fragment_at bytes).bytes) → Follows role sid lines turns → Follows role sid lines (Said bytes ∷ turns)
+    → MayEnd (fragment_at bytes).stop (half_said turns ++ (fragment_at bytes).bytes) → FollowsRow role sid lines turns → FollowsRow role sid lines (Said bytes ∷ turns)
 says_aside role sid [] turns bytes up is may follows = absurd up
 says_aside role sid (line ∷ lines) turns bytes up is may follows = inr (inl (up, is, may), follows)
 
@@ -201,7 +201,7 @@ heard_line turns packet bytes d s b sid ends spells is same = record {
   stop = ends.stop;
   of_subtype = ap message_at.subtype_at (sym ends.is) ∙ spells.subtype ∙ ap (λ (m : Message). subtype_code m.subtype) is;
   of_envelope = ap message_at.envelope_at (sym ends.is) ∙ spells.envelope ∙ ap (λ (m : Message). envelope_code m.body) is;
-  of_sid = ap sid_in (sym ends.is) ∙ ap (λ (n : ℕ). n % 4294967296) (sym spells.sid) ∙ same;
+  of_sid = ap sid_in_bytes (sym ends.is) ∙ ap (λ (n : ℕ). n % 4294967296) (sym spells.sid) ∙ same;
 }
 
 -- ONE THAT IS SAID
@@ -210,7 +210,7 @@ pub record SaysWhole (turns : List Turn) (packet : List ℕ) (message : Message)
   pub stop : (fragment_at packet).stop ≡ true
   pub whole : half_said turns ++ (fragment_at packet).bytes ≡ canonical message
 
-sid_reads : (m : Message) → sid_in (canonical m) ≡ m.sid % 4294967296
+sid_reads : (m : Message) → sid_in_bytes (canonical m) ≡ m.sid % 4294967296
 unfolding canonical
 sid_reads m = omega arith
 
@@ -236,11 +236,11 @@ said_line turns packet message subtype envelope sid says is = record {
   stop = says.stop;
   of_subtype = ap message_at.subtype_at says.whole ∙ subtype_reads message ∙ is.of_subtype;
   of_envelope = ap message_at.envelope_at says.whole ∙ envelope_reads message.subtype message.sid message.body is.named ∙ is.of_envelope;
-  of_sid = ap sid_in says.whole ∙ sid_reads message ∙ is.of_sid;
+  of_sid = ap sid_in_bytes says.whole ∙ sid_reads message ∙ is.of_sid;
 }
 
 next_said : (role : Role) (lines : List Line) (sid : ℕ) (message : Message) (turns : List Turn) (packet : List ℕ) → SaysWhole turns packet message → IsNext lines sid message
-    → Follows role sid (drop 1 lines) turns → Follows role sid lines (Said packet ∷ turns)
+    → FollowsRow role sid (drop 1 lines) turns → FollowsRow role sid lines (Said packet ∷ turns)
 next_said role (Says subtype envelope ∷ lines) sid message turns packet says next follows = inl (said_line turns packet message subtype envelope sid says next, follows)
 next_said role (SaysControl control ∷ lines) sid message turns packet says next follows = absurd next
 next_said role (HearsControl control ∷ lines) sid message turns packet says next follows = absurd next
@@ -253,10 +253,10 @@ may_end false bytes message stop is refusal = absurd (cc stop)
 
 -- either way the row is followed up to this message, or up to where it was
 pub last_follows : (both : Bool) (role : Role) (p : Phase) (sid : ℕ) (owed : Option Message) (message : Message) (turns : List Turn) (packet : List ℕ) → owed ≡ Some message
-    → SaysWhole turns packet message → Comes both role p sid owed turns → Follows role sid (met both role p) (Said packet ∷ turns)
+    → SaysWhole turns packet message → Comes both role p sid owed turns → FollowsRow role sid (met both role p) (Said packet ∷ turns)
 last_follows both role p sid owed message turns packet is says comes = of comes.stage
   where
-    of : Owing both role p sid owed turns ⊎ Waiting both role p sid owed turns → Follows role sid (met both role p) (Said packet ∷ turns)
+    of : Owing both role p sid owed turns ⊎ Waiting both role p sid owed turns → FollowsRow role sid (met both role p) (Said packet ∷ turns)
     of (inl owing) =
         let one : Some message ≡ Some owing.message = sym is ∙ owing.owed_is in
         let same : message ≡ owing.message = cc one in

@@ -17,7 +17,7 @@ use Rattle.ldc_link.specs.Putting.{control}
 use Rattle.ldc_queue.specs.declared.end.End.{End}
 use Rattle.ldc_queue.specs.declared.end.End.TheVariants.{A, B}
 use Rattle.ldc_queue.specs.Fragments.{fragment_at, is_part}
-use Rattle.ldc_queue.specs.Talk.{Heard, Said, Turn}
+use Rattle.ldc_queue.specs.Transcript.{Heard, Said, Turn}
 use Rattle.vio_tag.specs.declared.message.Message.{Message}
 use Rattle.vio_tag.specs.declared.message.MsgBody.TheVariants.{Ver}
 use Rattle.vio_tag.specs.Spelling as message_at
@@ -26,14 +26,14 @@ use Rattle.vio_handshake.specs.declared.handshake.Phase.{Phase}
 use Rattle.vio_handshake.specs.declared.handshake.Phase.TheVariants.{Down, Open}
 use Rattle.vio_handshake.specs.declared.session.Offer.{Offer}
 use Rattle.vio_handshake.specs.Messages.{info}
-use Rattle.vio_handshake.specs.Rules.{opens_by_put, put_in, shake_sent, sid_fault}
-use Rattle.vio_handshake.specs.State.{begun, joined_shake, next_sid, shake_up}
-use Rattle.disk_model.specs.HandshakeOrder.{ComesUpBelow, Control, Follows, HandshakeOrder, Hears as Hears_, HearsControl, IsControlOf, IsVersNack, Line, MayEnd, RdxGiven, RtrAnswered, RtsAsked, Says as Says_, SaysControl, VersAgreed, VersOffer}
+use Rattle.vio_handshake.specs.Rules.{opens_by_put, put_in, handshake_sent, sid_fault}
+use Rattle.vio_handshake.specs.State.{begun, joined_handshake, next_sid, handshake_up}
+use Rattle.disk_model.specs.HandshakeOrder.{ComesUpBelow, Control, FollowsRow, HandshakeOrder, Hears as Hears_, HearsControl, IsControlOf, IsVersNack, Line, MayEnd, RdxGiven, RtrAnswered, RtsAsked, Says as Says_, SaysControl, VersAgreed, VersOffer}
 use Rattle.disk_model.specs.Sayings.{half_said}
-use Rattle.disk_model.specs.TalkLog.{talk_of}
+use Rattle.disk_model.specs.TranscriptLog.{transcript_of}
 use Rattle.disk_model.specs.WireEvent.{Sent as Sent_, Took as Took_}
-use Rattle.channel_laws.proofs.EndCases.{EndTook, NoMessage, PutControl, PutMore, PutOwn, PutReady, PutShake, PutWhat, Rises, TookMessage, TookOwn, TookShake, TookWhat, end_put, end_took, put_down, taken_down}
-use Rattle.channel_laws.proofs.EndResting.{StandsResting, held_shake, of_sid, resting_step}
+use Rattle.channel_laws.proofs.EndCases.{EndTook, NoMessage, PutControl, PutMore, PutOwn, PutReady, PutHandshake, PutWhat, Rises, TookMessage, TookOwn, TookHandshake, TookWhat, end_put, end_took, put_down, taken_down}
+use Rattle.channel_laws.proofs.EndResting.{StandsResting, held_handshake, of_sid, resting_step}
 use Rattle.channel_laws.proofs.EndStanding.{first_down, held_stands, holds_some, open_declines, opened_phase, stands_step}
 use Rattle.channel_laws.proofs.EndUttering.{fresh_speaks}
 use Rattle.channel_laws.proofs.HandshakePlaces.{offer_in}
@@ -49,47 +49,47 @@ use Rattle.channel_laws.specs.Cuts.{Carries, CarriesOwed, CarriesOwn}
 use Rattle.channel_laws.specs.EndCore.{Begins, EndCore, EndMove, Fails, Hears, Renews, Says, Stays, Waits, fresh_end}
 use Rattle.channel_laws.specs.EndStep.{EndHears, EndSays, EndStep}
 use Rattle.channel_laws.specs.Grounds.{When, knows_sid}
-use Rattle.channel_laws.specs.LaneCore.{CoreEvent, CoreFits, CoreStep, LaneCore, OnChannel, end_of, fresh_core, role_of, talk_behind, turns_after}
+use Rattle.channel_laws.specs.LaneCore.{CoreEvent, CoreFits, CoreStep, LaneCore, OnChannel, end_of, fresh_core, role_of, transcript_behind, turns_after}
 use Rattle.channel_laws.specs.Standing.{EndStands, IsPhaseOf}
 
 -- A CONTROL PACKET that is heard
 wrong_role : (role : Role) (ph before : LinkPhase) (X : Type 0) → IsPhaseOf role ph → ph ≡ before → (IsPhaseOf role before → ⊥) → X
 wrong_role role ph before X of is never = absurd (never (subst (IsPhaseOf role) is of))
 
-control_heard : (role : Role) (k m : LinkState) (turns : List Turn) (packet : List ℕ) (next : LinkPhase) → IsPhaseOf role k.phase → Follows role 0 (link_met role k.phase) turns
-    → ControlTaken k.phase packet next → Follows role 0 (link_met role next) (Heard packet ∷ turns)
+control_heard : (role : Role) (k m : LinkState) (turns : List Turn) (packet : List ℕ) (next : LinkPhase) → IsPhaseOf role k.phase → FollowsRow role 0 (link_met role k.phase) turns
+    → ControlTaken k.phase packet next → FollowsRow role 0 (link_met role next) (Heard packet ∷ turns)
 control_heard Responder k m turns packet next of follows (VersionAsked major minor at is goes) =
-    subst (λ (p : LinkPhase). Follows Responder 0 (link_met Responder p) (Heard packet ∷ turns)) (sym goes) (by_major (nat_eq major 1) (nat_eq major 0) refl)
+    subst (λ (p : LinkPhase). FollowsRow Responder 0 (link_met Responder p) (Heard packet ∷ turns)) (sym goes) (by_major (nat_eq major 1) (nat_eq major 0) refl)
   where
-    was : Follows Responder 0 [] turns
-    was = subst (λ (p : LinkPhase). Follows Responder 0 (link_met Responder p) turns) at follows
+    was : FollowsRow Responder 0 [] turns
+    was = subst (λ (p : LinkPhase). FollowsRow Responder 0 (link_met Responder p) turns) at follows
 
     quiet : is_part packet ≡ false
     quiet = (taken_quiet k.phase packet next (VersionAsked major minor at is goes)).1
 
     by_major : (one none : Bool) → nat_eq major 1 ≡ one
-        → Follows Responder 0 (link_met Responder (if one then phase.OwesVersAck else if none then phase.OwesVersNack 0 else phase.OwesVersNack 1)) (Heard packet ∷ turns)
+        → FollowsRow Responder 0 (link_met Responder (if one then phase.OwesVersAck else if none then phase.OwesVersNack 0 else phase.OwesVersNack 1)) (Heard packet ∷ turns)
     by_major true none test =
         inl ((record { control = is.spells.kind; of_subtype = is.spells.subtype; of_ctrl = is.spells.body.0 }, is.spells.body.1 ∙ eqb-true major 1 test), was)
     by_major false true test = hears_control Responder 0 [] turns packet quiet was
     by_major false false test = hears_control Responder 0 [] turns packet quiet was
 control_heard Responder k m turns packet next of follows (ModeAsked at is goes) =
-    subst (λ (p : LinkPhase). Follows Responder 0 (link_met Responder p) (Heard packet ∷ turns)) (sym goes)
+    subst (λ (p : LinkPhase). FollowsRow Responder 0 (link_met Responder p) (Heard packet ∷ turns)) (sym goes)
     (inl (
       (record { control = is.spells.kind; of_subtype = is.spells.subtype; of_ctrl = is.spells.body.0 }, is.spells.body.1),
-      subst (λ (p : LinkPhase). Follows Responder 0 (link_met Responder p) turns) at follows,
+      subst (λ (p : LinkPhase). FollowsRow Responder 0 (link_met Responder p) turns) at follows,
     ))
 control_heard Initiator k m turns packet next of follows (VersionAgreed at is goes) =
-    subst (λ (p : LinkPhase). Follows Initiator 0 (link_met Initiator p) (Heard packet ∷ turns)) (sym goes)
+    subst (λ (p : LinkPhase). FollowsRow Initiator 0 (link_met Initiator p) (Heard packet ∷ turns)) (sym goes)
     (inl (
       (record { control = is.spells.kind; of_subtype = is.spells.subtype; of_ctrl = is.spells.body.0 }, is.spells.body.1, is.spells.body.2),
-      subst (λ (p : LinkPhase). Follows Initiator 0 (link_met Initiator p) turns) at follows,
+      subst (λ (p : LinkPhase). FollowsRow Initiator 0 (link_met Initiator p) turns) at follows,
     ))
 control_heard Initiator k m turns packet next of follows (ModeAgreed at is goes) =
-    subst (λ (p : LinkPhase). Follows Initiator 0 (link_met Initiator p) (Heard packet ∷ turns)) (sym goes)
+    subst (λ (p : LinkPhase). FollowsRow Initiator 0 (link_met Initiator p) (Heard packet ∷ turns)) (sym goes)
     (inl (
       (record { control = is.spells.kind; of_subtype = is.spells.subtype; of_ctrl = is.spells.body.0 }, is.spells.body.1),
-      subst (λ (p : LinkPhase). Follows Initiator 0 (link_met Initiator p) turns) at follows,
+      subst (λ (p : LinkPhase). FollowsRow Initiator 0 (link_met Initiator p) turns) at follows,
     ))
 control_heard Initiator k m turns packet next of follows (VersionAsked major minor at is goes) = wrong_role Initiator k.phase phase.AwaitsVersInfo _ of at (λ never. never)
 control_heard Initiator k m turns packet next of follows (ModeAsked at is goes) = wrong_role Initiator k.phase phase.AwaitsRts _ of at (λ never. never)
@@ -97,12 +97,12 @@ control_heard Responder k m turns packet next of follows (VersionAgreed at is go
 control_heard Responder k m turns packet next of follows (ModeAgreed at is goes) = wrong_role Responder k.phase phase.AwaitsRtr _ of at (λ never. never)
 
 -- and RDX, with which a responder's link is up
-ready_heard : (k : LinkState) (turns : List Turn) (packet : List ℕ) → k.phase ≡ phase.AwaitsRdx → IsPacket packet Info Rdx → Follows Responder 0 (link_met Responder k.phase) turns
-    → Follows Responder 0 (link_met Responder phase.Established) (Heard packet ∷ turns)
+ready_heard : (k : LinkState) (turns : List Turn) (packet : List ℕ) → k.phase ≡ phase.AwaitsRdx → IsPacket packet Info Rdx → FollowsRow Responder 0 (link_met Responder k.phase) turns
+    → FollowsRow Responder 0 (link_met Responder phase.Established) (Heard packet ∷ turns)
 ready_heard k turns packet at is follows =
     inl (
       record { control = is.spells.kind; of_subtype = is.spells.subtype; of_ctrl = is.spells.body },
-      subst (λ (p : LinkPhase). Follows Responder 0 (link_met Responder p) turns) at follows,
+      subst (λ (p : LinkPhase). FollowsRow Responder 0 (link_met Responder p) turns) at follows,
     )
 
 -- A CONTROL PACKET that is put
@@ -133,23 +133,23 @@ refuses : (major : ℕ) → IsVersNack (canonical (control Nack 0 (Vers major 0)
 unfolding canonical
 refuses major = record { control = refl; of_subtype = refl; of_ctrl = refl }
 
-control_put : (role : Role) (k : LinkState) (turns : List Turn) (packet : List ℕ) (next : LinkPhase) → IsPhaseOf role k.phase → Follows role 0 (link_met role k.phase) turns
-    → ControlPut k.phase packet next → Follows role 0 (link_met role next) (Said packet ∷ turns)
+control_put : (role : Role) (k : LinkState) (turns : List Turn) (packet : List ℕ) (next : LinkPhase) → IsPhaseOf role k.phase → FollowsRow role 0 (link_met role k.phase) turns
+    → ControlPut k.phase packet next → FollowsRow role 0 (link_met role next) (Said packet ∷ turns)
 control_put Initiator k turns packet next of follows (VersionOffered at is goes) =
-    subst (λ (p : LinkPhase). Follows Initiator 0 (link_met Initiator p) (Said packet ∷ turns)) (sym goes)
-    (inl (spelled_control packet (control Info 0 (Vers 1 0)) VersOffer is offers, subst (λ (p : LinkPhase). Follows Initiator 0 (link_met Initiator p) turns) at follows))
+    subst (λ (p : LinkPhase). FollowsRow Initiator 0 (link_met Initiator p) (Said packet ∷ turns)) (sym goes)
+    (inl (spelled_control packet (control Info 0 (Vers 1 0)) VersOffer is offers, subst (λ (p : LinkPhase). FollowsRow Initiator 0 (link_met Initiator p) turns) at follows))
 control_put Initiator k turns packet next of follows (ModeOffered at is goes) =
-    subst (λ (p : LinkPhase). Follows Initiator 0 (link_met Initiator p) (Said packet ∷ turns)) (sym goes)
-    (inl (spelled_control packet (control Info 0 (Rts 1)) RtsAsked is asks_rts, subst (λ (p : LinkPhase). Follows Initiator 0 (link_met Initiator p) turns) at follows))
+    subst (λ (p : LinkPhase). FollowsRow Initiator 0 (link_met Initiator p) (Said packet ∷ turns)) (sym goes)
+    (inl (spelled_control packet (control Info 0 (Rts 1)) RtsAsked is asks_rts, subst (λ (p : LinkPhase). FollowsRow Initiator 0 (link_met Initiator p) turns) at follows))
 control_put Responder k turns packet next of follows (VersionAnswered at is goes) =
-    subst (λ (p : LinkPhase). Follows Responder 0 (link_met Responder p) (Said packet ∷ turns)) (sym goes)
-    (inl (spelled_control packet (control Ack 0 (Vers 1 0)) VersAgreed is agrees, subst (λ (p : LinkPhase). Follows Responder 0 (link_met Responder p) turns) at follows))
+    subst (λ (p : LinkPhase). FollowsRow Responder 0 (link_met Responder p) (Said packet ∷ turns)) (sym goes)
+    (inl (spelled_control packet (control Ack 0 (Vers 1 0)) VersAgreed is agrees, subst (λ (p : LinkPhase). FollowsRow Responder 0 (link_met Responder p) turns) at follows))
 control_put Responder k turns packet next of follows (VersionRefused major at is goes) =
-    subst (λ (p : LinkPhase). Follows Responder 0 (link_met Responder p) (Said packet ∷ turns)) (sym goes)
-    (inr (tt, subst IsVersNack (sym is) (refuses major)), subst (λ (p : LinkPhase). Follows Responder 0 (link_met Responder p) turns) at follows)
+    subst (λ (p : LinkPhase). FollowsRow Responder 0 (link_met Responder p) (Said packet ∷ turns)) (sym goes)
+    (inr (tt, subst IsVersNack (sym is) (refuses major)), subst (λ (p : LinkPhase). FollowsRow Responder 0 (link_met Responder p) turns) at follows)
 control_put Responder k turns packet next of follows (ModeAnswered at is goes) =
-    subst (λ (p : LinkPhase). Follows Responder 0 (link_met Responder p) (Said packet ∷ turns)) (sym goes)
-    (inl (spelled_control packet (control Info 0 (Rtr 1)) RtrAnswered is answers_rtr, subst (λ (p : LinkPhase). Follows Responder 0 (link_met Responder p) turns) at follows))
+    subst (λ (p : LinkPhase). FollowsRow Responder 0 (link_met Responder p) (Said packet ∷ turns)) (sym goes)
+    (inl (spelled_control packet (control Info 0 (Rtr 1)) RtrAnswered is answers_rtr, subst (λ (p : LinkPhase). FollowsRow Responder 0 (link_met Responder p) turns) at follows))
 control_put Responder k turns packet next of follows (VersionOffered at is goes) = wrong_role Responder k.phase phase.OwesVersInfo _ of at (λ never. never)
 control_put Responder k turns packet next of follows (ModeOffered at is goes) = wrong_role Responder k.phase phase.OwesRts _ of at (λ never. never)
 control_put Initiator k turns packet next of follows (VersionAnswered at is goes) = wrong_role Initiator k.phase phase.OwesVersAck _ of at (λ never. never)
@@ -157,17 +157,17 @@ control_put Initiator k turns packet next of follows (VersionRefused major at is
 control_put Initiator k turns packet next of follows (ModeAnswered at is goes) = wrong_role Initiator k.phase phase.OwesRtr _ of at (λ never. never)
 
 -- THE LINK COMES UP
-up_comes : (role : Role) (h : Handshake) (turns : List Turn) → h.role ≡ role → Follows role 0 (link_met role phase.Established) turns → HandshakeComes role (shake_up h) turns
-up_comes role h turns is follows = subst (λ (r : Role). HandshakeComes role (begun r (joined_shake h)) turns) (sym is) (by_role role follows)
+up_comes : (role : Role) (h : Handshake) (turns : List Turn) → h.role ≡ role → FollowsRow role 0 (link_met role phase.Established) turns → HandshakeComes role (handshake_up h) turns
+up_comes role h turns is follows = subst (λ (r : Role). HandshakeComes role (begun r (joined_handshake h)) turns) (sym is) (by_role role follows)
   where
-    by_role : (r : Role) → Follows r 0 (link_met r phase.Established) turns → HandshakeComes r (begun r (joined_shake h)) turns
+    by_role : (r : Role) → FollowsRow r 0 (link_met r phase.Established) turns → HandshakeComes r (begun r (joined_handshake h)) turns
     by_role Initiator so = record {
       coming = tt;
       stage = inl (record {
         message = info (next_sid h) (Ver 1 h.offer.minor h.offer.class);
         owed_is = refl;
         next = record { of_subtype = refl; of_envelope = refl; of_sid = refl; named = tt };
-        follows = any_sid Initiator 0 (sid_of (begun Initiator (joined_shake h))) (link_met Initiator phase.Established) turns tt so;
+        follows = any_sid Initiator 0 (sid_of (begun Initiator (joined_handshake h))) (link_met Initiator phase.Established) turns tt so;
       });
     }
     by_role Responder so = record {
@@ -175,7 +175,7 @@ up_comes role h turns is follows = subst (λ (r : Role). HandshakeComes role (be
       stage = inr (record {
         waits = tt;
         refusal = tt;
-        follows = any_sid Responder 0 (sid_of (begun Responder (joined_shake h))) (link_met Responder phase.Established) turns tt so;
+        follows = any_sid Responder 0 (sid_of (begun Responder (joined_handshake h))) (link_met Responder phase.Established) turns tt so;
       });
     }
 
@@ -201,7 +201,7 @@ never_now : {X : Type 0} (b : Bool) → b ≡ false → b ≡ true → X
 never_now {X} b not is = let wrong : false ≡ true = sym not ∙ is in absurd (cc wrong)
 
 -- the link isn't up; it is up with the same handshake; and with another
-stays_down : (role : Role) (t : EndCore) (opens : Bool) (now : List Turn) → is_up t.link ≡ false → opens ≡ false → Follows role 0 (link_met role t.link.phase) now → OnIn role opens t now
+stays_down : (role : Role) (t : EndCore) (opens : Bool) (now : List Turn) → is_up t.link ≡ false → opens ≡ false → FollowsRow role 0 (link_met role t.link.phase) now → OnIn role opens t now
 stays_down role t opens now down not follows = record {
   came = record { below = λ still. follows; above = λ up. never_now (is_up t.link) down up };
   order = λ now_open. never_now opens not now_open;
@@ -278,7 +278,7 @@ never_opens : (r : Role) → opens_by_put r Open ≡ false
 never_opens Initiator = refl
 never_opens Responder = refl
 
-open_sent : (h : Handshake) → h.phase ≡ Open → (shake_sent h ≡ record h { owed = None }) × (opens_by_put h.role h.phase ≡ false)
+open_sent : (h : Handshake) → h.phase ≡ Open → (handshake_sent h ≡ record h { owed = None }) × (opens_by_put h.role h.phase ≡ false)
 open_sent h at = (ap (λ (p : Phase). put_in h.role p h) at ∙ open_in h.role h, ap (opens_by_put h.role) at ∙ never_opens h.role)
 
 -- IT HEARS a packet
@@ -297,9 +297,9 @@ hears_order role c t turns packet opens all hears = by_what took.what
     link_up : is_up t.link ≡ is_up took.now
     link_up = ap is_up took.link
 
-    below_how : is_up c.link ≡ false → is_up took.now ≡ false → LinkHeard c.link packet took.now → Follows role 0 (link_met role took.now.phase) now
+    below_how : is_up c.link ≡ false → is_up took.now ≡ false → LinkHeard c.link packet took.now → FollowsRow role 0 (link_met role took.now.phase) now
     below_how down still (ControlHeard next taken is) =
-        subst (λ (p : LinkPhase). Follows role 0 (link_met role p) now) (sym (ap (λ (k : LinkState). k.phase) is))
+        subst (λ (p : LinkPhase). FollowsRow role 0 (link_met role p) now) (sym (ap (λ (k : LinkState). k.phase) is))
         (control_heard role c.link took.now turns packet next stands.link.of_role (all.came.below down) taken)
     below_how down still (ReadyHeard at ready number is) = never_now (is_up took.now) still (ap is_up is)
     below_how down still (PartHeard at part may number is) = never_now (is_up c.link) down (ap is_established at)
@@ -310,18 +310,18 @@ hears_order role c t turns packet opens all hears = by_what took.what
         (same_comes role c.handshake t.handshake turns now handshake (heard_comes role c.handshake turns packet hears.may.owed) (all.came.above up))
     same_link false down same handshake not =
         stays_down role t opens now (link_up ∙ same ∙ down) not
-        (subst (λ (k : LinkState). Follows role 0 (link_met role k.phase) now) (sym took.link) (below_how down (same ∙ down) took.how))
+        (subst (λ (k : LinkState). FollowsRow role 0 (link_met role k.phase) now) (sym took.link) (below_how down (same ∙ down) took.how))
 
-    rises_how : role ≡ Responder → is_up c.link ≡ false → is_up took.now ≡ true → LinkHeard c.link packet took.now → Follows role 0 (link_met role phase.Established) now
+    rises_how : role ≡ Responder → is_up c.link ≡ false → is_up took.now ≡ true → LinkHeard c.link packet took.now → FollowsRow role 0 (link_met role phase.Established) now
     rises_how is down up (ReadyHeard at ready number how) =
-        subst (λ (r : Role). Follows r 0 (link_met r phase.Established) now) (sym is)
-        (ready_heard c.link turns packet at ready (subst (λ (r : Role). Follows r 0 (link_met r c.link.phase) turns) is (all.came.below down)))
+        subst (λ (r : Role). FollowsRow r 0 (link_met r phase.Established) now) (sym is)
+        (ready_heard c.link turns packet at ready (subst (λ (r : Role). FollowsRow r 0 (link_met r c.link.phase) turns) is (all.came.below down)))
     rises_how is down up (ControlHeard next taken how) = never_now (is_up took.now) (ap is_up how ∙ (taken_down c.link.phase packet next taken).1) up
     rises_how is down up (PartHeard at part may number how) = never_now (is_up c.link) down (ap is_established at)
 
     by_role : (r : Role) → role ≡ r → (message : Message) → (took_message : TookMessage c turns packet took.now message) → RowTaken c.handshake message t.handshake opens
         → sid_fault c.handshake.sid message.sid ≡ None → HandshakeComes role c.handshake turns → GoesOn role t.handshake opens now
-    by_role Initiator is message took_message shake_row fine comes =
+    by_role Initiator is message took_message handshake_row fine comes =
         subst (λ (x : Role). GoesOn x t.handshake opens now) (sym is)
         (initiator_row c.handshake t.handshake message opens turns packet (record {
           role_is = stands.handshake.role_is ∙ is;
@@ -333,8 +333,8 @@ hears_order role c t turns packet opens all hears = by_what took.what
         }) (of_sid c.handshake message.sid fine
         (subst (λ (b : Bool). When b (c.handshake.sid ≡ Some c.handshake.draft.sid))
         (ap (knows_sid c.handshake.phase) is
-        ∙ initiator_sid c.handshake.offer.both_rings c.handshake.phase (subst (λ (x : Role). IsComing c.handshake.offer.both_rings x c.handshake.phase) is comes.coming)) all.knows.rests.sid)) shake_row)
-    by_role Responder is message took_message shake_row fine comes =
+        ∙ initiator_sid c.handshake.offer.both_rings c.handshake.phase (subst (λ (x : Role). IsComing c.handshake.offer.both_rings x c.handshake.phase) is comes.coming)) all.knows.rests.sid)) handshake_row)
+    by_role Responder is message took_message handshake_row fine comes =
         subst (λ (x : Role). GoesOn x t.handshake opens now) (sym is)
         (responder_row c.handshake t.handshake message opens turns packet (record {
           role_is = stands.handshake.role_is ∙ is;
@@ -344,7 +344,7 @@ hears_order role c t turns packet opens all hears = by_what took.what
           ends = took_message.ends;
           spells = took_message.spells;
         }) (λ p at known. of_sid c.handshake message.sid fine
-        (subst (λ (b : Bool). When b (c.handshake.sid ≡ Some c.handshake.draft.sid)) (ap (λ (x : Phase). knows_sid x role) at ∙ ap (knows_sid p) is ∙ known) all.knows.rests.sid)) shake_row)
+        (subst (λ (b : Bool). When b (c.handshake.sid ≡ Some c.handshake.draft.sid)) (ap (λ (x : Phase). knows_sid x role) at ∙ ap (knows_sid p) is ∙ known) all.knows.rests.sid)) handshake_row)
 
     by_what : TookWhat role c turns packet opens t took.now → OnIn role opens t now
     by_what (NoMessage same quiet handshake not is_open) = same_link (is_up c.link) refl same handshake not
@@ -355,13 +355,13 @@ hears_order role c t turns packet opens all hears = by_what took.what
     by_what (TookOwn message took_message own handshake not is_open) =
         goes_up role t opens now (link_up ∙ took_message.stays) not
         (inl (ap (λ (h : Handshake). h.phase) handshake ∙ opened_phase c.handshake.phase (sym stands.opened ∙ own.opened)))
-    by_what (TookShake message took_message shake is_open) = by_came (all.came.above took_message.up)
+    by_what (TookHandshake message took_message handshake is_open) = by_came (all.came.above took_message.up)
       where
         by_came : (c.handshake.phase ≡ Open) ⊎ HandshakeComes role c.handshake turns → OnIn role opens t now
         by_came (inl at) =
-            let declined = open_declines c.handshake t.handshake message opens at shake.row in
+            let declined = open_declines c.handshake t.handshake message opens at handshake.row in
             goes_up role t opens now (link_up ∙ took_message.stays) declined.1 (inl (ap (λ (h : Handshake). h.phase) declined.0 ∙ at))
-        by_came (inr comes) = by_on role t opens now (link_up ∙ took_message.stays) (by_role role refl message took_message shake.row shake.sid comes)
+        by_came (inr comes) = by_on role t opens now (link_up ∙ took_message.stays) (by_role role refl message took_message handshake.row handshake.sid comes)
 
 -- IT SAYS a packet
 carried_owed : (own : Bool) (h : Handshake) (bytes : List ℕ) → own ≡ false → Carries own h bytes → CarriesOwed h bytes
@@ -387,11 +387,11 @@ says_order role c t turns packet opens all says = by_what (end_put role c t turn
     phase_is : held.link.phase ≡ c.link.phase
     phase_is = held_phase c held says.what says.holds
 
-    below : is_up held.link ≡ false → Follows role 0 (link_met role held.link.phase) turns
-    below down = subst (λ (p : LinkPhase). Follows role 0 (link_met role p) turns) (sym phase_is) (all.came.below (ap is_established (sym phase_is) ∙ down))
+    below : is_up held.link ≡ false → FollowsRow role 0 (link_met role held.link.phase) turns
+    below down = subst (λ (p : LinkPhase). FollowsRow role 0 (link_met role p) turns) (sym phase_is) (all.came.below (ap is_established (sym phase_is) ∙ down))
 
     above : held.link.phase ≡ phase.Established → (held.handshake.phase ≡ Open) ⊎ HandshakeComes role held.handshake turns
-    above at = same_comes role c.handshake held.handshake turns turns (held_shake c held says.what says.holds) (λ comes. comes) (all.came.above (ap is_established (sym phase_is ∙ at)))
+    above at = same_comes role c.handshake held.handshake turns turns (held_handshake c held says.what says.holds) (λ comes. comes) (all.came.above (ap is_established (sym phase_is ∙ at)))
 
     link_up : t.link ≡ behind_part held.link → held.link.phase ≡ phase.Established → is_up t.link ≡ true
     link_up link at = ap is_up link ∙ ap is_established at
@@ -408,17 +408,17 @@ says_order role c t turns packet opens all says = by_what (end_put role c t turn
           whole = ap (λ (xs : List ℕ). half_said turns ++ xs) (last.part.carries ∙ take_all 56 held.link.to_send short) ∙ is;
         }
 
-    put_shake : held.own ≡ false → held.link.phase ≡ phase.Established → t.link ≡ behind_part held.link → SaysLast held.link turns packet → t.handshake ≡ shake_sent held.handshake
+    put_handshake : held.own ≡ false → held.link.phase ≡ phase.Established → t.link ≡ behind_part held.link → SaysLast held.link turns packet → t.handshake ≡ handshake_sent held.handshake
         → opens ≡ opens_by_put held.handshake.role held.handshake.phase → (held.handshake.phase ≡ Open) ⊎ HandshakeComes role held.handshake turns → OnIn role opens t now
-    put_shake not at link last handshake flag (inl open_now) =
+    put_handshake not at link last handshake flag (inl open_now) =
         let sent = open_sent held.handshake open_now in
         goes_up role t opens now (link_up link at) (flag ∙ sent.1) (inl (ap (λ (h : Handshake). h.phase) (handshake ∙ sent.0) ∙ open_now))
-    put_shake not at link last handshake flag (inr comes) =
+    put_handshake not at link last handshake flag (inr comes) =
         let carries = carried_owed held.own held.handshake (half_said turns ++ held.link.to_send) not (carried last at) in
         by_on role t opens now (link_up link at)
         (subst (λ (b : Bool). GoesOn role t.handshake b now) (sym flag)
         (subst (λ (h : Handshake). GoesOn role h (opens_by_put held.handshake.role held.handshake.phase) now) (sym handshake)
-        (sent_row role held.handshake (shake_sent held.handshake) (opens_by_put held.handshake.role held.handshake.phase) turns packet (record {
+        (sent_row role held.handshake (handshake_sent held.handshake) (opens_by_put held.handshake.role held.handshake.phase) turns packet (record {
           role_is = stands.handshake.role_is;
           message = carries.message;
           owed = carries.owed;
@@ -430,16 +430,16 @@ says_order role c t turns packet opens all says = by_what (end_put role c t turn
     by_what (PutControl next gone link quiet handshake not is_open) =
         let downs = put_down held.link.phase packet next gone in
         stays_down role t opens now (ap is_up link ∙ downs.1) not
-        (subst (λ (k : LinkState). Follows role 0 (link_met role k.phase) now) (sym link)
+        (subst (λ (k : LinkState). FollowsRow role 0 (link_met role k.phase) now) (sym link)
         (control_put role held.link turns packet next stands.link.of_role (below downs.0) gone))
     by_what (PutReady role_is at spelled link quiet handshake not is_open) =
         goes_up role t opens now (ap is_up link) not
         (inr (subst (λ (h : Handshake). HandshakeComes role h now) (sym handshake)
-        (up_comes role held.handshake now stands.handshake.role_is (subst (λ (r : Role). Follows r 0 (link_met r phase.Established) now) (sym role_is)
+        (up_comes role held.handshake now stands.handshake.role_is (subst (λ (r : Role). FollowsRow r 0 (link_met r phase.Established) now) (sym role_is)
         (inl (
           spelled_control packet (control Info held.link.put_next Rdx) RdxGiven spelled (gives_rdx held.link.put_next),
-          subst (λ (p : LinkPhase). Follows Initiator 0 (link_met Initiator p) turns) at
-              (subst (λ (r : Role). Follows r 0 (link_met r held.link.phase) turns) role_is (below (ap is_established at))),
+          subst (λ (p : LinkPhase). FollowsRow Initiator 0 (link_met Initiator p) turns) at
+              (subst (λ (r : Role). FollowsRow r 0 (link_met r held.link.phase) turns) role_is (below (ap is_established at))),
         ))))))
     by_what (PutMore at link more handshake not is_open) =
         goes_up role t opens now (link_up link at) not
@@ -447,7 +447,7 @@ says_order role c t turns packet opens all says = by_what (end_put role c t turn
     by_what (PutOwn own at link last handshake not is_open) =
         let carries = carried_own held.own held.handshake (half_said turns ++ held.link.to_send) own (carried last at) in
         goes_up role t opens now (link_up link at) not (inl (ap (λ (h : Handshake). h.phase) handshake ∙ carries.opened))
-    by_what (PutShake not at link last handshake flag is_open) = put_shake not at link last handshake flag (above at)
+    by_what (PutHandshake not at link last handshake flag is_open) = put_handshake not at link last handshake flag (above at)
 
 -- EACH MOVE
 first_met : (role : Role) → link_met role (first_phase role) ≡ []
@@ -456,13 +456,13 @@ first_met Responder = refl
 
 anew_came : (role : Role) (t : EndCore) → t.link ≡ fresh_link role → EndCame role t []
 anew_came role t is = record {
-  below = λ down. subst (λ (k : LinkState). Follows role 0 (link_met role k.phase) []) (sym is) (subst (λ (lines : List Line). Follows role 0 lines []) (sym (first_met role)) tt);
+  below = λ down. subst (λ (k : LinkState). FollowsRow role 0 (link_met role k.phase) []) (sym is) (subst (λ (lines : List Line). FollowsRow role 0 lines []) (sym (first_met role)) tt);
   above = λ up. never_now (is_up t.link) (ap is_up is ∙ first_down role) up;
 }
 
 same_came : (role : Role) (c t : EndCore) (turns : List Turn) → t.link.phase ≡ c.link.phase → t.handshake ≡ c.handshake → EndCame role c turns → EndCame role t turns
 same_came role c t turns link handshake came = record {
-  below = λ down. subst (λ (p : LinkPhase). Follows role 0 (link_met role p) turns) (sym link) (came.below (ap is_established (sym link) ∙ down));
+  below = λ down. subst (λ (p : LinkPhase). FollowsRow role 0 (link_met role p) turns) (sym link) (came.below (ap is_established (sym link) ∙ down));
   above = λ up. same_comes role c.handshake t.handshake turns turns handshake (λ comes. comes) (came.above (ap is_established (sym link) ∙ up));
 }
 
@@ -472,7 +472,7 @@ came_step role c Renews t turns all step = anew_came role t step.link
 came_step role c (Fails cause packet) t turns all step = anew_came role t (step.1.link ∙ ap fresh_link all.knows.stands.link.role_is)
 came_step role c (Hears packet opens) t turns all step = (hears_order role c t turns packet opens all step).came
 came_step role c (Says packet opens) t turns all step = (says_order role c t turns packet opens all step).came
-came_step role c Waits t turns all step = same_came role c t turns (held_phase c t step.what step.holds) (held_shake c t step.what step.holds) all.came
+came_step role c Waits t turns all step = same_came role c t turns (held_phase c t step.what step.holds) (held_handshake c t step.what step.holds) all.came
 came_step role c Stays t turns all step = same_came role c t turns (ap (λ (k : LinkState). k.phase) step.link) step.handshake all.came
 
 pub order_step : (role : Role) (c : EndCore) (move : EndMove) (t : EndCore) (turns : List Turn) → OrderStands role c turns → EndStep role c move t
@@ -481,7 +481,7 @@ order_step role c move t turns all step = record { knows = resting_step role c m
 
 -- ALONG EVERY RUN
 pub order_run : (entries : ℕ) (asks answers : Offer) (events : List CoreEvent) (s : LaneCore) → CoreFits entries asks answers
-    → Run CoreStep (fresh_core entries asks answers) events s → EndsAll OrderStands s (talk_behind events)
+    → Run CoreStep (fresh_core entries asks answers) events s → EndsAll OrderStands s (transcript_behind events)
 order_run entries asks answers events s fits run =
     ends_run OrderStands (λ role c move t turns all step. order_step role c move t turns all step) entries asks answers events s
     (record { knows = (fresh_speaks Initiator asks fits.asks_fit.form.most).knows; came = anew_came Initiator (fresh_end Initiator asks) refl })
@@ -508,15 +508,15 @@ end_took_open role c t turns packet all hears =
 
 pub opens_saying : (entries : ℕ) (asks answers : Offer) (events : List CoreEvent) (s : LaneCore) (e : End) (packet : List ℕ) (t : LaneCore) → CoreFits entries asks answers
     → Run CoreStep (fresh_core entries asks answers) events s → CoreStep s (OnChannel (Sent_ e packet true)) t
-    → HandshakeOrder (end_of e s).offer.both_rings (role_of e) (Said packet ∷ talk_of e (talk_behind events))
-opens_saying entries asks answers events s A packet t fits run step = end_opens Initiator s.a t.a (talk_behind events).client packet (order_run entries asks answers events s fits run).a step.a
-opens_saying entries asks answers events s B packet t fits run step = end_opens Responder s.b t.b (talk_behind events).server packet (order_run entries asks answers events s fits run).b step.b
+    → HandshakeOrder (end_of e s).offer.both_rings (role_of e) (Said packet ∷ transcript_of e (transcript_behind events))
+opens_saying entries asks answers events s A packet t fits run step = end_opens Initiator s.a t.a (transcript_behind events).client packet (order_run entries asks answers events s fits run).a step.a
+opens_saying entries asks answers events s B packet t fits run step = end_opens Responder s.b t.b (transcript_behind events).server packet (order_run entries asks answers events s fits run).b step.b
 
 pub opens_hearing : (entries : ℕ) (asks answers : Offer) (events : List CoreEvent) (s : LaneCore) (e : End) (packet : List ℕ) (t : LaneCore) → CoreFits entries asks answers
     → Run CoreStep (fresh_core entries asks answers) events s → CoreStep s (OnChannel (Took_ e packet true)) t
-    → HandshakeOrder (end_of e s).offer.both_rings (role_of e) (Heard packet ∷ talk_of e (talk_behind events))
-opens_hearing entries asks answers events s A packet t fits run step = end_took_open Initiator s.a t.a (talk_behind events).client packet (order_run entries asks answers events s fits run).a step.a
-opens_hearing entries asks answers events s B packet t fits run step = end_took_open Responder s.b t.b (talk_behind events).server packet (order_run entries asks answers events s fits run).b step.b
+    → HandshakeOrder (end_of e s).offer.both_rings (role_of e) (Heard packet ∷ transcript_of e (transcript_behind events))
+opens_hearing entries asks answers events s A packet t fits run step = end_took_open Initiator s.a t.a (transcript_behind events).client packet (order_run entries asks answers events s fits run).a step.a
+opens_hearing entries asks answers events s B packet t fits run step = end_took_open Responder s.b t.b (transcript_behind events).server packet (order_run entries asks answers events s fits run).b step.b
 
 -- THE OFFERS stay as they were
 offer_step : (asks answers : Offer) (role : Role) (c : EndCore) (move : EndMove) (t : EndCore) (turns : List Turn) → c.offer ≡ offer_in asks answers role → EndStep role c move t

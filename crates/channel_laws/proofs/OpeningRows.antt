@@ -5,7 +5,7 @@ use Rattle.ldc_link.specs.declared.phase.Role.TheVariants.{Initiator, Responder}
 use Rattle.ldc_packet.specs.declared.packet.Subtype.{Subtype}
 use Rattle.ldc_packet.specs.declared.packet.Subtype.TheVariants.{Ack, Info, Nack}
 use Rattle.ldc_packet.specs.Spelling.{subtype_code}
-use Rattle.ldc_queue.specs.Talk.{Heard, Said, Turn}
+use Rattle.ldc_queue.specs.Transcript.{Heard, Said, Turn}
 use Rattle.vio_tag.specs.declared.message.Message.{Message}
 use Rattle.vio_tag.specs.declared.message.MsgBody.{MsgBody}
 use Rattle.vio_tag.specs.declared.message.MsgBody.TheVariants.{Attr, DringReg, Rdx, Ver}
@@ -16,7 +16,7 @@ use Rattle.vio_handshake.specs.declared.handshake.Phase.{Phase}
 use Rattle.vio_handshake.specs.declared.handshake.Phase.TheVariants.{Attributes, Open, OwnReady, OwnRing, PeerReady, PeerReadyTaken, PeerRing, PeerRingTaken, Version}
 use Rattle.vio_handshake.specs.Messages.{ack, info, nack, own_ring}
 use Rattle.vio_handshake.specs.Rules.{behind_ring, own_named}
-use Rattle.disk_model.specs.HandshakeOrder.{EndsAs, Follows, HandshakeOrder, OpensBy, opening_lines, own_ring_lines, row}
+use Rattle.disk_model.specs.HandshakeOrder.{EndsAs, FollowsRow, HandshakeOrder, OpensBy, opening_lines, own_ring_lines, row}
 use Rattle.disk_model.specs.Sayings.{half_heard}
 use Rattle.channel_laws.proofs.HandshakeCases.{AttributesAgreed, AttributesAsked, AttributesRefused, Declined, NothingFollows, OneRingAgreed, Opened, Opens, Owes, OwnReadyFollows, PeerAgreed, ReadyAgreed, ReadyAsked, ReadyFollows, RingAgreed, RingAsked, RingFollows, RingRefused, RowSent, RowTaken, VersionAgreed, VersionAsked, VersionRefused}
 use Rattle.channel_laws.proofs.Opening.{Comes, HandshakeComes, IsComing, IsNext, Owing, SaysWhole, Waiting, any_sid, comes_up, heard_line, hears_aside, last_follows, met, said_line, sid_of}
@@ -50,9 +50,9 @@ pub record Took (role : Role) (h : Handshake) (message : Message) (turns : List 
   pub spells : SpellsMessage bytes message
 
 took_follows : (role : Role) (h : Handshake) (message : Message) (turns : List Turn) (packet : List ℕ) (p : Phase) → Took role h message turns packet → h.phase ≡ p
-    → Follows role (sid_of h) (met h.offer.both_rings role p) turns
+    → FollowsRow role (sid_of h) (met h.offer.both_rings role p) turns
 took_follows role h message turns packet p took at =
-    subst (λ (x : Phase). Follows role (sid_of h) (met h.offer.both_rings role x) turns) at (waits_so role h turns took.none took.comes).follows
+    subst (λ (x : Phase). FollowsRow role (sid_of h) (met h.offer.both_rings role x) turns) at (waits_so role h turns took.none took.comes).follows
 
 took_coming : (role : Role) (h : Handshake) (message : Message) (turns : List Turn) (packet : List ℕ) (p : Phase) → Took role h message turns packet → h.phase ≡ p
     → IsComing h.offer.both_rings role p
@@ -91,7 +91,7 @@ initiator_row h t message opens turns packet took own (VersionAgreed minor class
     goes_so Initiator t _ opens (Heard packet ∷ turns) is not (record {
       coming = tt;
       stage = inl (record {
-        message = info message.sid (Attr (said_attributes h.offer));
+        message = info message.sid (Attr (said_attributes h.offer minor));
         owed_is = refl;
         next = record { of_subtype = refl; of_envelope = refl; of_sid = mod_sid message.sid h.draft.sid own; named = tt };
         follows = inl (line_of Initiator h message turns packet Ack (Ver 1 minor class) (sid_of h) took m (mod_sid message.sid h.draft.sid own), took_follows Initiator h message turns packet Version took at);
@@ -126,7 +126,7 @@ initiator_row h t message opens turns packet took own (OneRingAgreed ident slots
         message = info message.sid Rdx;
         owed_is = refl;
         next = record { of_subtype = refl; of_envelope = refl; of_sid = mod_sid message.sid h.draft.sid own; named = tt };
-        follows = subst (λ (b : Bool). Follows Initiator (sid_of h) (own_ring_lines b Initiator ++ opening_lines Initiator) (Heard packet ∷ turns)) (sym one)
+        follows = subst (λ (b : Bool). FollowsRow Initiator (sid_of h) (own_ring_lines b Initiator ++ opening_lines Initiator) (Heard packet ∷ turns)) (sym one)
             (inl (
               line_of Initiator h message turns packet Ack (DringReg ident slots slot_size options count cookies) (sid_of h) took m (mod_sid message.sid h.draft.sid own),
               took_follows Initiator h message turns packet OwnRing took at,
@@ -259,7 +259,7 @@ responder_row h t message opens turns packet took own (PeerAgreed ident slots sl
       stage = inr (record {
         waits = tt;
         refusal = (waits_so Responder h turns took.none took.comes).refusal;
-        follows = subst (λ (b : Bool). Follows Responder (sid_of h) (own_ring_lines b Responder ++ opening_lines Responder) (Heard packet ∷ turns)) (sym has)
+        follows = subst (λ (b : Bool). FollowsRow Responder (sid_of h) (own_ring_lines b Responder ++ opening_lines Responder) (Heard packet ∷ turns)) (sym has)
             (inl (
               line_of Responder h message turns packet Ack (DringReg ident slots slot_size options count cookies) (sid_of h) took m same,
               took_follows Responder h message turns packet OwnRing took at,
@@ -299,9 +299,9 @@ pub record Sent (role : Role) (h : Handshake) (turns : List Turn) (packet : List
   pub comes : HandshakeComes role h turns
 
 sent_follows : (role : Role) (h : Handshake) (turns : List Turn) (packet : List ℕ) (p : Phase) → Sent role h turns packet → h.phase ≡ p
-    → Follows role (sid_of h) (met h.offer.both_rings role p) (Said packet ∷ turns)
+    → FollowsRow role (sid_of h) (met h.offer.both_rings role p) (Said packet ∷ turns)
 sent_follows role h turns packet p sent at =
-    subst (λ (x : Phase). Follows role (sid_of h) (met h.offer.both_rings role x) (Said packet ∷ turns)) at
+    subst (λ (x : Phase). FollowsRow role (sid_of h) (met h.offer.both_rings role x) (Said packet ∷ turns)) at
     (last_follows h.offer.both_rings role h.phase (sid_of h) h.owed sent.message turns packet sent.owed sent.says sent.comes)
 
 sent_coming : (role : Role) (h : Handshake) (turns : List Turn) (packet : List ℕ) (p : Phase) → Sent role h turns packet → h.phase ≡ p → IsComing h.offer.both_rings role p
@@ -322,7 +322,7 @@ opens_by h turns packet sent at = of sent.comes.stage
         let one : Some sent.message ≡ Some owing.message = sym sent.owed ∙ owing.owed_is in
         let same : sent.message ≡ owing.message = cc one in
         let next = subst (λ (p : Phase). IsNext (met h.offer.both_rings Initiator p) (sid_of h) owing.message) at owing.next in
-        let follows = subst (λ (p : Phase). Follows Initiator (sid_of h) (drop 1 (met h.offer.both_rings Initiator p)) turns) at owing.follows in
+        let follows = subst (λ (p : Phase). FollowsRow Initiator (sid_of h) (drop 1 (met h.offer.both_rings Initiator p)) turns) at owing.follows in
         (said_line turns packet owing.message 2 5 (sid_of h) (subst (SaysWhole turns packet) same sent.says) next, follows)
     of (inr waiting) = absurd (subst NothingFollows at waiting.waits)
 
@@ -338,7 +338,7 @@ sent_row role h t opens turns packet sent (ReadyFollows r at is not) =
         message = info h.draft.sid Rdx;
         owed_is = refl;
         next = record { of_subtype = refl; of_envelope = refl; of_sid = refl; named = tt };
-        follows = subst (λ (b : Bool). Follows Initiator (sid_of h) (own_ring_lines b Initiator ++ opening_lines Initiator) (Said packet ∷ turns)) (sym has)
+        follows = subst (λ (b : Bool). FollowsRow Initiator (sid_of h) (own_ring_lines b Initiator ++ opening_lines Initiator) (Said packet ∷ turns)) (sym has)
             (sent_follows Initiator h turns packet PeerRingTaken mine at);
       });
     }))

@@ -15,7 +15,7 @@ use Rattle.ldc_link.specs.Conversing.{IsData, fragment_of}
 use Rattle.ldc_queue.specs.Fragments.{Fragment, fragment_at, fragments_in, is_part}
 use Rattle.ldc_queue.specs.Messages.{AllMayCome, MayCome, half_in, half_with}
 use Rattle.ldc_queue.specs.Numbered.{is_numbered}
-use Rattle.ldc_queue.specs.Talk.{Said, Turn, numbered_said}
+use Rattle.ldc_queue.specs.Transcript.{Said, Turn, numbered_said}
 use Rattle.disk_model.proofs.SameSayings.{half_said_is}
 use Rattle.disk_model.specs.Sayings.{half_said}
 use Rattle.disk_model.specs.WireAt.{IsSaid, IsSaidPart}
@@ -27,7 +27,7 @@ use Rattle.channel_laws.proofs.Lifting.{EndsAll, ends_run}
 use Rattle.channel_laws.proofs.Numbering.{end_said}
 use Rattle.channel_laws.specs.EndCore.{Begins, EndCore, EndMove, Fails, Hears, Renews, Says, Stays, Waits}
 use Rattle.channel_laws.specs.EndStep.{EndStep}
-use Rattle.channel_laws.specs.LaneCore.{CoreEvent, CoreFits, CoreStep, LaneCore, fresh_core, talk_behind, turns_after}
+use Rattle.channel_laws.specs.LaneCore.{CoreEvent, CoreFits, CoreStep, LaneCore, fresh_core, transcript_behind, turns_after}
 use Rattle.channel_laws.specs.Standing.{EndStands}
 
 abbrev pub PartsSaid : List Turn → Type 0
@@ -102,7 +102,7 @@ parts_move role c Waits t turns says step = says.parts
 parts_move role c Stays t turns says step = says.parts
 
 pub parts_run : (entries : ℕ) (asks answers : Offer) (events : List CoreEvent) (s : LaneCore) → CoreFits entries asks answers
-    → Run CoreStep (fresh_core entries asks answers) events s → EndsAll SaysParts s (talk_behind events)
+    → Run CoreStep (fresh_core entries asks answers) events s → EndsAll SaysParts s (transcript_behind events)
 parts_run entries asks answers events s fits run =
     ends_run SaysParts
     (λ role c move t turns says step. record { stands = stands_step role c move t turns says.stands step; parts = parts_move role c move t turns says step })

@@ -10,10 +10,10 @@ use Rattle.ldc_link.specs.Taking.{Heard, LinkTake, TakesBytes, Unheard}
 use Rattle.ldc_packet.specs.Fault.{first_fault}
 use Rattle.ldc_queue.specs.declared.end.End.{End}
 use Rattle.ldc_queue.specs.declared.end.End.TheVariants.{A, B}
-use Rattle.ldc_queue.specs.Talk.{Turn}
+use Rattle.ldc_queue.specs.Transcript.{Turn}
 use Rattle.vio_handshake.specs.declared.handshake.Handshake.{Handshake}
 use Rattle.vio_handshake.specs.declared.session.Offer.{Offer}
-use Rattle.vio_handshake.specs.Rules.{Faults, Goes, GoesOpen, ShakeTake, shake_take}
+use Rattle.vio_handshake.specs.Rules.{Faults, Goes, GoesOpen, HandshakeTake, handshake_take}
 use Rattle.vio_tag.proofs.NoFault.{spelled_no_fault}
 use Rattle.vio_tag.specs.declared.cause.Cause.{Cause}
 use Rattle.vio_tag.specs.declared.cause.Cause.TheVariants as the_cause
@@ -21,39 +21,39 @@ use Rattle.vio_tag.specs.declared.message.Message.{Message}
 use Rattle.vio_tag.specs.declared.message.TagFault.{TagFault}
 use Rattle.vio_tag.specs.Decoding.{Decodes}
 use Rattle.disk_model.specs.ResetSays.{EndsMessage, MessageSays, ended}
-use Rattle.disk_model.specs.TalkLog.{talk_of}
+use Rattle.disk_model.specs.TranscriptLog.{transcript_of}
 use Rattle.disk_model.specs.WireEvent.{ByStep, Giver, Reset, giver}
-use Rattle.channel_laws.proofs.HandshakeResets.{ShakeWhy, Spelled, shake_why}
+use Rattle.channel_laws.proofs.HandshakeResets.{HandshakeWhy, Spelled, handshake_why}
 use Rattle.channel_laws.proofs.LinkCases.{link_heard}
 use Rattle.channel_laws.proofs.LinkResets.{link_why}
 use Rattle.channel_laws.proofs.Numbering.{heard_so}
 use Rattle.channel_laws.proofs.TurnCases.{EndsBy, EndsWhole, hears_on}
 use Rattle.channel_laws.specs.EndCore.{EndCore}
 use Rattle.channel_laws.specs.EndStep.{DecodedFails, EndFails, EndStep, LinkFails, WholeFails, risen_at}
-use Rattle.channel_laws.specs.LaneCore.{CoreEvent, CoreFits, CoreStep, LaneCore, OnChannel, end_of, fresh_core, reset_move, talk_behind}
+use Rattle.channel_laws.specs.LaneCore.{CoreEvent, CoreFits, CoreStep, LaneCore, OnChannel, end_of, fresh_core, reset_move, transcript_behind}
 use Rattle.channel_laws.specs.Resetting.{ResetsFor, SaysWhy}
 use Rattle.channel_laws.proofs.Lifting.{EndsAll, stand_run}
 use Rattle.channel_laws.specs.Standing.{EndStands}
 
 -- THE MESSAGE that the packet ends says why
-by_message : (turns : List Turn) (packet bytes : List ℕ) (cause : Cause) → first_fault packet ≡ None → EndsBy turns packet bytes → MessageSays bytes cause → SaysWhy turns packet cause
+pub by_message : (turns : List Turn) (packet bytes : List ℕ) (cause : Cause) → first_fault packet ≡ None → EndsBy turns packet bytes → MessageSays bytes cause → SaysWhy turns packet cause
 by_message turns packet bytes cause sound by says = by_cause cause (subst (λ (m : List ℕ). MessageSays m cause) by.is says)
   where
     ends : EndsMessage packet
     ends = record { part = by.part; stop = by.stop }
 
     by_cause : (x : Cause) → MessageSays (ended turns packet) x → SaysWhy turns packet x
-    by_cause (the_cause.Tag fault) here = record { says = (sound, (ends, here)); gap = tt }
-    by_cause (the_cause.Sid expected found) here = record { says = (sound, (ends, here)); gap = tt }
-    by_cause the_cause.Order here = record { says = (sound, (ends, here)); gap = tt }
-    by_cause the_cause.Refused here = record { says = (sound, (ends, here)); gap = tt }
-    by_cause (the_cause.Ident expected found) here = record { says = (sound, (ends, here)); gap = tt }
-    by_cause (the_cause.Seq expected found) here = record { says = (sound, (ends, here)); gap = tt }
-    by_cause (the_cause.Slot expected found) here = record { says = (sound, (ends, here)); gap = tt }
-    by_cause (the_cause.RangeEnd found) here = record { says = (sound, (ends, here)); gap = tt }
+    by_cause (the_cause.Tag fault) here = record { says = (sound, (ends, here)); gap = tt; carried = tt }
+    by_cause (the_cause.Sid expected found) here = record { says = (sound, (ends, here)); gap = tt; carried = tt }
+    by_cause the_cause.Order here = record { says = (sound, (ends, here)); gap = tt; carried = tt }
+    by_cause the_cause.Refused here = record { says = (sound, (ends, here)); gap = tt; carried = tt }
+    by_cause (the_cause.Ident expected found) here = record { says = (sound, (ends, here)); gap = tt; carried = tt }
+    by_cause (the_cause.Seq expected found) here = record { says = (sound, (ends, here)); gap = tt; carried = tt }
+    by_cause (the_cause.Slot expected found) here = record { says = (sound, (ends, here)); gap = tt; carried = tt }
+    by_cause (the_cause.RangeEnd found) here = record { says = (sound, (ends, here)); gap = tt; carried = tt }
     by_cause _ here = absurd here
 
-refused_says : (bytes : List ℕ) (take : ShakeTake) (cause : Cause) → ShakeWhy bytes take → take ≡ Faults cause → MessageSays bytes cause
+refused_says : (bytes : List ℕ) (take : HandshakeTake) (cause : Cause) → HandshakeWhy bytes take → take ≡ Faults cause → MessageSays bytes cause
 refused_says bytes (Faults why) cause says is = let same : why ≡ cause = cc is in subst (MessageSays bytes) same says
 refused_says bytes (Goes h) cause says is = absurd (cc is)
 refused_says bytes (GoesOpen h) cause says is = absurd (cc is)
@@ -77,7 +77,7 @@ end_fails role c turns cause (Some packet) stands fails = by_take fails.take fai
         by_decoded : (d : Result Message TagFault) → Decodes bytes d → DecodedFails h c.is_open d cause → ResetsFor c turns cause (Some packet)
         by_decoded (Ok one) decodes (inl refused) =
             let spelled : Spelled bytes one = record { sound = spelled_no_fault bytes one decodes.message.0 decodes.message.1; spells = decodes.message.1 } in
-            inl (by_message turns packet bytes cause sound ends (refused_says bytes (shake_take h one) cause (shake_why bytes h one spelled) refused))
+            inl (by_message turns packet bytes cause sound ends (refused_says bytes (handshake_take h one) cause (handshake_why bytes h one spelled) refused))
         by_decoded (Ok one) decodes (inr own) = inr (record { opened = own.opened; ends = record { part = ends.part; stop = ends.stop } })
         by_decoded (Err fault) decodes is_fault =
             inl (subst (SaysWhy turns packet) (sym is_fault) (by_message turns packet bytes (the_cause.Tag fault) sound ends decodes.fault))
@@ -89,16 +89,16 @@ end_fails role c turns cause (Some packet) stands fails = by_take fails.take fai
 -- A STEP by which an end resets itself, along every run
 pub reset_says : (entries : ℕ) (asks answers : Offer) (events : List CoreEvent) (s : LaneCore) (e : End) (cause : Cause) (packet : Option (List ℕ)) (lost : ℕ) (t : LaneCore) → CoreFits entries asks answers
     → Run CoreStep (fresh_core entries asks answers) events s → giver cause ≡ ByStep → CoreStep s (OnChannel (Reset e cause packet lost)) t
-    → ResetsFor (end_of e s) (talk_of e (talk_behind events)) cause packet
+    → ResetsFor (end_of e s) (transcript_of e (transcript_behind events)) cause packet
 reset_says entries asks answers events s e cause packet lost t fits run by step = by_end e step
   where
-    stand : EndsAll EndStands s (talk_behind events)
+    stand : EndsAll EndStands s (transcript_behind events)
     stand = stand_run entries asks answers events s fits run
 
-    by_end : (x : End) → CoreStep s (OnChannel (Reset x cause packet lost)) t → ResetsFor (end_of x s) (talk_of x (talk_behind events)) cause packet
+    by_end : (x : End) → CoreStep s (OnChannel (Reset x cause packet lost)) t → ResetsFor (end_of x s) (transcript_of x (transcript_behind events)) cause packet
     by_end A moves =
-        end_fails Initiator s.a (talk_behind events).client cause packet stand.a
+        end_fails Initiator s.a (transcript_behind events).client cause packet stand.a
         (subst (λ (g : Giver). EndStep Initiator s.a (reset_move g cause packet) t.a) by moves.a).0
     by_end B moves =
-        end_fails Responder s.b (talk_behind events).server cause packet stand.b
+        end_fails Responder s.b (transcript_behind events).server cause packet stand.b
         (subst (λ (g : Giver). EndStep Responder s.b (reset_move g cause packet) t.b) by moves.b).0

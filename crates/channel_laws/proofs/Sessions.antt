@@ -8,7 +8,7 @@ use Rattle.ldc_queue.specs.declared.end.ChannelState.{ChannelState}
 use Rattle.ldc_queue.specs.declared.end.ChannelState.TheVariants.{Down, Resetting, Up}
 use Rattle.ldc_queue.specs.declared.end.End.{End}
 use Rattle.ldc_queue.specs.declared.end.End.TheVariants.{A, B}
-use Rattle.ldc_queue.specs.Talk.{Turn}
+use Rattle.ldc_queue.specs.Transcript.{Turn}
 use Rattle.ldc_queue.specs.Wire.{peer_of}
 use Rattle.runs.specs.Lawful.{log_of}
 use Rattle.vio_handshake.specs.declared.handshake.Handshake.{Handshake}
@@ -16,11 +16,11 @@ use Rattle.vio_handshake.specs.declared.session.Offer.{Offer}
 use Rattle.vio_handshake.specs.Messages.{ack, info}
 use Rattle.vio_handshake.specs.Offers.{Match}
 use Rattle.vio_handshake.specs.Pairing.{KnowsBoth}
-use Rattle.vio_handshake.proofs.Places.{AllSaid, Deal, answered_in_all, asked_in_all, shake_at}
+use Rattle.vio_handshake.proofs.Places.{AllSaid, Deal, answered_in_all, asked_in_all, handshake_at}
 use Rattle.vio_tag.specs.declared.message.Message.{Message}
 use Rattle.vio_tag.specs.declared.message.MsgBody.TheVariants.{Ver}
 use Rattle.disk_model.specs.Sayings.{heard, said}
-use Rattle.disk_model.specs.TalkLog.{TalkLog, talk_of}
+use Rattle.disk_model.specs.TranscriptLog.{TranscriptLog, transcript_of}
 use Rattle.disk_model.specs.WireAt.{IsUp}
 use Rattle.channel_laws.proofs.ConversingRuns.{converse_keeps, first_converse, heard_messages, unheard}
 use Rattle.channel_laws.proofs.CoreRuns.{Knows, knows_run}
@@ -33,16 +33,16 @@ use Rattle.channel_laws.specs.Conversing.{Converse}
 use Rattle.channel_laws.specs.CoreLog.{CoreLog, after, nothing_yet}
 use Rattle.channel_laws.specs.EndCore.{EndCore}
 use Rattle.channel_laws.specs.Grounds.{Among}
-use Rattle.channel_laws.specs.LaneCore.{CoreEvent, CoreFits, CoreStep, LaneCore, end_of, fresh_core, role_of, talk_after, talk_behind}
+use Rattle.channel_laws.specs.LaneCore.{CoreEvent, CoreFits, CoreStep, LaneCore, end_of, fresh_core, role_of, transcript_after, transcript_behind}
 use Rattle.channel_laws.specs.OneSession.{AreOneSession}
 use Rattle.channel_laws.specs.Sides.{Sides, sides_of, swapped}
 use Rattle.channel_laws.specs.Standing.{EndStands}
 use Rattle.channel_laws.specs.Utterances.{SaysEach}
 
 -- THE TALK of a run is that of its log
-pub talk_is : (l : CoreLog) (events : List CoreEvent) → (log_of after l events).talk ≡ log_of talk_after l.talk events
-talk_is l [] = refl
-talk_is l (event ∷ events) = talk_is (after l event) events
+pub transcript_is : (l : CoreLog) (events : List CoreEvent) → (log_of after l events).transcript ≡ log_of transcript_after l.transcript events
+transcript_is l [] = refl
+transcript_is l (event ∷ events) = transcript_is (after l event) events
 
 -- AN OPEN SESSION heard a message
 not_among : (message : Message) (messages : List (List ℕ)) → messages ≡ [] → Among message messages → ⊥
@@ -73,25 +73,25 @@ both_in Up Resetting s is_a is_b opens = absurd (opens.hears_a is_a (λ up. let 
 both_in Resetting Up s is_a is_b opens = absurd (opens.hears_b is_b (λ up. let wrong : Up ≡ Resetting = sym up ∙ is_a in cc wrong))
 both_in Resetting Resetting s is_a is_b opens = absurd (opens.one is_a is_b)
 
-pub both_up : (Holds : Role → Sides → Type 0) (s : LaneCore) (l : CoreLog) → Knows Holds s l → Converse Initiator (sides_of s l.talk) → s.a.is_open ≡ true → s.b.is_open ≡ true
+pub both_up : (Holds : Role → Sides → Type 0) (s : LaneCore) (l : CoreLog) → Knows Holds s l → Converse Initiator (sides_of s l.transcript) → s.a.is_open ≡ true → s.b.is_open ≡ true
     → IsUp A s.wire.wire × IsUp B s.wire.wire
 both_up Holds s l knows c opened peer_opened =
     both_in s.wire.wire.end_a s.wire.wire.end_b s refl refl (record {
       closed_a = λ down. let wrong : true ≡ false = sym opened ∙ knows.up.closed A down in cc wrong;
       closed_b = λ down. let wrong : true ≡ false = sym peer_opened ∙ knows.up.closed B down in cc wrong;
       one = knows.up.one;
-      hears_a = λ up not. open_heard Initiator s.a l.talk.client knows.speaks.a.knows opened (unheard Initiator (sides_of s l.talk) c up not);
+      hears_a = λ up not. open_heard Initiator s.a l.transcript.client knows.speaks.a.knows opened (unheard Initiator (sides_of s l.transcript) c up not);
       hears_b = λ up not.
-          open_heard Responder s.b l.talk.server knows.speaks.b.knows peer_opened
-          (unheard Responder (swapped (sides_of s l.talk)) (converse_keeps.swaps Initiator (sides_of s l.talk) c) up not);
+          open_heard Responder s.b l.transcript.server knows.speaks.b.knows peer_opened
+          (unheard Responder (swapped (sides_of s l.transcript)) (converse_keeps.swaps Initiator (sides_of s l.transcript) c) up not);
     })
 
 -- THEY ARE ONE
 record AllDone (both : Bool) (d : Deal) (initiator responder : Handshake) : Type 0 where
-  mine : initiator ≡ shake_at both d Initiator AllSaid
-  theirs : responder ≡ shake_at both d Responder AllSaid
+  mine : initiator ≡ handshake_at both d Initiator AllSaid
+  theirs : responder ≡ handshake_at both d Responder AllSaid
 
-one_in : (both : Bool) (d : Deal) → d.asks.both_rings ≡ both → AreOneSession (shake_at both d Initiator AllSaid) (shake_at both d Responder AllSaid)
+one_in : (both : Bool) (d : Deal) → d.asks.both_rings ≡ both → AreOneSession (handshake_at both d Initiator AllSaid) (handshake_at both d Responder AllSaid)
 one_in true d is = record {
   sid = refl;
   minor = refl;
@@ -109,11 +109,11 @@ one_in false d is = record {
 }
 
 open_done : (both : Bool) (d : Deal) (role : Role) (c : EndCore) (turns : List Turn) → EndStands role c turns → c.is_open ≡ true → AtPlace both d role c.handshake turns
-    → c.handshake ≡ shake_at both d role AllSaid
+    → c.handshake ≡ handshake_at both d role AllSaid
 open_done both d role c turns stands is at =
     let opened = opened_phase c.handshake.phase (sym stands.opened ∙ is) in
     let last = open_at both role at.place (ap (λ (h : Handshake). h.phase) (sym at.is) ∙ opened) in
-    at.is ∙ ap (shake_at both d role) last
+    at.is ∙ ap (handshake_at both d role) last
 
 pub one_session : (asks answers : Offer) (s : LaneCore) (l : CoreLog) → Knows (Meets asks answers) s l → s.wire.forged ≡ false → s.a.is_open ≡ true → s.b.is_open ≡ true
     → AreOneSession s.a.handshake s.b.handshake
@@ -122,11 +122,11 @@ one_session asks answers s l knows clean opened peer_opened =
     let up = both_up (Meets asks answers) s l knows meets.converse opened peer_opened in
     let both = asks.both_rings in
     let d = deal asks answers meets.handshakes.sid in
-    let mine = open_done both d Initiator s.a l.talk.client knows.holds.ends.a opened
-    (meets.handshakes.mine up.0 (open_up Initiator s.a l.talk.client knows.holds.ends.a opened)) in
-    let theirs = open_done both d Responder s.b l.talk.server knows.holds.ends.b peer_opened
-    (meets.handshakes.theirs up.1 (open_up Responder s.b l.talk.server knows.holds.ends.b peer_opened)) in
-    subst (λ (h : Handshake). AreOneSession h s.b.handshake) (sym mine) (subst (AreOneSession (shake_at both d Initiator AllSaid)) (sym theirs) (one_in both d refl))
+    let mine = open_done both d Initiator s.a l.transcript.client knows.holds.ends.a opened
+    (meets.handshakes.mine up.0 (open_up Initiator s.a l.transcript.client knows.holds.ends.a opened)) in
+    let theirs = open_done both d Responder s.b l.transcript.server knows.holds.ends.b peer_opened
+    (meets.handshakes.theirs up.1 (open_up Responder s.b l.transcript.server knows.holds.ends.b peer_opened)) in
+    subst (λ (h : Handshake). AreOneSession h s.b.handshake) (sym mine) (subst (AreOneSession (handshake_at both d Initiator AllSaid)) (sym theirs) (one_in both d refl))
 
 -- ALONG EVERY RUN
 abbrev May : CoreLog → CoreEvent → Type 0
@@ -156,20 +156,20 @@ open_sessions_one entries asks answers events s fits matched run clean opened pe
 
 -- WHAT IS HEARD is as the other end has it
 said_of : (e : End) (s : LaneCore) (l : CoreLog) → Knows Converse s l
-    → SaysEach (role_of e) (end_of e s).handshake.phase (end_of e s).handshake.offer (end_of e s).handshake.draft (said (talk_of e l.talk))
+    → SaysEach (role_of e) (end_of e s).handshake.phase (end_of e s).handshake.offer (end_of e s).handshake.draft (said (transcript_of e l.transcript))
 said_of A s l knows = knows.speaks.a.utters.said
 said_of B s l knows = knows.speaks.b.utters.said
 
 pub said_as_held : (entries : ℕ) (asks answers : Offer) (events : List CoreEvent) (s : LaneCore) (e : End) → CoreFits entries asks answers
     → Run CoreStep (fresh_core entries asks answers) events s
-    → SaysEach (role_of e) (end_of e s).handshake.phase (end_of e s).handshake.offer (end_of e s).handshake.draft (said (talk_of e (talk_behind events)))
+    → SaysEach (role_of e) (end_of e s).handshake.phase (end_of e s).handshake.offer (end_of e s).handshake.draft (said (transcript_of e (transcript_behind events)))
 said_as_held entries asks answers events s e fits run =
-    subst (λ (talk : TalkLog). SaysEach (role_of e) (end_of e s).handshake.phase (end_of e s).handshake.offer (end_of e s).handshake.draft (said (talk_of e talk)))
-    (talk_is (nothing_yet entries) events) (said_of e s (log_of after (nothing_yet entries) events) (converse_knows entries asks answers events s fits run))
+    subst (λ (transcript : TranscriptLog). SaysEach (role_of e) (end_of e s).handshake.phase (end_of e s).handshake.offer (end_of e s).handshake.draft (said (transcript_of e transcript)))
+    (transcript_is (nothing_yet entries) events) (said_of e s (log_of after (nothing_yet entries) events) (converse_knows entries asks answers events s fits run))
 
 pub heard_as_said : (entries : ℕ) (asks answers : Offer) (events : List CoreEvent) (s : LaneCore) (e : End) → CoreFits entries asks answers
     → Run CoreStep (fresh_core entries asks answers) events s → s.wire.forged ≡ false → IsUp e s.wire.wire
-    → SaysEach (role_of (peer_of e)) (end_of (peer_of e) s).handshake.phase (end_of (peer_of e) s).handshake.offer (end_of (peer_of e) s).handshake.draft (heard (talk_of e (talk_behind events)))
+    → SaysEach (role_of (peer_of e)) (end_of (peer_of e) s).handshake.phase (end_of (peer_of e) s).handshake.offer (end_of (peer_of e) s).handshake.draft (heard (transcript_of e (transcript_behind events)))
 heard_as_said entries asks answers events s e fits run clean up =
-    each_front (role_of (peer_of e)) (end_of (peer_of e) s).handshake (heard (talk_of e (talk_behind events))) (said (talk_of (peer_of e) (talk_behind events)))
+    each_front (role_of (peer_of e)) (end_of (peer_of e) s).handshake (heard (transcript_of e (transcript_behind events))) (said (transcript_of (peer_of e) (transcript_behind events)))
     (heard_messages entries asks answers events s e fits run clean up) (said_as_held entries asks answers events s (peer_of e) fits run)

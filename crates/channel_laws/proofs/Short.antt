@@ -75,18 +75,18 @@ disk_long attr = refl
 net_long : (attr : NetAttr) → length (net_attr_bytes attr) ≡ 48
 net_long attr = refl
 
-said_long : (both : Bool) (a : Offer) → a.both_rings ≡ both → length (said_attributes a) ≡ 48
+said_long : (both : Bool) (a : Offer) (minor : ℕ) → a.both_rings ≡ both → length (said_attributes a minor) ≡ 48
 unfolding said_attributes
-said_long true a is = rw (is) (net_long (port_attributes a))
-said_long false a is = rw (is) (disk_long client_attributes)
+said_long true a minor is = rw (is) (net_long (port_attributes a minor))
+said_long false a minor is = rw (is) (disk_long client_attributes)
 
 answered_long : (both : Bool) (b : Offer) (minor : ℕ) (bytes : List ℕ) → b.both_rings ≡ both → length (answered_attributes b minor bytes) ≡ 48
 unfolding answered_attributes
-answered_long true b minor bytes is = rw (is) (net_long (port_attributes b))
+answered_long true b minor bytes is = rw (is) (net_long (port_attributes b minor))
 answered_long false b minor bytes is = rw (is) (disk_long (server_attributes b minor (disk_attr_of bytes)))
 
-pub said_short : (a : Offer) → length (said_attributes a) ≤ 48
-said_short a = omega (arith, said_long a.both_rings a refl)
+pub said_short : (a : Offer) (minor : ℕ) → length (said_attributes a minor) ≤ 48
+said_short a minor = omega (arith, said_long a.both_rings a minor refl)
 
 pub answered_short : (b : Offer) (minor : ℕ) (bytes : List ℕ) → length (answered_attributes b minor bytes) ≤ 48
 answered_short b minor bytes = omega (arith, answered_long b.both_rings b minor bytes refl)

@@ -12,17 +12,17 @@ use Rattle.ldc_packet.specs.Spelling.{ctrl_at, type_at}
 use Rattle.ldc_queue.specs.declared.end.End.TheVariants.{A, B}
 use Rattle.ldc_queue.specs.Fragments.{is_part}
 use Rattle.ldc_queue.specs.Numbered.{is_numbered}
-use Rattle.ldc_queue.specs.Talk.{Turn}
+use Rattle.ldc_queue.specs.Transcript.{Turn}
 use Rattle.vio_handshake.specs.declared.handshake.Handshake.{Handshake}
 use Rattle.vio_handshake.specs.declared.session.Offer.{Offer}
-use Rattle.vio_handshake.specs.Rules.{shake_sent}
-use Rattle.vio_handshake.specs.State.{begun, joined_shake, shake_up}
+use Rattle.vio_handshake.specs.Rules.{handshake_sent}
+use Rattle.vio_handshake.specs.State.{begun, joined_handshake, handshake_up}
 use Rattle.vio_tag.specs.declared.cause.Cause.{Cause}
 use Rattle.vio_tag.specs.declared.message.Message.{Message}
-use Rattle.disk_model.specs.TalkLog.{TalkLog, is_rdx, more_if, nothing_said}
+use Rattle.disk_model.specs.TranscriptLog.{TranscriptLog, is_rdx, more_if, nothing_said}
 use Rattle.disk_model.specs.WireEvent.{Blocked, ByRestart, ByScript, ByStep, ByTick, Declines, Giver, Idle, Injected, Joined, Lost, Poked, Reset, Sent, Took, giver}
-use Rattle.channel_laws.proofs.EndCases.{EndTook, NoMessage, PutControl, PutMore, PutOwn, PutReady, PutShake, PutWhat, Rises, TookOwn, TookShake, TookWhat, end_put, end_took}
-use Rattle.channel_laws.proofs.EndResting.{held_shake}
+use Rattle.channel_laws.proofs.EndCases.{EndTook, NoMessage, PutControl, PutMore, PutOwn, PutReady, PutHandshake, PutWhat, Rises, TookOwn, TookHandshake, TookWhat, end_put, end_took}
+use Rattle.channel_laws.proofs.EndResting.{held_handshake}
 use Rattle.channel_laws.proofs.EndStanding.{fresh_end_stands, held_stands, stands_step}
 use Rattle.channel_laws.proofs.HandshakeCases.{AttributesAgreed, AttributesAsked, AttributesRefused, Declined, OneRingAgreed, Opened, Opens, Owes, OwnReadyFollows, PeerAgreed, ReadyAgreed, ReadyAsked, ReadyFollows, RingAgreed, RingAsked, RingFollows, RingRefused, RowSent, RowTaken, VersionAgreed, VersionAsked, VersionRefused, row_sent}
 use Rattle.channel_laws.proofs.Lifting.{EndsAll, ends_step}
@@ -30,7 +30,7 @@ use Rattle.channel_laws.proofs.LinkCases.{canonical_is, put_quiet, ready_loud}
 use Rattle.channel_laws.specs.CoreLog.{comings_after, renewed_by}
 use Rattle.channel_laws.specs.EndCore.{Begins, EndCore, EndMove, Fails, Hears, Renews, Says, Stays, Waits}
 use Rattle.channel_laws.specs.EndStep.{EndHears, EndSays, EndStep}
-use Rattle.channel_laws.specs.LaneCore.{Beside, Closes, CoreEvent, CoreFits, CoreStep, LaneCore, OnChannel, fresh_core, move_of, reset_move, talk_after}
+use Rattle.channel_laws.specs.LaneCore.{Beside, Closes, CoreEvent, CoreFits, CoreStep, LaneCore, OnChannel, fresh_core, move_of, reset_move, transcript_after}
 use Rattle.channel_laws.specs.Standing.{EndStands}
 
 -- A PACKET that was put is RDX, or isn't
@@ -85,10 +85,10 @@ sid_after Renews n = 0
 sid_after (Says packet opens) n = next_if (is_rdx packet) n
 sid_after _ n = n
 
-up_last : (role : Role) (h : Handshake) → h.role ≡ role → (role ≡ Responder → (shake_up h).last_sid ≡ h.last_sid) × (role ≡ Initiator → (shake_up h).last_sid ≡ (h.last_sid + 1) % 4294967296)
+up_last : (role : Role) (h : Handshake) → h.role ≡ role → (role ≡ Responder → (handshake_up h).last_sid ≡ h.last_sid) × (role ≡ Initiator → (handshake_up h).last_sid ≡ (h.last_sid + 1) % 4294967296)
 up_last role h is = (
-  λ responds. ap (λ (r : Role). (begun r (joined_shake h)).last_sid) (is ∙ responds),
-  λ asks. ap (λ (r : Role). (begun r (joined_shake h)).last_sid) (is ∙ asks),
+  λ responds. ap (λ (r : Role). (begun r (joined_handshake h)).last_sid) (is ∙ responds),
+  λ asks. ap (λ (r : Role). (begun r (joined_handshake h)).last_sid) (is ∙ asks),
 )
 
 hears_last : (role : Role) (c t : EndCore) (turns : List Turn) (packet : List ℕ) (opens : Bool) → EndStands role c turns → EndHears role c packet opens t
@@ -102,7 +102,7 @@ hears_last role c t turns packet opens stands hears = by_what took.what
     by_what (NoMessage same quiet handshake not is_open) = ap (λ (h : Handshake). h.last_sid) handshake
     by_what (Rises role_is down up quiet handshake not is_open) = ap (λ (h : Handshake). h.last_sid) handshake ∙ (up_last role c.handshake stands.handshake.role_is).0 role_is
     by_what (TookOwn message took_message own handshake not is_open) = ap (λ (h : Handshake). h.last_sid) handshake
-    by_what (TookShake message took_message shake is_open) = row_last c.handshake t.handshake message opens shake.row
+    by_what (TookHandshake message took_message handshake is_open) = row_last c.handshake t.handshake message opens handshake.row
 
 -- what a packet that it says is, and what becomes of its count
 record SaysSo (role : Role) (c t : EndCore) (packet : List ℕ) : Type 0 where
@@ -116,7 +116,7 @@ says_last role c t turns packet opens stands says = by_what (end_put role c t tu
     holds = held_stands role c says.held turns says.what stands says.holds
 
     was : says.held.handshake.last_sid ≡ c.handshake.last_sid
-    was = ap (λ (h : Handshake). h.last_sid) (held_shake c says.held says.what says.holds)
+    was = ap (λ (h : Handshake). h.last_sid) (held_handshake c says.held says.what says.holds)
 
     keeps : is_rdx packet ≡ false → t.handshake.last_sid ≡ says.held.handshake.last_sid → SaysSo role c t packet
     keeps not same = record { last = same ∙ was ∙ ap (λ (b : Bool). next_if b c.handshake.last_sid) (sym not); never = λ is. not }
@@ -133,8 +133,8 @@ says_last role c t turns packet opens stands says = by_what (end_put role c t tu
         }
     by_what (PutMore at link more handshake not is_open) = keeps (part_rdx packet more.part.part) (ap (λ (h : Handshake). h.last_sid) handshake)
     by_what (PutOwn own at link last handshake not is_open) = keeps (part_rdx packet last.part.part) (ap (λ (h : Handshake). h.last_sid) handshake)
-    by_what (PutShake own at link last handshake flag is_open) =
-        keeps (part_rdx packet last.part.part) (ap (λ (h : Handshake). h.last_sid) handshake ∙ sent_last says.held.handshake (shake_sent says.held.handshake) _ (row_sent says.held.handshake))
+    by_what (PutHandshake own at link last handshake flag is_open) =
+        keeps (part_rdx packet last.part.part) (ap (λ (h : Handshake). h.last_sid) handshake ∙ sent_last says.held.handshake (handshake_sent says.held.handshake) _ (row_sent says.held.handshake))
 
 -- EACH MOVE
 last_step : (role : Role) (c : EndCore) (move : EndMove) (t : EndCore) (turns : List Turn) → EndStands role c turns → EndStep role c move t
@@ -144,7 +144,7 @@ last_step role c Renews t turns stands step = ap (λ (h : Handshake). h.last_sid
 last_step role c (Fails cause packet) t turns stands step = ap (λ (h : Handshake). h.last_sid) step.1.handshake
 last_step role c (Hears packet opens) t turns stands step = hears_last role c t turns packet opens stands step
 last_step role c (Says packet opens) t turns stands step = (says_last role c t turns packet opens stands step).last
-last_step role c Waits t turns stands step = ap (λ (h : Handshake). h.last_sid) (held_shake c t step.what step.holds)
+last_step role c Waits t turns stands step = ap (λ (h : Handshake). h.last_sid) (held_handshake c t step.what step.holds)
 last_step role c Stays t turns stands step = ap (λ (h : Handshake). h.last_sid) step.handshake
 
 zero_step : (c : EndCore) (move : EndMove) (t : EndCore) (turns : List Turn) → EndStands Responder c turns → EndStep Responder c move t → c.handshake.last_sid ≡ 0
@@ -192,22 +192,22 @@ event_count Beside last n is = is
 
 -- ALONG EVERY RUN
 record SidLog : Type 0 where
-  talk : TalkLog
+  transcript : TranscriptLog
   comings : ℕ
 
 abbrev sid_log_after : SidLog → CoreEvent → SidLog
-sid_log_after l event = record { talk = talk_after l.talk event; comings = comings_after l.comings event }
+sid_log_after l event = record { transcript = transcript_after l.transcript event; comings = comings_after l.comings event }
 
 record SidsStand (s : LaneCore) (l : SidLog) : Type 0 where
-  ends : EndsAll EndStands s l.talk
+  ends : EndsAll EndStands s l.transcript
   last : s.a.handshake.last_sid ≡ l.comings % 4294967296
   zero : s.b.handshake.last_sid ≡ 0
 
 sids_step : (s : LaneCore) (l : SidLog) (event : CoreEvent) (t : LaneCore) → SidsStand s l → CoreStep s event t → SidsStand t (sid_log_after l event)
 sids_step s l event t stand step = record {
-  ends = ends_step EndStands (λ role c move x turns stands moves. stands_step role c move x turns stands moves) s event t l.talk stand.ends step;
-  last = last_step Initiator s.a (move_of A event) t.a l.talk.client stand.ends.a step.a ∙ event_count event s.a.handshake.last_sid l.comings stand.last;
-  zero = zero_step s.b (move_of B event) t.b l.talk.server stand.ends.b step.b stand.zero;
+  ends = ends_step EndStands (λ role c move x turns stands moves. stands_step role c move x turns stands moves) s event t l.transcript stand.ends step;
+  last = last_step Initiator s.a (move_of A event) t.a l.transcript.client stand.ends.a step.a ∙ event_count event s.a.handshake.last_sid l.comings stand.last;
+  zero = zero_step s.b (move_of B event) t.b l.transcript.server stand.ends.b step.b stand.zero;
 }
 
 comings_is : (l : SidLog) (events : List CoreEvent) → (log_of sid_log_after l events).comings ≡ log_of comings_after l.comings events
@@ -215,11 +215,11 @@ comings_is l [] = refl
 comings_is l (event ∷ events) = comings_is (sid_log_after l event) events
 
 sids_run : (entries : ℕ) (asks answers : Offer) (events : List CoreEvent) (s : LaneCore) → CoreFits entries asks answers
-    → Run CoreStep (fresh_core entries asks answers) events s → SidsStand s (log_of sid_log_after (record { talk = nothing_said; comings = 0 }) events)
+    → Run CoreStep (fresh_core entries asks answers) events s → SidsStand s (log_of sid_log_after (record { transcript = nothing_said; comings = 0 }) events)
 sids_run entries asks answers events s fits run =
     (run_lawful CoreStep (λ (l : SidLog) (e : CoreEvent). ⊤) sid_log_after SidsStand
     (λ (x : LaneCore) (l : SidLog) (e : CoreEvent) (y : LaneCore) stand step. (tt, sids_step x l e y stand step))
-    (fresh_core entries asks answers) s (record { talk = nothing_said; comings = 0 }) events
+    (fresh_core entries asks answers) s (record { transcript = nothing_said; comings = 0 }) events
     (record {
       ends = record { a = fresh_end_stands Initiator asks fits.asks_fit.form.most; b = fresh_end_stands Responder answers fits.answers_fit.form.most };
       last = omega arith;
@@ -229,7 +229,7 @@ sids_run entries asks answers events s fits run =
 pub last_sid_counts : (entries : ℕ) (asks answers : Offer) (events : List CoreEvent) (s : LaneCore) → CoreFits entries asks answers
     → Run CoreStep (fresh_core entries asks answers) events s → s.a.handshake.last_sid ≡ log_of comings_after 0 events % 4294967296
 last_sid_counts entries asks answers events s fits run =
-    (sids_run entries asks answers events s fits run).last ∙ ap (λ (n : ℕ). n % 4294967296) (comings_is (record { talk = nothing_said; comings = 0 }) events)
+    (sids_run entries asks answers events s fits run).last ∙ ap (λ (n : ℕ). n % 4294967296) (comings_is (record { transcript = nothing_said; comings = 0 }) events)
 
 pub last_sid_none : (entries : ℕ) (asks answers : Offer) (events : List CoreEvent) (s : LaneCore) → CoreFits entries asks answers
     → Run CoreStep (fresh_core entries asks answers) events s → s.b.handshake.last_sid ≡ 0

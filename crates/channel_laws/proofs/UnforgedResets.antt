@@ -10,22 +10,22 @@ use Rattle.ldc_link.specs.Taking.{Heard, LinkTake, TakesBytes, Unheard}
 use Rattle.ldc_queue.specs.declared.end.ChannelState.TheVariants.{Up}
 use Rattle.ldc_queue.specs.declared.end.End.{End}
 use Rattle.ldc_queue.specs.declared.end.End.TheVariants.{A, B}
-use Rattle.ldc_queue.specs.Talk as turn
+use Rattle.ldc_queue.specs.Transcript as turn
 use Rattle.ldc_queue.specs.Wire.{waiting_for}
-use Rattle.ldc_queue.specs.Talk.{Turn}
+use Rattle.ldc_queue.specs.Transcript.{Turn}
 use Rattle.vio_handshake.specs.declared.handshake.Handshake.{Handshake}
 use Rattle.vio_handshake.specs.declared.session.Offer.{Offer}
 use Rattle.vio_handshake.specs.Offers.{Match}
-use Rattle.vio_handshake.specs.Rules.{Faults, Goes, GoesOpen, ShakeTake, shake_take}
+use Rattle.vio_handshake.specs.Rules.{Faults, Goes, GoesOpen, HandshakeTake, handshake_take}
 use Rattle.vio_handshake.proofs.PlaceRows.{GoesTo, take_at}
-use Rattle.vio_handshake.proofs.Places.{AllSaid, Place, message_at, next, owner, shake_at}
+use Rattle.vio_handshake.proofs.Places.{AllSaid, Place, message_at, next, owner, handshake_at}
 use Rattle.vio_tag.proofs.NoFault.{spelled_no_fault}
 use Rattle.vio_tag.specs.declared.cause.Cause.{Cause}
 use Rattle.vio_tag.specs.declared.message.Message.{Message}
 use Rattle.vio_tag.specs.declared.message.TagFault.{TagFault}
 use Rattle.vio_tag.specs.Decoding.{Decodes}
 use Rattle.disk_model.specs.Sayings.{said}
-use Rattle.disk_model.specs.TalkLog.{TalkLog, talk_of}
+use Rattle.disk_model.specs.TranscriptLog.{TranscriptLog, transcript_of}
 use Rattle.disk_model.specs.WireAt.{IsOwnReset, MayReset}
 use Rattle.disk_model.specs.WireEvent.{ByStep, Giver, Reset, giver}
 use Rattle.channel_laws.proofs.ConversingRuns.{HeardFrom, hears_next}
@@ -39,7 +39,7 @@ use Rattle.channel_laws.proofs.LinkCases.{ControlHeard, LinkHeard, PartHeard, Re
 use Rattle.channel_laws.proofs.LinkRefuses.{link_refuses}
 use Rattle.channel_laws.proofs.PartsSaid.{PartsSaid, parts_run}
 use Rattle.channel_laws.proofs.Script.{bytes_at, not_last}
-use Rattle.channel_laws.proofs.Sessions.{meets_knows, talk_is}
+use Rattle.channel_laws.proofs.Sessions.{meets_knows, transcript_is}
 use Rattle.channel_laws.proofs.TurnCases.{HearsOn, hears_on}
 use Rattle.channel_laws.specs.CoreLog.{after, nothing_yet}
 use Rattle.channel_laws.specs.EndCore.{EndCore}
@@ -55,7 +55,7 @@ whole_up k m packet bytes none whole (ControlHeard next taken is) = let wrong : 
 whole_up k m packet bytes none whole (ReadyHeard at ready number is) = let wrong : None ≡ Some bytes = sym none ∙ sym (ap (λ (x : LinkState). x.whole) is) ∙ whole in absurd (cc wrong)
 whole_up k m packet bytes none whole (PartHeard at part may number is) = ap is_established at
 
-never_refused : (take answer : ShakeTake) (h : Handshake) (cause : Cause) → take ≡ answer → GoesTo answer h → take ≡ Faults cause → ⊥
+never_refused : (take answer : HandshakeTake) (h : Handshake) (cause : Cause) → take ≡ answer → GoesTo answer h → take ≡ Faults cause → ⊥
 never_refused take answer h cause is (inl goes) refused = let wrong : Goes h ≡ Faults cause = sym goes ∙ sym is ∙ refused in cc wrong
 never_refused take answer h cause is (inr goes) refused = let wrong : GoesOpen h ≡ Faults cause = sym goes ∙ sym is ∙ refused in cc wrong
 
@@ -103,19 +103,19 @@ side_fails asks answers role s packet cause fits stands meets parts up first fai
             by_result : (x : Result Message TagFault) → Decodes bytes x → DecodedFails (risen_at role c.link m c.handshake) c.is_open x cause → ⊥
             by_result (Ok one) reads (inl refused) =
                 let named = message_is asks answers meets.handshakes.sid at.place one bytes fits meets.handshakes.small is reads.message.0 reads.message.1 in
-                never_refused (shake_take (risen_at role c.link m c.handshake) one) (shake_take (shake_at both (deal asks answers meets.handshakes.sid) role at.place) (message_at (deal asks answers meets.handshakes.sid) at.place))
-                (shake_at both (deal asks answers meets.handshakes.sid) role (next both at.place)) cause
-                (ap (λ (h : Handshake). shake_take h one) (same ∙ at.is) ∙ ap (shake_take (shake_at both (deal asks answers meets.handshakes.sid) role at.place)) named)
+                never_refused (handshake_take (risen_at role c.link m c.handshake) one) (handshake_take (handshake_at both (deal asks answers meets.handshakes.sid) role at.place) (message_at (deal asks answers meets.handshakes.sid) at.place))
+                (handshake_at both (deal asks answers meets.handshakes.sid) role (next both at.place)) cause
+                (ap (λ (h : Handshake). handshake_take h one) (same ∙ at.is) ∙ ap (handshake_take (handshake_at both (deal asks answers meets.handshakes.sid) role at.place)) named)
                 (take_at both (deal asks answers meets.handshakes.sid) role at.place (deal_fits asks answers meets.handshakes.sid fits.matched) at.here turn_is) refused
             by_result (Ok one) reads (inr own) = not_last (other role) at.place turn_is (never_open own.opened)
             by_result (Err fault) reads is_fault =
                 let spells = message_at_spelled asks answers meets.handshakes.sid at.place bytes fits meets.handshakes.small is in
                 let wrong : Some fault ≡ None = sym reads.fault ∙ spelled_no_fault bytes (message_at (deal asks answers meets.handshakes.sid) at.place) spells.0 spells.1 in cc wrong
 
-        open_there : (n : Place) → n ≡ AllSaid → is_open_in (shake_at both (deal asks answers meets.handshakes.sid) role n).phase ≡ true
-        open_there n is = ap (λ (x : Place). is_open_in (shake_at both (deal asks answers meets.handshakes.sid) role x).phase) is ∙ by_role role
+        open_there : (n : Place) → n ≡ AllSaid → is_open_in (handshake_at both (deal asks answers meets.handshakes.sid) role n).phase ≡ true
+        open_there n is = ap (λ (x : Place). is_open_in (handshake_at both (deal asks answers meets.handshakes.sid) role x).phase) is ∙ by_role role
           where
-            by_role : (r : Role) → is_open_in (shake_at both (deal asks answers meets.handshakes.sid) r AllSaid).phase ≡ true
+            by_role : (r : Role) → is_open_in (handshake_at both (deal asks answers meets.handshakes.sid) r AllSaid).phase ≡ true
             by_role Initiator = refl
             by_role Responder = refl
 
@@ -164,8 +164,8 @@ pub unforged_reset : (entries : ℕ) (asks answers : Offer) (events : List CoreE
     → IsOwnReset s.wire cause ⊎ LiesInSession (end_of e s) packet
 unforged_reset entries asks answers events s e cause packet lost t fits matched run clean by step = by_end e step
   where
-    l_talk : TalkLog
-    l_talk = (log_of after (nothing_yet entries) events).talk
+    l_transcript : TranscriptLog
+    l_transcript = (log_of after (nothing_yet entries) events).transcript
 
     knows : Knows (Meets asks answers) s (log_of after (nothing_yet entries) events)
     knows = meets_knows entries asks answers events s fits matched run
@@ -173,9 +173,9 @@ unforged_reset entries asks answers events s e cause packet lost t fits matched 
     matches : Matches asks answers
     matches = record { asks_fit = fits.asks_fit; answers_fit = fits.answers_fit; matched = matched }
 
-    parts : (x : End) → PartsSaid (talk_of x l_talk)
-    parts A = subst (λ (talk : TalkLog). PartsSaid talk.client) (sym (talk_is (nothing_yet entries) events)) (parts_run entries asks answers events s fits run).a.parts
-    parts B = subst (λ (talk : TalkLog). PartsSaid talk.server) (sym (talk_is (nothing_yet entries) events)) (parts_run entries asks answers events s fits run).b.parts
+    parts : (x : End) → PartsSaid (transcript_of x l_transcript)
+    parts A = subst (λ (transcript : TranscriptLog). PartsSaid transcript.client) (sym (transcript_is (nothing_yet entries) events)) (parts_run entries asks answers events s fits run).a.parts
+    parts B = subst (λ (transcript : TranscriptLog). PartsSaid transcript.server) (sym (transcript_is (nothing_yet entries) events)) (parts_run entries asks answers events s fits run).b.parts
 
     fails_a : (g : Giver) → g ≡ ByStep → EndStep Initiator s.a (reset_move g cause packet) t.a → EndFails Initiator s.a cause packet
     fails_a g is moves = (subst (λ (x : Giver). EndStep Initiator s.a (reset_move x cause packet) t.a) is moves).0
@@ -187,11 +187,11 @@ unforged_reset entries asks answers events s e cause packet lost t fits matched 
     by_end A moves =
         let may : MayReset ByStep packet A s.wire.wire = subst (λ (g : Giver). MayReset g packet A s.wire.wire) by moves.stands in
         own_reset s.wire.lossy s.a packet s cause refl
-        (by_packet asks answers Initiator (sides_of s l_talk) packet cause matches (record { mine = knows.holds.ends.a; theirs = knows.holds.ends.b }) (knows.holds.holds clean) (parts B) may.0
+        (by_packet asks answers Initiator (sides_of s l_transcript) packet cause matches (record { mine = knows.holds.ends.a; theirs = knows.holds.ends.b }) (knows.holds.holds clean) (parts B) may.0
         (carried A s packet may) (fails_a (giver cause) by moves.a))
     by_end B moves =
         let may : MayReset ByStep packet B s.wire.wire = subst (λ (g : Giver). MayReset g packet B s.wire.wire) by moves.stands in
         own_reset s.wire.lossy s.b packet s cause refl
-        (by_packet asks answers Responder (swapped (sides_of s l_talk)) packet cause matches (record { mine = knows.holds.ends.b; theirs = knows.holds.ends.a })
-        ((meets_keep asks answers matches).swaps Initiator (sides_of s l_talk) (knows.holds.holds clean)) (parts A) may.0
+        (by_packet asks answers Responder (swapped (sides_of s l_transcript)) packet cause matches (record { mine = knows.holds.ends.b; theirs = knows.holds.ends.a })
+        ((meets_keep asks answers matches).swaps Initiator (sides_of s l_transcript) (knows.holds.holds clean)) (parts A) may.0
         (carried B s packet may) (fails_b (giver cause) by moves.b))

@@ -1,4 +1,4 @@
--- Two ends that talk over a channel which nobody forges: each direction is one stream, and fewer packets than the numbers of 32 bits tell
+-- Two ends that speak over a channel which nobody forges: each direction is one stream, and fewer packets than the numbers of 32 bits tell
 -- apart are lost between two that an end takes.
 use Rattle.std.specs.Prelude.{◌≡◌, ℕ, ◌+◌, ◌*◌, ◌≤◌, Bool, true, false, List, [], ◌∷◌, length}
 use Rattle.ldc_link.specs.declared.phase.LinkPhase.{LinkPhase}
@@ -72,8 +72,8 @@ pub record FewLost (role : Role) (s : Sides) (lost : ℕ) : Type 0 where
 abbrev pub queue_log : Sides → ℕ → ℕ → QueueLog
 queue_log s lost_mine lost_theirs = record {
   wire = record { end_a = s.mine.state; end_b = s.theirs.state; to_a = s.mine.waiting; to_b = s.theirs.waiting };
-  talk_a = s.mine.turns;
-  talk_b = s.theirs.turns;
+  transcript_a = s.mine.turns;
+  transcript_b = s.theirs.turns;
   lost_a = lost_mine;
   lost_b = lost_theirs;
 }

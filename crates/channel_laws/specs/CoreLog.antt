@@ -1,7 +1,7 @@
 -- What a run comes to, counted from its events alone: the wire, and what each end said and heard since it last began; and where an event may
 -- stand by that.
 use Rattle.std.specs.Prelude.{◌≡◌, false, ℕ, ◌+◌, ◌≤◌, length, ⊤}
-use Rattle.disk_model.specs.TalkLog.{TalkLog, is_rdx, more_if, nothing_said}
+use Rattle.disk_model.specs.TranscriptLog.{TranscriptLog, is_rdx, more_if, nothing_said}
 use Rattle.disk_model.specs.WireAt.{IsUp, WireHeardAt, WireSaidAt}
 use Rattle.disk_model.specs.WireEvent.{Blocked, ByRestart, ByScript, ByStep, ByTick, Giver, Reset, Sent, WireEvent, giver}
 use Rattle.disk_model.specs.WireLog.{WireLog, nothing_on_wire}
@@ -9,18 +9,18 @@ use Rattle.ldc_queue.specs.declared.end.ChannelState.TheVariants.{Down, Resettin
 use Rattle.ldc_queue.specs.declared.end.End.{End}
 use Rattle.ldc_queue.specs.declared.end.End.TheVariants.{A}
 use Rattle.ldc_queue.specs.Wire.{peer_of, state_of, waiting_for}
-use Rattle.channel_laws.specs.LaneCore.{Closes, CoreEvent, CoreStands, LaneCore, OnChannel, end_of, talk_after, wire_after}
+use Rattle.channel_laws.specs.LaneCore.{Closes, CoreEvent, CoreStands, LaneCore, OnChannel, end_of, transcript_after, wire_after}
 
 pub record CoreLog : Type 0 where
   pub entries : ℕ
   pub wire : WireLog
-  pub talk : TalkLog
+  pub transcript : TranscriptLog
 
 abbrev pub nothing_yet : ℕ → CoreLog
-nothing_yet entries = record { entries = entries; wire = nothing_on_wire; talk = nothing_said }
+nothing_yet entries = record { entries = entries; wire = nothing_on_wire; transcript = nothing_said }
 
 abbrev pub after : CoreLog → CoreEvent → CoreLog
-after l event = record { entries = l.entries; wire = wire_after l.wire event; talk = talk_after l.talk event }
+after l event = record { entries = l.entries; wire = wire_after l.wire event; transcript = transcript_after l.transcript event }
 
 abbrev pub OfChannel : (WireEvent → Type 0) → CoreEvent → Type 0
 OfChannel May (OnChannel event) = May event
@@ -28,10 +28,10 @@ OfChannel May _ = ⊤
 
 -- each packet that is said, and each that is heard
 abbrev pub SaidAt : CoreLog → CoreEvent → Type 0
-SaidAt l event = OfChannel (WireSaidAt l.talk) event
+SaidAt l event = OfChannel (WireSaidAt l.transcript) event
 
 abbrev pub HeardAt : CoreLog → CoreEvent → Type 0
-HeardAt l event = OfChannel (WireHeardAt l.talk) event
+HeardAt l event = OfChannel (WireHeardAt l.transcript) event
 
 -- THE TABLE of states and queues: where a packet finds no room, the queue holds as many as it can
 abbrev pub TableAt : CoreLog → CoreEvent → Type 0

@@ -2,7 +2,7 @@
 use Rattle.std.specs.Prelude.{◌≡◌, ◌+◌, ◌≤◌, Bool, true, false, not, List, [], ◌++◌, ℕ, length, Some}
 use Rattle.ldc_link.specs.LinkState.{LinkState}
 use Rattle.ldc_queue.specs.Messages.{is_empty}
-use Rattle.ldc_queue.specs.Talk.{Turn}
+use Rattle.ldc_queue.specs.Transcript.{Turn}
 use Rattle.vio_handshake.specs.declared.handshake.Handshake.{Handshake}
 use Rattle.vio_handshake.specs.declared.handshake.Phase.TheVariants.{Open}
 use Rattle.vio_tag.specs.declared.message.Message.{Message}

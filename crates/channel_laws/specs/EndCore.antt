@@ -5,7 +5,7 @@ use Rattle.ldc_link.specs.LinkState.{LinkState, fresh_link, is_up}
 use Rattle.ldc_queue.specs.Messages.{is_empty}
 use Rattle.vio_handshake.specs.declared.handshake.Handshake.{Handshake}
 use Rattle.vio_handshake.specs.declared.session.Offer.{Offer}
-use Rattle.vio_handshake.specs.State.{fresh_shake}
+use Rattle.vio_handshake.specs.State.{fresh_handshake}
 use Rattle.vio_tag.specs.declared.cause.Cause.{Cause}
 
 pub record EndCore : Type 0 where
@@ -22,7 +22,7 @@ pub record EndCore : Type 0 where
 abbrev pub fresh_end : Role → Offer → EndCore
 fresh_end role offer = record {
   link = fresh_link role;
-  handshake = fresh_shake role offer;
+  handshake = fresh_handshake role offer;
   offer = offer;
   is_open = false;
   own = false;

@@ -7,8 +7,8 @@ use Rattle.ldc_link.specs.LinkState.{LinkState, cleared, fresh_link, is_up, join
 use Rattle.ldc_link.specs.Putting.{owes}
 use Rattle.ldc_link.specs.Taking.{Heard, LinkTake, TakesBytes, Unheard}
 use Rattle.vio_handshake.specs.declared.handshake.Handshake.{Handshake}
-use Rattle.vio_handshake.specs.Rules.{Faults, Goes, GoesOpen, ShakeTake, shake_take, sid_fault}
-use Rattle.vio_handshake.specs.State.{fresh_shake, joined_shake}
+use Rattle.vio_handshake.specs.Rules.{Faults, Goes, GoesOpen, HandshakeTake, handshake_take, sid_fault}
+use Rattle.vio_handshake.specs.State.{fresh_handshake, joined_handshake}
 use Rattle.vio_tag.specs.declared.cause.Cause.{Cause}
 use Rattle.vio_tag.specs.declared.cause.Cause.TheVariants as the_cause
 use Rattle.vio_tag.specs.declared.message.Message.{Message}
@@ -17,20 +17,20 @@ use Rattle.vio_tag.specs.declared.message.MsgBody.TheVariants.{DringData, Mcast}
 use Rattle.vio_tag.specs.declared.message.TagFault.{TagFault}
 use Rattle.vio_tag.specs.Decoding.{Decodes}
 use Rattle.vio_tag.specs.Spelling.{canonical}
-use Rattle.disk_model.specs.EndPuts.{PutKind, put_kind, put_opens, shake_behind, shake_risen}
+use Rattle.disk_model.specs.EndPuts.{PutKind, put_kind, put_opens, handshake_behind, handshake_risen}
 use Rattle.channel_laws.specs.EndCore.{Begins, EndCore, EndMove, Fails, Hears, Renews, Says, Stays, Waits, holds}
 
 -- IT BEGINS ANEW, and its count of sids goes on; or its values are made new, and the count with them
 pub record EndBegins (c t : EndCore) : Type 0 where
   pub link : t.link ≡ joined_link c.link
-  pub handshake : t.handshake ≡ joined_shake c.handshake
+  pub handshake : t.handshake ≡ joined_handshake c.handshake
   pub offer : t.offer ≡ c.offer
   pub closed : t.is_open ≡ false
   pub more : t.more ≡ 0
 
 pub record EndRenews (role : Role) (c t : EndCore) : Type 0 where
   pub link : t.link ≡ fresh_link role
-  pub handshake : t.handshake ≡ fresh_shake role c.offer
+  pub handshake : t.handshake ≡ fresh_handshake role c.offer
   pub offer : t.offer ≡ c.offer
   pub closed : t.is_open ≡ false
   pub more : t.more ≡ 0
@@ -38,7 +38,7 @@ pub record EndRenews (role : Role) (c t : EndCore) : Type 0 where
 -- what both come to
 pub record EndAnew (role : Role) (c t : EndCore) : Type 0 where
   pub link : t.link ≡ fresh_link role
-  pub handshake : (t.handshake ≡ joined_shake c.handshake) ⊎ (t.handshake ≡ fresh_shake role c.offer)
+  pub handshake : (t.handshake ≡ joined_handshake c.handshake) ⊎ (t.handshake ≡ fresh_handshake role c.offer)
   pub offer : t.offer ≡ c.offer
   pub closed : t.is_open ≡ false
 
@@ -105,7 +105,7 @@ pub record EndSays (role : Role) (c : EndCore) (packet : List ℕ) (opens : Bool
   pub what : Holding
   pub holds : Holds c what held
   pub puts : Puts held.link packet t.link
-  pub handshake : t.handshake ≡ shake_behind (kind_of held) held.handshake
+  pub handshake : t.handshake ≡ handshake_behind (kind_of held) held.handshake
   pub opens_is : opens ≡ put_opens (kind_of held) held.handshake
   pub is_open : t.is_open ≡ opened_by role opens held.is_open
   pub offer : t.offer ≡ held.offer
@@ -121,10 +121,10 @@ pub record MayTake (c : EndCore) : Type 0 where
 
 abbrev pub risen_at : Role → LinkState → LinkState → Handshake → Handshake
 risen_at Initiator before behind h = h
-risen_at Responder before behind h = shake_risen before behind h
+risen_at Responder before behind h = handshake_risen before behind h
 
 -- a message of its handshake, which may open a responder's session, never an initiator's
-abbrev pub HandshakeTakes : Role → Bool → ShakeTake → Bool → EndCore → Type 0
+abbrev pub HandshakeTakes : Role → Bool → HandshakeTake → Bool → EndCore → Type 0
 HandshakeTakes role was (Goes h) opens t = (opens ≡ false) × (t.handshake ≡ h) × (t.is_open ≡ was)
 HandshakeTakes Initiator was (GoesOpen h) opens t = (opens ≡ false) × (t.handshake ≡ h) × (t.is_open ≡ was)
 HandshakeTakes Responder was (GoesOpen h) opens t = (opens ≡ true) × (t.handshake ≡ h) × (t.is_open ≡ true)
@@ -140,7 +140,7 @@ abbrev pub HearsOwn : Handshake → Bool → Message → Bool → EndCore → Ty
 HearsOwn h was message opens t = IsOwn h was message × (opens ≡ false) × (t.handshake ≡ h) × (t.is_open ≡ was)
 
 abbrev pub HearsDecoded : Role → Handshake → Bool → Result Message TagFault → Bool → EndCore → Type 0
-HearsDecoded role h was (Ok message) opens t = HandshakeTakes role was (shake_take h message) opens t ⊎ HearsOwn h was message opens t
+HearsDecoded role h was (Ok message) opens t = HandshakeTakes role was (handshake_take h message) opens t ⊎ HearsOwn h was message opens t
 HearsDecoded role h was (Err fault) opens t = ⊥
 
 -- the message that became whole by the packet, if one did
@@ -162,7 +162,7 @@ pub record EndHears (role : Role) (c : EndCore) (packet : List ℕ) (opens : Boo
 -- IT RESETS ITSELF for what its link, the message's codec or its handshake refuses of a packet; or where its session is open for a cause of
 -- that, which may lie in a message of it or in none
 abbrev pub DecodedFails : Handshake → Bool → Result Message TagFault → Cause → Type 0
-DecodedFails h was (Ok message) cause = (shake_take h message ≡ Faults cause) ⊎ IsOwn h was message
+DecodedFails h was (Ok message) cause = (handshake_take h message ≡ Faults cause) ⊎ IsOwn h was message
 DecodedFails h was (Err fault) cause = cause ≡ the_cause.Tag fault
 
 abbrev pub WholeFails : Handshake → Bool → Option (List ℕ) → Cause → Type 0

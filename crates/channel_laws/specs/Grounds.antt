@@ -112,8 +112,8 @@ pub record RestsIn (role : Role) (phase : Phase) (h : Handshake) (messages : Lis
   pub own : When (knows_own role h.offer.both_rings phase) (OwnHeard h.draft messages)
   pub peer : When (knows_peer role h.offer.both_rings phase) (PeerHeard h.draft messages)
 
-abbrev pub Rests : Role → Handshake → List (List ℕ) → Type 0
-Rests role h messages = RestsIn role h.phase h messages
+abbrev pub RestsOn : Role → Handshake → List (List ℕ) → Type 0
+RestsOn role h messages = RestsIn role h.phase h messages
 
 -- AN OPEN SESSION: its sid is known, and the version and the rings were agreed on by messages that the end heard
 pub record OpenRests (role : Role) (h : Handshake) (messages : List (List ℕ)) : Type 0 where

@@ -7,11 +7,11 @@ use Rattle.ldc_link.specs.declared.phase.Role.TheVariants.{Initiator, Responder}
 use Rattle.ldc_queue.specs.declared.end.ChannelState.TheVariants.{Up}
 use Rattle.ldc_queue.specs.declared.end.End.{End}
 use Rattle.ldc_queue.specs.declared.end.End.TheVariants.{A, B}
-use Rattle.ldc_queue.specs.Talk.{Heard, Said, Turn}
+use Rattle.ldc_queue.specs.Transcript.{Heard, Said, Turn}
 use Rattle.ldc_queue.specs.Wire.{Wire, closed, peer_of, state_of, waiting_for}
 use Rattle.vio_handshake.specs.declared.session.Offer.{Offer}
-use Rattle.disk_model.specs.TalkLog.{TalkLog, nothing_said, silenced, talk_moved}
-use Rattle.disk_model.specs.WireAt.{IsFirst, IsUp, MayReset}
+use Rattle.disk_model.specs.TranscriptLog.{TranscriptLog, nothing_said, silenced, transcript_moved}
+use Rattle.disk_model.specs.WireAt.{IsFirstOn, IsUp, MayReset}
 use Rattle.disk_model.specs.WireEvent.{Blocked, ByRestart, ByScript, ByStep, ByTick, Declines, Giver, Idle, Injected, Joined, Lost, Poked, Reset, Sent, Took, WireEvent, giver}
 use Rattle.disk_model.specs.WireLog.{WireLog, nothing_on_wire, wire_moved}
 use Rattle.map_table.specs.Cookies.{IsCookie}
@@ -104,13 +104,13 @@ turns_after turns (Says packet opens) = Said packet ∷ turns
 turns_after turns Waits = turns
 turns_after turns Stays = turns
 
-abbrev pub talk_after : TalkLog → CoreEvent → TalkLog
-talk_after l (OnChannel event) = talk_moved l event
-talk_after l (Closes e) = silenced e l
-talk_after l Beside = l
+abbrev pub transcript_after : TranscriptLog → CoreEvent → TranscriptLog
+transcript_after l (OnChannel event) = transcript_moved l event
+transcript_after l (Closes e) = silenced e l
+transcript_after l Beside = l
 
-abbrev pub talk_behind : List CoreEvent → TalkLog
-talk_behind events = log_of talk_after nothing_said events
+abbrev pub transcript_behind : List CoreEvent → TranscriptLog
+transcript_behind events = log_of transcript_after nothing_said events
 
 -- THE WIRE, and where an event may stand by it
 abbrev pub end_closed : End → WireLog → WireLog
@@ -121,8 +121,8 @@ wire_after l (OnChannel event) = wire_moved l event
 wire_after l (Closes e) = end_closed e l
 wire_after l Beside = l
 
-abbrev pub HasRoom : ℕ → End → Wire → Type 0
-HasRoom entries e w = length (waiting_for e w) + 1 < entries
+abbrev pub HasRoomOf : ℕ → End → Wire → Type 0
+HasRoomOf entries e w = length (waiting_for e w) + 1 < entries
 
 abbrev pub HasNoRoom : ℕ → End → Wire → Type 0
 HasNoRoom entries e w = entries ≤ length (waiting_for e w) + 1
@@ -130,12 +130,12 @@ HasNoRoom entries e w = entries ≤ length (waiting_for e w) + 1
 abbrev pub WireStands : ℕ → WireLog → WireEvent → Type 0
 WireStands entries l (Joined e lost) = state_of e l.wire ≢ Up
 WireStands entries l (Reset e cause packet lost) = MayReset (giver cause) packet e l.wire
-WireStands entries l (Took e packet opens) = IsUp e l.wire × IsFirst packet e l.wire
-WireStands entries l (Sent e packet opens) = IsUp e l.wire × HasRoom entries (peer_of e) l.wire
+WireStands entries l (Took e packet opens) = IsUp e l.wire × IsFirstOn packet e l.wire
+WireStands entries l (Sent e packet opens) = IsUp e l.wire × HasRoomOf entries (peer_of e) l.wire
 WireStands entries l (Idle e) = IsUp e l.wire
 WireStands entries l (Blocked e) = IsUp e l.wire × HasNoRoom entries (peer_of e) l.wire
-WireStands entries l (Lost e packet) = IsFirst packet e l.wire
-WireStands entries l (Injected e packet) = IsUp e l.wire × HasRoom entries e l.wire
+WireStands entries l (Lost e packet) = IsFirstOn packet e l.wire
+WireStands entries l (Injected e packet) = IsUp e l.wire × HasRoomOf entries e l.wire
 WireStands entries l (Poked e at bytes) = ⊤
 WireStands entries l (Declines d) = ⊤
 

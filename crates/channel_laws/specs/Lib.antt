@@ -12,3 +12,4 @@ pub mod Conversing
 pub mod LinkPlaces
 pub mod CoreLog
 pub mod Resetting
+pub mod ToyKind

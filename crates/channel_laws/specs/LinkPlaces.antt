@@ -17,7 +17,7 @@ use Rattle.ldc_queue.specs.declared.end.ChannelState.{ChannelState}
 use Rattle.ldc_queue.specs.declared.end.ChannelState.TheVariants.{Down, Resetting, Up}
 use Rattle.ldc_queue.specs.Numbered.{is_numbered}
 use Rattle.ldc_queue.specs.OneStream.{live}
-use Rattle.ldc_queue.specs.Talk.{numbered_heard, numbered_said}
+use Rattle.ldc_queue.specs.Transcript.{numbered_heard, numbered_said}
 use Rattle.channel_laws.specs.Sides.{Sides, other}
 
 -- each is named by what was done last

@@ -1,16 +1,22 @@
 -- Why an end resets itself: the packet that it carries says why, by its own bytes or by those of the message that it ends; or its session is
 -- open, and the cause lies in a message of that which the packet ends, or in no packet.
-use Rattle.std.specs.Prelude.{◌≡◌, ℕ, Bool, true, ◌⊎◌, List, Option, Some, None}
-use Rattle.ldc_queue.specs.Talk.{Turn}
+use Rattle.std.specs.Prelude.{◌≡◌, ℕ, Bool, true, ◌⊎◌, List, Option, Some, None, ⊤}
+use Rattle.ldc_queue.specs.Transcript.{Turn}
 use Rattle.vio_tag.specs.declared.cause.Cause.{Cause}
 use Rattle.vio_tag.specs.declared.cause.Cause.TheVariants as the_cause
 use Rattle.disk_model.specs.ResetSays.{EndsMessage, PacketSays}
 use Rattle.disk_model.specs.WireAt.{GapOf}
 use Rattle.channel_laws.specs.EndCore.{EndCore}
 
+-- a slot of a ring that isn't DONE lies in no packet
+abbrev pub LiesInPacket : Cause → Type 0
+LiesInPacket (the_cause.NotDone slot state) = ⊥
+LiesInPacket _ = ⊤
+
 pub record SaysWhy (turns : List Turn) (packet : List ℕ) (cause : Cause) : Type 0 where
   pub says : PacketSays turns packet cause
   pub gap : GapOf turns cause (Some packet)
+  pub carried : LiesInPacket cause
 
 -- a cause of the session's own
 pub record LiesInMessage (c : EndCore) (packet : List ℕ) : Type 0 where

@@ -3,10 +3,10 @@
 use Rattle.std.specs.Prelude.{ℕ, Bool, true, false, List, [], ◌∷◌, ◌++◌, drop}
 use Rattle.ldc_queue.specs.declared.end.ChannelState.{ChannelState}
 use Rattle.ldc_queue.specs.declared.end.ChannelState.TheVariants.{Down, Up}
-use Rattle.ldc_queue.specs.Talk.{Heard, Said, Turn}
+use Rattle.ldc_queue.specs.Transcript.{Heard, Said, Turn}
 use Rattle.ldc_queue.specs.Wire.{peer_behind, queue_behind, upset}
 pub use Rattle.vio_handshake.specs.Pairing.{other}
-use Rattle.disk_model.specs.TalkLog.{TalkLog}
+use Rattle.disk_model.specs.TranscriptLog.{TranscriptLog}
 use Rattle.disk_model.specs.WireLog.{WireLog, lossy_behind}
 use Rattle.channel_laws.specs.EndCore.{EndCore}
 use Rattle.channel_laws.specs.LaneCore.{LaneCore}
@@ -28,16 +28,16 @@ abbrev pub swapped : Sides → Sides
 swapped s = record s { mine = s.theirs; theirs = s.mine }
 
 -- the lane from its initiator's side
-abbrev pub sides_in : ℕ → WireLog → EndCore → EndCore → TalkLog → Sides
-sides_in entries l a b talk = record {
+abbrev pub sides_in : ℕ → WireLog → EndCore → EndCore → TranscriptLog → Sides
+sides_in entries l a b transcript = record {
   entries = entries;
   lossy = l.lossy;
-  mine = record { state = l.wire.end_a; waiting = l.wire.to_a; core = a; turns = talk.client };
-  theirs = record { state = l.wire.end_b; waiting = l.wire.to_b; core = b; turns = talk.server };
+  mine = record { state = l.wire.end_a; waiting = l.wire.to_a; core = a; turns = transcript.client };
+  theirs = record { state = l.wire.end_b; waiting = l.wire.to_b; core = b; turns = transcript.server };
 }
 
-abbrev pub sides_of : LaneCore → TalkLog → Sides
-sides_of s talk = sides_in s.entries s.wire s.a s.b talk
+abbrev pub sides_of : LaneCore → TranscriptLog → Sides
+sides_of s transcript = sides_in s.entries s.wire s.a s.b transcript
 
 -- THE ACTS of an end, which is `t` after them: it goes on beside the wire, it is configured, closed, takes a packet or puts one; and the packet
 -- that has waited longest for it is lost

@@ -40,11 +40,11 @@ abbrev pub SaysSid : Role → Phase → Session → ℕ → Type 0
 SaysSid Initiator phase draft sid = When (knows_sid phase Initiator) (sid ≡ draft.sid)
 SaysSid Responder phase draft sid = ⊤
 
-abbrev pub Says : Role → Phase → Offer → Session → Message → Type 0
-Says role phase offer draft message = SaysSid role phase draft message.sid × SaysBody role phase offer draft message.subtype message.body
+abbrev pub SaysByPhase : Role → Phase → Offer → Session → Message → Type 0
+SaysByPhase role phase offer draft message = SaysSid role phase draft message.sid × SaysBody role phase offer draft message.subtype message.body
 
 abbrev pub SaysBytes : Role → Phase → Offer → Session → List ℕ → Type 0
-SaysBytes role phase offer draft bytes = (message : Message) × (bytes ≡ canonical message) × Says role phase offer draft message
+SaysBytes role phase offer draft bytes = (message : Message) × (bytes ≡ canonical message) × SaysByPhase role phase offer draft message
 
 abbrev pub SaysEach : Role → Phase → Offer → Session → List (List ℕ) → Type 0
 SaysEach role phase offer draft [] = ⊤
@@ -52,7 +52,7 @@ SaysEach role phase offer draft (bytes ∷ others) = SaysBytes role phase offer 
 
 abbrev pub OwesSo : Role → Phase → Offer → Session → Option Message → Type 0
 OwesSo role phase offer draft None = ⊤
-OwesSo role phase offer draft (Some message) = Says role phase offer draft message
+OwesSo role phase offer draft (Some message) = SaysByPhase role phase offer draft message
 
 -- a handshake that said these messages
 pub record Utters (role : Role) (h : Handshake) (messages : List (List ℕ)) : Type 0 where

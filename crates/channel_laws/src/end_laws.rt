@@ -4,17 +4,17 @@ ghost use Rattle.std.specs.Prelude.{◌≡◌, ◌%◌, ◌∷◌, ℕ, List, Op
 ghost use Rattle.runs.specs.Lawful.{log_of, Lawful};
 ghost use Rattle.runs.specs.Run.{Run};
 ghost use Rattle.ldc_link.specs.declared.phase.Role.TheVariants.{Initiator, Responder};
-ghost use Rattle.ldc_queue.specs.Talk.{Heard, Said};
+ghost use Rattle.ldc_queue.specs.Transcript.{Heard, Said};
 ghost use Rattle.ldc_queue.specs.declared.end.End.{End};
 ghost use Rattle.vio_handshake.specs.declared.session.Offer.{Offer};
 ghost use Rattle.vio_tag.specs.declared.cause.Cause.{Cause};
 ghost use Rattle.disk_model.specs.HandshakeOrder.{HandshakeOrder};
 ghost use Rattle.disk_model.specs.Sayings.{heard, said};
-ghost use Rattle.disk_model.specs.TalkLog.{talk_of};
+ghost use Rattle.disk_model.specs.TranscriptLog.{transcript_of};
 ghost use Rattle.disk_model.specs.WireEvent.{ByStep, Reset, Sent, Took, giver};
 ghost use Rattle.channel_laws.specs.CoreLog.{after, comings_after, nothing_yet, HeardAt, SaidAt};
-ghost use Rattle.channel_laws.specs.Grounds.{OpenRests, Rests};
-ghost use Rattle.channel_laws.specs.LaneCore.{end_of, fresh_core, role_of, talk_behind, CoreEvent, CoreFits, CoreStep, LaneCore, OnChannel};
+ghost use Rattle.channel_laws.specs.Grounds.{OpenRests, RestsOn};
+ghost use Rattle.channel_laws.specs.LaneCore.{end_of, fresh_core, role_of, transcript_behind, CoreEvent, CoreFits, CoreStep, LaneCore, OnChannel};
 ghost use Rattle.channel_laws.specs.Resetting.{ResetsFor};
 ghost use Rattle.channel_laws.specs.Standing.{EndStands};
 ghost use Rattle.channel_laws.specs.Utterances.{SaysEach};
@@ -26,10 +26,10 @@ ghost use Rattle.channel_laws.specs.Utterances.{SaysEach};
 pub fn an_end_stands_by_its_role()
     ensures initiator { (entries : ℕ) (asks answers : Offer) (events : List CoreEvent) (s : LaneCore)
         → CoreFits entries asks answers → Run CoreStep (fresh_core entries asks answers) events s
-        → EndStands Initiator s.a (talk_behind events).client }
+        → EndStands Initiator s.a (transcript_behind events).client }
     ensures responder { (entries : ℕ) (asks answers : Offer) (events : List CoreEvent) (s : LaneCore)
         → CoreFits entries asks answers → Run CoreStep (fresh_core entries asks answers) events s
-        → EndStands Responder s.b (talk_behind events).server }
+        → EndStands Responder s.b (transcript_behind events).server }
     ensures offers { (entries : ℕ) (asks answers : Offer) (events : List CoreEvent) (s : LaneCore)
         → Run CoreStep (fresh_core entries asks answers) events s → (s.a.offer ≡ asks) × (s.b.offer ≡ answers) }
 {}
@@ -40,16 +40,16 @@ pub fn an_end_stands_by_its_role()
 pub fn an_end_rests_on_what_it_heard()
     ensures initiator { (entries : ℕ) (asks answers : Offer) (events : List CoreEvent) (s : LaneCore)
         → CoreFits entries asks answers → Run CoreStep (fresh_core entries asks answers) events s
-        → Rests Initiator s.a.handshake (heard (talk_behind events).client) }
+        → RestsOn Initiator s.a.handshake (heard (transcript_behind events).client) }
     ensures responder { (entries : ℕ) (asks answers : Offer) (events : List CoreEvent) (s : LaneCore)
         → CoreFits entries asks answers → Run CoreStep (fresh_core entries asks answers) events s
-        → Rests Responder s.b.handshake (heard (talk_behind events).server) }
+        → RestsOn Responder s.b.handshake (heard (transcript_behind events).server) }
     ensures initiator_open { (entries : ℕ) (asks answers : Offer) (events : List CoreEvent) (s : LaneCore)
         → CoreFits entries asks answers → Run CoreStep (fresh_core entries asks answers) events s
-        → s.a.is_open ≡ true → OpenRests Initiator s.a.handshake (heard (talk_behind events).client) }
+        → s.a.is_open ≡ true → OpenRests Initiator s.a.handshake (heard (transcript_behind events).client) }
     ensures responder_open { (entries : ℕ) (asks answers : Offer) (events : List CoreEvent) (s : LaneCore)
         → CoreFits entries asks answers → Run CoreStep (fresh_core entries asks answers) events s
-        → s.b.is_open ≡ true → OpenRests Responder s.b.handshake (heard (talk_behind events).server) }
+        → s.b.is_open ≡ true → OpenRests Responder s.b.handshake (heard (transcript_behind events).server) }
 {}
 
 /// Along every run of two ends on a channel each message that an end said since it last began is as its handshake has it:
@@ -59,7 +59,7 @@ pub fn an_end_says_what_its_handshake_holds()
     ensures { (entries : ℕ) (asks answers : Offer) (events : List CoreEvent) (s : LaneCore) (e : End)
         → CoreFits entries asks answers → Run CoreStep (fresh_core entries asks answers) events s
         → SaysEach (role_of e) (end_of e s).handshake.phase (end_of e s).handshake.offer (end_of e s).handshake.draft
-        (said (talk_of e (talk_behind events))) }
+        (said (transcript_of e (transcript_behind events))) }
 {}
 
 /// Along every run of two ends on a channel each packet that an end puts is the canonical spelling of a packet; where it
@@ -88,12 +88,12 @@ pub fn sessions_of_an_end_open_in_order()
         (packet : List ℕ) (t : LaneCore)
         → CoreFits entries asks answers → Run CoreStep (fresh_core entries asks answers) events s
         → CoreStep s (OnChannel (Sent e packet true)) t
-        → HandshakeOrder (end_of e s).offer.both_rings (role_of e) (Said packet ∷ talk_of e (talk_behind events)) }
+        → HandshakeOrder (end_of e s).offer.both_rings (role_of e) (Said packet ∷ transcript_of e (transcript_behind events)) }
     ensures hearing { (entries : ℕ) (asks answers : Offer) (events : List CoreEvent) (s : LaneCore) (e : End)
         (packet : List ℕ) (t : LaneCore)
         → CoreFits entries asks answers → Run CoreStep (fresh_core entries asks answers) events s
         → CoreStep s (OnChannel (Took e packet true)) t
-        → HandshakeOrder (end_of e s).offer.both_rings (role_of e) (Heard packet ∷ talk_of e (talk_behind events)) }
+        → HandshakeOrder (end_of e s).offer.both_rings (role_of e) (Heard packet ∷ transcript_of e (transcript_behind events)) }
 {}
 
 /// Where an end on a channel resets itself, the packet that it carries says why, by its own bytes or by those of the
@@ -104,7 +104,7 @@ pub fn a_reset_of_an_end_says_why()
         (packet : Option (List ℕ)) (lost : ℕ) (t : LaneCore)
         → CoreFits entries asks answers → Run CoreStep (fresh_core entries asks answers) events s
         → giver cause ≡ ByStep → CoreStep s (OnChannel (Reset e cause packet lost)) t
-        → ResetsFor (end_of e s) (talk_of e (talk_behind events)) cause packet }
+        → ResetsFor (end_of e s) (transcript_of e (transcript_behind events)) cause packet }
 {}
 
 /// Along every run of two ends on a channel the initiator's last sid is how often its link came up since its values were

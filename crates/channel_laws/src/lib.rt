@@ -4,6 +4,7 @@
 
 mod end_laws;
 mod pair_laws;
+mod toy_laws;
 
 pub use end_laws::{
     a_reset_of_an_end_says_why, an_end_rests_on_what_it_heard,
@@ -16,3 +17,4 @@ pub use pair_laws::{
     links_stand_at_one_place, open_sessions_of_both_ends_are_one, two_ends_converse,
     what_an_end_heard_is_as_the_other_has_it,
 };
+pub use toy_laws::toys_with_rings_both_ways_have_their_row_and_one_session;

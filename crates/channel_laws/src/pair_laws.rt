@@ -5,7 +5,7 @@ ghost use Rattle.runs.specs.Lawful.{log_of, Lawful};
 ghost use Rattle.runs.specs.Run.{Run};
 ghost use Rattle.ldc_link.specs.declared.phase.Role.TheVariants.{Initiator};
 ghost use Rattle.ldc_queue.specs.OneStream.{IsFront};
-ghost use Rattle.ldc_queue.specs.Talk.{numbered_heard, numbered_said};
+ghost use Rattle.ldc_queue.specs.Transcript.{numbered_heard, numbered_said};
 ghost use Rattle.ldc_queue.specs.Wire.{peer_of};
 ghost use Rattle.ldc_queue.specs.declared.end.End.TheVariants.{A, B};
 ghost use Rattle.ldc_queue.specs.declared.end.End.{End};
@@ -13,12 +13,12 @@ ghost use Rattle.vio_handshake.specs.Offers.{Match};
 ghost use Rattle.vio_handshake.specs.declared.session.Offer.{Offer};
 ghost use Rattle.vio_tag.specs.declared.cause.Cause.{Cause};
 ghost use Rattle.disk_model.specs.Sayings.{heard, said};
-ghost use Rattle.disk_model.specs.TalkLog.{talk_of};
+ghost use Rattle.disk_model.specs.TranscriptLog.{transcript_of};
 ghost use Rattle.disk_model.specs.WireAt.{IsOwnReset, IsUp};
 ghost use Rattle.disk_model.specs.WireEvent.{ByStep, Reset, giver};
 ghost use Rattle.channel_laws.specs.Conversing.{Converse};
 ghost use Rattle.channel_laws.specs.CoreLog.{after, nothing_yet, RoomStands, TableAt, UpStands};
-ghost use Rattle.channel_laws.specs.LaneCore.{end_of, fresh_core, role_of, talk_behind, CoreEvent, CoreFits, CoreStep, LaneCore, OnChannel};
+ghost use Rattle.channel_laws.specs.LaneCore.{end_of, fresh_core, role_of, transcript_behind, CoreEvent, CoreFits, CoreStep, LaneCore, OnChannel};
 ghost use Rattle.channel_laws.specs.LinkPlaces.{LinksAt};
 ghost use Rattle.channel_laws.specs.OneSession.{AreOneSession};
 ghost use Rattle.channel_laws.specs.Resetting.{LiesInSession};
@@ -32,16 +32,16 @@ ghost use Rattle.channel_laws.specs.Utterances.{SaysEach};
 pub fn two_ends_converse()
     ensures streams { (entries : ℕ) (asks answers : Offer) (events : List CoreEvent) (s : LaneCore)
         → CoreFits entries asks answers → Run CoreStep (fresh_core entries asks answers) events s
-        → s.wire.forged ≡ false → Converse Initiator (sides_of s (talk_behind events)) }
+        → s.wire.forged ≡ false → Converse Initiator (sides_of s (transcript_behind events)) }
     ensures packets { (entries : ℕ) (asks answers : Offer) (events : List CoreEvent) (s : LaneCore) (e : End)
         → CoreFits entries asks answers → Run CoreStep (fresh_core entries asks answers) events s
         → s.wire.forged ≡ false → IsUp e s.wire.wire
-        → IsFront (numbered_heard (talk_of e (talk_behind events)))
-        (numbered_said (talk_of (peer_of e) (talk_behind events))) }
+        → IsFront (numbered_heard (transcript_of e (transcript_behind events)))
+        (numbered_said (transcript_of (peer_of e) (transcript_behind events))) }
     ensures messages { (entries : ℕ) (asks answers : Offer) (events : List CoreEvent) (s : LaneCore) (e : End)
         → CoreFits entries asks answers → Run CoreStep (fresh_core entries asks answers) events s
         → s.wire.forged ≡ false → IsUp e s.wire.wire
-        → IsFront (heard (talk_of e (talk_behind events))) (said (talk_of (peer_of e) (talk_behind events))) }
+        → IsFront (heard (transcript_of e (transcript_behind events))) (said (transcript_of (peer_of e) (transcript_behind events))) }
 {}
 
 /// On a channel that nobody forged, each message that an end that is up has heard since it last began is as the other
@@ -52,7 +52,7 @@ pub fn what_an_end_heard_is_as_the_other_has_it()
         → s.wire.forged ≡ false → IsUp e s.wire.wire
         → SaysEach (role_of (peer_of e)) (end_of (peer_of e) s).handshake.phase
         (end_of (peer_of e) s).handshake.offer (end_of (peer_of e) s).handshake.draft
-        (heard (talk_of e (talk_behind events))) }
+        (heard (transcript_of e (transcript_behind events))) }
 {}
 
 /// On a channel that nobody forged both links stand at one place of their own handshake: it gives their phases, the packet
@@ -61,7 +61,7 @@ pub fn what_an_end_heard_is_as_the_other_has_it()
 pub fn links_stand_at_one_place()
     ensures { (entries : ℕ) (asks answers : Offer) (events : List CoreEvent) (s : LaneCore)
         → CoreFits entries asks answers → Run CoreStep (fresh_core entries asks answers) events s
-        → s.wire.forged ≡ false → LinksAt Initiator (sides_of s (talk_behind events)) }
+        → s.wire.forged ≡ false → LinksAt Initiator (sides_of s (transcript_behind events)) }
 {}
 
 /// On a channel that nobody forged, where the sessions of both ends are open both ends are up; and where their offers

@@ -1,5 +1,5 @@
 -- What a piece of a descriptor is, by the calls that it made.
-use Rattle.std.proofs.Common.{◌≡◌, ℕ, ◌+◌, ◌-◌, ◌*◌, ◌/◌, ◌%◌, ◌^◌, ◌<◌, ◌≤◌, true, false, List, [], length, Option, Some, None, refl, sym, ap, ◌∙◌, subst, arith, nat_lt, IsTrue}
+use Rattle.std.proofs.Common.{◌≡◌, ℕ, Bool, ◌+◌, ◌-◌, ◌*◌, ◌/◌, ◌%◌, ◌^◌, ◌<◌, ◌≤◌, true, false, List, [], length, Option, Some, None, Result, Ok, Err, OnOk, OnErr, is_err, refl, sym, ap, ◌∙◌, subst, arith, nat_lt, IsTrue}
 use Rattle.std.specs.Prelude.{min}
 use Rattle.std.proofs.lemmas.Bool.{ltb-true}
 use Rattle.cookie_copy.specs.declared.fault.Access.TheVariants.{Read, Write}
@@ -8,10 +8,12 @@ use Rattle.cookie_copy.specs.Faults.{first_copy_fault}
 use Rattle.cookie_copy.specs.Moved.{moved_in, moved_out}
 use Rattle.vdisk_msg.specs.Pieces.{unit_count}
 use Rattle.map_table.specs.declared.cookie.Cookie.{Cookie}
+use Rattle.vio_io.specs.Causes.{next_count}
 use Rattle.vio_io.specs.Stores.{IsUnitRange, KeepsOutside, ReadsRange, WritesRange}
 use Rattle.disk_model.specs.ServerState.{Ends, Flushes, Gathers, Gives, Progress, Reads, Work, Writes}
-use Rattle.disk_model.specs.ServerWork.{MovesIn, Reach, data_cookies, desc_of, gathers_next, length_of, reads_next, unit_block}
+use Rattle.disk_model.specs.ServerWork.{MovesIn, Reach, data_cookies, desc_of, gathers_next, length_of, or_ends, reads_next, unit_block}
 use Rattle.descriptor_work.specs.declared.answers.ServerOut.TheVariants as out
+use Rattle.descriptor_work.specs.Calling.{FaultsAfter}
 use Rattle.descriptor_work.specs.Pieces.{PieceIn, PieceOn, StoredFor}
 
 given_fault : (work : Work) (unit : ℕ) (bytes shown : List ℕ) (cookies : List Cookie) (reach : Reach) (fault : Option CopyFault)
@@ -89,55 +91,48 @@ piece_not_gathered work unit size cookies reach why is by long fault = record {
 }
 
 -- read from the store, or not
-pub piece_read : (first unit block size count place : ℕ) (work : Work) (told new : Option (List ℕ)) (gave : List ℕ)
-    → work.progress ≡ Reads unit → block ≡ unit_block work unit → size ≡ length_of work unit → count ≡ size / 512
-    → place ≡ 512 * (first + block) → length gave ≡ size → ReadsRange told place gave → new ≡ told
-    → PieceOn first work told (out.Stored 1 block count false) (record work { progress = Gives unit gave }) new
-piece_read first unit block size count place work told new gave is at long counted placed held told_is same = record {
+pub piece_read : (failed : Bool) (first unit block size count place : ℕ) (next : Progress) (work : Work) (told new : Option (List ℕ)) (gave : List ℕ)
+    → next ≡ or_ends failed (Gives unit gave) → work.progress ≡ Reads unit → block ≡ unit_block work unit → size ≡ length_of work unit → count ≡ size / 512
+    → place ≡ 512 * (first + block) → (failed ≡ false → length gave ≡ size) → (failed ≡ false → ReadsRange told place gave) → new ≡ told
+    → PieceOn first work told (out.Stored 1 block count failed) (record work { progress = next }) new
+piece_read false first unit block size count place next work told new gave goes is at long counted placed held told_is same = record {
   gave = gave;
-  next = Gives unit gave;
-  stored = subst (λ (p : Progress). StoredFor (out.Stored 1 block count false) first (record work { progress = p }) gave (Gives unit gave) told new) (sym is) (
-    (record { operation_is = refl; block_is = at; count_is = counted ∙ ap (λ (n : ℕ). n / 512) long }, held ∙ long, refl),
-    (subst (λ (k : ℕ). ReadsRange told k gave) placed told_is, same),
+  next = next;
+  stored = subst (λ (p : Progress). StoredFor (out.Stored 1 block count false) first (record work { progress = p }) gave next told new) (sym is) (
+    (record { operation_is = refl; block_is = at; count_is = counted ∙ ap (λ (n : ℕ). n / 512) long }, held refl ∙ long, goes),
+    (subst (λ (k : ℕ). ReadsRange told k gave) placed (told_is refl), same),
   );
   is = refl;
 }
-
-pub piece_not_read : (first unit block size count : ℕ) (work : Work) (told new : Option (List ℕ))
-    → work.progress ≡ Reads unit → block ≡ unit_block work unit → size ≡ length_of work unit → count ≡ size / 512 → new ≡ told
-    → PieceOn first work told (out.Stored 1 block count true) (record work { progress = Ends 5 }) new
-piece_not_read first unit block size count work told new is at long counted same = record {
+piece_read true first unit block size count place next work told new gave goes is at long counted placed held told_is same = record {
   gave = [];
-  next = Ends 5;
-  stored = subst (λ (p : Progress). StoredFor (out.Stored 1 block count true) first (record work { progress = p }) [] (Ends 5) told new) (sym is)
-      ((record { operation_is = refl; block_is = at; count_is = counted ∙ ap (λ (n : ℕ). n / 512) long }, refl, refl), same);
+  next = next;
+  stored = subst (λ (p : Progress). StoredFor (out.Stored 1 block count true) first (record work { progress = p }) [] next told new) (sym is)
+      ((record { operation_is = refl; block_is = at; count_is = counted ∙ ap (λ (n : ℕ). n / 512) long }, refl, goes), same);
   is = refl;
 }
 
 -- written to it, or not
-pub piece_written : (first unit block count place : ℕ) (bytes shown : List ℕ) (next : Progress) (work : Work) (told new : Option (List ℕ))
-    → work.progress ≡ Writes unit bytes → block ≡ unit_block work unit → shown ≡ bytes → count ≡ length shown / 512
-    → place ≡ 512 * (first + block) → next ≡ gathers_next (desc_of work).size unit → WritesRange told new place shown
-    → PieceOn first work told (out.Stored 2 block count false) (record work { progress = next }) new
-piece_written first unit block count place bytes shown next work told new is at held counted placed goes written = record {
+pub piece_written : (failed : Bool) (first unit block count place : ℕ) (bytes shown : List ℕ) (next : Progress) (work : Work) (told new : Option (List ℕ))
+    → next ≡ or_ends failed (gathers_next (desc_of work).size unit) → work.progress ≡ Writes unit bytes → block ≡ unit_block work unit → shown ≡ bytes
+    → count ≡ length shown / 512 → place ≡ 512 * (first + block)
+    → (failed ≡ false → WritesRange told new place shown) → KeepsOutside told new place (length shown)
+    → PieceOn first work told (out.Stored 2 block count failed) (record work { progress = next }) new
+piece_written false first unit block count place bytes shown next work told new goes is at held counted placed written outside = record {
   gave = [];
   next = next;
   stored = subst (λ (p : Progress). StoredFor (out.Stored 2 block count false) first (record work { progress = p }) [] next told new) (sym is) (
     (record { operation_is = refl; block_is = at; count_is = counted ∙ ap (λ (xs : List ℕ). length xs / 512) held }, refl, goes),
-    subst (λ (xs : List ℕ). WritesRange told new (512 * (first + block)) xs) held (subst (λ (k : ℕ). WritesRange told new k shown) placed written),
+    subst (λ (xs : List ℕ). WritesRange told new (512 * (first + block)) xs) held
+        (subst (λ (k : ℕ). WritesRange told new k shown) placed (written refl)),
   );
   is = refl;
 }
-
-pub piece_not_written : (first unit block count place : ℕ) (bytes shown : List ℕ) (work : Work) (told new : Option (List ℕ))
-    → work.progress ≡ Writes unit bytes → block ≡ unit_block work unit → shown ≡ bytes → count ≡ length shown / 512
-    → place ≡ 512 * (first + block) → KeepsOutside told new place (length shown)
-    → PieceOn first work told (out.Stored 2 block count true) (record work { progress = Ends 5 }) new
-piece_not_written first unit block count place bytes shown work told new is at held counted placed outside = record {
+piece_written true first unit block count place bytes shown next work told new goes is at held counted placed written outside = record {
   gave = [];
-  next = Ends 5;
-  stored = subst (λ (p : Progress). StoredFor (out.Stored 2 block count true) first (record work { progress = p }) [] (Ends 5) told new) (sym is) (
-    (record { operation_is = refl; block_is = at; count_is = counted ∙ ap (λ (xs : List ℕ). length xs / 512) held }, refl, refl),
+  next = next;
+  stored = subst (λ (p : Progress). StoredFor (out.Stored 2 block count true) first (record work { progress = p }) [] next told new) (sym is) (
+    (record { operation_is = refl; block_is = at; count_is = counted ∙ ap (λ (xs : List ℕ). length xs / 512) held }, refl, goes),
     subst (λ (xs : List ℕ). KeepsOutside told new (512 * (first + block)) (length xs)) held
         (subst (λ (k : ℕ). KeepsOutside told new k (length shown)) placed outside),
   );
@@ -160,9 +155,10 @@ unit_range blocks unit offset size first at n store whole unit_in within is room
   within = omega (arith, is, place, within, room, unit_in);
 }
 
-pub unit_fits : (blocks unit offset size first store : ℕ) → 8192 * unit < size → 512 * offset + size ≤ 512 * blocks
-    → 512 * (first + blocks) ≤ store → store < 2 ^ 64 → 512 * (first + (offset + 16 * unit)) < 2 ^ 64
-unit_fits blocks unit offset size first store unit_in within room fits = omega arith
+-- the disk lies in the store, and so does the unit's place
+pub unit_place : (blocks unit offset size first store : ℕ) → 8192 * unit < size → 512 * offset + size ≤ 512 * blocks
+    → 512 * (first + blocks) ≤ store → 512 * (first + (offset + 16 * unit)) ≤ store
+unit_place blocks unit offset size first store unit_in within room = omega arith
 
 pub unit_within : (blocks unit offset size n : ℕ) → 8192 * unit < size → 512 * offset + size ≤ 512 * blocks
     → n ≡ min 8192 (size - 8192 * unit) → (block count : ℕ) → block ≡ offset + 16 * unit → count ≡ n / 512 → block + count ≤ blocks
@@ -180,22 +176,22 @@ next_test unit size other is =
     ap (λ (n : ℕ). nat_lt (unit + 1) (n / 8192)) same
 
 -- flushed, or not
-pub piece_flushed : (first : ℕ) (work : Work) (told new : Option (List ℕ)) → work.progress ≡ Flushes → new ≡ told
-    → PieceOn first work told (out.Stored 3 0 0 false) (record work { progress = Ends 0 }) new
-piece_flushed first work told new is same = record {
+pub piece_flushed : (failed : Bool) (first : ℕ) (next : Progress) (work : Work) (told new : Option (List ℕ)) → next ≡ or_ends failed (Ends 0)
+    → work.progress ≡ Flushes → new ≡ told → PieceOn first work told (out.Stored 3 0 0 failed) (record work { progress = next }) new
+piece_flushed failed first next work told new goes is same = record {
   gave = [];
-  next = Ends 0;
-  stored = subst (λ (p : Progress). StoredFor (out.Stored 3 0 0 false) first (record work { progress = p }) [] (Ends 0) told new) (sym is)
-      ((refl, refl, refl, refl, refl), same);
+  next = next;
+  stored = subst (λ (p : Progress). StoredFor (out.Stored 3 0 0 failed) first (record work { progress = p }) [] next told new) (sym is)
+      ((refl, refl, refl, refl, goes), same);
   is = refl;
 }
 
-pub piece_not_flushed : (first : ℕ) (work : Work) (told new : Option (List ℕ)) → work.progress ≡ Flushes → new ≡ told
-    → PieceOn first work told (out.Stored 3 0 0 true) (record work { progress = Ends 5 }) new
-piece_not_flushed first work told new is same = record {
-  gave = [];
-  next = Ends 5;
-  stored = subst (λ (p : Progress). StoredFor (out.Stored 3 0 0 true) first (record work { progress = p }) [] (Ends 5) told new) (sym is)
-      ((refl, refl, refl, refl, refl), same);
-  is = refl;
-}
+-- the answer of a call of the store
+pub done_where : {U E : Type 0} (r : Result U E) (failed : Bool) (X : Type 0) → failed ≡ is_err r → OnOk r X → failed ≡ false → X
+done_where (Ok done) failed X is x succeeded = x
+done_where (Err why) failed X is x succeeded = let never : true ≡ false = sym is ∙ succeeded in absurd (cc never)
+
+pub faults_after : {U E : Type 0} (r : Result U E) (failed : Bool) (old new : ℕ) → failed ≡ is_err r → OnOk r (new ≡ old) → OnErr r (new ≡ next_count old)
+    → FaultsAfter failed old new
+faults_after (Ok done) failed old new is same once = subst (λ (b : Bool). FaultsAfter b old new) (sym is) same
+faults_after (Err why) failed old new is same once = subst (λ (b : Bool). FaultsAfter b old new) (sym is) once

@@ -1,9 +1,10 @@
--- What a step of a disk's server reaches by its channel, and how it calls the store.
+-- What a step of a disk's server reaches by its channel, and what it does to the store.
 use Rattle.std.specs.Prelude.{◌≡◌, ℕ, ◌+◌, ◌≤◌, ◌==◌, Bool, true, false, if◌then◌else◌, List, Option, ⊤}
 use Rattle.cookie_copy.specs.Faults.{both_up}
 use Rattle.ldc_queue.specs.ChannelView.{ChannelView}
 use Rattle.map_table.specs.declared.table.Entry.{Entry}
-use Rattle.vio_io.specs.Causes.{Rose, next_count}
+use Rattle.vio_io.specs.Causes.{next_count}
+use Rattle.vio_io.specs.declared.store.Store.{Ghosts}
 use Rattle.disk_model.specs.ServerWork.{Reach}
 use Rattle.descriptor_work.specs.declared.answers.ServerOut.{ServerOut}
 use Rattle.descriptor_work.specs.declared.answers.ServerOut.TheVariants as out
@@ -12,23 +13,23 @@ use Rattle.descriptor_work.specs.declared.answers.ServerOut.TheVariants as out
 abbrev pub reach_over : ChannelView → List (Option Entry) → List ℕ → Reach
 reach_over c table memory = record { both = both_up c.wire; table = table; memory = memory }
 
--- one call was made, and it failed exactly where this says so
+-- the count of faults after a call
 abbrev pub FaultsAfter : Bool → ℕ → ℕ → Type 0
-FaultsAfter true old new = Rose old new × (new ≡ next_count old)
-FaultsAfter false old new = new ≡ old
+FaultsAfter true before now = now ≡ next_count before
+FaultsAfter false before now = now ≡ before
 
-pub record CalledOnce (failed : Bool) (calls new_calls faults new_faults : ℕ) : Type 0 where
-  pub calls_are : new_calls ≡ next_count calls
-  pub faults_are : FaultsAfter failed faults new_faults
+-- ONE CALL of a store, which failed exactly where this says so. The operation 3 is one flush of it, and no other
+-- flushes it.
+pub record CalledOnce {D : Type 0} (store : Ghosts D) (operation : ℕ) (failed : Bool) (old new : D) : Type 0 where
+  pub calls : store.calls new ≡ next_count (store.calls old)
+  pub flushes : store.flushes new ≡ (if operation == 3 then next_count (store.flushes old) else store.flushes old)
+  pub faults : FaultsAfter failed (store.faults old) (store.faults new)
 
-abbrev pub Calls : ServerOut → ℕ → ℕ → ℕ → ℕ → Type 0
-Calls (out.Stored operation block count failed) calls new_calls faults new_faults = CalledOnce failed calls new_calls faults new_faults
-Calls _ calls new_calls faults new_faults = (new_calls ≡ calls) × (new_faults ≡ faults)
-
--- a flush, the operation 3, is one flush of the store, whether it failed or not; no other step flushes it
-abbrev pub Flushes : ServerOut → ℕ → ℕ → Type 0
-Flushes (out.Stored operation block count failed) flushes new_flushes = new_flushes ≡ (if operation == 3 then next_count flushes else flushes)
-Flushes _ flushes new_flushes = new_flushes ≡ flushes
+-- WHAT A STEP DOES TO THE STORE: a unit and a flush are one call of it, whether it failed or not; by every other step
+-- it stays
+abbrev pub StoreAfter : {D : Type 0} → Ghosts D → ServerOut → D → D → Type 0
+StoreAfter store (out.Stored operation block count failed) old new = CalledOnce store operation failed old new
+StoreAfter store _ old new = new ≡ old
 
 -- what is read or written lies in a disk of so many blocks
 abbrev pub WithinDisk : ℕ → ServerOut → Type 0

@@ -1,11 +1,11 @@
 // The bytes of a unit on their way between the client and the store.
 
-ghost use Rattle.std.specs.Prelude.{◌≡◌, ◌≤◌, length, take, [], Some, None, IfOk, MatchResult, OnErr, OnOk};
+ghost use Rattle.std.specs.Prelude.{◌≡◌, ◌≤◌, length, take, [], Some, None, is_err, IfOk, MatchResult, OnOk};
 ghost use Rattle.cookie_copy.specs.Faults.{PagesWithin, both_up, first_copy_fault};
 ghost use Rattle.cookie_copy.specs.Moved.{moved_in};
 ghost use Rattle.cookie_copy.specs.declared.fault.Access.TheVariants.{Read};
-ghost use Rattle.vio_io.specs.Causes.{Rose, next_count};
 ghost use Rattle.vio_io.specs.Stores.{IsUnitRange, ReadsRange};
+ghost use Rattle.descriptor_work.specs.Calling.{CalledOnce};
 
 use cookie_copy::{CopyFault, copy_in};
 use dom_memory::Memory;
@@ -60,11 +60,7 @@ impl UnitBuffer {
         ensures held { OnOk result (length self.new ≡ size) }
         ensures content { D.content store.new ≡ D.content store.old }
         ensures size { D.size store.new ≡ D.size store.old }
-        ensures calls { D.calls store.new ≡ next_count (D.calls store.old) }
-        ensures flushes { D.flushes store.new ≡ D.flushes store.old }
-        ensures ok { OnOk result (D.faults store.new ≡ D.faults store.old) }
-        ensures cause { OnErr result (Rose (D.faults store.old) (D.faults store.new)) }
-        ensures once { OnErr result (D.faults store.new ≡ next_count (D.faults store.old)) }
+        ensures called { CalledOnce D.Store 1 (is_err result) store.old store.new }
     {
         read_front(store, at, &mut self.bytes, size)?;
         self.held = size;
@@ -101,11 +97,7 @@ fn read_front<D: Store>(store: &mut D, at: u64, bytes: &mut [u8], size: usize) -
     ensures told { OnOk result (ReadsRange (D.content store.old) at (take size bytes.new)) }
     ensures content { D.content store.new ≡ D.content store.old }
     ensures size { D.size store.new ≡ D.size store.old }
-    ensures calls { D.calls store.new ≡ next_count (D.calls store.old) }
-    ensures flushes { D.flushes store.new ≡ D.flushes store.old }
-    ensures ok { OnOk result (D.faults store.new ≡ D.faults store.old) }
-    ensures cause { OnErr result (Rose (D.faults store.old) (D.faults store.new)) }
-    ensures once { OnErr result (D.faults store.new ≡ next_count (D.faults store.old)) }
+    ensures called { CalledOnce D.Store 1 (is_err result) store.old store.new }
 {
     store.read_at(at, &mut bytes[..size])
 }

@@ -5,9 +5,8 @@ ghost use Rattle.cookie_copy.specs.Faults.{PagesWithin};
 ghost use Rattle.vdisk_msg.specs.Check.{first_defect};
 ghost use Rattle.vdisk_msg.specs.Descriptor.{disk_desc_of};
 ghost use Rattle.vdisk_msg.specs.Pieces.{refusal_status, unit_count};
-ghost use Rattle.disk_model.specs.ServerState.{Ends};
-ghost use Rattle.disk_model.specs.ServerWork.{data_cookies, desc_of, first_progress, first_progress_of, gathers_next, length_of, reads_next, unit_block, unit_length};
-ghost use Rattle.descriptor_work.specs.Calling.{Calls, Flushes, WithinDisk, reach_over};
+ghost use Rattle.disk_model.specs.ServerWork.{data_cookies, desc_of, first_progress, first_progress_of, gathers_next, length_of, or_ends, reads_next, unit_block, unit_length};
+ghost use Rattle.descriptor_work.specs.Calling.{StoreAfter, WithinDisk, reach_over};
 ghost use Rattle.descriptor_work.specs.Fields.{progress_of, work_with};
 ghost use Rattle.descriptor_work.specs.Pieces.{PieceIn, PieceOn};
 ghost use Rattle.descriptor_work.specs.Units.{IsUnit};
@@ -23,7 +22,7 @@ use flat_store::Region;
 use ldc_queue::{Channel, End};
 use map_table::{Cookie, MapTable};
 use vdisk_msg::{BLOCK, DescFault, DiskDesc, VD_OP_BREAD, VD_OP_BWRITE, VD_OP_FLUSH, check};
-use vio_io::{Failed, Store};
+use vio_io::Store;
 
 /// The operations that this server takes, a bit for each.
 const OPERATIONS: u64 = 0x0e;
@@ -115,11 +114,25 @@ impl Work {
     }
 }
 
-/// Where a block of a disk stands in the store.
-fn store_place(region: Region, block: u64) -> u64
-    requires { 512 * (region.first + block) < 2 ^ 64 }
+/// What comes next after a call of the store: one that failed ends the descriptor.
+fn or_ends(failed: bool, next: Progress) -> Progress
+    ensures { (bytes : List ℕ) → progress_of result bytes ≡ or_ends failed (progress_of next bytes) }
+{
+    if failed {
+        Progress::Ends { status: EIO }
+    } else {
+        next
+    }
+}
+
+/// Where a block of a disk stands in its store.
+fn store_place<D: Store>(store: &D, region: Region, block: u64) -> u64
+    requires { 512 * (region.first + block) ≤ D.size store.now }
     ensures { result ≡ 512 * (region.first + block) }
 {
+    // The store's length is a u64, and the place is none beyond it. That the place fits a u64 is known by this call
+    // alone.
+    let _length = store.len();
     BLOCK * (region.first + block)
 }
 
@@ -147,35 +160,21 @@ impl Work {
         requires region { 512 * (region.first + region.blocks) ≤ D.size store.old }
         ensures piece { PieceOn region.first (work_with self.old buffer.old) (D.content store.old) out.new
             (work_with self.new buffer.new) (D.content store.new) }
-        ensures calls { Calls out.new (D.calls store.old) (D.calls store.new) (D.faults store.old)
-            (D.faults store.new) }
-        ensures flushes { Flushes out.new (D.flushes store.old) (D.flushes store.new) }
+        ensures store { StoreAfter D.Store out.new store.old store.new }
         ensures size { D.size store.new ≡ D.size store.old }
         ensures within { WithinDisk region.blocks out.new }
     {
-        let _length = store.len();
         let block = self.unit_block(unit, region.blocks);
         let size = self.unit_size(unit, region.blocks);
-        match buffer.read(store, store_place(region, block), size) {
-            Ok(()) => {
-                self.progress = Progress::Gives { unit };
-                *out = ServerOut::Stored {
-                    operation: VD_OP_BREAD,
-                    block,
-                    count: block_count(size),
-                    failed: false,
-                };
-            }
-            Err(Failed) => {
-                self.note_failure();
-                *out = ServerOut::Stored {
-                    operation: VD_OP_BREAD,
-                    block,
-                    count: block_count(size),
-                    failed: true,
-                };
-            }
-        }
+        let at = store_place(store, region, block);
+        let failed = buffer.read(store, at, size).is_err();
+        self.progress = or_ends(failed, Progress::Gives { unit });
+        *out = ServerOut::Stored {
+            operation: VD_OP_BREAD,
+            block,
+            count: block_count(size),
+            failed,
+        };
     }
 
     /// A unit is written to the store.
@@ -193,35 +192,21 @@ impl Work {
         requires region { 512 * (region.first + region.blocks) ≤ D.size store.old }
         ensures piece { PieceOn region.first (work_with self.old buffer.now) (D.content store.old) out.new
             (work_with self.new buffer.now) (D.content store.new) }
-        ensures calls { Calls out.new (D.calls store.old) (D.calls store.new) (D.faults store.old)
-            (D.faults store.new) }
-        ensures flushes { Flushes out.new (D.flushes store.old) (D.flushes store.new) }
+        ensures store { StoreAfter D.Store out.new store.old store.new }
         ensures size { D.size store.new ≡ D.size store.old }
         ensures within { WithinDisk region.blocks out.new }
     {
-        let _length = store.len();
         let block = self.unit_block(unit, region.blocks);
         let bytes = buffer.bytes();
-        match store.write_at(store_place(region, block), bytes) {
-            Ok(()) => {
-                self.progress = self.gathers_next(unit);
-                *out = ServerOut::Stored {
-                    operation: VD_OP_BWRITE,
-                    block,
-                    count: block_count(bytes.len()),
-                    failed: false,
-                };
-            }
-            Err(Failed) => {
-                self.note_failure();
-                *out = ServerOut::Stored {
-                    operation: VD_OP_BWRITE,
-                    block,
-                    count: block_count(bytes.len()),
-                    failed: true,
-                };
-            }
-        }
+        let at = store_place(store, region, block);
+        let failed = store.write_at(at, bytes).is_err();
+        self.progress = or_ends(failed, self.gathers_next(unit));
+        *out = ServerOut::Stored {
+            operation: VD_OP_BWRITE,
+            block,
+            count: block_count(bytes.len()),
+            failed,
+        };
     }
 
     /// The store is flushed.
@@ -229,39 +214,18 @@ impl Work {
         requires progress { self.old.progress ≡ kept.Flushes }
         ensures piece { (first : ℕ) (bytes : List ℕ) → PieceOn first (work_with self.old bytes) (D.content store.old)
             out.new (work_with self.new bytes) (D.content store.new) }
-        ensures calls { Calls out.new (D.calls store.old) (D.calls store.new) (D.faults store.old)
-            (D.faults store.new) }
-        ensures flushes { Flushes out.new (D.flushes store.old) (D.flushes store.new) }
+        ensures store { StoreAfter D.Store out.new store.old store.new }
         ensures size { D.size store.new ≡ D.size store.old }
         ensures within { (blocks : ℕ) → WithinDisk blocks out.new }
     {
-        match store.flush() {
-            Ok(()) => {
-                self.progress = Progress::Ends { status: OK };
-                *out = ServerOut::Stored {
-                    operation: VD_OP_FLUSH,
-                    block: 0,
-                    count: 0,
-                    failed: false,
-                };
-            }
-            Err(Failed) => {
-                self.note_failure();
-                *out = ServerOut::Stored {
-                    operation: VD_OP_FLUSH,
-                    block: 0,
-                    count: 0,
-                    failed: true,
-                };
-            }
-        }
-    }
-
-    // A call of the store failed, which ends the descriptor.
-    fn note_failure(&mut self)
-        ensures { (bytes : List ℕ) → work_with self.new bytes ≡ record (work_with self.old bytes) { progress = Ends 5 } }
-    {
-        self.progress = Progress::Ends { status: EIO };
+        let failed = store.flush().is_err();
+        self.progress = or_ends(failed, Progress::Ends { status: OK });
+        *out = ServerOut::Stored {
+            operation: VD_OP_FLUSH,
+            block: 0,
+            count: 0,
+            failed,
+        };
     }
 
     // The next unit of a write, or the status 0 where there is none.

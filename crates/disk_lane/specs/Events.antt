@@ -5,11 +5,12 @@ use Rattle.ldc_queue.specs.declared.end.End.TheVariants.{A, B}
 use Rattle.vio_tag.specs.declared.cause.Cause.TheVariants as the_cause
 use Rattle.disk_model.specs.WireEvent as wire
 use Rattle.disk_model.specs.WireEvent.{ByStep, giver}
-use Rattle.disk_model.specs.DiskEvent.{CalmReset, CalmRestart, CalmStart, CalmStop, CalmTick, DiskEvent, Off, OnWire, Rests, Started, Stopped, Turns}
+use Rattle.disk_model.specs.DiskEvent.{CalmReset, CalmRestart, CalmStart, CalmStop, CalmTick, DiskEvent, Off, OnWire, Calms, Started, Stopped, Switches}
 use Rattle.vdisk_client.specs.declared.answers.ClientOut.{ClientOut}
 use Rattle.vdisk_client.specs.declared.answers.ClientOut.TheVariants as client_out
-use Rattle.descriptor_work.specs.Calling.{Calls, Flushes}
-use Rattle.vdisk_server.specs.Answering.{KeepsStore, server_event}
+use Rattle.vio_io.specs.declared.store.Store.{Ghosts}
+use Rattle.descriptor_work.specs.Calling.{StoreAfter}
+use Rattle.vdisk_server.specs.Answering.{server_event}
 use Rattle.descriptor_work.specs.declared.answers.ServerOut.{ServerOut}
 
 -- what a server answers that runs or not
@@ -20,46 +21,38 @@ answered false out = None
 -- a step of the server, or that it is stopped
 abbrev pub served_event : Option ServerOut → DiskEvent
 served_event (Some answer) = server_event answer
-served_event None = Turns Off
+served_event None = Switches Off
 
 -- a reset of an end that was asked for; a stopped server's end isn't reset
 abbrev pub reset_event : End → Bool → DiskEvent
 reset_event e true = OnWire (wire.Reset e the_cause.Asked None 0)
-reset_event e false = Rests (CalmReset e)
+reset_event e false = Calms (CalmReset e)
 
 abbrev pub restart_event : Bool → DiskEvent
 restart_event true = OnWire (wire.Reset B the_cause.Restart None 0)
-restart_event false = Rests CalmRestart
+restart_event false = Calms CalmRestart
 
 abbrev pub stop_event : Bool → DiskEvent
-stop_event true = Turns Stopped
-stop_event false = Rests CalmStop
+stop_event true = Switches Stopped
+stop_event false = Calms CalmStop
 
 abbrev pub start_event : Bool → DiskEvent
-start_event true = Turns Started
-start_event false = Rests CalmStart
+start_event true = Switches Started
+start_event false = Calms CalmStart
 
 -- a tick resets a client that isn't finished
 abbrev pub tick_event : Bool → DiskEvent
 tick_event true = OnWire (wire.Reset A the_cause.Tick None 0)
-tick_event false = Rests CalmTick
+tick_event false = Calms CalmTick
 
 abbrev pub lost_event : End → Option (List ℕ) → DiskEvent
 lost_event e (Some packet) = OnWire (wire.Lost e packet)
 lost_event e None = OnWire (wire.Declines (wire.NothingLost e))
 
--- a server that is stopped leaves its store
-abbrev pub KeepsStoreOf : {D : Type 0} → Option ServerOut → D → D → Type 0
-KeepsStoreOf (Some answer) old new = KeepsStore answer old new
-KeepsStoreOf None old new = new ≡ old
-
-abbrev pub CallsOf : Option ServerOut → ℕ → ℕ → ℕ → ℕ → Type 0
-CallsOf (Some answer) calls new_calls faults new_faults = Calls answer calls new_calls faults new_faults
-CallsOf None calls new_calls faults new_faults = (new_calls ≡ calls) × (new_faults ≡ faults)
-
-abbrev pub FlushesOf : Option ServerOut → ℕ → ℕ → Type 0
-FlushesOf (Some answer) flushes new_flushes = Flushes answer flushes new_flushes
-FlushesOf None flushes new_flushes = new_flushes ≡ flushes
+-- what a step does to the store, of a server that is stopped nothing
+abbrev pub StoreAfterOf : {D : Type 0} → Ghosts D → Option ServerOut → D → D → Type 0
+StoreAfterOf store (Some answer) old new = StoreAfter store answer old new
+StoreAfterOf store None old new = new ≡ old
 
 -- a client's step resets its end for a cause of its own, none that a script, a restart or a tick gives
 abbrev pub ResetsOwn : ClientOut → Type 0

@@ -8,7 +8,7 @@ ghost use Rattle.disk_model.specs.LaneStep.{LaneStep};
 ghost use Rattle.disk_model.specs.Reached.{IsReached};
 ghost use Rattle.disk_model.specs.Served.{Served};
 ghost use Rattle.vdisk_client.specs.Calls.{TellsLength, admitted, client_event, front_count};
-ghost use Rattle.disk_lane.specs.Events.{CallsOf, FlushesOf, KeepsStoreOf, ResetsOwn, answered, lost_event};
+ghost use Rattle.disk_lane.specs.Events.{ResetsOwn, StoreAfterOf, answered, lost_event};
 ghost use Rattle.disk_lane.specs.Events.{reset_event, restart_event, served_event, start_event, stop_event, tick_event};
 
 use crate::lane_ends::LaneEnds;
@@ -99,9 +99,7 @@ impl DiskLane {
     pub fn step_server<D: Store>(&mut self, store: &mut D) -> Option<ServerOut>
         requires region { 512 * (self.old.shape.first + self.old.shape.blocks) ≤ D.size store.old }
         ensures step { Served self.old (D.content store.old) (served_event result) self.new (D.content store.new) }
-        ensures store { KeepsStoreOf result store.old store.new }
-        ensures calls { CallsOf result (D.calls store.old) (D.calls store.new) (D.faults store.old) (D.faults store.new) }
-        ensures flushes { FlushesOf result (D.flushes store.old) (D.flushes store.new) }
+        ensures store { StoreAfterOf D.Store result store.old store.new }
         ensures size { D.size store.new ≡ D.size store.old }
         ensures shape { self.new.shape ≡ self.old.shape }
     {
@@ -120,10 +118,7 @@ impl DiskLane {
         requires region { 512 * (self.old.shape.first + self.old.shape.blocks) ≤ D.size store.old }
         ensures step { Served self.old (D.content store.old) (served_event (answered result out.new)) self.new
             (D.content store.new) }
-        ensures store { KeepsStoreOf (answered result out.new) store.old store.new }
-        ensures calls { CallsOf (answered result out.new) (D.calls store.old) (D.calls store.new) (D.faults store.old)
-            (D.faults store.new) }
-        ensures flushes { FlushesOf (answered result out.new) (D.flushes store.old) (D.flushes store.new) }
+        ensures store { StoreAfterOf D.Store (answered result out.new) store.old store.new }
         ensures size { D.size store.new ≡ D.size store.old }
         ensures shape { self.new.shape ≡ self.old.shape }
     {

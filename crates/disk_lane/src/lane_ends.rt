@@ -9,8 +9,8 @@ ghost use Rattle.disk_model.specs.LaneState.{fresh, IsShape};
 ghost use Rattle.disk_model.specs.LaneStep.{LaneStep, stored_blocks};
 ghost use Rattle.disk_model.specs.Served.{Served};
 ghost use Rattle.vdisk_client.specs.Calls.{TellsLength, admitted, client_event, front_count};
-ghost use Rattle.descriptor_work.specs.Calling.{Calls, Flushes};
-ghost use Rattle.vdisk_server.specs.Answering.{KeepsStore, server_event};
+ghost use Rattle.descriptor_work.specs.Calling.{StoreAfter};
+ghost use Rattle.vdisk_server.specs.Answering.{server_event};
 ghost use Rattle.disk_lane.specs.Events.{ResetsOwn, lost_event, reset_event, restart_event, start_event, stop_event, tick_event};
 ghost use Rattle.disk_lane.specs.Noted.{noted};
 
@@ -109,10 +109,7 @@ impl LaneEnds {
         requires runs { self.old.stopped ≡ false }
         requires region { 512 * (self.old.shape.first + self.old.shape.blocks) ≤ D.size store.old }
         ensures step { Served self.old (D.content store.old) (server_event out.new) self.new (D.content store.new) }
-        ensures store { KeepsStore out.new store.old store.new }
-        ensures calls { Calls out.new (D.calls store.old) (D.calls store.new) (D.faults store.old)
-            (D.faults store.new) }
-        ensures flushes { Flushes out.new (D.flushes store.old) (D.flushes store.new) }
+        ensures store { StoreAfter D.Store out.new store.old store.new }
         ensures size { D.size store.new ≡ D.size store.old }
     {
         self.server.step_into(&mut self.channel, &self.table, &mut self.memory, store, out);

@@ -13,13 +13,13 @@ use Rattle.vio_tag.specs.declared.message.Message.{Message}
 use Rattle.vio_tag.specs.declared.message.MsgBody.{MsgBody}
 use Rattle.vio_tag.specs.declared.message.MsgBody.TheVariants.{DringData}
 use Rattle.vio_tag.specs.declared.message.TagFault.{TagFault}
-use Rattle.vio_handshake.specs.Rules.{Faults, Goes, GoesOpen, ShakeTake, shake_take, sid_fault}
+use Rattle.vio_handshake.specs.Rules.{Faults, Goes, GoesOpen, HandshakeTake, handshake_take, sid_fault}
 use Rattle.disk_model.specs.WireEvent.{ByStep, giver}
 use Rattle.disk_model.specs.ClientRule as client_rule
 use Rattle.disk_model.specs.ClientState.{ClientSession, ClientState, slot_in}
 use Rattle.disk_model.specs.ClientStep.{ClientFails}
 use Rattle.disk_model.specs.ClientTaking as client
-use Rattle.disk_model.specs.EndPuts.{shake_risen}
+use Rattle.disk_model.specs.EndPuts.{handshake_risen}
 use Rattle.disk_model.specs.Ranges.{is_other, range_length}
 use Rattle.disk_model.specs.ServerRule as server_rule
 use Rattle.disk_model.specs.ServerState.{Ends, Progress, ServerSession, ServerState, SlotRange, Work}
@@ -27,7 +27,7 @@ use Rattle.disk_model.specs.ServerStep.{ServerFails, WorkFails}
 use Rattle.disk_model.specs.ServerTaking as server
 use Rattle.disk_model.specs.ServerWork.{EndFails, FetchFails, Reach, cause_of, slot_at}
 use Rattle.disk_model.proofs.OwnCauses.{IsOwn, OwnLink, link_own}
-use Rattle.disk_model.proofs.OwnMessages.{OwnFault, OwnShake, shake_own, sid_own}
+use Rattle.disk_model.proofs.OwnMessages.{OwnFault, OwnHandshake, handshake_own, sid_own}
 
 -- THE CLIENT
 abbrev OwnClient : client.ClientTake → Type 0
@@ -38,30 +38,30 @@ client_if : (b : Bool) (one other : client.ClientTake) → OwnClient one → Own
 client_if true one other own rest = own
 client_if false one other own rest = rest
 
-client_shake : (s : ClientState) (take : ShakeTake) → OwnShake take → OwnClient (client.by_handshake s take)
-client_shake s (Goes h) own = tt
-client_shake s (GoesOpen h) own = tt
-client_shake s (Faults cause) own = own
+client_handshake : (s : ClientState) (take : HandshakeTake) → OwnHandshake take → OwnClient (client.by_handshake s take)
+client_handshake s (Goes h) own = tt
+client_handshake s (GoesOpen h) own = tt
+client_handshake s (Faults cause) own = own
 
 client_ack : (s : ClientState) (session : ClientSession) (ident start end : ℕ) → OwnClient (client.takes_ack s session ident start end)
 client_ack s session ident start end =
-    client_if (is_other s.shake.draft.ident_own ident) (client.Resets (the_cause.Ident s.shake.draft.ident_own ident)) _ refl
+    client_if (is_other s.handshake.draft.ident_own ident) (client.Resets (the_cause.Ident s.handshake.draft.ident_own ident)) _ refl
     (client_if (is_other (slot_in s session.acked) start) (client.Resets (the_cause.Slot (slot_in s session.acked) start)) _ refl
     (client_if (nat_lt end s.slots && nat_le (session.acked + range_length s.slots start end) session.announced) (client.GoesOn _) (client.Resets (the_cause.RangeEnd end)) tt refl))
 
 client_in : (s : ClientState) (session : ClientSession) (message : Message) (subtype : Subtype) (b : MsgBody) → OwnClient (client.in_session s session message subtype b)
 client_in s session message Ack (DringData seq ident start end state) = client_ack s session ident start end
 client_in s session message Nack (DringData seq ident start end state) = refl
-client_in s session message _ _ = client_shake s (shake_take s.shake message) (shake_own s.shake message)
+client_in s session message _ _ = client_handshake s (handshake_take s.handshake message) (handshake_own s.handshake message)
 
 client_or : (fault : Option Cause) (rest : client.ClientTake) → OwnFault fault → OwnClient rest → OwnClient (client.sid_first fault rest)
 client_or None rest own own_rest = own_rest
 client_or (Some cause) rest own own_rest = own
 
 client_hears : (s : ClientState) (session : Option ClientSession) (message : Message) → OwnClient (client.hears_message s session message)
-client_hears s None message = client_shake s (shake_take s.shake message) (shake_own s.shake message)
+client_hears s None message = client_handshake s (handshake_take s.handshake message) (handshake_own s.handshake message)
 client_hears s (Some session) message =
-    client_or (sid_fault s.shake.sid message.sid) (client.in_session s session message message.subtype message.body) (sid_own s.shake.sid message.sid)
+    client_or (sid_fault s.handshake.sid message.sid) (client.in_session s session message message.subtype message.body) (sid_own s.handshake.sid message.sid)
     (client_in s session message message.subtype message.body)
 
 client_reads : (s : ClientState) (d : Result Message TagFault) → OwnClient (client.reads s d)
@@ -94,30 +94,30 @@ server_if : (b : Bool) (one other : server.ServerTake) → OwnServer one → Own
 server_if true one other own rest = own
 server_if false one other own rest = rest
 
-server_shake : (s : ServerState) (take : ShakeTake) → OwnShake take → OwnServer (server.by_handshake s take)
-server_shake s (Goes h) own = tt
-server_shake s (GoesOpen h) own = tt
-server_shake s (Faults cause) own = own
+server_handshake : (s : ServerState) (take : HandshakeTake) → OwnHandshake take → OwnServer (server.by_handshake s take)
+server_handshake s (Goes h) own = tt
+server_handshake s (GoesOpen h) own = tt
+server_handshake s (Faults cause) own = own
 
 server_info : (s : ServerState) (session : ServerSession) (ident : ℕ) (range : SlotRange) → OwnServer (server.takes_info s session ident range)
 server_info s session ident range =
-    server_if (is_other s.shake.draft.ident_peer ident) (server.Resets (the_cause.Ident s.shake.draft.ident_peer ident)) _ refl
+    server_if (is_other s.handshake.draft.ident_peer ident) (server.Resets (the_cause.Ident s.handshake.draft.ident_peer ident)) _ refl
     (server_if (is_other session.seq range.seq) (server.Resets (the_cause.Seq session.seq range.seq)) _ refl
     (server_if (is_other (server.place_of s session) range.start) (server.Resets (the_cause.Slot (server.place_of s session) range.start)) _ refl
-    (server_if (nat_le s.shake.draft.peer_slots range.end) (server.Resets (the_cause.RangeEnd range.end)) _ refl tt)))
+    (server_if (nat_le s.handshake.draft.peer_slots range.end) (server.Resets (the_cause.RangeEnd range.end)) _ refl tt)))
 
 server_in : (s : ServerState) (session : ServerSession) (message : Message) (subtype : Subtype) (b : MsgBody) → OwnServer (server.in_session s session message subtype b)
 server_in s session message Info (DringData seq ident start end state) = server_info s session ident (record { seq = seq; start = start; end = end; state = state })
-server_in s session message _ _ = server_shake s (shake_take s.shake message) (shake_own s.shake message)
+server_in s session message _ _ = server_handshake s (handshake_take s.handshake message) (handshake_own s.handshake message)
 
 server_or : (fault : Option Cause) (rest : server.ServerTake) → OwnFault fault → OwnServer rest → OwnServer (server.sid_first fault rest)
 server_or None rest own own_rest = own_rest
 server_or (Some cause) rest own own_rest = own
 
 server_hears : (s : ServerState) (session : Option ServerSession) (message : Message) → OwnServer (server.hears_message s session message)
-server_hears s None message = server_shake s (shake_take s.shake message) (shake_own s.shake message)
+server_hears s None message = server_handshake s (handshake_take s.handshake message) (handshake_own s.handshake message)
 server_hears s (Some session) message =
-    server_or (sid_fault s.shake.sid message.sid) (server.in_session s session message message.subtype message.body) (sid_own s.shake.sid message.sid)
+    server_or (sid_fault s.handshake.sid message.sid) (server.in_session s session message message.subtype message.body) (sid_own s.handshake.sid message.sid)
     (server_in s session message message.subtype message.body)
 
 server_reads : (s : ServerState) (d : Result Message TagFault) → OwnServer (server.reads s d)
@@ -129,7 +129,7 @@ server_whole s None take is = subst OwnServer (sym is) tt
 server_whole s (Some bytes) take is = subst OwnServer (sym is.2) (server_reads (record s { link = cleared s.link }) is.0)
 
 server_link : (s : ServerState) (link : LinkTake) (take : server.ServerTake) → OwnLink link → server.HearsLink s link take → OwnServer take
-server_link s (Heard k) take own is = server_whole (record s { link = k; shake = shake_risen s.link k s.shake }) k.whole take is
+server_link s (Heard k) take own is = server_whole (record s { link = k; handshake = handshake_risen s.link k s.handshake }) k.whole take is
 server_link s (Unheard cause) take own is = subst OwnServer (sym is) own
 
 server_takes : (s : ServerState) (bytes : List ℕ) (take : server.ServerTake) → server.ServerTakes s bytes take → OwnServer take

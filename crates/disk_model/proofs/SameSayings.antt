@@ -1,4 +1,4 @@
--- The counts of a talk, turn by turn, are what its numbered packets make in their order.
+-- The counts of a transcript, turn by turn, are what its numbered packets make in their order.
 use Rattle.std.proofs.Common.{◌≡◌, ℕ, Bool, true, false, ◌||◌, List, [], ◌∷◌, ◌++◌, refl, sym, ap, ◌∙◌}
 use Rattle.std.specs.Prelude.{nat_eq, ◌&&◌}
 use Rattle.std.proofs.lemmas.List.{append-nil}
@@ -8,7 +8,7 @@ use Rattle.ldc_queue.specs.Fragments.{Fragment, fragment_at, fragments_in, is_pa
 use Rattle.ldc_queue.specs.Messages as in_order
 use Rattle.ldc_queue.specs.Messages.{half_in, half_with, messages_heard, messages_said, whole_in, whole_with}
 use Rattle.ldc_queue.specs.Numbered.{kept, numbered}
-use Rattle.ldc_queue.specs.Talk.{Heard, Said, Turn, numbered_heard, numbered_said}
+use Rattle.ldc_queue.specs.Transcript.{Heard, Said, Turn, numbered_heard, numbered_said}
 use Rattle.disk_model.specs.Sayings.{half_heard, half_past, half_said, heard, said, whole_by, whole_past}
 
 -- the part of one packet, if it has one: each part has a number

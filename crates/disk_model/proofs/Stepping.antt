@@ -57,10 +57,10 @@ pub server_joins : (s : LaneState) → s.stopped ≡ false → server_rules.serv
     → LaneStep s (OnWire (Joined B 0)) (record s { wire = wire_moved s.wire (Joined B 0); server = joined_server s.server })
 server_joins s runs rule = ([], record { step = (runs, (rule, refl, refl, refl, refl)); is = refl })
 
-pub client_rests : (s : LaneState) → client_rules.client_rule s.client (at_client s) ≡ client_rules.Rests → LaneStep s (OnWire (Idle A)) s
+pub client_rests : (s : LaneState) → client_rules.client_rule s.client (at_client s) ≡ client_rules.Idles → LaneStep s (OnWire (Idle A)) s
 client_rests s rule = record { step = (rule, refl, refl); is = refl }
 
-pub server_rests : (s : LaneState) → s.stopped ≡ false → server_rules.server_rule s.server (at_server s) ≡ server_rules.Rests → LaneStep s (OnWire (Idle B)) s
+pub server_rests : (s : LaneState) → s.stopped ≡ false → server_rules.server_rule s.server (at_server s) ≡ server_rules.Idles → LaneStep s (OnWire (Idle B)) s
 server_rests s runs rule = ([], record { step = (runs, (rule, refl, refl, refl)); is = refl })
 
 pub client_sends : (s : LaneState) (held : ClientState) (packet : Packet)

@@ -1,12 +1,13 @@
 -- How a lane's log and its state agree: what is a part of both is equal, and what one has less of is told by the other.
-use Rattle.std.specs.Prelude.{◌≡◌, ℕ, ◌+◌, ◌-◌, ◌%◌, ◌^◌, false, not, List, [], ◌∷◌, ◌++◌, drop, length, replicate, Option, Some, None, slice_get, slice_index, ⊤}
+use Rattle.std.specs.Prelude.{◌≡◌, ℕ, ◌+◌, ◌-◌, ◌%◌, ◌^◌, ◌&&◌, false, is_some, not, List, [], ◌∷◌, ◌++◌, drop, length, replicate, Option, Some, None, slice_get, slice_index, ⊤}
 use Rattle.dring.specs.Slots.{free_state, slot_bytes}
+use Rattle.ldc_link.specs.declared.phase.Role.TheVariants.{Initiator, Responder}
 use Rattle.ldc_link.specs.Following.{OffersLittle}
 use Rattle.ldc_link.specs.LinkState.{LinkState, is_up}
 use Rattle.ldc_queue.specs.declared.end.End.{End}
 use Rattle.ldc_queue.specs.declared.end.End.TheVariants.{A, B}
 use Rattle.ldc_queue.specs.Messages.{is_empty}
-use Rattle.ldc_queue.specs.Talk.{Turn}
+use Rattle.ldc_queue.specs.Transcript.{Turn}
 use Rattle.vdisk_msg.specs.declared.desc.DiskDesc.{DiskDesc}
 use Rattle.vdisk_msg.specs.declared.request.Request.{Request}
 use Rattle.vdisk_msg.specs.Descriptor as slot_says
@@ -14,14 +15,19 @@ use Rattle.vdisk_msg.specs.Pieces.{Finishes, Moves, Piece, Stores, read_pieces, 
 use Rattle.vdisk_msg.specs.Requested as asks_for
 use Rattle.disk_model.specs.Sayings.{count_heard, count_said, half_heard, half_said}
 use Rattle.disk_model.specs.WireAt.{counts_next}
+use Rattle.disk_model.specs.BlockLog.{Blockage}
+use Rattle.disk_model.specs.ClientPutting.{is_announcing}
 use Rattle.disk_model.specs.ClientRule as client_rules
 use Rattle.disk_model.specs.ClientState.{ClientSession, ClientState, ever_published_count}
-use Rattle.disk_model.specs.LaneState.{LaneState}
+use Rattle.disk_model.specs.EndLog.{client_left, handshake_of, infos_heard, is_stuck_with_own, link_phase, range_in_work, server_left}
+use Rattle.disk_model.specs.LaneState.{LaneState, Shape}
+use Rattle.disk_model.specs.Offering.{client_offer, server_offer}
 use Rattle.disk_model.specs.Ranges.{wrapped}
 use Rattle.disk_model.specs.Seeing.{seen}
 use Rattle.disk_model.specs.ServerRule as server_rules
-use Rattle.disk_model.specs.ServerState.{Ends, Flushes, Gathers, Gives, Progress, Reads, ServerSession, Work, Writes}
+use Rattle.disk_model.specs.ServerState.{Ends, Flushes, Gathers, Gives, Progress, Reads, ServerSession, ServerState, Work, Writes}
 use Rattle.disk_model.specs.DiskLog.{DiskLog}
+use Rattle.disk_model.specs.TranscriptLog.{TranscriptLog}
 use Rattle.disk_model.specs.NearLog.{NearLog}
 use Rattle.disk_model.specs.RingLog.{Accepted, Done, Free, Ready, SlotLog, Zeros}
 use Rattle.disk_model.specs.WorkLog.{ClientCounts, ServerCounts, WorkLog}
@@ -112,16 +118,42 @@ pub record RingAgrees (memory : List ℕ) (slots : ℕ) (issued : List Request) 
 -- AN END THAT WAS IDLE in the last event has nothing to do yet
 abbrev pub IdleAgrees : LaneState → Option End → Type 0
 IdleAgrees s None = ⊤
-IdleAgrees s (Some A) = client_rules.client_rule s.client (seen A s.shape.entries s.wire.wire) ≡ client_rules.Rests
-IdleAgrees s (Some B) = (s.stopped ≡ false) × (server_rules.server_rule s.server (seen B s.shape.entries s.wire.wire) ≡ server_rules.Rests)
+IdleAgrees s (Some A) = client_rules.client_rule s.client (seen A s.shape.entries s.wire.wire) ≡ client_rules.Idles
+IdleAgrees s (Some B) = (s.stopped ≡ false) × (server_rules.server_rule s.server (seen B s.shape.entries s.wire.wire) ≡ server_rules.Idles)
+
+-- AN END is what it said and heard since it last began anew, and whether it is stuck: the client's last sid is how
+-- often its link came up
+pub record ClientEndAgrees (c : ClientState) (shape : Shape) (transcript : TranscriptLog) (blockage : Blockage) : Type 0 where
+  pub blocks : c.blocks ≡ shape.blocks
+  pub slots : c.slots ≡ shape.slots
+  pub role : c.link.role ≡ Initiator
+  pub phase : c.link.phase ≡ link_phase Initiator transcript.client
+  pub handshake : c.handshake ≡ handshake_of Initiator (client_offer shape.blocks shape.slots) (transcript.links % 2 ^ 32) transcript.client
+  pub announcing : is_announcing c.session ≡ (is_some c.session && is_stuck_with_own blockage c.handshake.owed)
+  pub left : c.link.to_send ≡ client_left c c.session (half_said transcript.client) blockage
+
+abbrev pub RangeAgrees : Option ServerSession → List Turn → Type 0
+RangeAgrees None turns = ⊤
+RangeAgrees (Some s) turns = (s.seq ≡ wrapped (infos_heard turns + 1)) × (s.range ≡ range_in_work turns)
+
+pub record ServerEndAgrees (v : ServerState) (shape : Shape) (transcript : TranscriptLog) (blockage : Blockage) : Type 0 where
+  pub blocks : v.blocks ≡ shape.blocks
+  pub slots : v.slots ≡ shape.slots
+  pub role : v.link.role ≡ Responder
+  pub phase : v.link.phase ≡ link_phase Responder transcript.server
+  pub handshake : v.handshake ≡ handshake_of Responder (server_offer shape.blocks shape.slots) 0 transcript.server
+  pub range : RangeAgrees v.session transcript.server
+  pub left : v.link.to_send ≡ server_left v v.handshake.owed (half_said transcript.server) blockage
 
 pub record AgreesWithLog (s : LaneState) (l : DiskLog) : Type 0 where
   pub shape : s.shape ≡ l.shape
   pub wire : s.wire ≡ l.wire
   pub stopped : s.stopped ≡ l.work.stopped
-  pub client_link : LinkAgrees s.client.link l.talk.client
-  pub server_link : LinkAgrees s.server.link l.talk.server
-  pub sids : s.client.shake.last_sid ≡ l.talk.links % 2 ^ 32
+  pub client_link : LinkAgrees s.client.link l.transcript.client
+  pub server_link : LinkAgrees s.server.link l.transcript.server
+  pub sids : s.client.handshake.last_sid ≡ l.transcript.links % 2 ^ 32
+  pub client_end : ClientEndAgrees s.client l.shape l.transcript l.blocked.client
+  pub server_end : ServerEndAgrees s.server l.shape l.transcript l.blocked.server
   pub requests : RequestsAgree s.client l.work
   pub client : ClientAgrees s.client.session l.work.done l.work.client
   pub server : ServerAgrees s.server.session s.server.work l.work.server

@@ -10,14 +10,14 @@ use Rattle.vio_tag.specs.Spelling.{canonical}
 use Rattle.vio_handshake.specs.Messages.{info}
 use Rattle.disk_model.specs.ClientRule.{Announces, ClientRule, Puts, Says}
 use Rattle.disk_model.specs.ClientState.{ClientSession, ClientState, first_id, opened_session, slot_in}
-use Rattle.disk_model.specs.EndPuts.{ComesUp, EndsOwn, EndsShake, Goes, PutKind, put_kind, put_opens, shake_behind}
+use Rattle.disk_model.specs.EndPuts.{ComesUp, EndsOwn, EndsHandshake, Goes, PutKind, put_kind, put_opens, handshake_behind}
 use Rattle.disk_model.specs.Ranges.{wrapped}
 
 -- the slots from the first that isn't announced to the last that is published
 abbrev pub announcement : ClientState → ClientSession → Message
 announcement s session =
-    info s.shake.draft.sid
-    (DringData (wrapped (session.infos + 1)) s.shake.draft.ident_own (slot_in s session.announced) (slot_in s (session.published - 1)) 1)
+    info s.handshake.draft.sid
+    (DringData (wrapped (session.infos + 1)) s.handshake.draft.ident_own (slot_in s session.announced) (slot_in s (session.published - 1)) 1)
 
 abbrev pub holding : Message → ClientState → ClientState
 holding message s = record s { link = offered (canonical message) s.link }
@@ -53,18 +53,18 @@ abbrev pub session_behind : PutKind → ClientState → Option ClientSession
 session_behind EndsOwn s = announced s.session
 session_behind Goes s = s.session
 session_behind ComesUp s = s.session
-session_behind EndsShake s = opened_if (put_opens EndsShake s.shake) s
+session_behind EndsHandshake s = opened_if (put_opens EndsHandshake s.handshake) s
 
 -- the client after putting what its link owes
 abbrev pub client_put : ClientState → ClientState
 client_put s = record s {
   link = behind_put s.link;
-  shake = shake_behind (client_kind s) s.shake;
+  handshake = handshake_behind (client_kind s) s.handshake;
   session = session_behind (client_kind s) s;
 }
 
 abbrev pub client_opens : ClientState → Bool
-client_opens s = put_opens (client_kind s) s.shake
+client_opens s = put_opens (client_kind s) s.handshake
 
 -- the ring is cleared as the session opens
 abbrev pub memory_put : ClientState → List ℕ → List ℕ

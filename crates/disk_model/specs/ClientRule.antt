@@ -21,11 +21,11 @@ pub data ClientRule : Type 0 where
   Publishes : ClientSession → Request → ClientRule
   -- published requests aren't announced
   Announces : ClientSession → ClientRule
-  Rests : ClientRule
+  Idles : ClientRule
 
 -- the requests that are published and aren't announced, all at once
 abbrev pub announces : ClientSession → ClientRule
-announces session = if nat_lt session.announced session.published then Announces session else Rests
+announces session = if nat_lt session.announced session.published then Announces session else Idles
 
 -- the next request that isn't published in this session, and where there is none, the announcement
 abbrev pub publishes : ClientSession → Option Request → ClientRule
@@ -33,7 +33,7 @@ publishes session None = announces session
 publishes session (Some request) = Publishes session request
 
 abbrev pub in_session : ClientState → Option ClientSession → ClientRule
-in_session s None = Rests
+in_session s None = Idles
 in_session s (Some session) = publishes session (slice_get s.pending (session.published - session.completed))
 
 abbrev pub says : ClientState → Option Message → ClientRule
@@ -41,7 +41,7 @@ says s None = in_session s s.session
 says s (Some message) = Says message
 
 abbrev pub puts_first : ClientState → ClientRule
-puts_first s = if owes s.link then Puts else says s s.shake.owed
+puts_first s = if owes s.link then Puts else says s s.handshake.owed
 
 abbrev pub takes_first : Option (List ℕ) → ClientRule → ClientRule
 takes_first None otherwise = otherwise
@@ -50,7 +50,7 @@ takes_first (Some packet) otherwise = Takes packet
 -- What goes before taking: a packet of the link's handshake, all of the handshake of the session, and in session a refusal, which the
 -- handshake owes until it is wholly put.
 abbrev pub is_urgent : ClientState → Bool
-is_urgent s = owes_control s.link || is_some s.shake.owed || (is_none s.session && owes s.link)
+is_urgent s = owes_control s.link || is_some s.handshake.owed || (is_none s.session && owes s.link)
 
 abbrev pub puts_or_takes : ClientState → Seen → ClientRule
 puts_or_takes s at = if is_urgent s then puts_first s else takes_first at.first (puts_first s)

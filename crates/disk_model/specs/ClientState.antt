@@ -4,7 +4,7 @@ use Rattle.ldc_link.specs.declared.phase.Role.TheVariants.{Initiator}
 use Rattle.ldc_link.specs.LinkState.{LinkState, fresh_link, joined_link}
 use Rattle.vdisk_msg.specs.declared.request.Request.{Request}
 use Rattle.vio_handshake.specs.declared.handshake.Handshake.{Handshake}
-use Rattle.vio_handshake.specs.State.{fresh_shake, joined_shake}
+use Rattle.vio_handshake.specs.State.{fresh_handshake, joined_handshake}
 use Rattle.disk_model.specs.Offering.{client_offer}
 
 -- Counts of a session, from the base on: the id `base + j` has the number j, and stands in slot j modulo the ring.
@@ -22,7 +22,7 @@ pub record ClientSession : Type 0 where
 
 pub record ClientState : Type 0 where
   pub link : LinkState
-  pub shake : Handshake
+  pub handshake : Handshake
   -- the blocks of the disk, and the slots of the ring
   pub blocks : ℕ
   pub slots : ℕ
@@ -38,7 +38,7 @@ pub record ClientState : Type 0 where
 abbrev pub fresh_client : ℕ → ℕ → ClientState
 fresh_client blocks slots = record {
   link = fresh_link Initiator;
-  shake = fresh_shake Initiator (client_offer blocks slots);
+  handshake = fresh_handshake Initiator (client_offer blocks slots);
   blocks = blocks;
   slots = slots;
   pending = [];
@@ -50,7 +50,7 @@ fresh_client blocks slots = record {
 
 -- it begins anew, and keeps its requests and all ids
 abbrev pub joined_client : ClientState → ClientState
-joined_client s = record s { link = joined_link s.link; shake = joined_shake s.shake; session = None }
+joined_client s = record s { link = joined_link s.link; handshake = joined_handshake s.handshake; session = None }
 
 -- the id of the first pending request, or of the next where none is pending
 abbrev pub first_id : ClientState → ℕ

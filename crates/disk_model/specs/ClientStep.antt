@@ -16,7 +16,7 @@ use Rattle.vio_tag.specs.declared.cause.Cause.{Cause}
 use Rattle.vio_tag.specs.declared.cause.Cause.TheVariants as the_cause
 use Rattle.disk_model.specs.WireEvent.{Blocked, Idle, Joined, Reset, Sent, Took}
 use Rattle.disk_model.specs.ClientPutting.{client_holds, client_opens, client_put, memory_put}
-use Rattle.disk_model.specs.ClientRule.{ClientRule, Completes, Joins, Publishes, Rests, Takes, client_rule}
+use Rattle.disk_model.specs.ClientRule.{ClientRule, Completes, Joins, Publishes, Idles, Takes, client_rule}
 use Rattle.disk_model.specs.ClientState.{ClientSession, ClientState, joined_client, slot_in}
 use Rattle.disk_model.specs.ClientTaking.{ClientTakes, GoesOn, Resets}
 use Rattle.disk_model.specs.DiskEvent.{Accepted, Admitted, DiskEvent, Done, Full, OnWire, Published, Refused, Works}
@@ -98,7 +98,7 @@ ClientStep s at memory (OnWire (Took A packet opens)) t new =
     (client_rule s at ≡ Takes packet) × ClientTakes s packet (GoesOn t) × (opens ≡ false) × (new ≡ memory)
 ClientStep s at memory (OnWire (Sent A packet opens)) t new = ClientSends s at memory packet opens t new
 ClientStep s at memory (OnWire (Blocked A)) t new = (client_holds (client_rule s at) s ≡ Some t) × (at.room ≡ false) × (new ≡ memory)
-ClientStep s at memory (OnWire (Idle A)) t new = (client_rule s at ≡ Rests) × (t ≡ s) × (new ≡ memory)
+ClientStep s at memory (OnWire (Idle A)) t new = (client_rule s at ≡ Idles) × (t ≡ s) × (new ≡ memory)
 ClientStep s at memory (OnWire (Reset A cause packet lost)) t new =
     ClientFails (client_rule s at) s memory cause packet × (lost ≡ 0) × (t ≡ joined_client s) × (new ≡ memory)
 ClientStep s at memory (Works (Published id)) t new = ClientPublishes s at memory id t new

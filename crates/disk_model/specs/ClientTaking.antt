@@ -11,7 +11,7 @@ use Rattle.vio_tag.specs.declared.message.MsgBody.{MsgBody}
 use Rattle.vio_tag.specs.declared.message.MsgBody.TheVariants.{DringData}
 use Rattle.vio_tag.specs.declared.message.TagFault.{TagFault}
 use Rattle.vio_tag.specs.Decoding.{Decodes}
-use Rattle.vio_handshake.specs.Rules.{Faults, Goes, GoesOpen, ShakeTake, shake_take, sid_fault}
+use Rattle.vio_handshake.specs.Rules.{Faults, Goes, GoesOpen, HandshakeTake, handshake_take, sid_fault}
 use Rattle.disk_model.specs.ClientState.{ClientSession, ClientState, slot_in}
 use Rattle.disk_model.specs.Ranges.{is_other, range_length}
 
@@ -21,9 +21,9 @@ pub data ClientTake : Type 0 where
   Resets : Cause → ClientTake
 
 -- A message of the handshake. An initiator's session never opens by one.
-abbrev pub by_handshake : ClientState → ShakeTake → ClientTake
-by_handshake s (Goes h) = GoesOn (record s { shake = h })
-by_handshake s (GoesOpen h) = GoesOn (record s { shake = h })
+abbrev pub by_handshake : ClientState → HandshakeTake → ClientTake
+by_handshake s (Goes h) = GoesOn (record s { handshake = h })
+by_handshake s (GoesOpen h) = GoesOn (record s { handshake = h })
 by_handshake s (Faults cause) = Resets cause
 
 abbrev pub acknowledged : ClientState → ClientSession → ℕ → ClientState
@@ -33,7 +33,7 @@ acknowledged s session count = record s { session = Some (record session { acked
 -- was announced.
 abbrev pub takes_ack : ClientState → ClientSession → ℕ → ℕ → ℕ → ClientTake
 takes_ack s session ident start end =
-    if is_other s.shake.draft.ident_own ident then Resets (the_cause.Ident s.shake.draft.ident_own ident)
+    if is_other s.handshake.draft.ident_own ident then Resets (the_cause.Ident s.handshake.draft.ident_own ident)
     else if is_other (slot_in s session.acked) start then Resets (the_cause.Slot (slot_in s session.acked) start)
     else if nat_lt end s.slots && nat_le (session.acked + range_length s.slots start end) session.announced
     then GoesOn (acknowledged s session (range_length s.slots start end))
@@ -47,11 +47,11 @@ sid_first (Some cause) otherwise = Resets cause
 abbrev pub in_session : ClientState → ClientSession → Message → Subtype → MsgBody → ClientTake
 in_session s session message Ack (DringData seq ident start end state) = takes_ack s session ident start end
 in_session s session message Nack (DringData seq ident start end state) = Resets the_cause.Refused
-in_session s session message subtype body = by_handshake s (shake_take s.shake message)
+in_session s session message subtype body = by_handshake s (handshake_take s.handshake message)
 
 abbrev pub hears_message : ClientState → Option ClientSession → Message → ClientTake
-hears_message s None message = by_handshake s (shake_take s.shake message)
-hears_message s (Some session) message = sid_first (sid_fault s.shake.sid message.sid) (in_session s session message message.subtype message.body)
+hears_message s None message = by_handshake s (handshake_take s.handshake message)
+hears_message s (Some session) message = sid_first (sid_fault s.handshake.sid message.sid) (in_session s session message message.subtype message.body)
 
 abbrev pub reads : ClientState → Result Message TagFault → ClientTake
 reads s (Ok message) = hears_message s s.session message

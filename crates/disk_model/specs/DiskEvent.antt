@@ -42,5 +42,5 @@ pub data DiskEvent : Type 0 where
   OnWire : WireEvent → DiskEvent
   Asks : Admitted → DiskEvent
   Works : Worked → DiskEvent
-  Turns : Switched → DiskEvent
-  Rests : Calm → DiskEvent
+  Switches : Switched → DiskEvent
+  Calms : Calm → DiskEvent

@@ -2,10 +2,11 @@
 use Rattle.std.specs.Prelude.{List, Option, Some, None}
 use Rattle.ldc_queue.specs.declared.end.End.{End}
 use Rattle.ldc_queue.specs.declared.end.End.TheVariants.{B}
-use Rattle.disk_model.specs.TalkLog.{TalkLog, nothing_said, silenced, talk_moved}
+use Rattle.disk_model.specs.TranscriptLog.{TranscriptLog, nothing_said, silenced, transcript_moved}
 use Rattle.disk_model.specs.WireEvent.{Idle, WireEvent}
 use Rattle.disk_model.specs.WireLog.{WireLog, nothing_on_wire, server_closed, wire_moved}
-use Rattle.disk_model.specs.DiskEvent.{DiskEvent, OnWire, Stopped, Turns}
+use Rattle.disk_model.specs.BlockLog.{BlockLog, after_block, nothing_blocked}
+use Rattle.disk_model.specs.DiskEvent.{DiskEvent, OnWire, Stopped, Switches}
 use Rattle.disk_model.specs.LaneState.{Shape}
 use Rattle.disk_model.specs.NearLog.{NearLog, after_near, nothing_near}
 use Rattle.disk_model.specs.RingLog.{SlotLog, after_ring, no_ring}
@@ -14,10 +15,11 @@ use Rattle.disk_model.specs.WorkLog.{WorkLog, after_work, no_work}
 pub record DiskLog : Type 0 where
   pub shape : Shape
   pub wire : WireLog
-  pub talk : TalkLog
+  pub transcript : TranscriptLog
   pub work : WorkLog
   pub ring : List SlotLog
   pub near : NearLog
+  pub blocked : BlockLog
   -- the end whose idle step was the last event
   pub last_idle : Option End
 
@@ -25,22 +27,23 @@ abbrev pub nothing_yet : Shape → DiskLog
 nothing_yet shape = record {
   shape = shape;
   wire = nothing_on_wire;
-  talk = nothing_said;
+  transcript = nothing_said;
   work = no_work;
   ring = no_ring shape.slots;
   near = nothing_near;
+  blocked = nothing_blocked;
   last_idle = None;
 }
 
 abbrev pub after_wire : WireLog → DiskEvent → WireLog
 after_wire l (OnWire event) = wire_moved l event
-after_wire l (Turns Stopped) = server_closed l
+after_wire l (Switches Stopped) = server_closed l
 after_wire l _ = l
 
-abbrev pub after_talk : TalkLog → DiskEvent → TalkLog
-after_talk l (OnWire event) = talk_moved l event
-after_talk l (Turns Stopped) = silenced B l
-after_talk l _ = l
+abbrev pub after_transcript : TranscriptLog → DiskEvent → TranscriptLog
+after_transcript l (OnWire event) = transcript_moved l event
+after_transcript l (Switches Stopped) = silenced B l
+after_transcript l _ = l
 
 abbrev pub idle_in : WireEvent → Option End
 idle_in (Idle e) = Some e
@@ -55,9 +58,10 @@ abbrev pub after : DiskLog → DiskEvent → DiskLog
 after l event = record {
   shape = l.shape;
   wire = after_wire l.wire event;
-  talk = after_talk l.talk event;
-  work = after_work l.shape.blocks l.shape.slots l.talk l.work event;
+  transcript = after_transcript l.transcript event;
+  work = after_work l.shape.blocks l.shape.slots l.transcript l.work event;
   ring = after_ring l.shape.slots l.work l.ring event;
   near = after_near l.work.done l.near event;
+  blocked = after_block l.blocked event;
   last_idle = after_idle event;
 }

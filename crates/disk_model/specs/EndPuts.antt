@@ -4,8 +4,8 @@ use Rattle.ldc_link.specs.declared.phase.LinkPhase.{LinkPhase}
 use Rattle.ldc_link.specs.declared.phase.LinkPhase.TheVariants as phase
 use Rattle.ldc_link.specs.LinkState.{LinkState, is_up}
 use Rattle.vio_handshake.specs.declared.handshake.Handshake.{Handshake}
-use Rattle.vio_handshake.specs.Rules.{opens_by_put, shake_sent}
-use Rattle.vio_handshake.specs.State.{shake_up}
+use Rattle.vio_handshake.specs.Rules.{opens_by_put, handshake_sent}
+use Rattle.vio_handshake.specs.State.{handshake_up}
 
 pub data PutKind : Type 0 where
   -- a packet of the link's handshake, or a part of a message that goes on
@@ -14,12 +14,12 @@ pub data PutKind : Type 0 where
   ComesUp : PutKind
   -- the last part of a message of the end's own, and of one of its handshake
   EndsOwn : PutKind
-  EndsShake : PutKind
+  EndsHandshake : PutKind
 
 -- the end of a message, whose it is
 abbrev pub ending : Bool → Bool → PutKind
 ending false own = Goes
-ending true own = if own then EndsOwn else EndsShake
+ending true own = if own then EndsOwn else EndsHandshake
 
 abbrev pub kind_in : LinkPhase → LinkState → Bool → PutKind
 kind_in phase.OwesRdx k own = ComesUp
@@ -31,17 +31,17 @@ abbrev pub put_kind : LinkState → Bool → PutKind
 put_kind k own = kind_in k.phase k own
 
 -- the handshake after it
-abbrev pub shake_behind : PutKind → Handshake → Handshake
-shake_behind Goes h = h
-shake_behind ComesUp h = shake_up h
-shake_behind EndsOwn h = h
-shake_behind EndsShake h = shake_sent h
+abbrev pub handshake_behind : PutKind → Handshake → Handshake
+handshake_behind Goes h = h
+handshake_behind ComesUp h = handshake_up h
+handshake_behind EndsOwn h = h
+handshake_behind EndsHandshake h = handshake_sent h
 
 -- whether the session opens by it
 abbrev pub put_opens : PutKind → Handshake → Bool
-put_opens EndsShake h = opens_by_put h.role h.phase
+put_opens EndsHandshake h = opens_by_put h.role h.phase
 put_opens _ h = false
 
 -- a responder's link that comes up by what it took begins a session
-abbrev pub shake_risen : LinkState → LinkState → Handshake → Handshake
-shake_risen before behind h = if is_up behind && not (is_up before) then shake_up h else h
+abbrev pub handshake_risen : LinkState → LinkState → Handshake → Handshake
+handshake_risen before behind h = if is_up behind && not (is_up before) then handshake_up h else h

@@ -141,8 +141,8 @@ small_shape = record { first = 0; blocks = 64; slots = 8; entries = 8 }
 pub record RunsFirstRounds (memory : List ℕ) (table : List (Option Entry)) (request : Request) : Type 0 where
   pub behind : LaneState
   pub run : Run LaneStep (fresh_over small_shape memory table) (Asks (Accepted 0 request) ∷ first_rounds) behind
-  pub client_open : session_of behind.client.shake ≢ None
-  pub server_open : session_of behind.server.shake ≢ None
+  pub client_open : session_of behind.client.handshake ≢ None
+  pub server_open : session_of behind.server.handshake ≢ None
   pub announced : behind.client.session ≡ Some (record (opened_session 0) { published = 1; announced = 1; infos = 1 })
   pub asked : behind.server.session ≡ Some (record { asked = 1; descs = 0; finished = 0; answered = 0; seq = 2; range = Some (record { seq = 1; start = 0; end = 0; state = 1 }) })
   pub published : behind.memory ≡ published_memory 8 0 0 request (put_at 0 (free_slots 128 8) memory)

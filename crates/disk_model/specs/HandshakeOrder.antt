@@ -1,12 +1,12 @@
--- The order of a handshake, as the talk of an end shows it where its session opens: a row of packets and messages that it said and
--- heard, one after the other, and between them only what may stand aside. The row is read as the talk stands, newest first.
+-- The order of a handshake, as the transcript of an end shows it where its session opens: a row of packets and messages that it said and
+-- heard, one after the other, and between them only what may stand aside. The row is read as the transcript stands, newest first.
 use Rattle.std.specs.Prelude.{◌≡◌, ℕ, ◌%◌, ◌⊎◌, Bool, true, false, List, [], ◌∷◌, ◌++◌, ⊤}
 use Rattle.vio_bytes.specs.Place.{number_at}
 use Rattle.ldc_packet.specs.Spelling.{ctrl_at, env_at, subtype_at, type_at}
 use Rattle.ldc_link.specs.declared.phase.Role.{Role}
 use Rattle.ldc_link.specs.declared.phase.Role.TheVariants.{Initiator, Responder}
 use Rattle.ldc_queue.specs.Fragments.{fragment_at, is_part}
-use Rattle.ldc_queue.specs.Talk.{Heard, Said, Turn}
+use Rattle.ldc_queue.specs.Transcript.{Heard, Said, Turn}
 use Rattle.vio_tag.specs.Spelling as message_at
 use Rattle.disk_model.specs.Sayings.{half_heard, half_said}
 
@@ -65,8 +65,8 @@ row both role = closing_lines role ++ (own_ring_lines both role ++ opening_lines
 
 -- A sid has 32 bits: of bytes it is the number that stands there. A list of numbers that aren't bytes may have more, and what answers it
 -- has its lowest 32.
-abbrev pub sid_in : List ℕ → ℕ
-sid_in message = message_at.sid_at message % 4294967296
+abbrev pub sid_in_bytes : List ℕ → ℕ
+sid_in_bytes message = message_at.sid_at message % 4294967296
 
 -- the packet ends a message with this subtype, envelope and sid, where this had come of it before
 pub record EndsAs (subtype envelope sid : ℕ) (half packet : List ℕ) : Type 0 where
@@ -74,7 +74,7 @@ pub record EndsAs (subtype envelope sid : ℕ) (half packet : List ℕ) : Type 0
   pub stop : (fragment_at packet).stop ≡ true
   pub of_subtype : message_at.subtype_at (half ++ (fragment_at packet).bytes) ≡ subtype
   pub of_envelope : message_at.envelope_at (half ++ (fragment_at packet).bytes) ≡ envelope
-  pub of_sid : sid_in (half ++ (fragment_at packet).bytes) ≡ sid
+  pub of_sid : sid_in_bytes (half ++ (fragment_at packet).bytes) ≡ sid
 
 -- the turn is the line's, after the turns before it
 abbrev pub Meets : ℕ → Line → Turn → List Turn → Type 0
@@ -118,19 +118,19 @@ IsAside role lines (Said packet) before =
 IsAside role lines (Heard packet) before = ComesUpBelow lines ⊎ (is_part packet ≡ false)
 
 -- the turns are the lines, one after the other, and what stands aside
-abbrev pub Follows : Role → ℕ → List Line → List Turn → Type 0
-Follows role sid [] [] = ⊤
-Follows role sid (line ∷ lines) [] = ⊥
-Follows role sid [] (turn ∷ turns) = IsAside role [] turn turns × Follows role sid [] turns
-Follows role sid (line ∷ lines) (turn ∷ turns) =
-    (Meets sid line turn turns × Follows role sid lines turns)
-    ⊎ (IsAside role (line ∷ lines) turn turns × Follows role sid (line ∷ lines) turns)
+abbrev pub FollowsRow : Role → ℕ → List Line → List Turn → Type 0
+FollowsRow role sid [] [] = ⊤
+FollowsRow role sid (line ∷ lines) [] = ⊥
+FollowsRow role sid [] (turn ∷ turns) = IsAside role [] turn turns × FollowsRow role sid [] turns
+FollowsRow role sid (line ∷ lines) (turn ∷ turns) =
+    (Meets sid line turn turns × FollowsRow role sid lines turns)
+    ⊎ (IsAside role (line ∷ lines) turn turns × FollowsRow role sid (line ∷ lines) turns)
 
 -- Its newest turn is that by which the session opened. All messages of the row have one sid.
 abbrev pub OpensBy : Role → ℕ → List Line → List Turn → Type 0
 OpensBy role sid [] turns = ⊥
 OpensBy role sid (line ∷ lines) [] = ⊥
-OpensBy role sid (line ∷ lines) (turn ∷ turns) = Meets sid line turn turns × Follows role sid lines turns
+OpensBy role sid (line ∷ lines) (turn ∷ turns) = Meets sid line turn turns × FollowsRow role sid lines turns
 
 pub record HandshakeOrder (both : Bool) (role : Role) (turns : List Turn) : Type 0 where
   pub sid : ℕ

@@ -5,12 +5,12 @@ use Rattle.ldc_queue.specs.declared.end.End.{End}
 use Rattle.ldc_queue.specs.declared.end.End.TheVariants.{A, B}
 use Rattle.vio_bytes.specs.Place.{put_at}
 use Rattle.vio_tag.specs.declared.cause.Cause.{Cause}
-use Rattle.disk_model.specs.WireAt.{DeclinesAt, HasRoom, IsFirst, IsUp, Sizes}
+use Rattle.disk_model.specs.WireAt.{DeclinesAt, HasRoomFor, IsFirstOn, IsUp, Sizes}
 use Rattle.disk_model.specs.WireEvent.{Blocked, ByRestart, ByScript, ByStep, ByTick, Declines, Giver, Idle, Injected, Joined, Lost, Poked, Reset, Sent, Took, WireEvent, giver}
 use Rattle.disk_model.specs.WireLog.{server_closed, wire_moved}
 use Rattle.disk_model.specs.ClientState.{is_finished, joined_client}
 use Rattle.disk_model.specs.ClientStep.{ClientAdmits, ClientStep}
-use Rattle.disk_model.specs.DiskEvent.{Asks, Calm, CalmReset, CalmRestart, CalmStart, CalmStop, CalmTick, Desc, DiskEvent, Done, Finished, Misplaced, Moved, Off, OnWire, Published, Rests, Started, Stopped, Stored, Switched, Turns, Worked, Works}
+use Rattle.disk_model.specs.DiskEvent.{Asks, Calm, CalmReset, CalmRestart, CalmStart, CalmStop, CalmTick, Desc, DiskEvent, Done, Finished, Misplaced, Moved, Off, OnWire, Published, Calms, Started, Stopped, Stored, Switched, Switches, Worked, Works}
 use Rattle.disk_model.specs.LaneState.{LaneState, NearCounts, near_disturbed, near_done, near_finished, risen}
 use Rattle.disk_model.specs.Seeing.{seen}
 use Rattle.disk_model.specs.ServerState.{joined_server, restarted_server}
@@ -103,9 +103,9 @@ WireStep s (Sent e packet opens) t = EndOnWire e s (Sent e packet opens) t
 WireStep s (Idle e) t = EndOnWire e s (Idle e) t
 WireStep s (Blocked e) t = EndOnWire e s (Blocked e) t
 WireStep s (Reset e cause packet lost) t = ResetBy (giver cause) e s cause packet lost t
-WireStep s (Lost e packet) t = IsFirst packet e s.wire.wire × (t ≡ record s { wire = wire_moved s.wire (Lost e packet) })
+WireStep s (Lost e packet) t = IsFirstOn packet e s.wire.wire × (t ≡ record s { wire = wire_moved s.wire (Lost e packet) })
 WireStep s (Injected e packet) t =
-    IsUp e s.wire.wire × HasRoom (sizes_of s) e s.wire.wire × (t ≡ record s { wire = wire_moved s.wire (Injected e packet) })
+    IsUp e s.wire.wire × HasRoomFor (sizes_of s) e s.wire.wire × (t ≡ record s { wire = wire_moved s.wire (Injected e packet) })
 WireStep s (Poked A at bytes) t =
     (at + length bytes ≤ length s.memory)
     × (t ≡ record s { wire = wire_moved s.wire (Poked A at bytes); memory = put_at at bytes s.memory })
@@ -143,5 +143,5 @@ abbrev pub LaneStep : LaneState → DiskEvent → LaneState → Type 0
 LaneStep s (OnWire event) t = WireStep s event t
 LaneStep s (Asks event) t = ClientAdmits s.client event t.client × (t ≡ record s { client = t.client })
 LaneStep s (Works event) t = WorkStep s event t
-LaneStep s (Turns event) t = TurnStep s event t
-LaneStep s (Rests event) t = RestStep s event t
+LaneStep s (Switches event) t = TurnStep s event t
+LaneStep s (Calms event) t = RestStep s event t

@@ -1,6 +1,6 @@
 pub mod WireEvent
 pub mod WireLog
-pub mod TalkLog
+pub mod TranscriptLog
 pub mod Sayings
 pub mod WireAt
 pub mod ResetSays
@@ -31,10 +31,12 @@ pub mod Messages
 pub mod WorkLog
 pub mod RingLog
 pub mod NearLog
+pub mod BlockLog
 pub mod DiskLog
 pub mod RequestLaws
 pub mod WorkLaws
 pub mod QuietLaws
 pub mod NearLaws
 pub mod May
+pub mod EndLog
 pub mod Agreement

@@ -24,10 +24,10 @@ pub record May (l : DiskLog) (event : DiskEvent) : Type 0 where
   -- the wire
   pub table : OfWire (WireTableAt (sizes_in l) l.wire) event
   pub answers : OfWire (WireAnswersAt (sizes_in l) l.wire) event
-  pub said : OfWire (WireSaidAt l.talk) event
-  pub heard : OfWire (WireHeardAt l.talk) event
-  pub gap : OfWire (WireGapAt l.talk) event
-  pub reset_says : OfWire (WireResetAt l.talk) event
+  pub said : OfWire (WireSaidAt l.transcript) event
+  pub heard : OfWire (WireHeardAt l.transcript) event
+  pub gap : OfWire (WireGapAt l.transcript) event
+  pub reset_says : OfWire (WireResetAt l.transcript) event
   pub lost : OfWire WireLostAt event
   pub unforged_wire : OfWire (WireUnforgedAt l.wire) event
   -- requests

@@ -2,7 +2,7 @@
 -- first u blocks of the write after them, the first m were published in an earlier session, and the first p ever.
 use Rattle.std.specs.Prelude.{ℕ, ◌+◌, ◌-◌, ◌==◌, max, Bool, true, false, if◌then◌else◌}
 use Rattle.disk_model.specs.WireEvent.{Reset, WireEvent}
-use Rattle.disk_model.specs.DiskEvent.{Desc, DiskEvent, Done, Finished, Misplaced, Moved, OnWire, Published, Stopped, Stored, Turns, Worked, Works}
+use Rattle.disk_model.specs.DiskEvent.{Desc, DiskEvent, Done, Finished, Misplaced, Moved, OnWire, Published, Stopped, Stored, Switches, Worked, Works}
 
 pub record NearLog : Type 0 where
   pub k : ℕ
@@ -38,5 +38,5 @@ near_wired n _ = n
 abbrev pub after_near : ℕ → NearLog → DiskEvent → NearLog
 after_near done n (OnWire event) = near_wired n event
 after_near done n (Works event) = near_worked done n event
-after_near done n (Turns Stopped) = disturbed_near n
+after_near done n (Switches Stopped) = disturbed_near n
 after_near done n _ = n

@@ -4,7 +4,7 @@ use Rattle.ldc_queue.specs.declared.end.End.{End}
 use Rattle.ldc_queue.specs.declared.end.End.TheVariants.{A, B}
 use Rattle.ldc_queue.specs.Wire.{peer_of, waiting_for}
 use Rattle.disk_model.specs.WireEvent.{ByTick, Giver, Idle, Reset, giver}
-use Rattle.disk_model.specs.DiskEvent.{CalmTick, DiskEvent, OnWire, Rests}
+use Rattle.disk_model.specs.DiskEvent.{CalmTick, DiskEvent, OnWire, Calms}
 use Rattle.disk_model.specs.DiskLog.{DiskLog}
 use Rattle.disk_model.specs.WorkLaws.{IfClient, IfServer}
 use Rattle.disk_model.specs.WorkLog.{ClientCounts, ServerCounts}
@@ -49,5 +49,5 @@ TickOf _ l = ⊤
 
 abbrev pub TickAt : DiskLog → DiskEvent → Type 0
 TickAt l (OnWire (Reset e cause packet lost)) = TickOf (giver cause) l
-TickAt l (Rests CalmTick) = IsFinished l
+TickAt l (Calms CalmTick) = IsFinished l
 TickAt l _ = ⊤

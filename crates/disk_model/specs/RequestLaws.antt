@@ -5,7 +5,7 @@ use Rattle.ldc_queue.specs.declared.end.End.TheVariants.{A, B}
 use Rattle.vdisk_msg.specs.declared.request.Request.{Request}
 use Rattle.vdisk_msg.specs.Requests.{defect, given_count, operation_of}
 use Rattle.disk_model.specs.WireEvent.{Blocked, ByRestart, ByScript, ByStep, ByTick, Giver, Idle, Joined, Reset, Sent, Took, WireEvent, giver}
-use Rattle.disk_model.specs.DiskEvent.{Accepted, Admitted, Asks, Calm, CalmReset, CalmRestart, CalmStart, CalmStop, CalmTick, Desc, DiskEvent, Done, Finished, Full, Misplaced, Moved, Off, OnWire, Published, Refused, Rests, Started, Stopped, Stored, Switched, Turns, Worked, Works}
+use Rattle.disk_model.specs.DiskEvent.{Accepted, Admitted, Asks, Calm, CalmReset, CalmRestart, CalmStart, CalmStop, CalmTick, Desc, DiskEvent, Done, Finished, Full, Misplaced, Moved, Off, OnWire, Published, Refused, Calms, Started, Stopped, Stored, Switched, Switches, Worked, Works}
 use Rattle.disk_model.specs.DiskLog.{DiskLog}
 use Rattle.disk_model.specs.WorkLog.{WorkLog}
 
@@ -97,5 +97,5 @@ abbrev pub TurnsAt : DiskLog → DiskEvent → Type 0
 TurnsAt l (OnWire event) = TurnOfWire l.work event
 TurnsAt l (Asks event) = ⊤
 TurnsAt l (Works event) = TurnOfWork l.work event
-TurnsAt l (Turns event) = TurnOfSwitch l.work event
-TurnsAt l (Rests event) = TurnOfCalm l.work event
+TurnsAt l (Switches event) = TurnOfSwitch l.work event
+TurnsAt l (Calms event) = TurnOfCalm l.work event

@@ -4,14 +4,14 @@ use Rattle.vio_bytes.specs.Place.{number_at}
 use Rattle.ldc_packet.specs.Fault.{first_fault}
 use Rattle.ldc_packet.specs.Spelling.{ctrl_at, env_at, subtype_at, type_at}
 use Rattle.ldc_queue.specs.Fragments.{fragment_at, is_part}
-use Rattle.ldc_queue.specs.Talk.{Turn}
+use Rattle.ldc_queue.specs.Transcript.{Turn}
 use Rattle.ldc_link.specs.Taking.{may_come}
 use Rattle.vio_tag.specs.declared.cause.Cause.{Cause}
 use Rattle.vio_tag.specs.declared.cause.Cause.TheVariants as the_cause
 use Rattle.vio_tag.specs.Fault as message
 use Rattle.vio_tag.specs.Spelling as message_at
 use Rattle.disk_model.specs.Sayings.{half_heard}
-use Rattle.disk_model.specs.TalkLog.{TalkLog, talk_of}
+use Rattle.disk_model.specs.TranscriptLog.{TranscriptLog, transcript_of}
 use Rattle.disk_model.specs.WireEvent.{Reset, WireEvent}
 
 -- RTS or RTR with the mode, which isn't unreliable, 1
@@ -92,6 +92,6 @@ abbrev pub ResetSays : List Turn → Option (List ℕ) → Cause → Type 0
 ResetSays turns None cause = MayLackPacket cause
 ResetSays turns (Some packet) cause = PacketSays turns packet cause
 
-abbrev pub WireResetAt : TalkLog → WireEvent → Type 0
-WireResetAt l (Reset e cause packet lost) = ResetSays (talk_of e l) packet cause
+abbrev pub WireResetAt : TranscriptLog → WireEvent → Type 0
+WireResetAt l (Reset e cause packet lost) = ResetSays (transcript_of e l) packet cause
 WireResetAt l _ = ⊤

@@ -1,11 +1,11 @@
--- What a talk comes to, counted from its turns: numbered packets, whole messages, and the bytes of a message whose last part hasn't
+-- What a transcript comes to, counted from its turns: numbered packets, whole messages, and the bytes of a message whose last part hasn't
 -- come. The newest turn stands first, so that one more turn is one more step of each count.
 use Rattle.std.specs.Prelude.{ℕ, Bool, true, false, List, [], ◌∷◌, ◌++◌}
 use Rattle.ldc_queue.specs.Fragments.{Fragment, fragment_at, is_part}
 use Rattle.ldc_queue.specs.Messages.{half_with}
 use Rattle.ldc_queue.specs.Numbered.{is_numbered}
-use Rattle.ldc_queue.specs.Talk.{Heard, Said, Turn}
-use Rattle.disk_model.specs.TalkLog.{more_if}
+use Rattle.ldc_queue.specs.Transcript.{Heard, Said, Turn}
+use Rattle.disk_model.specs.TranscriptLog.{more_if}
 
 -- how many packets with numbers of their own, RDX and parts of messages, the end put, and how many it took
 abbrev pub count_said : List Turn → ℕ

@@ -1,7 +1,7 @@
 -- A server's step with its store: the lane's step, and what became of the bytes that the store tells.
 use Rattle.std.specs.Prelude.{◌≡◌, ℕ, ◌+◌, ◌*◌, Bool, true, false, List, length, Option, Some, None}
 use Rattle.vio_io.specs.Stores.{KeepsOutside, ReadsRange, WritesRange}
-use Rattle.disk_model.specs.DiskEvent.{DiskEvent, Off, OnWire, Stored, Switched, Turns, Works}
+use Rattle.disk_model.specs.DiskEvent.{DiskEvent, Off, OnWire, Stored, Switched, Switches, Works}
 use Rattle.disk_model.specs.LaneState.{LaneState}
 use Rattle.disk_model.specs.LaneStep.{ServerOnWire, ServerWorks}
 use Rattle.disk_model.specs.ServerState.{Progress, Reads, ServerState, Work, Writes}
@@ -41,7 +41,7 @@ ServerTurn s _ t = ⊥
 abbrev pub ServedStep : LaneState → List ℕ → DiskEvent → LaneState → Type 0
 ServedStep s gave (OnWire event) t = ServerOnWire s gave event t
 ServedStep s gave (Works event) t = ServerWorks s gave event t
-ServedStep s gave (Turns event) t = ServerTurn s event t
+ServedStep s gave (Switches event) t = ServerTurn s event t
 ServedStep s gave _ t = ⊥
 
 pub record Served (s : LaneState) (told : Option (List ℕ)) (event : DiskEvent) (t : LaneState) (new : Option (List ℕ)) : Type 0 where

@@ -3,7 +3,7 @@ use Rattle.std.specs.Prelude.{Bool, is_none, Option, Some, None}
 use Rattle.ldc_link.specs.LinkState.{offered}
 use Rattle.ldc_link.specs.Putting.{behind_put}
 use Rattle.vio_tag.specs.Spelling.{canonical}
-use Rattle.disk_model.specs.EndPuts.{ComesUp, EndsOwn, EndsShake, Goes, PutKind, put_kind, put_opens, shake_behind}
+use Rattle.disk_model.specs.EndPuts.{ComesUp, EndsOwn, EndsHandshake, Goes, PutKind, put_kind, put_opens, handshake_behind}
 use Rattle.disk_model.specs.ServerRule.{Puts, Says, ServerRule}
 use Rattle.disk_model.specs.ServerState.{ServerSession, ServerState}
 
@@ -15,7 +15,7 @@ server_holds _ s = None
 
 -- the link's message is the answer to a range where the handshake owes none: a server takes nothing while it owes anything
 abbrev pub server_kind : ServerState → PutKind
-server_kind s = put_kind s.link (is_none s.shake.owed)
+server_kind s = put_kind s.link (is_none s.handshake.owed)
 
 -- the range is answered once the ACK is wholly put
 abbrev pub answered : Option ServerSession → Option ServerSession
@@ -26,16 +26,16 @@ abbrev pub session_behind : PutKind → Option ServerSession → Option ServerSe
 session_behind EndsOwn session = answered session
 session_behind Goes session = session
 session_behind ComesUp session = session
-session_behind EndsShake session = session
+session_behind EndsHandshake session = session
 
 -- the server after putting what its link owes
 abbrev pub server_put : ServerState → ServerState
 server_put s = record s {
   link = behind_put s.link;
-  shake = shake_behind (server_kind s) s.shake;
+  handshake = handshake_behind (server_kind s) s.handshake;
   session = session_behind (server_kind s) s.session;
 }
 
 -- a responder's session never opens by what it puts
 abbrev pub server_opens : ServerState → Bool
-server_opens s = put_opens (server_kind s) s.shake
+server_opens s = put_opens (server_kind s) s.handshake

@@ -19,15 +19,15 @@ pub data ServerRule : Type 0 where
   Fetches : ServerSession → ServerRule
   Serves : ServerSession → Work → ServerRule
   Takes : (packet : List ℕ) → ServerRule
-  Rests : ServerRule
+  Idles : ServerRule
 
 abbrev pub takes_first : Option (List ℕ) → ServerRule
-takes_first None = Rests
+takes_first None = Idles
 takes_first (Some packet) = Takes packet
 
 -- the INFO's fields, acknowledged
 abbrev pub answer : ServerState → SlotRange → Message
-answer s range = ack s.shake.draft.sid (DringData range.seq s.shake.draft.ident_peer range.start range.end range.state)
+answer s range = ack s.handshake.draft.sid (DringData range.seq s.handshake.draft.ident_peer range.start range.end range.state)
 
 abbrev pub serves : ServerSession → Option Work → ServerRule
 serves session None = Fetches session
@@ -47,4 +47,4 @@ says s None at = in_session s s.session at
 
 -- THE RULES, in their order
 abbrev pub server_rule : ServerState → Seen → ServerRule
-server_rule s at = if is_up at.state then (if owes s.link then Puts else says s s.shake.owed at) else Joins
+server_rule s at = if is_up at.state then (if owes s.link then Puts else says s s.handshake.owed at) else Joins

@@ -4,7 +4,7 @@ use Rattle.dring.specs.declared.peer.PeerRing.{PeerRing}
 use Rattle.ldc_link.specs.declared.phase.Role.TheVariants.{Responder}
 use Rattle.ldc_link.specs.LinkState.{LinkState, fresh_link, joined_link}
 use Rattle.vio_handshake.specs.declared.handshake.Handshake.{Handshake}
-use Rattle.vio_handshake.specs.State.{fresh_shake, joined_shake}
+use Rattle.vio_handshake.specs.State.{fresh_handshake, joined_handshake}
 use Rattle.disk_model.specs.Offering.{server_offer}
 
 -- a range of slots as an INFO named it
@@ -43,7 +43,7 @@ pub record Work : Type 0 where
 
 pub record ServerState : Type 0 where
   pub link : LinkState
-  pub shake : Handshake
+  pub handshake : Handshake
   -- the disk's first block in the store, its blocks, and the slots of the ring that it expects
   pub first : ℕ
   pub blocks : ℕ
@@ -54,7 +54,7 @@ pub record ServerState : Type 0 where
 abbrev pub fresh_server : ℕ → ℕ → ℕ → ServerState
 fresh_server first blocks slots = record {
   link = fresh_link Responder;
-  shake = fresh_shake Responder (server_offer blocks slots);
+  handshake = fresh_handshake Responder (server_offer blocks slots);
   first = first;
   blocks = blocks;
   slots = slots;
@@ -64,7 +64,7 @@ fresh_server first blocks slots = record {
 
 -- it begins anew, and drops all half-done work
 abbrev pub joined_server : ServerState → ServerState
-joined_server s = record s { link = joined_link s.link; shake = joined_shake s.shake; session = None; work = None }
+joined_server s = record s { link = joined_link s.link; handshake = joined_handshake s.handshake; session = None; work = None }
 
 -- all its values are made new
 abbrev pub restarted_server : ServerState → ServerState
@@ -75,4 +75,4 @@ opened_server = record { asked = 0; descs = 0; finished = 0; answered = 0; seq =
 
 -- the ring that the client registered
 abbrev pub peer_ring : ServerState → PeerRing
-peer_ring s = record { slots = s.shake.draft.peer_slots; count = s.shake.draft.peer_count; cookies = s.shake.draft.peer_cookies }
+peer_ring s = record { slots = s.handshake.draft.peer_slots; count = s.handshake.draft.peer_count; cookies = s.handshake.draft.peer_cookies }

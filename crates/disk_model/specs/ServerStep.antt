@@ -11,7 +11,7 @@ use Rattle.disk_model.specs.DiskEvent.{Desc, DiskEvent, Finished, Moved, OnWire,
 use Rattle.disk_model.specs.Ranges.{wrapped}
 use Rattle.disk_model.specs.Seeing.{Seen}
 use Rattle.disk_model.specs.ServerPutting.{server_holds, server_opens, server_put}
-use Rattle.disk_model.specs.ServerRule.{Fetches, Joins, Rests, ServerRule, Serves, Takes, server_rule}
+use Rattle.disk_model.specs.ServerRule.{Fetches, Joins, Idles, ServerRule, Serves, Takes, server_rule}
 use Rattle.disk_model.specs.ServerState.{Ends, Progress, ServerSession, ServerState, Work, joined_server}
 use Rattle.disk_model.specs.ServerTaking.{GoesOn, Resets, ServerTakes}
 use Rattle.disk_model.specs.ServerWork.{CanFetch, EndFails, FetchFails, MovesIn, Reach, StoresIn, first_progress, header_of, slot_at, slot_fetched, with_done, with_word, word_fault}
@@ -93,7 +93,7 @@ ServerStep s at reach gave (OnWire (Took B packet opens)) t new =
 ServerStep s at reach gave (OnWire (Sent B packet opens)) t new = ServerSends s at packet opens t × (new ≡ reach.memory) × (gave ≡ [])
 ServerStep s at reach gave (OnWire (Blocked B)) t new =
     (server_holds (server_rule s at) s ≡ Some t) × (at.room ≡ false) × (new ≡ reach.memory) × (gave ≡ [])
-ServerStep s at reach gave (OnWire (Idle B)) t new = (server_rule s at ≡ Rests) × (t ≡ s) × (new ≡ reach.memory) × (gave ≡ [])
+ServerStep s at reach gave (OnWire (Idle B)) t new = (server_rule s at ≡ Idles) × (t ≡ s) × (new ≡ reach.memory) × (gave ≡ [])
 ServerStep s at reach gave (OnWire (Reset B cause packet lost)) t new =
     ServerFails (server_rule s at) s reach cause packet new × (lost ≡ 0) × (t ≡ joined_server s) × (gave ≡ [])
 ServerStep s at reach gave (Works (Desc slot bytes)) t new = ServerFetches s at reach slot bytes t new × (gave ≡ [])

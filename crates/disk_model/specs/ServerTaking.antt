@@ -11,8 +11,8 @@ use Rattle.vio_tag.specs.declared.message.MsgBody.{MsgBody}
 use Rattle.vio_tag.specs.declared.message.MsgBody.TheVariants.{DringData}
 use Rattle.vio_tag.specs.declared.message.TagFault.{TagFault}
 use Rattle.vio_tag.specs.Decoding.{Decodes}
-use Rattle.vio_handshake.specs.Rules.{Faults, Goes, GoesOpen, ShakeTake, shake_take, sid_fault}
-use Rattle.disk_model.specs.EndPuts.{shake_risen}
+use Rattle.vio_handshake.specs.Rules.{Faults, Goes, GoesOpen, HandshakeTake, handshake_take, sid_fault}
+use Rattle.disk_model.specs.EndPuts.{handshake_risen}
 use Rattle.disk_model.specs.Ranges.{is_other, range_length, wrapped}
 use Rattle.disk_model.specs.ServerState.{ServerSession, ServerState, SlotRange, opened_server}
 
@@ -21,16 +21,16 @@ pub data ServerTake : Type 0 where
   GoesOn : ServerState → (opens : Bool) → ServerTake
   Resets : Cause → ServerTake
 
-abbrev pub by_handshake : ServerState → ShakeTake → ServerTake
-by_handshake s (Goes h) = GoesOn (record s { shake = h }) false
-by_handshake s (GoesOpen h) = GoesOn (record s { shake = h; session = Some opened_server }) true
+abbrev pub by_handshake : ServerState → HandshakeTake → ServerTake
+by_handshake s (Goes h) = GoesOn (record s { handshake = h }) false
+by_handshake s (GoesOpen h) = GoesOn (record s { handshake = h; session = Some opened_server }) true
 by_handshake s (Faults cause) = Resets cause
 
 -- a range is in work
 abbrev pub asked : ServerState → ServerSession → SlotRange → ServerState
 asked s session range = record s {
   session = Some (record session {
-    asked = wrapped (session.asked + range_length s.shake.draft.peer_slots range.start range.end);
+    asked = wrapped (session.asked + range_length s.handshake.draft.peer_slots range.start range.end);
     seq = wrapped (session.seq + 1);
     range = Some range;
   });
@@ -38,15 +38,15 @@ asked s session range = record s {
 
 -- where the next range begins
 abbrev pub place_of : ServerState → ServerSession → ℕ
-place_of s session = session.asked % s.shake.draft.peer_slots
+place_of s session = session.asked % s.handshake.draft.peer_slots
 
 -- An INFO names the client's ring, has the next number, begins at the server's place, and ends within the ring.
 abbrev pub takes_info : ServerState → ServerSession → ℕ → SlotRange → ServerTake
 takes_info s session ident range =
-    if is_other s.shake.draft.ident_peer ident then Resets (the_cause.Ident s.shake.draft.ident_peer ident)
+    if is_other s.handshake.draft.ident_peer ident then Resets (the_cause.Ident s.handshake.draft.ident_peer ident)
     else if is_other session.seq range.seq then Resets (the_cause.Seq session.seq range.seq)
     else if is_other (place_of s session) range.start then Resets (the_cause.Slot (place_of s session) range.start)
-    else if nat_le s.shake.draft.peer_slots range.end then Resets (the_cause.RangeEnd range.end)
+    else if nat_le s.handshake.draft.peer_slots range.end then Resets (the_cause.RangeEnd range.end)
     else GoesOn (asked s session range) false
 
 abbrev pub sid_first : Option Cause → ServerTake → ServerTake
@@ -56,11 +56,11 @@ sid_first (Some cause) otherwise = Resets cause
 -- in session an INFO of a range is the server's own, and all else is the handshake's
 abbrev pub in_session : ServerState → ServerSession → Message → Subtype → MsgBody → ServerTake
 in_session s session message Info (DringData seq ident start end state) = takes_info s session ident (record { seq = seq; start = start; end = end; state = state })
-in_session s session message subtype body = by_handshake s (shake_take s.shake message)
+in_session s session message subtype body = by_handshake s (handshake_take s.handshake message)
 
 abbrev pub hears_message : ServerState → Option ServerSession → Message → ServerTake
-hears_message s None message = by_handshake s (shake_take s.shake message)
-hears_message s (Some session) message = sid_first (sid_fault s.shake.sid message.sid) (in_session s session message message.subtype message.body)
+hears_message s None message = by_handshake s (handshake_take s.handshake message)
+hears_message s (Some session) message = sid_first (sid_fault s.handshake.sid message.sid) (in_session s session message message.subtype message.body)
 
 abbrev pub reads : ServerState → Result Message TagFault → ServerTake
 reads s (Ok message) = hears_message s s.session message
@@ -74,7 +74,7 @@ HearsWhole s (Some bytes) take =
 
 -- the link may come up by the packet
 abbrev pub HearsLink : ServerState → LinkTake → ServerTake → Type 0
-HearsLink s (Heard k) take = HearsWhole (record s { link = k; shake = shake_risen s.link k s.shake }) k.whole take
+HearsLink s (Heard k) take = HearsWhole (record s { link = k; handshake = handshake_risen s.link k s.handshake }) k.whole take
 HearsLink s (Unheard cause) take = take ≡ Resets cause
 
 -- the packet's bytes, as the link takes them

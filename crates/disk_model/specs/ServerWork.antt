@@ -43,7 +43,7 @@ slots_cookies s = ring_cookies (peer_ring s)
 
 -- the slot of a descriptor's number
 abbrev pub slot_at : ServerState → ℕ → ℕ
-slot_at s number = number % s.shake.draft.peer_slots
+slot_at s number = number % s.handshake.draft.peer_slots
 
 -- the bytes of a slot, and why they can't be fetched
 abbrev pub slot_fetched : ServerState → Reach → ℕ → List ℕ

@@ -10,12 +10,12 @@ use Rattle.ldc_queue.specs.declared.end.End.{End}
 use Rattle.ldc_queue.specs.Fragments.{Fragment, fragment_at, is_part}
 use Rattle.ldc_queue.specs.Messages.{is_empty}
 use Rattle.ldc_queue.specs.Numbered.{is_numbered}
-use Rattle.ldc_queue.specs.Talk.{Turn}
+use Rattle.ldc_queue.specs.Transcript.{Turn}
 use Rattle.ldc_queue.specs.Wire.{Wire, peer_of, state_of, waiting_for}
 use Rattle.vio_tag.specs.declared.cause.Cause.{Cause}
 use Rattle.vio_tag.specs.declared.cause.Cause.TheVariants as the_cause
 use Rattle.disk_model.specs.Sayings.{count_heard, count_said, half_heard, half_said}
-use Rattle.disk_model.specs.TalkLog.{TalkLog, talk_of}
+use Rattle.disk_model.specs.TranscriptLog.{TranscriptLog, transcript_of}
 use Rattle.disk_model.specs.WireEvent.{Blocked, ByRestart, ByScript, ByStep, ByTick, Declined, Declines, Giver, Idle, Injected, InjectedFull, Joined, Lost, NotInjected, NothingLost, PokeRefused, Poked, Reset, Sent, Took, WireEvent, giver}
 use Rattle.disk_model.specs.WireLog.{WireLog}
 
@@ -28,19 +28,19 @@ abbrev pub IsUp : End → Wire → Type 0
 IsUp e w = state_of e w ≡ Up
 
 -- fewer packets wait for the end than its queue holds, or as many
-abbrev pub HasRoom : Sizes → End → Wire → Type 0
-HasRoom n e w = length (waiting_for e w) + 1 < n.entries
+abbrev pub HasRoomFor : Sizes → End → Wire → Type 0
+HasRoomFor n e w = length (waiting_for e w) + 1 < n.entries
 
 abbrev pub IsFull : Sizes → End → Wire → Type 0
 IsFull n e w = length (waiting_for e w) + 1 ≡ n.entries
 
 -- the packet has waited longest for the end
-abbrev pub IsFirst : List ℕ → End → Wire → Type 0
-IsFirst packet e w = slice_get (waiting_for e w) 0 ≡ Some packet
+abbrev pub IsFirstOn : List ℕ → End → Wire → Type 0
+IsFirstOn packet e w = slice_get (waiting_for e w) 0 ≡ Some packet
 
 abbrev pub MayCarry : Option (List ℕ) → End → Wire → Type 0
 MayCarry None e w = ⊤
-MayCarry (Some packet) e w = IsFirst packet e w
+MayCarry (Some packet) e w = IsFirstOn packet e w
 
 -- only a step's reset carries a packet, and only an end that is up takes one
 abbrev pub MayReset : Giver → Option (List ℕ) → End → Wire → Type 0
@@ -53,12 +53,12 @@ MayReset ByTick packet e w = packet ≡ None
 abbrev pub WireTableAt : Sizes → WireLog → WireEvent → Type 0
 WireTableAt n l (Joined e lost) = state_of e l.wire ≢ Up
 WireTableAt n l (Reset e cause packet lost) = MayReset (giver cause) packet e l.wire
-WireTableAt n l (Took e packet opens) = IsUp e l.wire × IsFirst packet e l.wire
-WireTableAt n l (Sent e packet opens) = IsUp e l.wire × HasRoom n (peer_of e) l.wire
+WireTableAt n l (Took e packet opens) = IsUp e l.wire × IsFirstOn packet e l.wire
+WireTableAt n l (Sent e packet opens) = IsUp e l.wire × HasRoomFor n (peer_of e) l.wire
 WireTableAt n l (Idle e) = IsUp e l.wire
 WireTableAt n l (Blocked e) = IsUp e l.wire × IsFull n (peer_of e) l.wire
-WireTableAt n l (Lost e packet) = IsFirst packet e l.wire
-WireTableAt n l (Injected e packet) = IsUp e l.wire × HasRoom n e l.wire
+WireTableAt n l (Lost e packet) = IsFirstOn packet e l.wire
+WireTableAt n l (Injected e packet) = IsUp e l.wire × HasRoomFor n e l.wire
 WireTableAt n l (Poked e at bytes) = at + length bytes ≤ n.memory
 WireTableAt n l (Declines d) = ⊤
 
@@ -91,8 +91,8 @@ pub record IsSaid (turns : List Turn) (bytes : List ℕ) : Type 0 where
   pub number : is_numbered bytes ≡ true → seqid_at bytes ≡ counts_next (count_said turns)
   pub part : is_part bytes ≡ true → IsSaidPart (half_said turns) (fragment_at bytes)
 
-abbrev pub WireSaidAt : TalkLog → WireEvent → Type 0
-WireSaidAt l (Sent e packet opens) = IsSaid (talk_of e l) packet
+abbrev pub WireSaidAt : TranscriptLog → WireEvent → Type 0
+WireSaidAt l (Sent e packet opens) = IsSaid (transcript_of e l) packet
 WireSaidAt l _ = ⊤
 
 -- WHAT IS HEARD: 64 bytes that spell a packet, with the next number where it has one; a part has START exactly where nothing of a
@@ -107,8 +107,8 @@ pub record IsHeard (turns : List Turn) (bytes : List ℕ) : Type 0 where
   pub number : is_numbered bytes ≡ true → seqid_at bytes ≡ counts_next (count_heard turns)
   pub part : is_part bytes ≡ true → IsHeardPart (half_heard turns) (fragment_at bytes)
 
-abbrev pub WireHeardAt : TalkLog → WireEvent → Type 0
-WireHeardAt l (Took e packet opens) = IsHeard (talk_of e l) packet
+abbrev pub WireHeardAt : TranscriptLog → WireEvent → Type 0
+WireHeardAt l (Took e packet opens) = IsHeard (transcript_of e l) packet
 WireHeardAt l _ = ⊤
 
 -- THE GAP: the packet has a number, which is another than the next
@@ -126,8 +126,8 @@ abbrev pub GapOf : List Turn → Cause → Option (List ℕ) → Type 0
 GapOf turns (the_cause.Gap expected found) packet = GapCarries turns expected found packet
 GapOf turns _ packet = ⊤
 
-abbrev pub WireGapAt : TalkLog → WireEvent → Type 0
-WireGapAt l (Reset e cause packet lost) = GapOf (talk_of e l) cause packet
+abbrev pub WireGapAt : TranscriptLog → WireEvent → Type 0
+WireGapAt l (Reset e cause packet lost) = GapOf (transcript_of e l) cause packet
 WireGapAt l _ = ⊤
 
 -- UNFORGED: where nobody meddled, an end resets itself for a gap alone, and only once a packet was lost

@@ -16,7 +16,7 @@ use Rattle.vio_tag.specs.declared.cause.Cause.{Cause}
 use Rattle.vio_tag.specs.declared.cause.Cause.TheVariants as the_cause
 use Rattle.disk_model.specs.HandshakeOrder.{HandshakeOrder}
 use Rattle.disk_model.specs.Sayings.{half_heard, half_said}
-use Rattle.disk_model.specs.TalkLog.{TalkLog, hears, says}
+use Rattle.disk_model.specs.TranscriptLog.{TranscriptLog, hears, says}
 use Rattle.disk_model.specs.WireAt.{IsUp}
 use Rattle.disk_model.specs.WireEvent.{Reset, Sent, Took}
 use Rattle.disk_model.specs.DiskEvent.{Desc, DiskEvent, Done, Finished, Misplaced, Moved, OnWire, Published, Stored, Works}
@@ -70,8 +70,8 @@ WorksAt l (Works (Finished slot status)) = IsUp B l.wire.wire
 WorksAt l (Works Misplaced) = ⊥
 WorksAt l _ = ⊤
 
--- THE RANGES: an INFO has the next number, begins after the range before and names published ones alone; an ACK that is heard names
--- announced ones alone, and one that is said finished ones alone
+-- THE RANGES: an INFO has the next number, begins after the range before and names all that was published since; an ACK that is heard names
+-- announced ones alone; and one that is said begins after the ACK before and names all that was asked since, the last of it finished
 abbrev pub IfRange : Option (List ℕ) → (List ℕ → Type 0) → Type 0
 IfRange None holds = ⊤
 IfRange (Some message) holds = holds message
@@ -79,13 +79,15 @@ IfRange (Some message) holds = holds message
 pub record Announces (slots : ℕ) (c : ClientCounts) (message : List ℕ) : Type 0 where
   pub next : seq_of message ≡ wrapped (c.infos + 1)
   pub begins : start_of message ≡ c.announced % slots
-  pub published : c.announced + range_length slots (start_of message) (end_of message) ≤ c.published
+  pub published : c.announced + range_length slots (start_of message) (end_of message) ≡ c.published
 
 abbrev pub Acknowledges : ℕ → ClientCounts → List ℕ → Type 0
 Acknowledges slots c message = c.acked + range_length slots (start_of message) (end_of message) ≤ c.announced
 
-abbrev pub Answers : ℕ → ServerCounts → List ℕ → Type 0
-Answers slots c message = c.answered + range_length slots (start_of message) (end_of message) ≤ c.finished
+pub record AcknowledgesRange (slots : ℕ) (c : ServerCounts) (message : List ℕ) : Type 0 where
+  pub begins : start_of message ≡ c.answered % slots
+  pub asked : c.answered + range_length slots (start_of message) (end_of message) ≡ c.asked
+  pub finished : c.finished ≡ c.asked
 
 abbrev pub IfClient : Option ClientCounts → (ClientCounts → Type 0) → Type 0
 IfClient None holds = ⊤
@@ -97,11 +99,11 @@ IfServer (Some c) holds = holds c
 
 abbrev pub RangesAt : DiskLog → DiskEvent → Type 0
 RangesAt l (OnWire (Sent A packet opens)) =
-    IfClient l.work.client (λ (c : ClientCounts). IfRange (range_ended 1 (half_said l.talk.client) packet) (Announces l.shape.slots c))
+    IfClient l.work.client (λ (c : ClientCounts). IfRange (range_ended 1 (half_said l.transcript.client) packet) (Announces l.shape.slots c))
 RangesAt l (OnWire (Took A packet opens)) =
-    IfClient l.work.client (λ (c : ClientCounts). IfRange (range_ended 2 (half_heard l.talk.client) packet) (Acknowledges l.shape.slots c))
+    IfClient l.work.client (λ (c : ClientCounts). IfRange (range_ended 2 (half_heard l.transcript.client) packet) (Acknowledges l.shape.slots c))
 RangesAt l (OnWire (Sent B packet opens)) =
-    IfServer l.work.server (λ (c : ServerCounts). IfRange (range_ended 2 (half_said l.talk.server) packet) (Answers l.shape.slots c))
+    IfServer l.work.server (λ (c : ServerCounts). IfRange (range_ended 2 (half_said l.transcript.server) packet) (AcknowledgesRange l.shape.slots c))
 RangesAt l _ = ⊤
 
 -- THE PIECES: what is done is what the last descriptor owes next
@@ -149,14 +151,14 @@ PiecesAt l (Works (Finished slot status)) = InServer l.work.server (FinishesPiec
 PiecesAt l _ = ⊤
 
 -- THE OPENINGS: a session opens in the handshake's order
-abbrev pub OpensRightly : Bool → End → TalkLog → Type 0
+abbrev pub OpensRightly : Bool → End → TranscriptLog → Type 0
 OpensRightly false e t = ⊤
 OpensRightly true A t = HandshakeOrder false Initiator t.client
 OpensRightly true B t = HandshakeOrder false Responder t.server
 
 abbrev pub OpeningsAt : DiskLog → DiskEvent → Type 0
-OpeningsAt l (OnWire (Sent e packet opens)) = OpensRightly opens e (says e packet l.talk)
-OpeningsAt l (OnWire (Took e packet opens)) = OpensRightly opens e (hears e packet l.talk)
+OpeningsAt l (OnWire (Sent e packet opens)) = OpensRightly opens e (says e packet l.transcript)
+OpeningsAt l (OnWire (Took e packet opens)) = OpensRightly opens e (hears e packet l.transcript)
 OpeningsAt l _ = ⊤
 
 -- THE RESETS without a packet: a client's for an acknowledged slot that isn't DONE; a server's in a range, for a slot that isn't READY

@@ -7,9 +7,9 @@ use Rattle.vdisk_msg.specs.declared.request.Request.{Request}
 use Rattle.vdisk_msg.specs.Descriptor as slot_says
 use Rattle.vdisk_msg.specs.Pieces.{Finishes, Piece, pieces}
 use Rattle.disk_model.specs.Sayings.{half_heard, half_said}
-use Rattle.disk_model.specs.TalkLog.{TalkLog}
+use Rattle.disk_model.specs.TranscriptLog.{TranscriptLog}
 use Rattle.disk_model.specs.WireEvent.{Joined, Reset, Sent, Took, WireEvent}
-use Rattle.disk_model.specs.DiskEvent.{Accepted, Asks, Desc, DiskEvent, Done, Finished, Full, Misplaced, Moved, Off, OnWire, Published, Refused, Rests, Started, Stopped, Stored, Turns, Works}
+use Rattle.disk_model.specs.DiskEvent.{Accepted, Asks, Desc, DiskEvent, Done, Finished, Full, Misplaced, Moved, Off, OnWire, Published, Refused, Calms, Started, Stopped, Stored, Switches, Works}
 use Rattle.disk_model.specs.Ranges.{range_length}
 use Rattle.disk_model.specs.Messages.{end_of, ended_by, range_ended, sid_of, start_of}
 
@@ -97,7 +97,7 @@ opened_more true sid before = record { sid = sid; statuses = [] } ∷ before
 opened_more false sid before = before
 
 -- a packet that an end put or took: it may end a range, and the session may open by it
-abbrev pub work_said : ℕ → TalkLog → WorkLog → End → List ℕ → Bool → WorkLog
+abbrev pub work_said : ℕ → TranscriptLog → WorkLog → End → List ℕ → Bool → WorkLog
 work_said slots t l A packet opens = record l {
   client = opened_client opens (opening_sid (half_said t.client) packet) l.done
       (change_client (λ (c : ClientCounts). record c { announced = c.announced + length_in slots (range_ended 1 (half_said t.client) packet); infos = c.infos + one_in (range_ended 1 (half_said t.client) packet) }) l.client);
@@ -108,7 +108,7 @@ work_said slots t l B packet opens = record l {
   opened = opened_more opens (opening_sid (half_said t.server) packet) l.opened;
 }
 
-abbrev pub work_heard : ℕ → TalkLog → WorkLog → End → List ℕ → Bool → WorkLog
+abbrev pub work_heard : ℕ → TranscriptLog → WorkLog → End → List ℕ → Bool → WorkLog
 work_heard slots t l A packet opens = record l {
   client = opened_client opens (opening_sid (half_heard t.client) packet) l.done
       (change_client (λ (c : ClientCounts). record c { acked = c.acked + length_in slots (range_ended 2 (half_heard t.client) packet) }) l.client);
@@ -119,7 +119,7 @@ work_heard slots t l B packet opens = record l {
   opened = opened_more opens (opening_sid (half_heard t.server) packet) l.opened;
 }
 
-abbrev pub work_wired : ℕ → TalkLog → WorkLog → WireEvent → WorkLog
+abbrev pub work_wired : ℕ → TranscriptLog → WorkLog → WireEvent → WorkLog
 work_wired slots t l (Joined e lost) = ended_session e l
 work_wired slots t l (Reset e cause packet lost) = disturbs (ended_session e l)
 work_wired slots t l (Took e packet opens) = work_heard slots t l e packet opens
@@ -145,7 +145,7 @@ finished_in status [] = []
 finished_in status (session ∷ before) = record session { statuses = session.statuses ++ status ∷ [] } ∷ before
 
 -- the log after one more event, of a disk of so many blocks and a ring of so many slots
-abbrev pub after_work : ℕ → ℕ → TalkLog → WorkLog → DiskEvent → WorkLog
+abbrev pub after_work : ℕ → ℕ → TranscriptLog → WorkLog → DiskEvent → WorkLog
 after_work blocks slots t l (OnWire event) = work_wired slots t l event
 after_work blocks slots t l (Asks (Accepted id request)) = record l { issued = l.issued ++ request ∷ [] }
 after_work blocks slots t l (Asks (Full request)) = l
@@ -161,7 +161,7 @@ after_work blocks slots t l (Works (Finished slot status)) = record l {
   opened = finished_in status l.opened;
 }
 after_work blocks slots t l (Works Misplaced) = l
-after_work blocks slots t l (Turns Stopped) = disturbs (record l { server = None; stopped = true })
-after_work blocks slots t l (Turns Started) = record l { stopped = false }
-after_work blocks slots t l (Turns Off) = l
-after_work blocks slots t l (Rests event) = l
+after_work blocks slots t l (Switches Stopped) = disturbs (record l { server = None; stopped = true })
+after_work blocks slots t l (Switches Started) = record l { stopped = false }
+after_work blocks slots t l (Switches Off) = l
+after_work blocks slots t l (Calms event) = l

@@ -9,4 +9,4 @@ mod step_laws;
 mod wire_laws;
 
 pub use step_laws::{first_rounds_are_steps, steps_reset_for_their_own_causes};
-pub use wire_laws::talks_count_messages;
+pub use wire_laws::transcripts_count_messages;

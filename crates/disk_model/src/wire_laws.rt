@@ -2,12 +2,12 @@
 
 ghost use Rattle.std.specs.Prelude.{◌≡◌, List};
 ghost use Rattle.ldc_queue.specs.Messages as in_order;
-ghost use Rattle.ldc_queue.specs.Talk.{Turn};
+ghost use Rattle.ldc_queue.specs.Transcript.{Turn};
 ghost use Rattle.disk_model.specs.Sayings.{half_heard, half_said, heard, said};
 
-/// What a talk comes to turn by turn, newest first, is what its numbered packets make in their order: the messages that are whole, and
+/// What a transcript comes to turn by turn, newest first, is what its numbered packets make in their order: the messages that are whole, and
 /// what came of one more. So the law of a channel, that what an end heard is a front of what the other said, speaks of these.
-pub fn talks_count_messages()
+pub fn transcripts_count_messages()
     ensures said { (turns : List Turn) → said turns ≡ in_order.messages_said turns }
     ensures heard { (turns : List Turn) → heard turns ≡ in_order.messages_heard turns }
     ensures half_said { (turns : List Turn) → half_said turns ≡ in_order.half_said turns }

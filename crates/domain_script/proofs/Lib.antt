@@ -1,9 +1,6 @@
 pub mod Disks
-pub mod PieceLemmas
 pub mod Feeds
 pub mod ScriptLemmas
-pub mod ToCome
-pub mod Readers
 pub mod WordLemmas
 pub mod NumberLemmas
 pub mod HexWords
@@ -21,6 +18,7 @@ pub mod FirstOf
 pub mod FaultLemmas
 pub mod Faultless
 pub mod PrintedLines
+pub mod PrintedScripts
 pub mod ComputedEvents
 mod ExampleScript
 pub mod LowerDigits

@@ -68,7 +68,7 @@ pub takes_none : (start : Option (List ℕ)) → TakesLines start start []
 takes_none None = tt
 takes_none (Some bytes) = (refl, inl refl)
 
-fed-append : (xs ys : List (List ℕ)) → fed (xs ++ ys) ≡ fed xs ++ fed ys
+pub fed-append : (xs ys : List (List ℕ)) → fed (xs ++ ys) ≡ fed xs ++ fed ys
 fed-append [] ys = refl
 fed-append (x ∷ xs) ys = ap (λ (l : List ℕ). x ++ 10 ∷ l) (fed-append xs ys) ∙ sym (append_assoc x (10 ∷ fed xs) (fed ys))
 

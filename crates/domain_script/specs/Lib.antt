@@ -2,9 +2,7 @@ pub mod Limits
 pub mod Declarations
 pub mod NamesState
 pub mod ScriptLines
-pub mod LinesState
 pub mod Pieces
-pub mod Reader
 pub mod Fills
 pub mod Words
 pub mod Rows

@@ -1,6 +1,6 @@
-//! The script that says what the domains do: its lines, one after another from a source, and the event that each
-//! line spells. The journal and the world stand on it. A line gives an event exactly where it spells one, and else the
-//! first of twelve faults; each event is printed as its one line.
+//! The language of the script that says what the domains do: which lines a text has, and which event a line spells. The
+//! journal and the world stand on it. A line gives an event exactly where it spells one, and else the first of twelve
+//! faults; each event is printed as its one line.
 #![tactic(auto)]
 
 mod digits;
@@ -12,14 +12,11 @@ mod field_faults;
 mod fields;
 mod lane_words;
 mod laws;
-mod lines;
 mod names;
 mod numbers;
 mod parser;
-mod piece;
 mod printing;
 mod putting;
-mod reading;
 mod rows;
 mod spellings;
 mod words;
@@ -27,8 +24,8 @@ mod words;
 pub use digits::decode_lower;
 pub use event::{DiskDecl, EndName, Event, Lane, LineFault, Name, Side};
 pub use laws::{faulty_lines_spell_nothing, parsed_lines_are_printed, spells_at_most_one};
-pub use lines::{Lines, LinesFault};
 pub use names::Names;
+pub use numbers::number;
 pub use parser::{parse, parse_into};
 pub use printing::print;
 pub use vdisk_msg::{Fill, Request};

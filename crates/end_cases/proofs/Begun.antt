@@ -14,7 +14,7 @@ use Rattle.vio_tag.specs.declared.message.MsgBody.TheVariants.{Ver, Attr, DringR
 use Rattle.vio_handshake.specs.Acceptance.{accepts_ring}
 use Rattle.vio_handshake.specs.Attributes.{accepts_answered, accepts_said, answered_attributes, said_attributes}
 use Rattle.vio_handshake.specs.Messages.{ack, info, nack, own_ring}
-use Rattle.vio_handshake.specs.Rules.{ShakeTake, Goes, GoesOpen, Faults, agrees_minor, answered, asked, attributes_answered, attributes_asked, behind_ring, fault_or, is_declined, knows, owes, own_named, peer_named, ready_answered, refuses_version, ring_answered, ring_asked, row, shake_hear, shake_take, sid_fault, taken, version_answered, version_asked}
+use Rattle.vio_handshake.specs.Rules.{HandshakeTake, Goes, GoesOpen, Faults, agrees_minor, answered, asked, attributes_answered, attributes_asked, behind_ring, fault_or, is_declined, knows, owes, own_named, peer_named, ready_answered, refuses_version, ring_answered, ring_asked, row, handshake_hear, handshake_take, sid_fault, taken, version_answered, version_asked}
 use Rattle.vio_handshake.specs.State.{IsFault}
 use Rattle.vio_handshake.specs.declared.session.HsOut.{HsOut}
 use Rattle.vio_handshake.specs.declared.session.HsOut.TheVariants.{Nothing, Opens, Fault}
@@ -34,23 +34,23 @@ not_down : (p : Phase) → IsUp p → p ≢ Down
 not_down p up is = absurd (subst IsUp is up)
 
 -- whatever comes of a message
-abbrev GoesUp : ShakeTake → Type 0
+abbrev GoesUp : HandshakeTake → Type 0
 GoesUp (Goes s) = IsUp s.phase
 GoesUp (GoesOpen s) = IsUp s.phase
 GoesUp (Faults cause) = ⊤
 
-answered_up : (subtype : Subtype) (judged : ShakeTake) → GoesUp judged → GoesUp (answered subtype judged)
+answered_up : (subtype : Subtype) (judged : HandshakeTake) → GoesUp judged → GoesUp (answered subtype judged)
 answered_up Info judged up = tt
 answered_up Ack judged up = up
 answered_up Nack judged up = tt
 
-asked_up : (subtype : Subtype) (judged : ShakeTake) → GoesUp judged → GoesUp (asked subtype judged)
+asked_up : (subtype : Subtype) (judged : HandshakeTake) → GoesUp judged → GoesUp (asked subtype judged)
 asked_up Info judged up = up
 asked_up Ack judged up = tt
 asked_up Nack judged up = tt
 
 -- of two outcomes whichever comes
-if_take : (b : Bool) (x y : ShakeTake) → GoesUp x → GoesUp y → GoesUp (if b then x else y)
+if_take : (b : Bool) (x y : HandshakeTake) → GoesUp x → GoesUp y → GoesUp (if b then x else y)
 if_take true x y up other = up
 if_take false x y up other = other
 
@@ -86,14 +86,14 @@ ready_up Responder s = tt
 row_up : (role : Role) (p : Phase) (s : Handshake) (subtype : Subtype) (sid : ℕ) (body : MsgBody) → GoesUp (row role p s subtype sid body)
 row_up Initiator Version s subtype sid (Ver major minor class) =
     answered_up subtype (version_answered s sid major minor)
-    (if_take (major == 1 && nat_le minor s.offer.minor) (Goes (owes Attributes (info sid (Attr (said_attributes s.offer))) (agrees_minor minor s))) (Faults Refused) tt tt)
+    (if_take (major == 1 && nat_le minor s.offer.minor) (Goes (owes Attributes (info sid (Attr (said_attributes s.offer minor))) (agrees_minor minor s))) (Faults Refused) tt tt)
 row_up Responder Version s subtype sid (Ver major minor class) = asked_up subtype (Goes (version_asked s sid major minor class)) (version_up s sid major minor class)
 row_up Initiator Attributes s subtype sid (Attr bytes) =
     answered_up subtype (attributes_answered s sid bytes)
     (if_take (accepts_answered s.offer s.draft.minor bytes) (Goes (owes OwnRing (info sid (own_ring s.offer)) s)) (Faults Refused) tt tt)
 row_up Responder Attributes s subtype sid (Attr bytes) =
     asked_up subtype (Goes (attributes_asked s sid bytes))
-    (if_up (accepts_said s.offer bytes) (owes PeerRing (ack sid (Attr (answered_attributes s.offer s.draft.minor bytes))) s) (owes Attributes (nack sid (Attr bytes)) s) tt tt)
+    (if_up (accepts_said s.offer s.draft.minor bytes) (owes PeerRing (ack sid (Attr (answered_attributes s.offer s.draft.minor bytes))) s) (owes Attributes (nack sid (Attr bytes)) s) tt tt)
 row_up Initiator OwnRing s subtype sid (DringReg ident slots slot_size options count cookies) =
     answered_up subtype (Goes (ring_answered Initiator s sid ident)) (own_ring_up Initiator s sid ident)
 row_up Responder OwnRing s subtype sid (DringReg ident slots slot_size options count cookies) =
@@ -109,22 +109,22 @@ row_up Responder PeerReady s subtype sid Rdx = asked_up subtype (Goes (owes Peer
 row_up Initiator p s subtype sid body = tt
 row_up Responder p s subtype sid body = tt
 
-fault_up : (fault : Option Cause) (rest : ShakeTake) → GoesUp rest → GoesUp (fault_or fault rest)
+fault_up : (fault : Option Cause) (rest : HandshakeTake) → GoesUp rest → GoesUp (fault_or fault rest)
 fault_up None rest up = up
 fault_up (Some cause) rest up = tt
 
-take_up : (s : Handshake) (message : Message) → IsUp s.phase → GoesUp (shake_take s message)
+take_up : (s : Handshake) (message : Message) → IsUp s.phase → GoesUp (handshake_take s message)
 take_up s message up =
-    fault_up (sid_fault s.sid message.sid) (shake_hear s message.subtype message.sid message.body)
+    fault_up (sid_fault s.sid message.sid) (handshake_hear s message.subtype message.sid message.body)
     (if_take (is_declined message.subtype message.body) (Goes (record s { owed = Some (nack message.sid message.body) }))
     (row s.role s.phase s message.subtype message.sid message.body) up (row_up s.role s.phase s message.subtype message.sid message.body))
 
-told_up : (answer : HsOut) (s t : Handshake) (take : ShakeTake) → IsUp s.phase → GoesUp take → taken answer t ≡ take → (IsFault answer → t ≡ s) → IsUp t.phase
+told_up : (answer : HsOut) (s t : Handshake) (take : HandshakeTake) → IsUp s.phase → GoesUp take → taken answer t ≡ take → (IsFault answer → t ≡ s) → IsUp t.phase
 told_up Nothing s t take before up is unchanged = subst GoesUp (sym is) up
 told_up Opens s t take before up is unchanged = subst GoesUp (sym is) up
 told_up (Fault cause) s t take before up is unchanged = subst (λ (h : Handshake). IsUp h.phase) (sym (unchanged tt)) before
 
-pub taken_is_up : (answer : HsOut) (s t : Handshake) (message : Message) → s.phase ≢ Down → taken answer t ≡ shake_take s message
+pub taken_is_up : (answer : HsOut) (s t : Handshake) (message : Message) → s.phase ≢ Down → taken answer t ≡ handshake_take s message
     → (IsFault answer → t ≡ s) → t.phase ≢ Down
 taken_is_up answer s t message up is unchanged =
-    not_down t.phase (told_up answer s t (shake_take s message) (is_up s.phase up) (take_up s message (is_up s.phase up)) is unchanged)
+    not_down t.phase (told_up answer s t (handshake_take s message) (is_up s.phase up) (take_up s message (is_up s.phase up)) is unchanged)

@@ -15,8 +15,8 @@ use vio_tag::{Message, decode, encode};
 /// A handshake whose link is up.
 #[derive(Drop)]
 struct Side {
-    shake: Handshake,
-    ghost up: { shake.phase ≢ Down },
+    handshake: Handshake,
+    ghost up: { handshake.phase ≢ Down },
 }
 
 /// The end at A begins.
@@ -27,14 +27,11 @@ pub struct Handshakes {
 }
 
 impl Stage for Handshakes {
-    // `disk MINOR MINOR` with the client's and the server's, or `port`.
+    // `disk MINOR MINOR` with the client's and the server's, or `port MINOR MINOR` with the guest's and the switch's.
     fn begin(_alloc: Global, words: &[&str]) -> Option<Handshakes> {
         match words {
-            ["disk", own, peer] => {
-                let (own, peer) = (own.parse::<u16>().ok()?, peer.parse::<u16>().ok()?);
-                Some(between(&client(own), &server(peer)))
-            }
-            ["port"] => Some(between(&guest(), &switch())),
+            ["disk", own, peer] => Some(between(&client(minor(own)?), &server(minor(peer)?))),
+            ["port", own, peer] => Some(between(&guest(minor(own)?), &switch(minor(peer)?))),
             _ => None,
         }
     }
@@ -52,6 +49,10 @@ impl Stage for Handshakes {
     }
 }
 
+fn minor(word: &str) -> Option<u16> {
+    word.parse::<u16>().ok()
+}
+
 fn between(initiator: &Offer, responder: &Offer) -> Handshakes {
     Handshakes {
         a: Side::new(Role::Initiator, initiator),
@@ -62,7 +63,7 @@ fn between(initiator: &Offer, responder: &Offer) -> Handshakes {
 impl Handshakes {
     // Passes the message that one of the two owes, and tells it.
     fn turn(&mut self) -> Option<Message> {
-        if self.a.shake.next().is_some() {
+        if self.a.handshake.next().is_some() {
             pass(&mut self.a, &mut self.b)
         } else {
             pass(&mut self.b, &mut self.a)
@@ -90,30 +91,30 @@ fn pass(from: &mut Side, to: &mut Side) -> Option<Message> {
 
 impl Side {
     fn new(role: Role, offer: &Offer) -> Side {
-        let mut shake = Handshake::new(role, offer);
-        shake.link_up();
-        Side { shake }
+        let mut handshake = Handshake::new(role, offer);
+        handshake.link_up();
+        Side { handshake }
     }
 
     fn put(&mut self) -> Option<Message> {
-        let message = self.shake.next()?;
-        let _opens = self.shake.sent();
+        let message = self.handshake.next()?;
+        let _opens = self.handshake.sent();
         Some(message)
     }
 
     #[tactic(auto, using(crate::proofs::Begun::taken_is_up))]
     fn take(&mut self, message: &Message) -> Option<HsOut> {
-        match self.shake.next() {
+        match self.handshake.next() {
             Some(_) => None,
-            None => Some(self.shake.take(message)),
+            None => Some(self.handshake.take(message)),
         }
     }
 
     fn asked(&mut self, alloc: Global, call: &str, wanted: &str) -> Option<String> {
         match call {
             "puts" => message_text(alloc, &self.put()?, wanted),
-            "owes" => shown(alloc, &self.shake.next().is_some()),
-            "session" => session_text(alloc, &self.shake.session()?),
+            "owes" => shown(alloc, &self.handshake.next().is_some()),
+            "session" => session_text(alloc, &self.handshake.session()?),
             _ => None,
         }
     }

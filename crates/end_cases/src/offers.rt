@@ -26,9 +26,9 @@ pub fn server(minor: u16) -> Offer {
 }
 
 /// A guest whose ring has 8 descriptors, at a switch whose ring has 16.
-pub fn guest() -> Offer {
+pub fn guest(minor: u16) -> Offer {
     Offer {
-        minor: 1,
+        minor,
         class: 1,
         attr: put_net_attr(&NetAttr {
             address: 0x0200_0000_0001,
@@ -44,13 +44,13 @@ pub fn guest() -> Offer {
 }
 
 /// Its switch.
-pub fn switch() -> Offer {
+pub fn switch(minor: u16) -> Offer {
     Offer {
         class: 2,
         slots: 16,
         cookies: one_cookie(16384, 1024),
         peer_slots: 8,
-        ..guest()
+        ..guest(minor)
     }
 }
 

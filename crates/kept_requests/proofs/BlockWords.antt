@@ -1,6 +1,7 @@
 -- The word that a block repeats.
-use Rattle.std.proofs.Common.{◌≡◌, ℕ, zero, suc, ◌+◌, ◌-◌, ◌/◌, ◌%◌, ◌<◌, ◌≤◌, Bool, true, false, cond, Option, Some, find, unwrap_or, List, [], ◌∷◌, ◌++◌, append_assoc, append-nil, length, get_or, take, drop, sym, ap, ◌∙◌, arith, inl, inr, Decides}
+use Rattle.std.proofs.Common.{◌≡◌, ℕ, zero, suc, ◌+◌, ◌-◌, ◌/◌, ◌%◌, ◌<◌, ◌≤◌, Bool, true, false, cond, Option, Some, find, unwrap_or, List, [], ◌∷◌, ◌++◌, append_assoc, append-nil, length, get_or, take, drop, refl, sym, ap, ◌∙◌, arith, inl, inr, Decides}
 use Rattle.std.proofs.Math.Nat.{mod-eq_of_lt, mod-eq-sub-mod}
+use Rattle.std.proofs.Math.Seq.{take-take}
 use Rattle.std.proofs.lemmas.Bool.{cases_lt}
 use Rattle.std.proofs.lemmas.Bool.Decides.{same_from_decides}
 use Rattle.std.proofs.lemmas.List.{get_or-drop, get_or-take, get_or-map, length-map, length-drop, length-take, drop_all, ext_get_or, get_or_append_left, at_drop_more}
@@ -70,6 +71,18 @@ repeats_is xs n r some decides =
     let test : Decides (repeats xs n) (xs ≡ repetition xs n) = bytes_eq-Decides xs (repetition xs n) in
     same_from_decides r (repeats xs n) decides
     (λ e. shift_from_repeats xs n (test.0 e), λ is. test.1 (repeats_from_shift xs n some is))
+
+-- a block that begins differently where it is moved by n places doesn't repeat its first n bytes
+pub never_repeats : (xs : List ℕ) (n few : ℕ) (r : Bool) → few ≤ length xs - n → (take few (drop n xs) ≡ take few xs → r ≡ true) → r ≡ false → repeats xs n ≡ false
+unfolding repeats
+never_repeats xs n few r within same fails = by_test (repeats xs n) refl
+  where
+    by_test : (b : Bool) → repeats xs n ≡ b → repeats xs n ≡ false
+    by_test false is = is
+    by_test true is =
+        let shifted : IsShifted xs n = shift_from_repeats xs n ((bytes_eq-Decides xs (repetition xs n)).0 is) in
+        let yes : r ≡ true = same (ap (λ (l : List ℕ). take few l) shifted ∙ take-take few (length xs - n) xs within) in
+        absurd (cc)
 
 -- a block repeats itself
 pub repeats_whole : (block : List ℕ) → length block ≡ 512 → repeats block 512 ≡ true

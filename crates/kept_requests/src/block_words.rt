@@ -1,4 +1,4 @@
-ghost use Rattle.std.specs.Prelude.{◌≡◌, ◌≤◌, ◌<◌, length, true};
+ghost use Rattle.std.specs.Prelude.{◌≡◌, ◌≤◌, ◌<◌, ◌↔◌, length, true, false};
 ghost use Rattle.kept_requests.specs.BlockWord.{repeats, word_length};
 
 /// The lengths of words that are shorter than a block.
@@ -10,7 +10,33 @@ fn is_repeated(block: &[u8; 512], n: usize) -> bool
     requires within { n ≤ 512 }
     ensures { result ≡ repeats block.now n }
 {
-    block[n..] == block[..512 - n]
+    begins_again(block, n) && are_same(&block[n..], &block[..512 - n])
+}
+
+/// How many bytes are compared first: runs of bytes that differ mostly do near their front.
+const FEW: usize = 32;
+
+/// Whether a block, moved by n places, begins as before. It repeats no word of n bytes where it doesn't.
+fn begins_again(block: &[u8; 512], n: usize) -> bool
+    requires some { 0 < n }
+    requires within { n ≤ 512 }
+    ensures { result ≡ false → repeats block.now n ≡ false }
+{
+    let few = FEW.min(512 - n);
+    are_same(&block[n..n + few], &block[..few])
+}
+
+/// Whether two runs of bytes are the same. Each byte is looked at, also after one that differs, so that many can be at
+/// once.
+fn are_same(a: &[u8], b: &[u8]) -> bool
+    requires { length a.now ≡ length b.now }
+    ensures { (result ≡ true) ↔ (a.now ≡ b.now) }
+{
+    let mut all = true;
+    for k in 0..a.len() {
+        all &= a[k] == b[k];
+    }
+    all
 }
 
 /// The length of the shortest word that a block repeats.

@@ -6,6 +6,7 @@ ghost use Rattle.kept_requests.specs.Packed.{AreKept, block_of, unpacked};
 use crate::block_words::shortest_word;
 use std::alloc::Global;
 use std::marker::Model;
+use std::mem;
 use vio_bytes::NoMemory;
 
 /// The bytes of an entry, as those that a read gave, and the room that is left for more of them. As long as they come
@@ -89,7 +90,46 @@ impl Bytes {
         }
         self.plain += rest.len();
         self.room -= bytes.len();
-        give_back(&mut self.kept, self.room);
+    }
+
+    /// Takes the bytes out, into memory that they just fill: the room is there for the next ones. Where there is no such
+    /// memory they keep that of the room.
+    pub fn take_out(&mut self, alloc: Global) -> Self
+        ensures items { result.items ≡ self.old.items }
+        ensures empty { self.new.items ≡ [] }
+    {
+        match self.copy(alloc) {
+            Ok(copy) => {
+                self.clear();
+                copy
+            }
+            Err(_) => mem::replace(self, Self::empty(alloc)),
+        }
+    }
+
+    /// The same bytes, and no room.
+    fn copy(&self, alloc: Global) -> Result<Self, NoMemory>
+        ensures { IfOk result (λ b. b ≡ filled self.now.items) }
+    {
+        Ok(Bytes {
+            lengths: Vec::from_slice(alloc, self.lengths.as_slice())?,
+            kept: Vec::from_slice(alloc, self.kept.as_slice())?,
+            plain: self.plain,
+            room: 0,
+        })
+    }
+
+    /// No bytes: all memory is room.
+    fn clear(&mut self)
+        ensures { self.new.items ≡ [] }
+    {
+        self.lengths.clear();
+        self.kept.clear();
+        self.plain = 0;
+        self.room = self
+            .kept
+            .capacity()
+            .min(self.lengths.capacity().saturating_mul(BLOCK));
     }
 
     /// A copy of all the bytes.
@@ -149,17 +189,6 @@ fn push_block(all: &mut Vec<u8>, bytes: &[u8], n: usize) -> Result<(), NoMemory>
         all.push(bytes[k % n])?;
     }
     Ok(())
-}
-
-/// Gives room back where none is wanted.
-fn give_back(kept: &mut Vec<u8>, room: usize)
-    requires { length kept.old.items + room ≤ vec_capacity kept.old }
-    ensures items { kept.new.items ≡ kept.old.items }
-    ensures room { length kept.new.items + room ≤ vec_capacity kept.new }
-{
-    if room == 0 {
-        kept.shrink_to_fit();
-    }
 }
 
 /// Keeps the blocks at the front of these bytes, unless there are bytes after the blocks that were kept before; so many

@@ -13,17 +13,17 @@ use Rattle.disk_model.specs.LaneState.{IsShape, LaneState, Shape, fresh}
 use Rattle.disk_model.specs.LaneStep.{LaneStep}
 use Rattle.disk_model.specs.Sayings.{heard, said}
 use Rattle.disk_model.specs.ServerState.{ServerSession, Work}
-use Rattle.disk_model.specs.TalkLog.{TalkLog}
+use Rattle.disk_model.specs.TranscriptLog.{TranscriptLog}
 use Rattle.disk_model.specs.WireLog.{WireLog}
 use Rattle.disk_model.specs.WorkLaws.{IfServer}
 use Rattle.disk_model.specs.WorkLog.{ClientCounts, ServerCounts}
-use Rattle.lane_laws.proofs.Agreeing.{front_sum, talk_is}
-use Rattle.lane_laws.proofs.HeardFront.{heard_messages}
+use Rattle.lane_laws.proofs.Agreeing.{front_sum}
+use Rattle.lane_laws.proofs.LaneCores.{transcript_is}
+use Rattle.lane_laws.proofs.HeardFront.{heard_messages, unheard_client}
 use Rattle.lane_laws.proofs.LaneCounting.{Knows, run_knows}
 use Rattle.lane_laws.proofs.LanePlacing.{up_or}
-use Rattle.lane_laws.proofs.UpRuns.{unheard_client}
 use Rattle.lane_laws.specs.Counted.{ServerOrder, acked_of, announced_of, range_sum}
-use Rattle.lane_laws.specs.LaneTalks.{talk_behind}
+use Rattle.lane_laws.specs.LaneTranscripts.{transcript_behind}
 use Rattle.lane_laws.specs.SlotsInOrder.{ServerAt}
 
 -- the log's counts are the session's
@@ -42,11 +42,11 @@ same_ranges (Some x) done (Some c) k is agrees =
       acked = ap (λ (y : ClientCounts). y.acked) (sym same) ∙ sym agrees.acked;
     }
 
-answered_most : (slots : ℕ) (o : Option ServerSession) (w : Option Work) (q : Option ServerCounts) (talk : TalkLog) (finished descs : ℕ) → ServerOrder slots o q talk.server → ServerAgrees o w q
-    → IfServer q (λ d. (finished ≡ d.finished) × (descs ≡ d.descs)) → range_sum slots 2 (said talk.server) ≤ finished
-answered_most slots None w q talk finished descs order agrees works = omega (arith, order.answered)
-answered_most slots (Some v) w None talk finished descs order agrees works = absurd order
-answered_most slots (Some v) w (Some d) talk finished descs order agrees works = omega (arith, order.answered, order.finished, works.0)
+answered_most : (slots : ℕ) (o : Option ServerSession) (w : Option Work) (q : Option ServerCounts) (transcript : TranscriptLog) (finished descs : ℕ) → ServerOrder slots o q transcript.server → ServerAgrees o w q
+    → IfServer q (λ d. (finished ≡ d.finished) × (descs ≡ d.descs)) → range_sum slots 2 (said transcript.server) ≤ finished
+answered_most slots None w q transcript finished descs order agrees works = omega (arith, order.answered)
+answered_most slots (Some v) w None transcript finished descs order agrees works = absurd order
+answered_most slots (Some v) w (Some d) transcript finished descs order agrees works = omega (arith, order.answered, order.finished, works.0)
 
 pub acked_finished : (shape : Shape) (events : List DiskEvent) (s : LaneState) (k : ClientCounts) (finished descs : ℕ) → IsShape shape → Run LaneStep (fresh shape) events s
     → (log_of after (nothing_yet shape) events).wire.forged ≡ false → (log_of after (nothing_yet shape) events).work.client ≡ Some k
@@ -56,23 +56,23 @@ acked_finished shape events s k finished descs sound run clean is up at =
     let l : DiskLog = log_of after (nothing_yet shape) events in
     let knows : Knows s l = run_knows shape events s sound run in
     let wire = knows.all.stands.wire in
-    let talk : l.talk ≡ talk_behind events = talk_is (nothing_yet shape) events in
+    let transcript : l.transcript ≡ transcript_behind events = transcript_is (nothing_yet shape) events in
     let clean_s : s.wire.forged ≡ false = ap (λ (w : WireLog). w.forged) wire ∙ clean in
     let up_s : s.wire.wire.end_a ≡ Up = ap (λ (w : WireLog). w.wire.end_a) wire ∙ up in
-    let acked : k.acked ≡ range_sum l.shape.slots 2 (heard l.talk.client) =
+    let acked : k.acked ≡ range_sum l.shape.slots 2 (heard l.transcript.client) =
     (same_ranges s.client.session l.work.done l.work.client k is knows.counted.client.agrees).acked ∙ knows.counted.client.acked in
     elim (up_or s.wire.wire.end_b) [
       | inl b ↦
-          let front : IsFront (heard l.talk.client) (said l.talk.server) =
-          subst (λ (t : TalkLog). IsFront (heard t.client) (said t.server)) (sym talk) (heard_messages shape events s A sound run clean_s up_s) in
+          let front : IsFront (heard l.transcript.client) (said l.transcript.server) =
+          subst (λ (t : TranscriptLog). IsFront (heard t.client) (said t.server)) (sym transcript) (heard_messages shape events s A sound run clean_s up_s) in
           let up_b : l.wire.wire.end_b ≡ Up = ap (λ (w : WireLog). w.wire.end_b) (sym wire) ∙ b in
           omega (
             arith,
             acked,
-            front_sum l.shape.slots 2 (heard l.talk.client) (said l.talk.server) front,
-            answered_most l.shape.slots s.server.session s.server.work l.work.server l.talk finished descs knows.counted.server.order knows.counted.server.agrees (at.works up_b),
+            front_sum l.shape.slots 2 (heard l.transcript.client) (said l.transcript.server) front,
+            answered_most l.shape.slots s.server.session s.server.work l.work.server l.transcript finished descs knows.counted.server.order knows.counted.server.agrees (at.works up_b),
           )
       | inr not ↦
-          let none : heard l.talk.client ≡ [] = ap (λ (t : TalkLog). heard t.client) talk ∙ unheard_client shape events s sound run clean_s up_s not in
+          let none : heard l.transcript.client ≡ [] = ap (λ (t : TranscriptLog). heard t.client) transcript ∙ unheard_client shape events s sound run clean_s up_s not in
           omega (arith, acked, ap (range_sum l.shape.slots 2) none)
     ]

@@ -1,5 +1,5 @@
 -- The sessions of a lane that nobody forged agree after every run: they are of one ring, and their counts stand in their order.
-use Rattle.std.proofs.Common.{◌≡◌, ℕ, ◌+◌, ◌^◌, ◌<◌, ◌≤◌, true, false, Option, Some, None, List, [], ◌∷◌, length, take, refl, sym, ap, ◌∙◌, subst, arith, length-drop}
+use Rattle.std.proofs.Common.{◌≡◌, ℕ, ◌+◌, ◌^◌, ◌<◌, ◌≤◌, true, false, Option, Some, None, List, [], length, take, refl, sym, ap, ◌∙◌, subst, arith, length-drop}
 use Rattle.std.specs.Prelude.{is_some, ⊤}
 use Rattle.runs.specs.Lawful.{log_of, run_lawful}
 use Rattle.runs.specs.Run.{Run}
@@ -9,11 +9,11 @@ use Rattle.ldc_queue.specs.declared.end.End.TheVariants.{A, B}
 use Rattle.ldc_queue.specs.OneStream.{IsFront}
 use Rattle.vio_handshake.specs.declared.session.Offer.{Offer}
 use Rattle.disk_model.specs.Sayings.{heard, said}
-use Rattle.disk_model.specs.TalkLog.{TalkLog}
+use Rattle.disk_model.specs.TranscriptLog.{TranscriptLog}
 use Rattle.disk_model.specs.WireAt.{IsUp}
 use Rattle.disk_model.specs.WireLog.{WireLog}
 use Rattle.disk_model.specs.Agreement.{ClientAgrees, ClientCountsAgree, ServerAgrees}
-use Rattle.disk_model.specs.DiskLog.{DiskLog, after, after_talk, nothing_yet}
+use Rattle.disk_model.specs.DiskLog.{DiskLog, after, nothing_yet}
 use Rattle.disk_model.specs.WorkLaws.{IfServer}
 use Rattle.disk_model.specs.WorkLog.{ClientCounts, ServerCounts}
 use Rattle.disk_model.specs.ClientState.{ClientSession}
@@ -23,25 +23,20 @@ use Rattle.disk_model.specs.LaneStep.{LaneStep}
 use Rattle.disk_model.specs.Offering.{client_offer, own_cookies}
 use Rattle.disk_model.specs.ServerState.{ServerSession, SlotRange, Work}
 use Rattle.lane_laws.proofs.CarriedRuns.{AllStand, all_step, fresh_all}
-use Rattle.lane_laws.proofs.HeardFront.{heard_messages}
+use Rattle.lane_laws.proofs.HeardFront.{heard_messages, unheard_server}
 use Rattle.lane_laws.proofs.LaneCounting.{Knows, run_knows}
 use Rattle.lane_laws.proofs.OfferedRing.{few_cookies, filled_front}
 use Rattle.lane_laws.proofs.OneSession.{one_session}
+use Rattle.lane_laws.proofs.LaneCores.{transcript_is}
 use Rattle.lane_laws.proofs.RangeSums.{ready_front, sum_front}
 use Rattle.lane_laws.proofs.RingRuns.{issued_behind}
-use Rattle.lane_laws.proofs.UpRuns.{unheard_server}
 use Rattle.lane_laws.specs.Counted.{InServerOrder, RangeStands, ServerOrder, acked_of, announced_of, range_sum, ready_count}
-use Rattle.lane_laws.specs.LaneTalks.{talk_behind}
+use Rattle.lane_laws.specs.LaneTranscripts.{transcript_behind}
 use Rattle.lane_laws.specs.OneSession.{AreOneSession}
 use Rattle.disk_model.specs.Ranges.{wrapped}
 use Rattle.lane_laws.specs.Remaining.{total}
 use Rattle.lane_laws.specs.RingAgreed.{AlwaysAgree, OneRing}
 use Rattle.lane_laws.specs.Sound.{CountsInOrder, InOrder}
-
--- the talk in the log of a run
-pub talk_is : (l : DiskLog) (events : List DiskEvent) → (log_of after l events).talk ≡ log_of after_talk l.talk events
-talk_is l [] = refl
-talk_is l (event ∷ events) = talk_is (after l event) events
 
 -- THE IDS are below 2^64
 record Issued (s : LaneState) (l : DiskLog) : Type 0 where
@@ -63,11 +58,11 @@ server_open None w None d is agrees = absurd (cc is)
 server_open None w (Some c) d is agrees = absurd agrees
 server_open (Some s) w q d is agrees = refl
 
-order_of : (slots : ℕ) (o : Option ServerSession) (q : Option ServerCounts) (d : ServerCounts) (talk : TalkLog) → q ≡ Some d → is_some o ≡ true → ServerOrder slots o q talk.server
-    → (session : ServerSession) × InServerOrder slots session d talk.server
-order_of slots None q d talk is now order = absurd (cc)
-order_of slots (Some s) None d talk is now order = absurd order
-order_of slots (Some s) (Some c) d talk is now order = let same : c ≡ d = cc is in (s, subst (λ (x : ServerCounts). InServerOrder slots s x talk.server) same order)
+order_of : (slots : ℕ) (o : Option ServerSession) (q : Option ServerCounts) (d : ServerCounts) (transcript : TranscriptLog) → q ≡ Some d → is_some o ≡ true → ServerOrder slots o q transcript.server
+    → (session : ServerSession) × InServerOrder slots session d transcript.server
+order_of slots None q d transcript is now order = absurd (cc)
+order_of slots (Some s) None d transcript is now order = absurd order
+order_of slots (Some s) (Some c) d transcript is now order = let same : c ≡ d = cc is in (s, subst (λ (x : ServerCounts). InServerOrder slots s x transcript.server) same order)
 
 client_open : (o : Option ClientSession) (count : ℕ) → (o ≡ None → count ≡ 0) → 1 ≤ count → is_some o ≡ true
 client_open None count none some = absurd (omega (arith, none refl, some))
@@ -107,8 +102,8 @@ pub server_alive : (shape : Shape) (events : List DiskEvent) (s : LaneState) →
 server_alive shape events s sound run clean up d is =
     let l = log_of after (nothing_yet shape) events in
     let server = (run_knows shape events s sound run).counted.server in
-    let talk : l.talk ≡ talk_behind events = talk_is (nothing_yet shape) events in
-    heard_up s.wire.wire.end_a s (heard l.talk.server) refl (λ not. ap (λ (t : TalkLog). heard t.server) talk ∙ unheard_server shape events s sound run clean up not)
+    let transcript : l.transcript ≡ transcript_behind events = transcript_is (nothing_yet shape) events in
+    heard_up s.wire.wire.end_a s (heard l.transcript.server) refl (λ not. ap (λ (t : TranscriptLog). heard t.server) transcript ∙ unheard_server shape events s sound run clean up not)
     (server.ready (server_open s.server.session s.server.work l.work.server d is server.agrees))
 
 pub one_ring : (shape : Shape) (events : List DiskEvent) (s : LaneState) → IsShape shape → Run LaneStep (fresh shape) events s → s.wire.forged ≡ false → IsUp B s.wire.wire
@@ -116,39 +111,39 @@ pub one_ring : (shape : Shape) (events : List DiskEvent) (s : LaneState) → IsS
 one_ring shape events s sound run clean up d is =
     let l = log_of after (nothing_yet shape) events in
     let knows : Knows s l = run_knows shape events s sound run in
-    let talk : l.talk ≡ talk_behind events = talk_is (nothing_yet shape) events in
+    let transcript : l.transcript ≡ transcript_behind events = transcript_is (nothing_yet shape) events in
     let client = knows.counted.client in
     let server = knows.counted.server in
     let v_open : is_some s.server.session ≡ true = server_open s.server.session s.server.work l.work.server d is server.agrees in
-    let heard_v = heard l.talk.server in
-    let said_v = said l.talk.server in
-    let heard_c = heard l.talk.client in
-    let said_c = said l.talk.client in
+    let heard_v = heard l.transcript.server in
+    let said_v = said l.transcript.server in
+    let heard_c = heard l.transcript.client in
+    let said_c = said l.transcript.client in
     let ready : 1 ≤ ready_count heard_v = server.ready v_open in
     let up_a : s.wire.wire.end_a ≡ Up = server_alive shape events s sound run clean up d is in
-    let front_b : IsFront heard_v said_c = subst (λ (t : TalkLog). IsFront (heard t.server) (said t.client)) (sym talk) (heard_messages shape events s B sound run clean up) in
-    let front_a : IsFront heard_c said_v = subst (λ (t : TalkLog). IsFront (heard t.client) (said t.server)) (sym talk) (heard_messages shape events s A sound run clean up_a) in
+    let front_b : IsFront heard_v said_c = subst (λ (t : TranscriptLog). IsFront (heard t.server) (said t.client)) (sym transcript) (heard_messages shape events s B sound run clean up) in
+    let front_a : IsFront heard_c said_v = subst (λ (t : TranscriptLog). IsFront (heard t.client) (said t.server)) (sym transcript) (heard_messages shape events s A sound run clean up_a) in
     let c_open : is_some s.client.session ≡ true =
     client_open s.client.session (ready_count said_c) client.ready (omega (arith, ready, front_ready heard_v said_c front_b)) in
     let k = counts_of s.client.session l.work.done l.work.client c_open client.agrees in
-    let order = in_order (length s.client.pending) s.client.session k.session k.session_is knows.all.talks.client.counts in
-    let v_order = (order_of l.shape.slots s.server.session l.work.server d l.talk is v_open server.order).1 in
+    let order = in_order (length s.client.pending) s.client.session k.session k.session_is knows.all.transcripts.client.counts in
+    let v_order = (order_of l.shape.slots s.server.session l.work.server d l.transcript is v_open server.order).1 in
     let announced : k.session.announced ≡ range_sum l.shape.slots 1 said_c = ap announced_of (sym k.session_is) ∙ client.announced in
     let acked : k.session.acked ≡ range_sum l.shape.slots 2 heard_c = ap acked_of (sym k.session_is) ∙ client.acked in
     let asked_said = front_sum l.shape.slots 1 heard_v said_c front_b in
     let acked_said = front_sum l.shape.slots 2 heard_c said_v front_a in
     let named : d.asked ≤ k.counts.announced = omega (arith, v_order.asked, asked_said, announced, k.agree.announced) in
     let asked : d.asked ≤ k.counts.published = omega (arith, named, order.announced, k.agree.announced, k.agree.published) in
-    let one : AreOneSession s.client.shake s.server.shake = one_session shape events s sound run clean c_open v_open in
-    let offer = client.shake.offer_is in
-    let few : l.shape.slots ≤ 256 = omega (arith, client.slots, knows.all.talks.client.slots) in
+    let one : AreOneSession s.client.handshake s.server.handshake = one_session shape events s sound run clean c_open v_open in
+    let offer = client.handshake.offer_is in
+    let few : l.shape.slots ≤ 256 = omega (arith, client.slots, knows.all.transcripts.client.slots) in
     let all : length s.client.pending + l.work.done ≡ length l.work.issued =
     omega (arith, ap length knows.all.stands.requests.pending, length-drop l.work.done l.work.issued, knows.all.stands.requests.done) in
     record {
       client = k.counts;
       open_is = k.counts_are;
       slots = one.slots ∙ ap (λ (o : Offer). o.slots) offer ∙ sym client.slots;
-      cookies = ap (λ (n : ℕ). take n s.server.shake.draft.peer_cookies) (one.count ∙ ap (λ (o : Offer). o.count) offer)
+      cookies = ap (λ (n : ℕ). take n s.server.handshake.draft.peer_cookies) (one.count ∙ ap (λ (o : Offer). o.count) offer)
           ∙ ap (take (length (own_cookies l.shape.slots))) (one.cookies ∙ ap (λ (o : Offer). o.cookies) offer)
           ∙ filled_front 14 (own_cookies l.shape.slots) (few_cookies l.shape.slots few) ∙ ap own_cookies (sym client.slots);
       done = omega (arith, k.agree.completed, order.completed, acked, acked_said, v_order.answered, v_order.finished);
@@ -187,11 +182,11 @@ server_counts shape events s sound run = (run_knows shape events s sound run).co
 
 -- and what the client offers
 pub client_offers : (shape : Shape) (events : List DiskEvent) (s : LaneState) → IsShape shape → Run LaneStep (fresh shape) events s
-    → s.client.shake.offer ≡ client_offer s.client.blocks s.client.slots
+    → s.client.handshake.offer ≡ client_offer s.client.blocks s.client.slots
 client_offers shape events s sound run =
     let knows = run_knows shape events s sound run in
     let l = log_of after (nothing_yet shape) events in
-    knows.counted.client.shake.offer_is
+    knows.counted.client.handshake.offer_is
     ∙ ap (λ (n : ℕ). client_offer n l.shape.slots) (ap (λ (x : Shape). x.blocks) (sym knows.all.stands.shape) ∙ sym knows.all.stands.blocks)
     ∙ ap (client_offer s.client.blocks) (sym knows.counted.client.slots)
 
@@ -206,16 +201,16 @@ answered_small shape events s sound run clean up d is =
     let l = log_of after (nothing_yet shape) events in
     let server = (run_knows shape events s sound run).counted.server in
     let v_open : is_some s.server.session ≡ true = server_open s.server.session s.server.work l.work.server d is server.agrees in
-    let one = order_of l.shape.slots s.server.session l.work.server d l.talk is v_open server.order in
+    let one = order_of l.shape.slots s.server.session l.work.server d l.transcript is v_open server.order in
     omega (arith, (one_ring shape events s sound run clean up d is).small, range_answered l.shape.slots one.0.range d one.1.range)
 
 -- WHAT A SERVER WAS ASKED FOR, where its end is up
 pub record AskedWithin (s : LaneState) (l : DiskLog) (session : ServerSession) : Type 0 where
-  pub asked : session.asked ≡ range_sum l.shape.slots 1 (heard l.talk.server)
+  pub asked : session.asked ≡ range_sum l.shape.slots 1 (heard l.transcript.server)
   pub small : session.asked < 2 ^ 64
   pub within : session.asked ≤ total (length s.client.pending) s.client.session
   pub up : s.wire.wire.end_a ≡ Up
-  pub slots : s.server.shake.draft.peer_slots ≤ 256
+  pub slots : s.server.handshake.draft.peer_slots ≤ 256
 
 server_counts_of : (o : Option ServerSession) (w : Option Work) (q : Option ServerCounts) (session : ServerSession) → o ≡ Some session → ServerAgrees o w q
     → (d : ServerCounts) × (q ≡ Some d) × (session.asked ≡ wrapped d.asked)
@@ -238,17 +233,17 @@ asked_within shape events s session sound run clean up is =
     let counts = server_counts_of s.server.session s.server.work l.work.server session is server.agrees in
     let d : ServerCounts = counts.0 in
     let ring = one_ring shape events s sound run clean up d counts.1 in
-    let order = (order_of l.shape.slots s.server.session l.work.server d l.talk counts.1 (ap is_some is) server.order).1 in
+    let order = (order_of l.shape.slots s.server.session l.work.server d l.transcript counts.1 (ap is_some is) server.order).1 in
     let k = counts_of s.client.session l.work.done l.work.client (client_some s.client.session l.work.done l.work.client ring.client ring.open_is client.agrees) client.agrees in
     let same : Some k.counts ≡ Some ring.client = sym k.counts_are ∙ ring.open_is in
     let pair : k.counts ≡ ring.client = cc same in
     let one : k.counts.published ≡ ring.client.published = ap (λ (c : ClientCounts). c.published) pair in
-    let in_turn = in_order (length s.client.pending) s.client.session k.session k.session_is knows.all.talks.client.counts in
+    let in_turn = in_order (length s.client.pending) s.client.session k.session k.session_is knows.all.transcripts.client.counts in
     let whole : session.asked ≡ d.asked = omega (arith, counts.2, ring.small) in
     record {
       asked = whole ∙ order.asked;
       small = omega (arith, whole, ring.small);
       within = subst (λ (o : Option ClientSession). session.asked ≤ total (length s.client.pending) o) (sym k.session_is) (omega (arith, whole, ring.asked, one, k.agree.published, in_turn.published));
       up = server_alive shape events s sound run clean up d counts.1;
-      slots = omega (arith, ring.slots, knows.all.talks.client.slots);
+      slots = omega (arith, ring.slots, knows.all.transcripts.client.slots);
     }

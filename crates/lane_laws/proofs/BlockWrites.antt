@@ -11,7 +11,7 @@ use Rattle.vio_bytes.proofs.Putting.{length-put_at}
 use Rattle.vio_bytes.proofs.Ranges.{range_at-put_at_inside, range_at-put_at_outside}
 use Rattle.vio_bytes.specs.Place.{put_at}
 use Rattle.vio_bytes.specs.Range.{range_at}
-use Rattle.lane_laws.specs.Blocks.{Puts, Reaches, after_requests, block_at}
+use Rattle.lane_laws.specs.Blocks.{WritesBlock, Reaches, after_requests, block_at}
 
 -- WHAT IS PUT from a block on
 pub block_put_in : (o n b : ℕ) (piece bytes : List ℕ) → length piece ≡ 512 * n → o ≤ b → b < o + n → 512 * o ≤ length bytes
@@ -60,7 +60,7 @@ reaches_or_not (Write block count fill) b = by_range (in_or_out block count b)
 reaches_or_not Flush b = inr (λ never. never)
 
 pub after_reached : (blocks : ℕ) (content : List ℕ) (request : Request) (b : ℕ) → defect blocks request ≡ None → length content ≡ 512 * blocks → Reaches request b
-    → Puts request b (block_at b (after_request content request))
+    → WritesBlock request b (block_at b (after_request content request))
 after_reached blocks content (Read block count) b admitted long reaches = absurd reaches
 after_reached blocks content (Write block count fill) b admitted long reaches =
     let fits = admitted_blocks blocks block count admitted in
@@ -79,12 +79,12 @@ after_missed blocks content (Write block count fill) b admitted long not = by_ra
         block_put_out block count b (written fill count) content (length-repeated fill 0 (512 * count)) (omega (arith, fits.2, long)) outside
 after_missed blocks content Flush b admitted long not = refl
 
-pub puts_reaches : (request : Request) (b : ℕ) (bytes : List ℕ) → Puts request b bytes → Reaches request b
+pub puts_reaches : (request : Request) (b : ℕ) (bytes : List ℕ) → WritesBlock request b bytes → Reaches request b
 puts_reaches (Read block count) b bytes puts = absurd puts
 puts_reaches (Write block count fill) b bytes puts = puts.0
 puts_reaches Flush b bytes puts = absurd puts
 
-pub puts_same : (request : Request) (b : ℕ) (one other : List ℕ) → Puts request b one → Puts request b other → one ≡ other
+pub puts_same : (request : Request) (b : ℕ) (one other : List ℕ) → WritesBlock request b one → WritesBlock request b other → one ≡ other
 puts_same (Read block count) b one other puts also = absurd puts
 puts_same (Write block count fill) b one other puts also = puts.1 ∙ sym also.1
 puts_same Flush b one other puts also = absurd puts

@@ -10,7 +10,7 @@ use Rattle.disk_model.specs.DiskLog.{DiskLog, after}
 use Rattle.disk_model.specs.WorkLaws.{IfServer}
 use Rattle.disk_model.specs.WorkLog.{ClientCounts, ServerCounts}
 use Rattle.disk_model.specs.ClientState.{ClientSession, ClientState, opened_session}
-use Rattle.disk_model.specs.DiskEvent.{Accepted, Admitted, Asks, Calm, DiskEvent, Full, Off, OnWire, Refused, Rests, Started, Stopped, Switched, Turns}
+use Rattle.disk_model.specs.DiskEvent.{Accepted, Admitted, Asks, Calm, DiskEvent, Full, Off, OnWire, Refused, Calms, Started, Stopped, Switched, Switches}
 use Rattle.disk_model.specs.LaneState.{LaneState, NearCounts}
 use Rattle.disk_model.specs.LaneStep.{LaneStep, RestStep, TurnStep, WireStep}
 use Rattle.disk_model.specs.Seeing.{seen}
@@ -155,15 +155,15 @@ asks_changes s (Accepted id request) t step =
     }
 
 -- TURNS, and calm calls
-pub turn_changes : (s : LaneState) (l : DiskLog) (event : Switched) (t : LaneState) → Before s l → ContentsStand (view_of s) → TurnStep s event t → Changed s (Turns event) t
+pub turn_changes : (s : LaneState) (l : DiskLog) (event : Switched) (t : LaneState) → Before s l → ContentsStand (view_of s) → TurnStep s event t → Changed s (Switches event) t
 turn_changes s l Stopped t before contents step =
-    disturbed s l (Turns Stopped) t before contents (λ content. refl) (ap (λ (x : LaneState). x.client.pending) step.1) (ap (λ (x : LaneState). x.client.slots) step.1) (ap (λ (x : LaneState). x.memory) step.1)
+    disturbed s l (Switches Stopped) t before contents (λ content. refl) (ap (λ (x : LaneState). x.client.pending) step.1) (ap (λ (x : LaneState). x.client.slots) step.1) (ap (λ (x : LaneState). x.memory) step.1)
     (ap (λ (x : LaneState). work_while x.wire.wire.end_b x.server.work) step.1) (ap (λ (x : LaneState). x.near) step.1)
     (keeps_same s.client.session t.client.session (ap (λ (x : LaneState). x.client.session) step.1))
 turn_changes s l Started t before contents step =
-    parts_same s (Turns Started) t (ap (λ (x : LaneState). x.client) step.1) (ap (λ (x : LaneState). x.wire) step.1) (ap (λ (x : LaneState). x.server) step.1) (ap (λ (x : LaneState). x.near) step.1)
+    parts_same s (Switches Started) t (ap (λ (x : LaneState). x.client) step.1) (ap (λ (x : LaneState). x.wire) step.1) (ap (λ (x : LaneState). x.server) step.1) (ap (λ (x : LaneState). x.near) step.1)
     (ap (λ (x : LaneState). x.memory) step.1) (λ content. refl)
-turn_changes s l Off t before contents step = all_same s (Turns Off) t step.1 (λ content. refl)
+turn_changes s l Off t before contents step = all_same s (Switches Off) t step.1 (λ content. refl)
 
-pub calm_changes : (s : LaneState) (event : Calm) (t : LaneState) → RestStep s event t → Changed s (Rests event) t
-calm_changes s event t step = all_same s (Rests event) t (calm s event t step) (λ content. refl)
+pub calm_changes : (s : LaneState) (event : Calm) (t : LaneState) → RestStep s event t → Changed s (Calms event) t
+calm_changes s event t step = all_same s (Calms event) t (calm s event t step) (λ content. refl)

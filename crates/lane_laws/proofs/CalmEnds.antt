@@ -5,6 +5,7 @@ use Rattle.std.specs.Prelude.{is_some, ◌&&◌, slice_get}
 use Rattle.runs.specs.Lawful.{log_of}
 use Rattle.runs.specs.Run.{Run}
 use Rattle.ldc_link.specs.declared.phase.LinkPhase.TheVariants as phase
+use Rattle.ldc_link.specs.declared.phase.Role.TheVariants.{Initiator, Responder}
 use Rattle.ldc_link.specs.LinkState.{is_established}
 use Rattle.ldc_queue.specs.declared.end.ChannelState.{ChannelState}
 use Rattle.ldc_queue.specs.declared.end.ChannelState.TheVariants.{Up}
@@ -14,7 +15,7 @@ use Rattle.ldc_queue.specs.OneStream.{IsFront}
 use Rattle.ldc_queue.specs.Wire.{peer_of}
 use Rattle.vdisk_msg.specs.declared.request.Request.{Request}
 use Rattle.disk_model.specs.Sayings.{heard, said}
-use Rattle.disk_model.specs.TalkLog.{TalkLog}
+use Rattle.disk_model.specs.TranscriptLog.{TranscriptLog}
 use Rattle.disk_model.specs.WireEvent.{Idle}
 use Rattle.disk_model.specs.WireLog.{WireLog}
 use Rattle.disk_model.specs.DiskLog.{after, nothing_yet}
@@ -27,16 +28,16 @@ use Rattle.disk_model.specs.LaneStep.{LaneStep}
 use Rattle.disk_model.specs.ServerPutting.{server_holds}
 use Rattle.disk_model.specs.ServerRule as server_rules
 use Rattle.disk_model.specs.ServerState.{ServerState}
-use Rattle.lane_laws.proofs.Agreeing.{talk_is}
+use Rattle.lane_laws.proofs.LaneCores.{transcript_is}
 use Rattle.lane_laws.proofs.HeardFront.{heard_messages}
 use Rattle.lane_laws.proofs.LanePlacing.{LanePlaced}
 use Rattle.lane_laws.proofs.PlacesAlong.{run_placed}
-use Rattle.lane_laws.specs.LaneTalks.{talk_behind}
+use Rattle.lane_laws.specs.LaneTranscripts.{transcript_behind}
 use Rattle.lane_laws.proofs.CalmSteps.{ClientCalm, ServerCalm, client_calm, no_room, server_calm, are_still, waits_up_a, waits_up_b}
 use Rattle.lane_laws.proofs.IdleLaw.{none_waits}
 use Rattle.lane_laws.proofs.IdleRules.{client_idles, server_idles}
-use Rattle.lane_laws.proofs.LinkPlaces.{client_phase, live_phase, server_phase}
-use Rattle.lane_laws.proofs.LinkRuns.{run_links}
+use Rattle.channel_laws.specs.LinkPlaces.{live_phase, phase_at}
+use Rattle.lane_laws.proofs.LaneChannel.{lane_links}
 use Rattle.lane_laws.proofs.NeverBoth.{client_owes, holds_urgent, many_wait, server_owes}
 use Rattle.lane_laws.proofs.QuietEnds.{BothRest, Finished, quiet_ends}
 use Rattle.lane_laws.proofs.QuietPlaces.{never_both}
@@ -73,21 +74,21 @@ both_wait shape events s c v at up_a up_b holds full_b holds_v full_a =
     let entries = entries_many shape events s at in
     let many_a : 2 ≤ length s.wire.wire.to_a = omega (arith, entries, no_room (length s.wire.wire.to_a + 1) s.shape.entries full_a) in
     let many_b : 2 ≤ length s.wire.wire.to_b = omega (arith, entries, no_room (length s.wire.wire.to_b + 1) s.shape.entries full_b) in
-    let links = run_links shape events s at.sound at.run at.clean in
-    let both = many_wait links.place s.wire.lossy s.wire.wire.to_a s.wire.wire.to_b links.to_server links.to_client many_a many_b in
+    let links = lane_links shape events s at.sound at.run at.clean in
+    let both = many_wait links.place s.wire.lossy s.wire.wire.to_a s.wire.wire.to_b links.to_theirs links.to_mine many_a many_b in
     let phase_a : s.client.link.phase ≡ phase.Established =
-    sym (ap (λ (x : ChannelState). live_phase x phase.OwesVersInfo s.client.link.phase) up_a) ∙ links.client ∙ ap client_phase both in
+    sym (ap (λ (x : ChannelState). live_phase x phase.OwesVersInfo s.client.link.phase) up_a) ∙ links.mine ∙ ap (phase_at Initiator) both in
     let phase_b : s.server.link.phase ≡ phase.Established =
-    sym (ap (λ (x : ChannelState). live_phase x phase.AwaitsVersInfo s.server.link.phase) up_b) ∙ links.server ∙ ap server_phase both in
+    sym (ap (λ (x : ChannelState). live_phase x phase.AwaitsVersInfo s.server.link.phase) up_b) ∙ links.theirs ∙ ap (phase_at Responder) both in
     let first = first_of s.wire.wire.to_a many_a in
-    let owed = client_owes l.shape s.client l.talk.client l.work.done l.work.client grounded.knows.counted.client phase_a (holds_urgent s.client (at_client s) first.0 c first.1 holds) in
-    let owing = server_owes l.shape s.server (at_server s) l.talk.server l.work.server v grounded.knows.counted.server phase_b holds_v in
-    let placed : LanePlaced shape s l.talk = run_placed shape events s at.sound at.run (sym (ap (λ (w : WireLog). w.forged) grounded.knows.all.stands.wire) ∙ at.clean) in
-    let talk : l.talk ≡ talk_behind events = talk_is (nothing_yet shape) events in
-    never_both shape placed.sid s.client.shake s.server.shake (is_some s.client.session) (is_some s.server.session) l.talk.client l.talk.server ((placed.client up_a).up (ap is_established phase_a))
+    let owed = client_owes l.shape s.client l.transcript.client l.work.done l.work.client grounded.knows.counted.client phase_a (holds_urgent s.client (at_client s) first.0 c first.1 holds) in
+    let owing = server_owes l.shape s.server (at_server s) l.transcript.server l.work.server v grounded.knows.counted.server phase_b holds_v in
+    let placed : LanePlaced shape s l.transcript = run_placed shape events s at.sound at.run (sym (ap (λ (w : WireLog). w.forged) grounded.knows.all.stands.wire) ∙ at.clean) in
+    let transcript : l.transcript ≡ transcript_behind events = transcript_is (nothing_yet shape) events in
+    never_both shape placed.sid s.client.handshake s.server.handshake (is_some s.client.session) (is_some s.server.session) l.transcript.client l.transcript.server ((placed.client up_a).up (ap is_established phase_a))
     ((placed.server up_b).up (ap is_established phase_b)) owed owing
-    (subst (λ (x : TalkLog). IsFront (heard x.server) (said x.client)) (sym talk) (heard_messages shape events s B at.sound at.run at.clean up_b))
-    (subst (λ (x : TalkLog). IsFront (heard x.client) (said x.server)) (sym talk) (heard_messages shape events s A at.sound at.run at.clean up_a))
+    (subst (λ (x : TranscriptLog). IsFront (heard x.server) (said x.client)) (sym transcript) (heard_messages shape events s B at.sound at.run at.clean up_b))
+    (subst (λ (x : TranscriptLog). IsFront (heard x.client) (said x.server)) (sym transcript) (heard_messages shape events s A at.sound at.run at.clean up_a))
 
 -- BOTH ARE IDLE
 pub record BothIdle (e : End) (s : LaneState) (one next : DiskEvent) (t : LaneState) : Type 0 where
@@ -101,7 +102,7 @@ client_first : (shape : Shape) (events : List DiskEvent) (s : LaneState) (one : 
 client_first shape events s one m next t at runs (inl rested) (inl server) = record {
   first = rested.event_is;
   second = server.event_is;
-  rest = record { client = rested.rule; server = subst (λ (x : LaneState). server_rules.server_rule x.server (at_server x) ≡ server_rules.Rests) rested.same server.rule };
+  rest = record { client = rested.rule; server = subst (λ (x : LaneState). server_rules.server_rule x.server (at_server x) ≡ server_rules.Idles) rested.same server.rule };
   same = server.same ∙ rested.same;
 }
 client_first shape events s one m next t at runs (inl rested) (inr (inl server)) =
@@ -111,8 +112,8 @@ client_first shape events s one m next t at runs (inl rested) (inr (inl server))
 client_first shape events s one m next t at runs (inl rested) (inr (inr off)) =
     let never : true ≡ false = sym off.stopped ∙ ap (λ (x : LaneState). x.stopped) rested.same ∙ runs in absurd (cc never)
 client_first shape events s one m next t at runs (inr waits) (inl server) =
-    let rule : server_rules.server_rule s.server (at_server s) ≡ server_rules.Rests =
-    subst (λ (x : LaneState). server_rules.server_rule x.server (at_server x) ≡ server_rules.Rests) waits.is server.rule in
+    let rule : server_rules.server_rule s.server (at_server s) ≡ server_rules.Idles =
+    subst (λ (x : LaneState). server_rules.server_rule x.server (at_server x) ≡ server_rules.Idles) waits.is server.rule in
     absurd (not_empty shape events s s.wire.wire.to_b at (no_room (length s.wire.wire.to_b + 1) s.shape.entries waits.full)
     (none_waits s.wire.wire.to_b (server_idles s.server (at_server s) rule).first))
 client_first shape events s one m next t at runs (inr waits) (inr (inl server)) =
@@ -129,7 +130,7 @@ server_first : (shape : Shape) (events : List DiskEvent) (s : LaneState) (one : 
 server_first shape events s one m next t at runs (inl rested) (inl client) = record {
   first = rested.event_is;
   second = client.event_is;
-  rest = record { client = subst (λ (x : LaneState). client_rules.client_rule x.client (at_client x) ≡ client_rules.Rests) rested.same client.rule; server = rested.rule };
+  rest = record { client = subst (λ (x : LaneState). client_rules.client_rule x.client (at_client x) ≡ client_rules.Idles) rested.same client.rule; server = rested.rule };
   same = client.same ∙ rested.same;
 }
 server_first shape events s one m next t at runs (inl rested) (inr client) =
@@ -137,8 +138,8 @@ server_first shape events s one m next t at runs (inl rested) (inr client) =
     absurd (not_empty shape events s s.wire.wire.to_b at (no_room (length s.wire.wire.to_b + 1) s.shape.entries full)
     (none_waits s.wire.wire.to_b (server_idles s.server (at_server s) rested.rule).first))
 server_first shape events s one m next t at runs (inr (inl waits)) (inl client) =
-    let rule : client_rules.client_rule s.client (at_client s) ≡ client_rules.Rests =
-    subst (λ (x : LaneState). client_rules.client_rule x.client (at_client x) ≡ client_rules.Rests) waits.is client.rule in
+    let rule : client_rules.client_rule s.client (at_client s) ≡ client_rules.Idles =
+    subst (λ (x : LaneState). client_rules.client_rule x.client (at_client x) ≡ client_rules.Idles) waits.is client.rule in
     absurd (not_empty shape events s s.wire.wire.to_a at (no_room (length s.wire.wire.to_a + 1) s.shape.entries waits.full)
     (none_waits s.wire.wire.to_a (client_idles s.client (at_client s) rule).rests.first))
 server_first shape events s one m next t at runs (inr (inl waits)) (inr client) =

@@ -10,7 +10,7 @@ use Rattle.disk_model.specs.WireEvent.{Blocked, Idle}
 use Rattle.disk_model.specs.DiskLog.{DiskLog, after}
 use Rattle.disk_model.specs.ClientPutting.{client_holds}
 use Rattle.disk_model.specs.ClientRule as client_rules
-use Rattle.disk_model.specs.DiskEvent.{DiskEvent, Off, OnWire, Turns}
+use Rattle.disk_model.specs.DiskEvent.{DiskEvent, Off, OnWire, Switches}
 use Rattle.disk_model.specs.LaneState.{LaneState}
 use Rattle.disk_model.specs.LaneStep.{LaneStep}
 use Rattle.disk_model.specs.ServerPutting.{server_holds}
@@ -29,7 +29,7 @@ use Rattle.lane_laws.specs.CalmEnds.{AreStill, IsCalm, IsStill}
 -- THE CLIENT idles, or finds no room
 pub record ClientRested (s : LaneState) (event : DiskEvent) (t : LaneState) : Type 0 where
   pub event_is : event ≡ OnWire (Idle A)
-  pub rule : client_rules.client_rule s.client (at_client s) ≡ client_rules.Rests
+  pub rule : client_rules.client_rule s.client (at_client s) ≡ client_rules.Idles
   pub same : t ≡ s
 
 pub record ClientWaits (s t : LaneState) : Type 0 where
@@ -43,7 +43,7 @@ ClientCalm s event t = ClientRested s event t ⊎ ClientWaits s t
 -- THE SERVER likewise, or it is stopped
 pub record ServerRested (s : LaneState) (event : DiskEvent) (t : LaneState) : Type 0 where
   pub event_is : event ≡ OnWire (Idle B)
-  pub rule : server_rules.server_rule s.server (at_server s) ≡ server_rules.Rests
+  pub rule : server_rules.server_rule s.server (at_server s) ≡ server_rules.Idles
   pub same : t ≡ s
 
 pub record ServerWaits (s t : LaneState) : Type 0 where
@@ -69,7 +69,7 @@ client_calm s event t step calm = absurd calm
 pub server_calm : (s : LaneState) (event : DiskEvent) (t : LaneState) → LaneStep s event t → IsCalm B event → ServerCalm s event t
 server_calm s (OnWire (Idle B)) t step calm = inl (record { event_is = refl; rule = step.1.step.1.0; same = server_same s t step })
 server_calm s (OnWire (Blocked B)) t step calm = inr (inl (record { holds = step.1.step.1.0; full = step.1.step.1.1; is = step.1.is }))
-server_calm s (Turns Off) t step calm = inr (inr (record { stopped = step.0; same = step.1 }))
+server_calm s (Switches Off) t step calm = inr (inr (record { stopped = step.0; same = step.1 }))
 server_calm s (OnWire (Idle A)) t step calm = absurd (cc calm)
 server_calm s (OnWire (Blocked A)) t step calm = absurd (cc calm)
 server_calm s (OnWire event) t step calm = absurd calm
@@ -77,8 +77,8 @@ server_calm s event t step calm = absurd calm
 
 -- THE END IS STILL after it, and the other stays so
 abbrev pub StaysStill : End → LaneState → Type 0
-StaysStill A s = (s.wire.wire.end_a ≡ Up) × ((client_rules.client_rule s.client (at_client s) ≡ client_rules.Rests) ⊎ ((at_client s).room ≡ false))
-StaysStill B s = (s.wire.wire.end_b ≡ Up) × ((server_rules.server_rule s.server (at_server s) ≡ server_rules.Rests) ⊎ ((at_server s).room ≡ false))
+StaysStill A s = (s.wire.wire.end_a ≡ Up) × ((client_rules.client_rule s.client (at_client s) ≡ client_rules.Idles) ⊎ ((at_client s).room ≡ false))
+StaysStill B s = (s.wire.wire.end_b ≡ Up) × ((server_rules.server_rule s.server (at_server s) ≡ server_rules.Idles) ⊎ ((at_server s).room ≡ false))
 
 abbrev pub ServerStays : LaneState → Type 0
 ServerStays s = (s.stopped ≡ true) ⊎ StaysStill B s

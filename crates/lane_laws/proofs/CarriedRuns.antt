@@ -6,18 +6,17 @@ use Rattle.runs.specs.Run.{Run}
 use Rattle.ldc_queue.specs.declared.end.End.TheVariants.{A, B}
 use Rattle.disk_model.specs.DiskLog.{DiskLog, after, nothing_yet}
 use Rattle.disk_model.specs.RequestLaws.{CarriesAt}
-use Rattle.disk_model.specs.DiskEvent.{Asks, Calm, CalmReset, CalmRestart, CalmStart, CalmStop, CalmTick, Desc, DiskEvent, Done, Finished, Misplaced, Moved, Off, OnWire, Published, Rests, Started, Stopped, Stored, Switched, Turns, Worked, Works}
+use Rattle.disk_model.specs.DiskEvent.{Asks, Calm, CalmReset, CalmRestart, CalmStart, CalmStop, CalmTick, Desc, DiskEvent, Done, Finished, Misplaced, Moved, Off, OnWire, Published, Calms, Started, Stopped, Stored, Switched, Switches, Worked, Works}
 use Rattle.disk_model.specs.LaneState.{IsShape, LaneState, Shape, fresh, pages_of}
 use Rattle.disk_model.specs.LaneStep.{LaneStep, RestStep, TurnStep, WorkStep}
 use Rattle.disk_model.specs.Seeing.{seen}
-use Rattle.lane_laws.proofs.HeardFront.{fresh_talks}
-use Rattle.lane_laws.proofs.LaneStepping.{LaneTalks, talks_step}
+use Rattle.lane_laws.proofs.LaneStepping.{LaneTranscripts, transcripts_step, fresh_transcripts}
 use Rattle.lane_laws.proofs.MemorySteps.{admits_memory, carried_long, done_memory, kept_memory, wire_long, work_step_long}
 use Rattle.lane_laws.proofs.Requesting.{completed_next, published_kept}
 use Rattle.lane_laws.proofs.StandingRuns.{fresh_stands, stands_step}
 use Rattle.lane_laws.proofs.StandingSteps.{OnlyWire, same_client, wire_only}
 use Rattle.lane_laws.specs.MemoryStands.{MemoryStands}
-use Rattle.lane_laws.specs.Standing.{LaneStands}
+use Rattle.lane_laws.specs.Standing.{LaneInvariant}
 
 -- the lane after an event of a server's work, and one that is the same in client and memory
 server_memory : (s : LaneState) (event : Worked) (t : LaneState) → MemoryStands s → WorkStep s event t → t.client ≡ s.client → MemoryStands t
@@ -53,17 +52,17 @@ rest_memory s (CalmReset A) t stands step = absurd step
 rest_memory s (CalmReset B) t stands step = equal_memory s t stands step.1
 rest_memory s CalmRestart t stands step = equal_memory s t stands step.1
 
-memory_step : (s : LaneState) (event : DiskEvent) (t : LaneState) (l : DiskLog) → LaneTalks s l.talk → MemoryStands s → LaneStep s event t → MemoryStands t
-memory_step s (OnWire event) t l talks stands step =
-    let only : OnlyWire s event t = wire_only s event t talks.client step in
+memory_step : (s : LaneState) (event : DiskEvent) (t : LaneState) (l : DiskLog) → LaneTranscripts s l.transcript → MemoryStands s → LaneStep s event t → MemoryStands t
+memory_step s (OnWire event) t l transcripts stands step =
+    let only : OnlyWire s event t = wire_only s event t transcripts.client step in
     kept_memory s t stands only.kept (wire_long s event t stands.long step)
-memory_step s (Asks event) t l talks stands step = admits_memory s event t stands step
-memory_step s (Works event) t l talks stands step = work_memory s event t stands step
-memory_step s (Turns event) t l talks stands step = turn_memory s event t stands step
-memory_step s (Rests event) t l talks stands step = rest_memory s event t stands step
+memory_step s (Asks event) t l transcripts stands step = admits_memory s event t stands step
+memory_step s (Works event) t l transcripts stands step = work_memory s event t stands step
+memory_step s (Switches event) t l transcripts stands step = turn_memory s event t stands step
+memory_step s (Calms event) t l transcripts stands step = rest_memory s event t stands step
 
 -- what an event may carry
-works_carry : (s : LaneState) (l : DiskLog) (event : Worked) (t : LaneState) → LaneStands s l → MemoryStands s → WorkStep s event t → CarriesAt l (Works event)
+works_carry : (s : LaneState) (l : DiskLog) (event : Worked) (t : LaneState) → LaneInvariant s l → MemoryStands s → WorkStep s event t → CarriesAt l (Works event)
 works_carry s l (Done id operation status bytes) t stands memory step =
     let next = completed_next s.client l.work (seen A s.shape.entries s.wire.wire) s.memory id operation status bytes t.client t.memory stands.requests step.step in
     record { request = step.step.request; accepted = next.accepted; long = carried_long s id operation status bytes t.client t.memory memory step.step }
@@ -74,17 +73,17 @@ works_carry s l (Stored operation block count failed) t stands memory step = tt
 works_carry s l (Finished slot status) t stands memory step = tt
 works_carry s l Misplaced t stands memory step = tt
 
-carries : (s : LaneState) (l : DiskLog) (event : DiskEvent) (t : LaneState) → LaneStands s l → MemoryStands s → LaneStep s event t → CarriesAt l event
+carries : (s : LaneState) (l : DiskLog) (event : DiskEvent) (t : LaneState) → LaneInvariant s l → MemoryStands s → LaneStep s event t → CarriesAt l event
 carries s l (Works event) t stands memory step = works_carry s l event t stands memory step
 carries s l (OnWire event) t stands memory step = tt
 carries s l (Asks event) t stands memory step = tt
-carries s l (Turns event) t stands memory step = tt
-carries s l (Rests event) t stands memory step = tt
+carries s l (Switches event) t stands memory step = tt
+carries s l (Calms event) t stands memory step = tt
 
 -- ALONG EVERY RUN
 pub record AllStand (s : LaneState) (l : DiskLog) : Type 0 where
-  pub talks : LaneTalks s l.talk
-  pub stands : LaneStands s l
+  pub transcripts : LaneTranscripts s l.transcript
+  pub stands : LaneInvariant s l
   pub memory : MemoryStands s
 
 fresh_memory : (shape : Shape) → IsShape shape → MemoryStands (fresh shape)
@@ -94,14 +93,14 @@ pub all_step : (s : LaneState) (l : DiskLog) (event : DiskEvent) (t : LaneState)
 all_step s l event t all step = (
   carries s l event t all.stands all.memory step,
   record {
-    talks = talks_step s event t l.talk all.talks step;
-    stands = (stands_step s l event t all.talks all.stands step).stands;
-    memory = memory_step s event t l all.talks all.memory step;
+    transcripts = transcripts_step s event t l.transcript all.transcripts step;
+    stands = (stands_step s l event t all.transcripts all.stands step).stands;
+    memory = memory_step s event t l all.transcripts all.memory step;
   },
 )
 
 pub fresh_all : (shape : Shape) → IsShape shape → AllStand (fresh shape) (nothing_yet shape)
-fresh_all shape sound = record { talks = fresh_talks shape sound; stands = fresh_stands shape; memory = fresh_memory shape sound }
+fresh_all shape sound = record { transcripts = fresh_transcripts shape sound; stands = fresh_stands shape; memory = fresh_memory shape sound }
 
 pub carries_lawful : (shape : Shape) (events : List DiskEvent) (s : LaneState) → IsShape shape → Run LaneStep (fresh shape) events s → Lawful CarriesAt after (nothing_yet shape) events
 carries_lawful shape events s sound run =

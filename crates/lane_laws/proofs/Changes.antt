@@ -35,7 +35,7 @@ abbrev pub Keeps : Option ClientSession → Option ClientSession → Type 0
 Keeps before now = (session : ClientSession) → now ≡ Some session → KeptFrom before session
 
 -- nothing but the session changes, and not its places
-pub record Rests (v w : View) : Type 0 where
+pub record Unchanged (v w : View) : Type 0 where
   pub keeps : Keeps v.session w.session
   pub is : w ≡ record v { session = w.session }
 
@@ -176,7 +176,7 @@ pub data Kind : Type 0 where
   Ended : Kind
 
 abbrev pub IsChange : Kind → View → View → Type 0
-IsChange Rested v w = Rests v w
+IsChange Rested v w = Unchanged v w
 IsChange Opened v w = Opens v w
 IsChange (Disturbed p) v w = Disturbs p v w
 IsChange (Asked request) v w = Accepts request v w

@@ -3,12 +3,12 @@ use Rattle.std.proofs.Common.{◌≡◌, ℕ, ◌+◌, ◌≤◌, inl, inr, Bool
 use Rattle.std.specs.Prelude.{is_some, ⊤}
 use Rattle.ldc_link.specs.declared.phase.Role.TheVariants.{Initiator}
 use Rattle.ldc_packet.specs.Spelling.{subtype_code}
-use Rattle.ldc_queue.specs.Talk.{Heard as Heard_, Turn}
+use Rattle.ldc_queue.specs.Transcript.{Heard as Heard_, Turn}
 use Rattle.vio_tag.specs.declared.message.Message.{Message}
 use Rattle.vio_tag.specs.Spelling.{canonical}
 use Rattle.vio_handshake.specs.declared.handshake.Handshake.{Handshake}
 use Rattle.vio_handshake.specs.declared.session.Session.{Session}
-use Rattle.vio_handshake.specs.Rules.{ShakeTake, shake_take}
+use Rattle.vio_handshake.specs.Rules.{HandshakeTake, handshake_take}
 use Rattle.disk_model.specs.Sayings.{half_heard, half_said, heard}
 use Rattle.disk_model.specs.Agreement.{ClientAgrees}
 use Rattle.disk_model.specs.Messages.{range_ended, range_in}
@@ -19,21 +19,21 @@ use Rattle.disk_model.specs.ClientTaking.{acknowledged}
 use Rattle.disk_model.specs.LaneState.{Shape}
 use Rattle.disk_model.specs.Offering.{client_offer}
 use Rattle.disk_model.specs.Ranges.{range_length}
-use Rattle.lane_laws.proofs.ClientTaken.{ClientAcked, ClientHearsPart, ClientShakes, ClientTook, ShakesTo}
+use Rattle.lane_laws.proofs.ClientTaken.{ClientAcked, ClientHearsPart, ClientHandshakes, ClientTook, HandshakesTo}
 use Rattle.lane_laws.proofs.Fitting.{TakesFit, joined_fits, take_fits}
 use Rattle.lane_laws.proofs.RangeSums.{sum_heard, sum_more}
 use Rattle.lane_laws.proofs.RangesSaid.{IsNoData, heard_no_range, heard_range}
-use Rattle.lane_laws.proofs.ShakingOpen.{no_data, still_open}
+use Rattle.lane_laws.proofs.HandshakesOpen.{no_data, still_open}
 use Rattle.lane_laws.specs.Counted.{ClientCounted, HoldsOwed, acked_of, announced_of, infos_of, range_sum}
 use Rattle.lane_laws.specs.LaneRests.{ClientRests}
-use Rattle.lane_laws.specs.ShakeFits.{Fits}
+use Rattle.lane_laws.specs.HandshakeFits.{Fits}
 
 -- IT BEGINS
 pub client_begins_counting : (shape : Shape) (c : ClientState) (turns : List Turn) (done : ℕ) (k : Option ClientCounts) → ClientCounted shape c turns done k
     → ClientCounted shape (joined_client c) [] done None
 client_begins_counting shape c turns done k counted = record {
   slots = counted.slots;
-  shake = joined_fits Initiator (client_offer shape.blocks shape.slots) c.shake counted.shake;
+  handshake = joined_fits Initiator (client_offer shape.blocks shape.slots) c.handshake counted.handshake;
   holds = record { owed = λ quiet some. absurd (omega (arith, some)); own = λ session is on. absurd (cc) };
   announced = refl;
   infos = refl;
@@ -89,9 +89,9 @@ Behind shape turns packet done k t =
     ClientCounted shape t (Heard_ packet ∷ turns) done (change_client (λ (x : ClientCounts). record x { acked = x.acked + length_in shape.slots (range_ended 2 (half_heard turns) packet) }) k)
 
 -- IT TAKES a packet: a part of a message
-same_left : (c : ClientState) (turns : List Turn) (left : List ℕ) → left ≡ c.link.to_send → 1 ≤ length left → HoldsOwed c.shake.owed (half_said turns ++ c.link.to_send)
-    → HoldsOwed c.shake.owed (half_said turns ++ left)
-same_left c turns left is some holds = subst (λ (xs : List ℕ). HoldsOwed c.shake.owed (half_said turns ++ xs)) (sym is) holds
+same_left : (c : ClientState) (turns : List Turn) (left : List ℕ) → left ≡ c.link.to_send → 1 ≤ length left → HoldsOwed c.handshake.owed (half_said turns ++ c.link.to_send)
+    → HoldsOwed c.handshake.owed (half_said turns ++ left)
+same_left c turns left is some holds = subst (λ (xs : List ℕ). HoldsOwed c.handshake.owed (half_said turns ++ xs)) (sym is) holds
 
 takes_part : (shape : Shape) (c t : ClientState) (turns : List Turn) (packet : List ℕ) (done : ℕ) (k : Option ClientCounts) → ClientCounted shape c turns done k
     → ClientHearsPart c turns packet t → Behind shape turns packet done k t
@@ -99,7 +99,7 @@ takes_part shape c t turns packet done k counted part =
     let acked : acked_of c.session ≡ range_sum shape.slots 2 (heard (Heard_ packet ∷ turns)) = counted.acked ∙ ap (range_sum shape.slots 2) (sym part.messages) in
     subst (Behind shape turns packet done k) (sym part.is) (record {
       slots = counted.slots;
-      shake = counted.shake;
+      handshake = counted.handshake;
       holds = record {
         owed = λ quiet some. same_left c turns part.link.to_send part.left some (counted.holds.owed quiet (omega (arith, some, ap length part.left)));
         own = λ session is on. ap (λ (xs : List ℕ). half_said turns ++ xs) part.left ∙ counted.holds.own session is on;
@@ -112,44 +112,44 @@ takes_part shape c t turns packet done k counted part =
     })
 
 -- a message of the handshake
-none_held : (c : ClientState) (bytes : List ℕ) (owed : Option Message) → c.shake.owed ≡ None → HoldsOwed c.shake.owed bytes → HoldsOwed owed bytes
+none_held : (c : ClientState) (bytes : List ℕ) (owed : Option Message) → c.handshake.owed ≡ None → HoldsOwed c.handshake.owed bytes → HoldsOwed owed bytes
 none_held c bytes owed none holds = let never : None ≡ Some holds.message = sym none ∙ holds.owed_is in absurd (cc)
 
-fits_to : (shape : Shape) (h g : Handshake) (answer : ShakeTake) (opens : Bool) → ShakesTo h answer opens g → TakesFit Initiator (client_offer shape.blocks shape.slots) answer
+fits_to : (shape : Shape) (h g : Handshake) (answer : HandshakeTake) (opens : Bool) → HandshakesTo h answer opens g → TakesFit Initiator (client_offer shape.blocks shape.slots) answer
     → Fits Initiator (client_offer shape.blocks shape.slots) g
 fits_to shape h g answer false is fits = subst (TakesFit Initiator (client_offer shape.blocks shape.slots)) is fits
 fits_to shape h g answer true is fits = subst (TakesFit Initiator (client_offer shape.blocks shape.slots)) is fits
 
-takes_shake : (shape : Shape) (c t : ClientState) (turns : List Turn) (packet : List ℕ) (done : ℕ) (k : Option ClientCounts) → ClientRests c turns → c.shake.owed ≡ None
-    → ClientCounted shape c turns done k → ClientShakes c turns packet t → Behind shape turns packet done k t
-takes_shake shape c t turns packet done k rests none counted shakes =
-    let bytes = shakes.hears.bytes in
-    let apart : IsNoData shakes.message.body = no_data c.shake shakes.message shakes.opens shakes.shake shakes.takes in
+takes_handshake : (shape : Shape) (c t : ClientState) (turns : List Turn) (packet : List ℕ) (done : ℕ) (k : Option ClientCounts) → ClientRests c turns → c.handshake.owed ≡ None
+    → ClientCounted shape c turns done k → ClientHandshakes c turns packet t → Behind shape turns packet done k t
+takes_handshake shape c t turns packet done k rests none counted handshakes =
+    let bytes = handshakes.hears.bytes in
+    let apart : IsNoData handshakes.message.body = no_data c.handshake handshakes.message handshakes.opens handshakes.handshake handshakes.takes in
     let acked : acked_of c.session ≡ range_sum shape.slots 2 (heard (Heard_ packet ∷ turns)) =
     omega (
       arith,
       counted.acked,
-      ap (range_sum shape.slots 2) shakes.hears.messages,
+      ap (range_sum shape.slots 2) handshakes.hears.messages,
       sum_more shape.slots 2 (heard turns) bytes,
-      ap (length_in shape.slots) (heard_no_range 2 bytes shakes.message shakes.hears.spells shakes.hears.form apart),
+      ap (length_in shape.slots) (heard_no_range 2 bytes handshakes.message handshakes.hears.spells handshakes.hears.form apart),
     ) in
-    subst (Behind shape turns packet done k) (sym shakes.is) (record {
+    subst (Behind shape turns packet done k) (sym handshakes.is) (record {
       slots = counted.slots;
-      shake = fits_to shape c.shake shakes.shake (shake_take c.shake shakes.message) shakes.opens shakes.takes
-          (take_fits Initiator (client_offer shape.blocks shape.slots) c.shake shakes.message none counted.shake);
+      handshake = fits_to shape c.handshake handshakes.handshake (handshake_take c.handshake handshakes.message) handshakes.opens handshakes.takes
+          (take_fits Initiator (client_offer shape.blocks shape.slots) c.handshake handshakes.message none counted.handshake);
       holds = record {
-        owed = λ quiet some. none_held c (half_said turns ++ shakes.link.to_send) shakes.shake.owed none
-            (same_left c turns shakes.link.to_send shakes.left some (counted.holds.owed quiet (omega (arith, some, ap length shakes.left))));
+        owed = λ quiet some. none_held c (half_said turns ++ handshakes.link.to_send) handshakes.handshake.owed none
+            (same_left c turns handshakes.link.to_send handshakes.left some (counted.holds.owed quiet (omega (arith, some, ap length handshakes.left))));
         own = λ session is on.
-            let draft : shakes.shake.draft ≡ c.shake.draft = still_open c.shake shakes.message shakes.opens shakes.shake (rests.opened (ap is_some is)) shakes.takes in
-            ap (λ (xs : List ℕ). half_said turns ++ xs) shakes.left ∙ counted.holds.own session is on
-            ∙ ap (λ (d : Session). canonical (announcement (record c { shake = record c.shake { draft = d } }) session)) (sym draft);
+            let draft : handshakes.handshake.draft ≡ c.handshake.draft = still_open c.handshake handshakes.message handshakes.opens handshakes.handshake (rests.opened (ap is_some is)) handshakes.takes in
+            ap (λ (xs : List ℕ). half_said turns ++ xs) handshakes.left ∙ counted.holds.own session is on
+            ∙ ap (λ (d : Session). canonical (announcement (record c { handshake = record c.handshake { draft = d } }) session)) (sym draft);
       };
       announced = counted.announced;
       infos = counted.infos;
       acked = acked;
       ready = counted.ready;
-      agrees = hears_agrees shape c (record c { link = shakes.link; shake = shakes.shake }) turns packet done k counted (record { same = same_acked c.session; acked = acked });
+      agrees = hears_agrees shape c (record c { link = handshakes.link; handshake = handshakes.handshake }) turns packet done k counted (record { same = same_acked c.session; acked = acked });
     })
 
 -- an acknowledgement
@@ -170,7 +170,7 @@ takes_ack shape c t turns packet done k counted acks =
     omega (arith, before, ap (range_sum shape.slots 2) acks.hears.messages, sum_more shape.slots 2 (heard turns) bytes, adds) in
     subst (Behind shape turns packet done k) (sym acks.is) (record {
       slots = counted.slots;
-      shake = counted.shake;
+      handshake = counted.handshake;
       holds = record {
         owed = λ quiet some. same_left c turns acks.link.to_send acks.left some
             (counted.holds.owed (ap is_announcing acks.session_is ∙ quiet) (omega (arith, some, ap length acks.left)));
@@ -188,8 +188,8 @@ takes_ack shape c t turns packet done k counted acks =
           (record { same = acked_session c.session session n acks.session_is; acked = acked });
     })
 
-pub client_takes_counting : (shape : Shape) (c t : ClientState) (turns : List Turn) (packet : List ℕ) (done : ℕ) (k : Option ClientCounts) → ClientRests c turns → c.shake.owed ≡ None
+pub client_takes_counting : (shape : Shape) (c t : ClientState) (turns : List Turn) (packet : List ℕ) (done : ℕ) (k : Option ClientCounts) → ClientRests c turns → c.handshake.owed ≡ None
     → ClientCounted shape c turns done k → ClientTook c turns packet t → Behind shape turns packet done k t
 client_takes_counting shape c t turns packet done k rests none counted (inl part) = takes_part shape c t turns packet done k counted part
-client_takes_counting shape c t turns packet done k rests none counted (inr (inl shakes)) = takes_shake shape c t turns packet done k rests none counted shakes
+client_takes_counting shape c t turns packet done k rests none counted (inr (inl handshakes)) = takes_handshake shape c t turns packet done k rests none counted handshakes
 client_takes_counting shape c t turns packet done k rests none counted (inr (inr acks)) = takes_ack shape c t turns packet done k counted acks

@@ -13,27 +13,27 @@ use Rattle.vio_tag.specs.declared.message.MsgBody.{MsgBody}
 use Rattle.vio_tag.specs.declared.message.MsgBody.TheVariants.{DringData}
 use Rattle.vio_tag.specs.declared.message.TagFault.{TagFault}
 use Rattle.vio_tag.specs.Decoding.{Decodes}
-use Rattle.vio_handshake.specs.Rules.{Faults, Goes, GoesOpen, ShakeTake, shake_take, sid_fault}
+use Rattle.vio_handshake.specs.Rules.{Faults, Goes, GoesOpen, HandshakeTake, handshake_take, sid_fault}
 use Rattle.disk_model.specs.ClientPutting.{is_announcing}
 use Rattle.disk_model.specs.ClientState.{ClientSession, ClientState, slot_in}
 use Rattle.disk_model.specs.ClientTaking.{ClientTake, ClientTakes, GoesOn, HearsLink, HearsWhole, Resets, acknowledged, by_handshake, hears_message, in_session, reads, sid_first, takes_ack}
 use Rattle.disk_model.specs.Ranges.{is_other, range_length}
-use Rattle.lane_laws.proofs.Advancing.{take_advances}
-use Rattle.lane_laws.proofs.Budgets.{budget_most, infos_few, more_few, opening_few, owed_few}
 use Rattle.lane_laws.proofs.Hearing.{heard_leaves}
 use Rattle.lane_laws.proofs.Short.{ComesShort, TakesShort, message_comes, take_short}
 use Rattle.lane_laws.proofs.Sharing.{in_order}
-use Rattle.lane_laws.specs.Budget.{client_messages, client_speaks}
-use Rattle.lane_laws.specs.Conversation.{IsAsking, SameTalk, TakesOne}
+use Rattle.lane_laws.specs.LinkMoves.{IsAsking, SameTranscript, TakesOne}
 use Rattle.lane_laws.specs.Standing.{SessionStands}
 use Rattle.lane_laws.specs.Sound.{ClientSound, CountsInOrder, InOrder, OwesShort}
+use Rattle.ldc_link.specs.declared.phase.Role.TheVariants.{Initiator}
+use Rattle.channel_laws.proofs.LinkCases.{link_heard}
+use Rattle.channel_laws.proofs.EndStanding.{heard_of}
 
 -- the client after a link that heard a packet
 pub record TakenBy (s : ClientState) (m : LinkState) (t : ClientState) : Type 0 where
-  pub link : SameTalk t.link m
+  pub link : SameTranscript t.link m
   pub sends : t.link.to_send ≡ m.to_send
   pub role : t.link.role ≡ m.role
-  pub short : OwesShort t.shake
+  pub short : OwesShort t.handshake
   pub slots : t.slots ≡ s.slots
   pub pending : t.pending ≡ s.pending
   pub counts : CountsInOrder (length s.pending) t.session
@@ -51,10 +51,10 @@ took_if : (s : ClientState) (m : LinkState) (b : Bool) (one other : ClientTake) 
 took_if s m true one other first rest = first refl
 took_if s m false one other first rest = rest
 
-by_shake : (s : ClientState) (m : LinkState) (x : ClientState) (answer : ShakeTake) → TakenBy s m x → TakesShort answer → TookBy s m (by_handshake x answer)
-by_shake s m x (Goes h) taken short = record { link = taken.link; sends = taken.sends; role = taken.role; short = short; slots = taken.slots; pending = taken.pending; counts = taken.counts; own = taken.own; next = taken.next; blocks = taken.blocks; opened = taken.opened; keeps = taken.keeps }
-by_shake s m x (GoesOpen h) taken short = record { link = taken.link; sends = taken.sends; role = taken.role; short = short; slots = taken.slots; pending = taken.pending; counts = taken.counts; own = taken.own; next = taken.next; blocks = taken.blocks; opened = taken.opened; keeps = taken.keeps }
-by_shake s m x (Faults cause) taken short = tt
+by_handshake_take : (s : ClientState) (m : LinkState) (x : ClientState) (answer : HandshakeTake) → TakenBy s m x → TakesShort answer → TookBy s m (by_handshake x answer)
+by_handshake_take s m x (Goes h) taken short = record { link = taken.link; sends = taken.sends; role = taken.role; short = short; slots = taken.slots; pending = taken.pending; counts = taken.counts; own = taken.own; next = taken.next; blocks = taken.blocks; opened = taken.opened; keeps = taken.keeps }
+by_handshake_take s m x (GoesOpen h) taken short = record { link = taken.link; sends = taken.sends; role = taken.role; short = short; slots = taken.slots; pending = taken.pending; counts = taken.counts; own = taken.own; next = taken.next; blocks = taken.blocks; opened = taken.opened; keeps = taken.keeps }
+by_handshake_take s m x (Faults cause) taken short = tt
 
 acked_more : (s : ClientState) (m : LinkState) (x : ClientState) (session : ClientSession) (count : ℕ) → TakenBy s m x → x.session ≡ Some session
     → session.acked + count ≤ session.announced → TakenBy s m (acknowledged x session count)
@@ -78,7 +78,7 @@ acked_more s m x session count taken is most =
 by_ack : (s : ClientState) (m : LinkState) (x : ClientState) (session : ClientSession) (ident start end : ℕ) → TakenBy s m x → x.session ≡ Some session
     → TookBy s m (takes_ack x session ident start end)
 by_ack s m x session ident start end taken is =
-    took_if s m (is_other x.shake.draft.ident_own ident) (Resets (the_cause.Ident x.shake.draft.ident_own ident)) _ (λ test. tt)
+    took_if s m (is_other x.handshake.draft.ident_own ident) (Resets (the_cause.Ident x.handshake.draft.ident_own ident)) _ (λ test. tt)
     (took_if s m (is_other (slot_in x session.acked) start) (Resets (the_cause.Slot (slot_in x session.acked) start)) _ (λ test. tt)
     (took_if s m (nat_lt end x.slots && nat_le (session.acked + range_length x.slots start end) session.announced)
     (GoesOn (acknowledged x session (range_length x.slots start end))) (Resets (the_cause.RangeEnd end))
@@ -90,7 +90,7 @@ by_session : (s : ClientState) (m : LinkState) (x : ClientState) (session : Clie
     → x.session ≡ Some session → ComesShort message.body → TookBy s m (in_session x session message subtype body)
 by_session s m x session message Ack (DringData seq ident start end state) taken is comes = by_ack s m x session ident start end taken is
 by_session s m x session message Nack (DringData seq ident start end state) taken is comes = tt
-by_session s m x session message _ _ taken is comes = by_shake s m x (shake_take x.shake message) taken (take_short x.shake message taken.short comes)
+by_session s m x session message _ _ taken is comes = by_handshake_take s m x (handshake_take x.handshake message) taken (take_short x.handshake message taken.short comes)
 
 by_sid : (s : ClientState) (m : LinkState) (fault : Option Cause) (rest : ClientTake) → TookBy s m rest → TookBy s m (sid_first fault rest)
 by_sid s m None rest took = took
@@ -98,9 +98,9 @@ by_sid s m (Some cause) rest took = tt
 
 by_message : (s : ClientState) (m : LinkState) (x : ClientState) (open_one : Option ClientSession) (message : Message) → TakenBy s m x → x.session ≡ open_one
     → ComesShort message.body → TookBy s m (hears_message x open_one message)
-by_message s m x None message taken is comes = by_shake s m x (shake_take x.shake message) taken (take_short x.shake message taken.short comes)
+by_message s m x None message taken is comes = by_handshake_take s m x (handshake_take x.handshake message) taken (take_short x.handshake message taken.short comes)
 by_message s m x (Some session) message taken is comes =
-    by_sid s m (sid_fault x.shake.sid message.sid) (in_session x session message message.subtype message.body)
+    by_sid s m (sid_fault x.handshake.sid message.sid) (in_session x session message message.subtype message.body)
     (by_session s m x session message message.subtype message.body taken is comes)
 
 by_bytes : (s : ClientState) (m : LinkState) (x : ClientState) (bytes : List ℕ) (d : Result Message TagFault) → TakenBy s m x → Decodes bytes d → TookBy s m (reads x d)
@@ -123,33 +123,19 @@ pub by_link : (s : ClientState) (bytes : List ℕ) (link : LinkTake) (t : Client
 by_link s bytes (Heard k) t sound takes hears = (k, takes, by_whole s k k.whole (GoesOn t) sound hears)
 by_link s bytes (Unheard cause) t sound takes hears = absurd (cc)
 
--- THE BUDGET of a client is never above this
-pub client_small : (c : ClientState) → ClientSound c → (client_speaks c).budget ≤ 34000
-client_small c sound =
-    omega (
-      arith,
-      budget_most c.link.phase (client_messages c),
-      sound.held,
-      sound.slots,
-      owed_few (is_announcing c.session) c.link.to_send c.shake.owed,
-      more_few c.shake.role c.shake.phase,
-      opening_few c.shake.role c.shake.phase c.slots,
-      infos_few c.slots (length c.pending) c.session sound.counts,
-    )
-
 pub record ClientTook (s : ClientState) (packet : List ℕ) (t : ClientState) : Type 0 where
   pub sound : ClientSound t
-  pub takes : TakesOne packet (client_speaks s) (client_speaks t)
+  pub takes : TakesOne packet s.link t.link
 
 taken_sound : (s : ClientState) (packet : List ℕ) (m : LinkState) (t : ClientState) → ClientSound s → TakesBytes s.link packet (Heard m) → TakenBy s m t → ClientSound t
 taken_sound s packet m t sound takes taken =
-    let advances = take_advances s.link packet m sound.asking takes in
+    let asking : IsAsking m.phase = heard_of Initiator s.link m packet sound.asking (link_heard s.link m packet takes) in
     let sends : t.link.to_send ≡ s.link.to_send = taken.sends ∙ (heard_leaves s.link m packet takes).0 in
     let long : length t.link.to_send ≡ length s.link.to_send = ap length sends in
     let pending : length s.pending ≡ length t.pending = ap length (sym taken.pending) in
     record {
       role = taken.role ∙ (heard_leaves s.link m packet takes).1 ∙ sound.role;
-      asking = subst IsAsking (sym taken.link.phase) advances.asking;
+      asking = subst IsAsking (sym taken.link.phase) asking;
       short = taken.short;
       held = omega (arith, long, sound.held);
       own = λ own. omega (arith, long, sound.own (sym taken.own ∙ own));
@@ -162,4 +148,4 @@ pub client_takes : (s : ClientState) (packet : List ℕ) (t : ClientState) → C
 client_takes s packet t sound takes =
     let by = by_link s packet takes.link t sound takes.takes takes.hears in
     let behind : ClientSound t = taken_sound s packet by.0 t sound by.1 by.2 in
-    record { sound = behind; takes = record { heard = by.0; takes = by.1; same = by.2.link; budget = client_small t behind } }
+    record { sound = behind; takes = record { heard = by.0; takes = by.1; same = by.2.link } }

@@ -1,4 +1,4 @@
--- A client whose link gets a message to put: its budget doesn't grow, and what always holds of it holds.
+-- A client whose link gets a message to put: what always holds of it holds.
 use Rattle.std.proofs.Common.{◌≡◌, ℕ, ◌+◌, ◌-◌, ◌≤◌, ◌<◌, Bool, true, false, Some, None, List, [], length, refl, sym, ap, ◌∙◌, subst, arith}
 use Rattle.ldc_link.specs.Putting.{owes}
 use Rattle.ldc_queue.specs.declared.end.ChannelState.TheVariants.{Up}
@@ -8,27 +8,25 @@ use Rattle.vio_tag.specs.declared.message.MsgBody.TheVariants.{DringData}
 use Rattle.vio_tag.specs.Spelling.{canonical}
 use Rattle.vio_handshake.specs.Messages.{info}
 use Rattle.disk_model.specs.ClientPutting.{announcement, announcing, client_holds, holding, is_announcing}
-use Rattle.disk_model.specs.ClientRule.{Announces, ClientRule, Completes, Joins, Publishes, Puts, Rests, Says, Takes}
+use Rattle.disk_model.specs.ClientRule.{Announces, ClientRule, Completes, Joins, Publishes, Puts, Idles, Says, Takes}
 use Rattle.disk_model.specs.ClientState.{ClientSession, ClientState, slot_in}
 use Rattle.disk_model.specs.Ranges.{wrapped}
 use Rattle.disk_model.specs.Seeing.{Seen}
-use Rattle.lane_laws.proofs.Budgets.{owed_empty, owed_held, owed_none, quiet_link}
 use Rattle.lane_laws.proofs.Short.{short_within, some_bytes}
-use Rattle.lane_laws.proofs.Sharing.{in_order, lower_by, owed_short, same_link}
-use Rattle.lane_laws.specs.Budget.{client_messages, client_speaks, infos_left, one_if, one_owed, owed_left}
-use Rattle.lane_laws.specs.Conversation.{GoesOn}
+use Rattle.lane_laws.proofs.Sharing.{in_order, owed_short, same_link}
+use Rattle.lane_laws.specs.LinkMoves.{SameTranscript}
 use Rattle.lane_laws.specs.RuleFacts.{ClientMay}
 use Rattle.lane_laws.specs.Sound.{ClientSound, InOrder}
 
 pub record Held (s held : ClientState) : Type 0 where
   pub sound : ClientSound held
-  pub goes : GoesOn (client_speaks s) (client_speaks held)
+  pub goes : SameTranscript held.link s.link
 
 stays_held : (s : ClientState) → ClientSound s → Held s s
-stays_held s sound = record { sound = sound; goes = record { same = same_link s.link; budget = omega arith } }
+stays_held s sound = record { sound = sound; goes = same_link s.link }
 
 -- an INFO has 56 bytes
-info_long : (sid seq ident start end state : ℕ) → length (canonical (info sid (DringData seq ident start end state))) ≡ 56
+pub info_long : (sid seq ident start end state : ℕ) → length (canonical (info sid (DringData seq ident start end state))) ≡ 56
 info_long sid seq ident start end state = omega (arith, length_canonical (info sid (DringData seq ident start end state)))
 
 -- an end that holds nothing holds no INFO
@@ -36,51 +34,26 @@ pub not_own : (b : Bool) (xs : List ℕ) → (b ≡ true → 1 ≤ length xs) �
 not_own true xs own empty = absurd (omega (arith, own refl, ap length empty))
 not_own false xs own empty = refl
 
-says_messages : (s : ClientState) (message : Message) → ClientSound s → s.shake.owed ≡ Some message → s.link.to_send ≡ []
-    → client_messages (holding message s) ≤ client_messages s
-says_messages s message sound owed empty =
-    let own : is_announcing s.session ≡ false = not_own (is_announcing s.session) s.link.to_send sound.own empty in
-    let before : owed_left (is_announcing s.session) s.link.to_send s.shake.owed ≡ 1 = owed_empty (is_announcing s.session) s.link.to_send s.shake.owed empty ∙ ap one_owed owed in
-    let behind : owed_left (is_announcing s.session) (canonical message) s.shake.owed ≡ 0 =
-    ap (λ (b : Bool). owed_left b (canonical message) s.shake.owed) own ∙ owed_held (canonical message) s.shake.owed (some_bytes message) in
-    omega (arith, before, behind, short_within message (owed_short s.shake.owed message owed sound.short.owed))
-
-says_held : (s : ClientState) (message : Message) → ClientSound s → owes s.link ≡ false → s.shake.owed ≡ Some message → Held s (holding message s)
+says_held : (s : ClientState) (message : Message) → ClientSound s → owes s.link ≡ false → s.handshake.owed ≡ Some message → Held s (holding message s)
 says_held s message sound quiet owed = record {
   sound = record {
     role = sound.role;
     asking = sound.asking;
     short = sound.short;
-    held = short_within message (owed_short s.shake.owed message owed sound.short.owed);
+    held = short_within message (owed_short s.handshake.owed message owed sound.short.owed);
     own = λ own. some_bytes message;
     slots = sound.slots;
     pending = sound.pending;
     counts = sound.counts;
   };
-  goes = record {
-    same = record { phase = refl; put_next = refl; take_next = refl; half = refl };
-    budget = lower_by s.link (client_messages (holding message s)) (client_messages s) (λ empty. says_messages s message sound owed empty) (quiet_link s.link quiet);
-  };
+  goes = record { phase = refl; put_next = refl; take_next = refl; half = refl };
 }
 
-announces_messages : (s : ClientState) (session : ClientSession) → ClientSound s → s.shake.owed ≡ None → s.session ≡ Some session
-    → session.announced < session.published → s.link.to_send ≡ [] → client_messages (announcing session (holding (announcement s session) s)) ≤ client_messages s
-announces_messages s session sound none is more empty =
-    let counts : InOrder (length s.pending) session = in_order (length s.pending) s.session session is sound.counts in
-    let own : is_announcing s.session ≡ false = not_own (is_announcing s.session) s.link.to_send sound.own empty in
-    let flag : session.announcing ≡ false = sym (ap is_announcing is) ∙ own in
-    let one : one_if session.announcing ≡ 0 = ap one_if flag in
-    let infos : infos_left s.slots s.session ≡ (session.acked + s.slots) - (session.announced + one_if session.announcing) = ap (infos_left s.slots) is in
-    let before : owed_left (is_announcing s.session) s.link.to_send s.shake.owed ≡ 0 = owed_none (is_announcing s.session) s.link.to_send s.shake.owed none in
-    let behind : owed_left true (canonical (announcement s session)) s.shake.owed ≡ 0 = owed_none true (canonical (announcement s session)) s.shake.owed none in
-    let long = info_long s.shake.draft.sid (wrapped (session.infos + 1)) s.shake.draft.ident_own (slot_in s session.announced) (slot_in s (session.published - 1)) 1 in
-    omega (arith, long, behind, before, infos, one, more, counts.published, counts.completed, sound.pending)
-
-announces_held : (s : ClientState) (session : ClientSession) → ClientSound s → owes s.link ≡ false → s.shake.owed ≡ None → s.session ≡ Some session
+announces_held : (s : ClientState) (session : ClientSession) → ClientSound s → owes s.link ≡ false → s.handshake.owed ≡ None → s.session ≡ Some session
     → session.announced < session.published → Held s (announcing session (holding (announcement s session) s))
 announces_held s session sound quiet none is more =
     let counts : InOrder (length s.pending) session = in_order (length s.pending) s.session session is sound.counts in
-    let long = info_long s.shake.draft.sid (wrapped (session.infos + 1)) s.shake.draft.ident_own (slot_in s session.announced) (slot_in s (session.published - 1)) 1 in
+    let long = info_long s.handshake.draft.sid (wrapped (session.infos + 1)) s.handshake.draft.ident_own (slot_in s session.announced) (slot_in s (session.published - 1)) 1 in
     record {
       sound = record {
         role = sound.role;
@@ -92,11 +65,7 @@ announces_held s session sound quiet none is more =
         pending = sound.pending;
         counts = record { completed = counts.completed; acked = counts.acked; announced = counts.announced; published = counts.published; own = λ own. more };
       };
-      goes = record {
-        same = record { phase = refl; put_next = refl; take_next = refl; half = refl };
-        budget = lower_by s.link (client_messages (announcing session (holding (announcement s session) s))) (client_messages s)
-            (λ empty. announces_messages s session sound none is more empty) (quiet_link s.link quiet);
-      };
+      goes = record { phase = refl; put_next = refl; take_next = refl; half = refl };
     }
 
 held_is : (s one other : ClientState) → Some one ≡ Some other → Held s one → Held s other
@@ -111,7 +80,7 @@ client_held s at Joins held may is sound = absurd (cc)
 client_held s at (Completes session) held may is sound = absurd (cc)
 client_held s at (Takes packet) held may is sound = absurd (cc)
 client_held s at (Publishes session request) held may is sound = absurd (cc)
-client_held s at Rests held may is sound = absurd (cc)
+client_held s at Idles held may is sound = absurd (cc)
 
 -- where the rule puts at all, the end is up
 pub holds_up : (s : ClientState) (at : Seen) (rule : ClientRule) (held : ClientState) → ClientMay s at rule → client_holds rule s ≡ Some held → at.state ≡ Up
@@ -122,4 +91,4 @@ holds_up s at Joins held may is = absurd (cc)
 holds_up s at (Completes session) held may is = absurd (cc)
 holds_up s at (Takes packet) held may is = absurd (cc)
 holds_up s at (Publishes session request) held may is = absurd (cc)
-holds_up s at Rests held may is = absurd (cc)
+holds_up s at Idles held may is = absurd (cc)

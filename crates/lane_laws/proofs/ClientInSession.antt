@@ -11,17 +11,17 @@ use Rattle.ldc_packet.specs.declared.packet.Subtype.TheVariants.{Ack}
 use Rattle.ldc_queue.specs.declared.end.ChannelState.TheVariants.{Up}
 use Rattle.ldc_queue.specs.declared.end.End.TheVariants.{B}
 use Rattle.ldc_queue.specs.OneStream.{IsFront}
-use Rattle.ldc_queue.specs.Talk.{Turn}
+use Rattle.ldc_queue.specs.Transcript.{Turn}
 use Rattle.vio_tag.specs.declared.cause.Cause.{Cause}
 use Rattle.vio_tag.specs.declared.cause.Cause.TheVariants as the_cause
 use Rattle.vio_tag.specs.declared.message.Message.{Message}
 use Rattle.vio_tag.specs.Spelling.{SpellsMessage}
 use Rattle.vio_handshake.proofs.Agreeable.{same_number}
-use Rattle.vio_handshake.proofs.Places.{AllSaid, Place, shake_at}
+use Rattle.vio_handshake.proofs.Places.{AllSaid, Place, handshake_at}
 use Rattle.vio_handshake.specs.declared.handshake.Handshake.{Handshake}
 use Rattle.vio_handshake.specs.Rules.{sid_fault}
 use Rattle.disk_model.specs.Sayings.{heard, said}
-use Rattle.disk_model.specs.TalkLog.{TalkLog}
+use Rattle.disk_model.specs.TranscriptLog.{TranscriptLog}
 use Rattle.disk_model.specs.WireLog.{WireLog}
 use Rattle.disk_model.specs.DiskLog.{DiskLog, after, nothing_yet}
 use Rattle.disk_model.specs.Messages.{range_in}
@@ -33,10 +33,11 @@ use Rattle.disk_model.specs.LaneState.{IsShape, LaneState, Shape, fresh}
 use Rattle.disk_model.specs.LaneStep.{LaneStep}
 use Rattle.disk_model.specs.Ranges.{is_other, range_length}
 use Rattle.disk_model.specs.ServerState.{ServerSession}
-use Rattle.lane_laws.proofs.Agreeing.{front_sum, range_answered, talk_is}
+use Rattle.lane_laws.proofs.Agreeing.{front_sum, range_answered}
+use Rattle.lane_laws.proofs.LaneCores.{transcript_is}
 use Rattle.lane_laws.proofs.DataHeard.{data_spells, decodes_to, read_data}
 use Rattle.lane_laws.proofs.EndHearing.{hears_data}
-use Rattle.lane_laws.proofs.EndUttering.{is_open_up}
+use Rattle.lane_laws.proofs.Awake.{is_open_up}
 use Rattle.lane_laws.proofs.EndPlaced.{AtPlace, IsData, sum_of}
 use Rattle.lane_laws.proofs.HeardFront.{heard_messages}
 use Rattle.lane_laws.proofs.LaneCounting.{Knows, run_knows}
@@ -48,7 +49,8 @@ use Rattle.lane_laws.proofs.PlacesAlong.{run_placed}
 use Rattle.lane_laws.proofs.RangeSums.{sum_more}
 use Rattle.lane_laws.proofs.RangesSaid.{said_range}
 use Rattle.lane_laws.specs.Counted.{ServerOrder, acked_of, announced_of, range_sum}
-use Rattle.lane_laws.specs.LaneTalks.{talk_behind}
+use Rattle.lane_laws.specs.LaneTranscripts.{transcript_behind}
+use Rattle.lane_laws.specs.ChannelEnds.{client_core}
 
 -- the shape of a log stays
 pub shape_of : (l : DiskLog) (events : List DiskEvent) → (log_of after l events).shape ≡ l.shape
@@ -68,8 +70,8 @@ at_once true x y is = refl
 at_once false x y is = absurd (cc is)
 
 record AckFits (s : ClientState) (session : ClientSession) (n ident start end : ℕ) : Type 0 where
-  sid : s.shake.sid ≡ Some n
-  named : s.shake.draft.ident_own ≡ ident
+  sid : s.handshake.sid ≡ Some n
+  named : s.handshake.draft.ident_own ≡ ident
   begins : slot_in s session.acked ≡ start
   ends : end < s.slots
   within : session.acked + range_length s.slots start end ≤ session.announced
@@ -77,7 +79,7 @@ record AckFits (s : ClientState) (session : ClientSession) (n ident start end : 
 takes_fitting : (s : ClientState) (session : ClientSession) (n ident start end : ℕ) → AckFits s session n ident start end
     → takes_ack s session ident start end ≡ GoesOn (acknowledged s session (range_length s.slots start end))
 takes_fitting s session n ident start end fits =
-    past (is_other s.shake.draft.ident_own ident) (Resets (the_cause.Ident s.shake.draft.ident_own ident)) _ (same_is s.shake.draft.ident_own ident fits.named)
+    past (is_other s.handshake.draft.ident_own ident) (Resets (the_cause.Ident s.handshake.draft.ident_own ident)) _ (same_is s.handshake.draft.ident_own ident fits.named)
     ∙ past (is_other (slot_in s session.acked) start) (Resets (the_cause.Slot (slot_in s session.acked) start)) _ (same_is (slot_in s session.acked) start fits.begins)
     ∙ at_once (nat_lt end s.slots && nat_le (session.acked + range_length s.slots start end) session.announced) (GoesOn (acknowledged s session (range_length s.slots start end)))
     (Resets (the_cause.RangeEnd end))
@@ -91,7 +93,7 @@ no_fault (Some m) n is = let same : n ≡ m = cc is in ap (λ (x : ℕ). sid_fau
 hears_fitting : (s : ClientState) (session : ClientSession) (n ident start end : ℕ) (bytes : List ℕ) → AckFits s session n ident start end
     → hears_message s (Some session) (read_data Ack n ident start end bytes) ≡ GoesOn (acknowledged s session (range_length s.slots start end))
 hears_fitting s session n ident start end bytes fits =
-    ap (λ (f : Option Cause). sid_first f (takes_ack s session ident start end)) (no_fault s.shake.sid n fits.sid) ∙ takes_fitting s session n ident start end fits
+    ap (λ (f : Option Cause). sid_first f (takes_ack s session ident start end)) (no_fault s.handshake.sid n fits.sid) ∙ takes_fitting s session n ident start end fits
 
 -- so what it hears whole makes it go on
 goes_on : (s : ClientState) (session : ClientSession) (n ident start end : ℕ) (bytes : List ℕ) (take : ClientTake) → s.session ≡ Some session
@@ -116,7 +118,7 @@ answered_asked slots (Some s) (Some d) turns order = omega (arith, order.answere
 
 -- the next answer of the server is one that the client takes
 ack_fits : (shape : Shape) (sid : ℕ) (c : ClientState) (session : ClientSession) (turns : List Turn) (bytes : List ℕ)
-    → (at : AtPlace (deal shape sid 0) Initiator c.shake (is_some c.session) turns) → at.place ≡ AllSaid → c.session ≡ Some session → c.slots ≡ shape.slots → shape.slots ≤ 256
+    → (at : AtPlace (deal shape sid 0) Initiator c.handshake (is_some c.session) turns) → at.place ≡ AllSaid → c.session ≡ Some session → c.slots ≡ shape.slots → shape.slots ≤ 256
     → acked_of c.session ≡ range_sum shape.slots 2 (heard turns) → (is : IsData Responder (deal shape sid 0) (length at.theirs) (sum_of Responder (deal shape sid 0) at.theirs) bytes)
     → range_sum shape.slots 2 (heard turns ++ bytes ∷ []) ≤ session.announced
     → AckFits c session sid sid (sum_of Responder (deal shape sid 0) at.theirs % shape.slots) is.end
@@ -135,8 +137,8 @@ ack_fits shape sid c session turns bytes at last open_is slots few acked is most
     let own : range_length c.slots (sum % shape.slots) is.end ≡ range_length shape.slots (sum % shape.slots) is.end =
     ap (λ (n : ℕ). range_length n (sum % shape.slots) is.end) slots in
     record {
-      sid = ap (λ (h : Handshake). h.sid) at.shake_is ∙ ap (λ (n : Place). (shake_at false d Initiator n).sid) last;
-      named = ap (λ (h : Handshake). h.draft.ident_own) at.shake_is ∙ ap (λ (n : Place). (shake_at false d Initiator n).draft.ident_own) last;
+      sid = ap (λ (h : Handshake). h.sid) at.handshake_is ∙ ap (λ (n : Place). (handshake_at false d Initiator n).sid) last;
+      named = ap (λ (h : Handshake). h.draft.ident_own) at.handshake_is ∙ ap (λ (n : Place). (handshake_at false d Initiator n).draft.ident_own) last;
       begins = ap (λ (n : ℕ). session.acked % n) slots ∙ ap (λ (x : ℕ). x % shape.slots) same;
       ends = omega (arith, ends, slots);
       within = omega (arith, own, adds, counted, sum_more shape.slots 2 (heard turns) bytes, most);
@@ -145,37 +147,37 @@ ack_fits shape sid c session turns bytes at last open_is slots few acked is most
 pub client_hears_in_session : (shape : Shape) (events : List DiskEvent) (s : LaneState) (session : ClientSession) (k : LinkState) (bytes : List ℕ) (take : ClientTake)
     → IsShape shape → Run LaneStep (fresh shape) events s → (log_of after (nothing_yet shape) events).wire.forged ≡ false
     → s.client.session ≡ Some session → s.wire.wire.end_a ≡ Up → s.wire.wire.end_b ≡ Up
-    → IsFront (heard (log_of after (nothing_yet shape) events).talk.client ++ bytes ∷ []) (said (log_of after (nothing_yet shape) events).talk.server)
+    → IsFront (heard (log_of after (nothing_yet shape) events).transcript.client ++ bytes ∷ []) (said (log_of after (nothing_yet shape) events).transcript.server)
     → HearsWhole (record s.client { link = k }) (Some bytes) take → (t : ClientState) × (take ≡ GoesOn t)
 client_hears_in_session shape events s session k bytes take sound run clean open_is up_a up_b front hears =
     let l = log_of after (nothing_yet shape) events in
     let knows : Knows s l = run_knows shape events s sound run in
     let shape_is : l.shape ≡ shape = shape_of (nothing_yet shape) events in
-    let placed : LanePlaced shape s l.talk = run_placed shape events s sound run clean in
+    let placed : LanePlaced shape s l.transcript = run_placed shape events s sound run clean in
     let sid = placed.sid in
     let d = deal shape sid 0 in
     let open_one : is_some s.client.session ≡ true = ap is_some open_is in
-    let at = (placed.client up_a).up (is_open_up Initiator s.client.link s.client.shake (is_some s.client.session) l.talk.client knows.rests.client open_one) in
+    let at = (placed.client up_a).up (is_open_up Initiator (client_core s.client) l.transcript.client knows.rests.client open_one) in
     let last : at.place ≡ AllSaid = at.opens open_one in
     let client = counted_client shape s l shape_is knows in
     let server = counted_server shape s l shape_is knows in
-    let peer = server_said shape sid s.server l.talk.server knows.utters.server (placed.server up_b) in
+    let peer = server_said shape sid s.server l.transcript.server knows.utters.server (placed.server up_b) in
     let is : IsData Responder d (length at.theirs) (sum_of Responder d at.theirs) bytes =
-    hears_data d Initiator s.client.shake (is_some s.client.session) l.talk.client (said l.talk.server) bytes at last peer front in
-    let talk : l.talk ≡ talk_behind events = talk_is (nothing_yet shape) events in
+    hears_data d Initiator s.client.handshake (is_some s.client.session) l.transcript.client (said l.transcript.server) bytes at last peer front in
+    let transcript : l.transcript ≡ transcript_behind events = transcript_is (nothing_yet shape) events in
     let clean_s : s.wire.forged ≡ false = ap (λ (w : WireLog). w.forged) knows.all.stands.wire ∙ clean in
-    let front_b : IsFront (heard l.talk.server) (said l.talk.client) =
-    subst (λ (t : TalkLog). IsFront (heard t.server) (said t.client)) (sym talk) (heard_messages shape events s B sound run clean_s up_b) in
-    let announced : session.announced ≡ range_sum shape.slots 1 (said l.talk.client) = ap announced_of (sym open_is) ∙ client.announced in
-    let most : range_sum shape.slots 2 (heard l.talk.client ++ bytes ∷ []) ≤ session.announced =
+    let front_b : IsFront (heard l.transcript.server) (said l.transcript.client) =
+    subst (λ (t : TranscriptLog). IsFront (heard t.server) (said t.client)) (sym transcript) (heard_messages shape events s B sound run clean_s up_b) in
+    let announced : session.announced ≡ range_sum shape.slots 1 (said l.transcript.client) = ap announced_of (sym open_is) ∙ client.announced in
+    let most : range_sum shape.slots 2 (heard l.transcript.client ++ bytes ∷ []) ≤ session.announced =
     omega (
       arith,
-      front_sum shape.slots 2 (heard l.talk.client ++ bytes ∷ []) (said l.talk.server) front,
-      answered_asked shape.slots s.server.session l.work.server l.talk.server server.order,
-      front_sum shape.slots 1 (heard l.talk.server) (said l.talk.client) front_b,
+      front_sum shape.slots 2 (heard l.transcript.client ++ bytes ∷ []) (said l.transcript.server) front,
+      answered_asked shape.slots s.server.session l.work.server l.transcript.server server.order,
+      front_sum shape.slots 1 (heard l.transcript.server) (said l.transcript.client) front_b,
       announced,
     ) in
-    let fits = ack_fits shape sid s.client session l.talk.client bytes at last open_is client.slots sound.most_slots client.acked is most in
+    let fits = ack_fits shape sid s.client session l.transcript.client bytes at last open_is client.slots sound.most_slots client.acked is most in
     let start = sum_of Responder d at.theirs % shape.slots in
     let ends = is.ends in
     let small = placed.small in

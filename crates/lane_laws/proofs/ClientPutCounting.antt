@@ -6,7 +6,7 @@ use Rattle.ldc_link.specs.declared.phase.Role.TheVariants.{Initiator}
 use Rattle.ldc_link.specs.LinkState.{is_up}
 use Rattle.ldc_link.specs.Putting.{behind_put}
 use Rattle.ldc_packet.specs.declared.packet.Subtype.TheVariants.{Info}
-use Rattle.ldc_queue.specs.Talk.{Said, Turn}
+use Rattle.ldc_queue.specs.Transcript.{Said, Turn}
 use Rattle.vio_tag.specs.Spelling.{canonical}
 use Rattle.vio_handshake.specs.declared.handshake.Handshake.{Handshake}
 use Rattle.disk_model.specs.Sayings.{half_said, said}
@@ -15,12 +15,12 @@ use Rattle.disk_model.specs.Messages.{range_ended, range_in}
 use Rattle.disk_model.specs.WorkLog.{ClientCounts, change_client, length_in, one_in, opened_client}
 use Rattle.disk_model.specs.ClientPutting.{announcement, announced, is_announcing, session_behind}
 use Rattle.disk_model.specs.ClientState.{ClientSession, ClientState, slot_in}
-use Rattle.disk_model.specs.EndPuts.{ComesUp, EndsOwn, Goes, PutKind, shake_behind}
+use Rattle.disk_model.specs.EndPuts.{ComesUp, EndsOwn, Goes, PutKind, handshake_behind}
 use Rattle.disk_model.specs.LaneState.{Shape}
 use Rattle.disk_model.specs.Offering.{client_offer}
 use Rattle.disk_model.specs.Ranges.{range_length, wrapped}
 use Rattle.lane_laws.proofs.EndPutting.{SaysLast, SaysOn}
-use Rattle.lane_laws.proofs.EndUttering.{is_open_up}
+use Rattle.lane_laws.proofs.Awake.{is_open_up}
 use Rattle.lane_laws.proofs.Fitting.{behind_fits}
 use Rattle.lane_laws.proofs.RangeSums.{count_more, count_said, sum_more, sum_said}
 use Rattle.lane_laws.proofs.RangeTurns.{range_turns}
@@ -29,6 +29,7 @@ use Rattle.lane_laws.proofs.Sharing.{in_order}
 use Rattle.lane_laws.specs.Counted.{ClientCounted, ClientHolds, HoldsOwed, acked_of, announced_of, infos_of, range_count, range_sum, ready_count}
 use Rattle.lane_laws.specs.LaneRests.{ClientRests, ClientUtters}
 use Rattle.lane_laws.specs.Sound.{ClientSound, InOrder}
+use Rattle.lane_laws.specs.ChannelEnds.{client_core}
 
 -- THE LOG counts what is said
 abbrev pub SameButSaid : Option ClientSession → Option ClientSession → Type 0
@@ -59,7 +60,7 @@ said_agrees (Some s) (Some t) done n m (Some c) same more one agrees = record {
 
 -- a client after a packet of this kind, and its counts in the log
 abbrev pub put_as : PutKind → ClientState → ClientState
-put_as kind c = record c { link = behind_put c.link; shake = shake_behind kind c.shake; session = session_behind kind c }
+put_as kind c = record c { link = behind_put c.link; handshake = handshake_behind kind c.handshake; session = session_behind kind c }
 
 abbrev pub counts_as : Shape → Bool → List Turn → List ℕ → ℕ → ℕ → Option ClientCounts → Option ClientCounts
 counts_as shape opens turns packet sid done k = opened_client opens sid done
@@ -84,7 +85,7 @@ says_agrees shape c p turns packet sid done k counted says =
 -- A PACKET THAT GOES ON
 on_holds : (c : ClientState) (turns : List Turn) (packet : List ℕ) → SaysOn c.link turns packet → ClientHolds c turns → ClientHolds (record c { link = behind_put c.link }) (Said packet ∷ turns)
 on_holds c turns packet on holds = record {
-  owed = λ quiet some. subst (λ (xs : List ℕ). HoldsOwed c.shake.owed xs) (sym on.whole) (holds.owed quiet (on.some some));
+  owed = λ quiet some. subst (λ (xs : List ℕ). HoldsOwed c.handshake.owed xs) (sym on.whole) (holds.owed quiet (on.some some));
   own = λ session is now. on.whole ∙ holds.own session is now;
 }
 
@@ -95,7 +96,7 @@ goes_counting shape c turns packet sid done k on counted =
     let infos : infos_of c.session ≡ range_count 1 (said (Said packet ∷ turns)) = counted.infos ∙ ap (range_count 1) (sym on.messages) in
     record {
       slots = counted.slots;
-      shake = counted.shake;
+      handshake = counted.handshake;
       holds = on_holds c turns packet on counted.holds;
       announced = announced;
       infos = infos;
@@ -113,11 +114,11 @@ comes_counting shape c turns packet sid done k rests utters down on counted =
     let infos : infos_of c.session ≡ range_count 1 (said (Said packet ∷ turns)) = counted.infos ∙ ap (range_count 1) (sym on.messages) in
     record {
       slots = counted.slots;
-      shake = behind_fits Initiator (client_offer shape.blocks shape.slots) ComesUp c.shake counted.shake;
+      handshake = behind_fits Initiator (client_offer shape.blocks shape.slots) ComesUp c.handshake counted.handshake;
       holds = record {
         owed = λ quiet some. absurd (omega (arith, on.some some, ap length (utters.idle down)));
         own = λ session is now.
-            let up : is_up c.link ≡ true = is_open_up Initiator c.link c.shake (is_some c.session) turns rests (ap is_some is) in
+            let up : is_up c.link ≡ true = is_open_up Initiator (client_core c) turns rests (ap is_some is) in
             let never : false ≡ true = sym down ∙ up in absurd (cc);
       };
       announced = announced;
@@ -138,10 +139,10 @@ pub own_info : (c : ClientState) (turns : List Turn) (o : Option ClientSession) 
 own_info c turns None is own holds = absurd (cc)
 own_info c turns (Some session) is own holds = record { session = session; is = is; announcing = own; bytes_are = holds.own session is own }
 
-pub none_left : (c : ClientState) (turns : List Turn) (packet : List ℕ) (shake : Handshake) (session : Option ClientSession) → SaysLast c.link turns packet
+pub none_left : (c : ClientState) (turns : List Turn) (packet : List ℕ) (handshake : Handshake) (session : Option ClientSession) → SaysLast c.link turns packet
     → ((s : ClientSession) → session ≡ Some s → s.announcing ≡ true → ⊥)
-    → ClientHolds (record c { link = behind_put c.link; shake = shake; session = session }) (Said packet ∷ turns)
-none_left c turns packet shake session last never = record {
+    → ClientHolds (record c { link = behind_put c.link; handshake = handshake; session = session }) (Said packet ∷ turns)
+none_left c turns packet handshake session last never = record {
   owed = λ quiet some. absurd (omega (arith, some, ap length last.none));
   own = λ s is now. absurd (never s is now);
 }
@@ -162,13 +163,13 @@ own_counting shape c turns packet sid done k sound own last counted =
     let small : c.slots ≤ 256 = sound.slots in
     let adds : length_in shape.slots (range_in 1 (Some bytes)) ≡ s.published - s.announced =
     ap (λ (xs : List ℕ). length_in shape.slots (range_in 1 (Some xs))) info.bytes_are
-    ∙ said_range shape.slots 1 c.shake.draft.sid Info (wrapped (s.infos + 1)) c.shake.draft.ident_own (slot_in c s.announced) (slot_in c (s.published - 1)) 1 refl
+    ∙ said_range shape.slots 1 c.handshake.draft.sid Info (wrapped (s.infos + 1)) c.handshake.draft.ident_own (slot_in c s.announced) (slot_in c (s.published - 1)) 1 refl
     (omega (arith, mod_below s.announced c.slots wide, small)) (omega (arith, mod_below (s.published - 1) c.slots wide, small))
     ∙ ap (λ (n : ℕ). range_length n (slot_in c s.announced) (slot_in c (s.published - 1))) (sym counted.slots)
     ∙ range_turns c.slots s.announced s.published some most in
     let one : one_in (range_in 1 (Some bytes)) ≡ 1 =
     ap (λ (xs : List ℕ). one_in (range_in 1 (Some xs))) info.bytes_are
-    ∙ said_one 1 c.shake.draft.sid Info (wrapped (s.infos + 1)) c.shake.draft.ident_own (slot_in c s.announced) (slot_in c (s.published - 1)) 1 refl in
+    ∙ said_one 1 c.handshake.draft.sid Info (wrapped (s.infos + 1)) c.handshake.draft.ident_own (slot_in c s.announced) (slot_in c (s.published - 1)) 1 refl in
     let before : s.announced ≡ range_sum shape.slots 1 (said turns) = ap announced_of (sym info.is) ∙ counted.announced in
     let before_infos : s.infos ≡ range_count 1 (said turns) = ap infos_of (sym info.is) ∙ counted.infos in
     let announced_is : s.published ≡ range_sum shape.slots 1 (said (Said packet ∷ turns)) =
@@ -179,8 +180,8 @@ own_counting shape c turns packet sid done k sound own last counted =
     subst (λ (o : Option ClientSession). ClientCounted shape (record c { link = behind_put c.link; session = o }) (Said packet ∷ turns) done (counts_as shape false turns packet sid done k)) (sym becomes)
     (record {
       slots = counted.slots;
-      shake = counted.shake;
-      holds = none_left c turns packet c.shake behind last (λ x is now.
+      handshake = counted.handshake;
+      holds = none_left c turns packet c.handshake behind last (λ x is now.
           let here : record s { announced = s.published; infos = s.infos + 1; announcing = false } ≡ x = cc is in
           let never : false ≡ true = ap (λ (y : ClientSession). y.announcing) here ∙ now in absurd (cc));
       announced = announced_is;

@@ -1,4 +1,4 @@
--- What each step of a client is to the lane's conversation.
+-- What each step of a client is to what always holds of it, and to its link.
 use Rattle.std.proofs.Common.{◌≡◌, ℕ, ◌+◌, ◌-◌, ◌≤◌, ◌<◌, Bool, true, Option, Some, None, List, [], ◌∷◌, length, sym, ap, ◌∙◌, subst, arith, length-drop, length-append, ◌++◌, ◌*◌}
 use Rattle.std.specs.Prelude.{zero, suc, slice_get}
 use Rattle.ldc_link.specs.declared.phase.Role.{Role}
@@ -13,13 +13,12 @@ use Rattle.disk_model.specs.ClientStep.{ClientAdmits, ClientCompletes, ClientPub
 use Rattle.disk_model.specs.DiskEvent.{Accepted, Admitted, Full, Refused}
 use Rattle.disk_model.specs.Seeing.{Seen}
 use Rattle.lane_laws.proofs.ClientHolding.{Held, client_held, holds_up}
-use Rattle.lane_laws.proofs.ClientSending.{client_falls, client_put_sound}
+use Rattle.lane_laws.proofs.ClientSending.{client_put_sound}
 use Rattle.lane_laws.proofs.Ruling.{client_may}
 use Rattle.lane_laws.proofs.Sharing.{in_order, same_link}
-use Rattle.lane_laws.specs.Budget.{budget_in, client_messages, client_speaks, infos_left, one_more, opening_left, owed_left}
-use Rattle.lane_laws.specs.Conversation.{Begins, GoesOn, IsAsking, PutsOne}
 use Rattle.lane_laws.specs.RuleFacts.{ClientMay}
 use Rattle.lane_laws.specs.Sound.{ClientSound, CountsInOrder, InOrder}
+use Rattle.lane_laws.specs.LinkMoves.{IsAsking, PutsOne, SameTranscript}
 
 -- it begins
 pub client_joined : (c : ClientState) → ClientSound c → ClientSound (joined_client c)
@@ -34,19 +33,12 @@ client_joined c sound = record {
   counts = tt;
 }
 
-pub client_begins : (c : ClientState) → ClientSound c → Begins (fresh_link Initiator) (client_speaks (joined_client c))
-client_begins c sound = record { link = ap fresh_link sound.role; budget = first_budget c.link.role sound.role c }
-  where
-    first_budget : (role : Role) → role ≡ Initiator → (c : ClientState) → budget_in (first_phase role) (client_messages (joined_client c)) ≤ 1
-    first_budget Initiator is c = omega arith
-    first_budget Responder is c = absurd (cc)
-
 -- it puts a packet
 pub record ClientPut (s : ClientState) (packet : List ℕ) (at : Seen) (t : ClientState) : Type 0 where
   pub up : at.state ≡ Up
   pub room : at.room ≡ true
   pub sound : ClientSound t
-  pub puts : PutsOne packet (client_speaks s) (client_speaks t)
+  pub puts : PutsOne packet s.link t.link
 
 pub client_sends : (s : ClientState) (at : Seen) (memory packet : List ℕ) (opens : Bool) (t : ClientState) (new : List ℕ) → ClientSound s
     → ClientSends s at memory packet opens t new → ClientPut s packet at t
@@ -54,13 +46,11 @@ client_sends s at memory packet opens t new sound sends =
     let may : ClientMay s at (client_rule s at) = client_may s at in
     let held = client_held s at (client_rule s at) sends.held may sends.holds sound in
     let behind : ClientSound (client_put sends.held) = client_put_sound sends.held held.sound in
-    let falls = client_falls sends.held packet t.link held.sound sends.packet in
-    let budget : (client_speaks t).budget ≡ (client_speaks (client_put sends.held)).budget = ap (λ (x : ClientState). (client_speaks x).budget) sends.is in
     record {
       up = holds_up s at (client_rule s at) sends.held may sends.holds;
       room = sends.room;
       sound = subst ClientSound (sym sends.is) behind;
-      puts = record { held = sends.held.link; same = held.goes.same; puts = sends.packet; budget = omega (arith, budget, falls, held.goes.budget) };
+      puts = record { held = sends.held.link; same = held.goes; puts = sends.packet };
     }
 
 -- its link holds a message, which isn't put
@@ -70,10 +60,10 @@ client_blocked s at t sound holds = client_held s at (client_rule s at) t (clien
 -- it goes on without its link: requests, and the work on them
 pub record ClientWorked (s t : ClientState) : Type 0 where
   pub sound : ClientSound t
-  pub goes : GoesOn (client_speaks s) (client_speaks t)
+  pub goes : SameTranscript t.link s.link
 
 stays : (s : ClientState) → ClientSound s → ClientWorked s s
-stays s sound = record { sound = sound; goes = record { same = same_link s.link; budget = omega arith } }
+stays s sound = record { sound = sound; goes = same_link s.link }
 
 more_pending : (pending more : ℕ) (open_one : Option ClientSession) → pending ≤ more → CountsInOrder pending open_one → CountsInOrder more open_one
 more_pending pending more None less counts = tt
@@ -105,14 +95,7 @@ client_admits s (Refused why request) t sound admits = subst (λ (x : ClientStat
 client_admits s (Full request) t sound admits = subst (λ (x : ClientState). ClientWorked s x) (sym admits.2) (stays s sound)
 client_admits s (Accepted id request) t sound admits =
     subst (λ (x : ClientState). ClientWorked s x) (sym admits.5)
-    (record { sound = accepted_sound s request admits.1 sound; goes = record { same = same_link s.link; budget = omega arith } })
-
--- a session in which a count changed that a budget doesn't read
-same_infos : (c : ClientState) (open_one : Option ClientSession) → infos_left c.slots open_one ≡ infos_left c.slots c.session → is_announcing open_one ≡ is_announcing c.session
-    → client_messages (record c { session = open_one }) ≡ client_messages c
-same_infos c open_one infos own =
-    ap (λ (b : Bool). length c.link.to_send + 257 * (owed_left b c.link.to_send c.shake.owed + one_more c.shake.role c.shake.phase) + 60 * (opening_left c.shake.role c.shake.phase c.slots + infos_left c.slots open_one)) own
-    ∙ ap (λ (n : ℕ). length c.link.to_send + 257 * (owed_left (is_announcing c.session) c.link.to_send c.shake.owed + one_more c.shake.role c.shake.phase) + 60 * (opening_left c.shake.role c.shake.phase c.slots + n)) infos
+    (record { sound = accepted_sound s request admits.1 sound; goes = same_link s.link })
 
 -- the request that is published is one that is pending
 is_pending : (pending : List Request) (n : ℕ) (request : Request) → slice_get pending n ≡ Some request → n < length pending
@@ -126,7 +109,6 @@ client_publishes s at memory id t new sound step =
     let may : ClientMay s at (Publishes step.session step.request) = subst (ClientMay s at) step.rule (client_may s at) in
     let counts : InOrder (length s.pending) step.session = in_order (length s.pending) s.session step.session may.1 sound.counts in
     let some = is_pending s.pending (step.session.published - step.session.completed) step.request may.2 in
-    let infos : infos_left s.slots (Some (record step.session { published = step.session.published + 1 })) ≡ infos_left s.slots s.session = ap (infos_left s.slots) (sym may.1) in
     let own : is_announcing (Some (record step.session { published = step.session.published + 1 })) ≡ is_announcing s.session = ap is_announcing (sym may.1) in
     subst (λ (x : ClientState). ClientWorked s x) (sym step.is)
     (record {
@@ -146,10 +128,7 @@ client_publishes s at memory id t new sound step =
           own = λ announcing. omega (arith, counts.own announcing);
         };
       };
-      goes = record {
-        same = same_link s.link;
-        budget = omega (arith, ap (budget_in s.link.phase) (same_infos s (Some (record step.session { published = step.session.published + 1 })) infos own));
-      };
+      goes = same_link s.link;
     })
 
 -- one that is done was pending
@@ -164,7 +143,6 @@ client_completes s at memory id operation status bytes t new sound step =
     let counts : InOrder (length s.pending) step.session = in_order (length s.pending) s.session step.session may.1 sound.counts in
     let some = front_some s.pending step.request step.front in
     let less = length-drop 1 s.pending in
-    let infos : infos_left s.slots (Some (record step.session { completed = step.session.completed + 1 })) ≡ infos_left s.slots s.session = ap (infos_left s.slots) (sym may.1) in
     let own : is_announcing (Some (record step.session { completed = step.session.completed + 1 })) ≡ is_announcing s.session = ap is_announcing (sym may.1) in
     subst (λ (x : ClientState). ClientWorked s x) (sym step.is)
     (record {
@@ -184,8 +162,5 @@ client_completes s at memory id operation status bytes t new sound step =
           own = counts.own;
         };
       };
-      goes = record {
-        same = same_link s.link;
-        budget = omega (arith, ap (budget_in s.link.phase) (same_infos s (Some (record step.session { completed = step.session.completed + 1 })) infos own));
-      };
+      goes = same_link s.link;
     })

@@ -8,7 +8,7 @@ use Rattle.ldc_link.specs.LinkState.{LinkState, cleared, is_up}
 use Rattle.ldc_link.specs.Taking.{Heard, LinkTake, TakesBytes, Unheard}
 use Rattle.ldc_packet.specs.declared.packet.Subtype.{Subtype}
 use Rattle.ldc_packet.specs.declared.packet.Subtype.TheVariants.{Ack, Nack}
-use Rattle.ldc_queue.specs.Talk.{Heard as Heard_, Turn}
+use Rattle.ldc_queue.specs.Transcript.{Heard as Heard_, Turn}
 use Rattle.vio_tag.specs.declared.cause.Cause.{Cause}
 use Rattle.vio_tag.specs.declared.cause.Cause.TheVariants as the_cause
 use Rattle.vio_tag.specs.declared.message.Message.{Message}
@@ -19,16 +19,16 @@ use Rattle.vio_tag.specs.Decoding.{Decodes}
 use Rattle.vio_tag.specs.Form.{IsWellFormed}
 use Rattle.vio_tag.specs.Spelling.{SpellsMessage}
 use Rattle.vio_handshake.specs.declared.handshake.Handshake.{Handshake}
-use Rattle.vio_handshake.specs.Rules.{Faults, Goes, GoesOpen, ShakeTake, shake_take, sid_fault}
+use Rattle.vio_handshake.specs.Rules.{Faults, Goes, GoesOpen, HandshakeTake, handshake_take, sid_fault}
 use Rattle.disk_model.specs.ClientState.{ClientSession, ClientState, slot_in}
 use Rattle.disk_model.specs.ClientTaking.{ClientTake, ClientTakes, GoesOn, HearsLink, HearsWhole, Resets, acknowledged, by_handshake, hears_message, in_session, reads, sid_first, takes_ack}
 use Rattle.disk_model.specs.Ranges.{is_other, range_length}
 use Rattle.disk_model.specs.Sayings.{heard}
-use Rattle.lane_laws.proofs.ClientResting.{was_up}
+use Rattle.lane_laws.proofs.Awake.{was_up}
 use Rattle.lane_laws.proofs.Hearing.{heard_leaves}
 use Rattle.lane_laws.proofs.StaysDown.{asking_down}
 use Rattle.lane_laws.proofs.WholeHeard.{HearsOn, link_hears, with_whole}
-use Rattle.lane_laws.specs.Conversation.{IsAsking}
+use Rattle.lane_laws.specs.LinkMoves.{IsAsking}
 
 -- a message is whole by the packet
 pub record HearsMessage (turns : List Turn) (packet : List ℕ) (message : Message) : Type 0 where
@@ -38,9 +38,9 @@ pub record HearsMessage (turns : List Turn) (packet : List ℕ) (message : Messa
   pub spells : SpellsMessage bytes message
 
 -- a handshake after a message, whether its session opens by it or not
-abbrev pub ShakesTo : Handshake → ShakeTake → Bool → Handshake → Type 0
-ShakesTo h answer false g = answer ≡ Goes g
-ShakesTo h answer true g = answer ≡ GoesOpen g
+abbrev pub HandshakesTo : Handshake → HandshakeTake → Bool → Handshake → Type 0
+HandshakesTo h answer false g = answer ≡ Goes g
+HandshakesTo h answer true g = answer ≡ GoesOpen g
 
 pub record ClientHearsPart (s : ClientState) (turns : List Turn) (packet : List ℕ) (t : ClientState) : Type 0 where
   pub link : LinkState
@@ -50,7 +50,7 @@ pub record ClientHearsPart (s : ClientState) (turns : List Turn) (packet : List 
   pub messages : heard (Heard_ packet ∷ turns) ≡ heard turns
   pub is : t ≡ record s { link = link }
 
-pub record ClientShakes (s : ClientState) (turns : List Turn) (packet : List ℕ) (t : ClientState) : Type 0 where
+pub record ClientHandshakes (s : ClientState) (turns : List Turn) (packet : List ℕ) (t : ClientState) : Type 0 where
   pub link : LinkState
   pub left : link.to_send ≡ s.link.to_send
   pub up : is_up s.link ≡ true
@@ -58,9 +58,9 @@ pub record ClientShakes (s : ClientState) (turns : List Turn) (packet : List ℕ
   pub message : Message
   pub hears : HearsMessage turns packet message
   pub opens : Bool
-  pub shake : Handshake
-  pub takes : ShakesTo s.shake (shake_take s.shake message) opens shake
-  pub is : t ≡ record s { link = link; shake = shake }
+  pub handshake : Handshake
+  pub takes : HandshakesTo s.handshake (handshake_take s.handshake message) opens handshake
+  pub is : t ≡ record s { link = link; handshake = handshake }
 
 pub record ClientAcked (s : ClientState) (turns : List Turn) (packet : List ℕ) (t : ClientState) : Type 0 where
   pub link : LinkState
@@ -84,7 +84,7 @@ pub record ClientAcked (s : ClientState) (turns : List Turn) (packet : List ℕ)
   pub is : t ≡ acknowledged (record s { link = link }) session (range_length s.slots start end)
 
 abbrev pub ClientTook : ClientState → List Turn → List ℕ → ClientState → Type 0
-ClientTook s turns packet t = ClientHearsPart s turns packet t ⊎ (ClientShakes s turns packet t ⊎ ClientAcked s turns packet t)
+ClientTook s turns packet t = ClientHearsPart s turns packet t ⊎ (ClientHandshakes s turns packet t ⊎ ClientAcked s turns packet t)
 
 abbrev TookOn : ClientState → List Turn → List ℕ → ClientTake → Type 0
 TookOn s turns packet (GoesOn t) = ClientTook s turns packet t
@@ -97,13 +97,13 @@ record Now (s : ClientState) (turns : List Turn) (packet : List ℕ) (k : LinkSt
   stays : is_up k ≡ true
   hears : HearsMessage turns packet message
 
-by_shake : (s : ClientState) (turns : List Turn) (packet : List ℕ) (k : LinkState) (message : Message) (answer : ShakeTake) → Now s turns packet k message
-    → shake_take s.shake message ≡ answer → TookOn s turns packet (by_handshake (record s { link = k }) answer)
-by_shake s turns packet k message (Goes h) now is =
-    inr (inl (record { link = k; left = now.left; up = now.up; stays = now.stays; message = message; hears = now.hears; opens = false; shake = h; takes = is; is = refl }))
-by_shake s turns packet k message (GoesOpen h) now is =
-    inr (inl (record { link = k; left = now.left; up = now.up; stays = now.stays; message = message; hears = now.hears; opens = true; shake = h; takes = is; is = refl }))
-by_shake s turns packet k message (Faults cause) now is = tt
+by_handshake_take : (s : ClientState) (turns : List Turn) (packet : List ℕ) (k : LinkState) (message : Message) (answer : HandshakeTake) → Now s turns packet k message
+    → handshake_take s.handshake message ≡ answer → TookOn s turns packet (by_handshake (record s { link = k }) answer)
+by_handshake_take s turns packet k message (Goes h) now is =
+    inr (inl (record { link = k; left = now.left; up = now.up; stays = now.stays; message = message; hears = now.hears; opens = false; handshake = h; takes = is; is = refl }))
+by_handshake_take s turns packet k message (GoesOpen h) now is =
+    inr (inl (record { link = k; left = now.left; up = now.up; stays = now.stays; message = message; hears = now.hears; opens = true; handshake = h; takes = is; is = refl }))
+by_handshake_take s turns packet k message (Faults cause) now is = tt
 
 pub is_the : (one other : ℕ) → is_other one other ≡ false → other ≡ one
 is_the one other is = the (one == other) refl is
@@ -126,7 +126,7 @@ by_ack : (s : ClientState) (turns : List Turn) (packet : List ℕ) (k : LinkStat
     → Now s turns packet k message → s.session ≡ Some session → message.subtype ≡ Ack → message.body ≡ DringData seq ident start end state
     → TookOn s turns packet (takes_ack (record s { link = k }) session ident start end)
 by_ack s turns packet k session message seq ident start end state now is acks body =
-    ack_if s turns packet (is_other s.shake.draft.ident_own ident) (Resets (the_cause.Ident s.shake.draft.ident_own ident)) _ (λ test. tt)
+    ack_if s turns packet (is_other s.handshake.draft.ident_own ident) (Resets (the_cause.Ident s.handshake.draft.ident_own ident)) _ (λ test. tt)
     (λ known.
     ack_if s turns packet (is_other (slot_in s session.acked) start) (Resets (the_cause.Slot (slot_in s session.acked) start)) _ (λ test. tt)
     (λ next.
@@ -163,7 +163,7 @@ by_session : (s : ClientState) (turns : List Turn) (packet : List ℕ) (k : Link
 by_session s turns packet k session message Ack (DringData seq ident start end state) now is kind body =
     by_ack s turns packet k session message seq ident start end state now is kind body
 by_session s turns packet k session message Nack (DringData seq ident start end state) now is kind body = tt
-by_session s turns packet k session message _ _ now is kind body = by_shake s turns packet k message (shake_take s.shake message) now refl
+by_session s turns packet k session message _ _ now is kind body = by_handshake_take s turns packet k message (handshake_take s.handshake message) now refl
 
 by_sid : (s : ClientState) (turns : List Turn) (packet : List ℕ) (fault : Option Cause) (rest : ClientTake) → TookOn s turns packet rest → TookOn s turns packet (sid_first fault rest)
 by_sid s turns packet None rest took = took
@@ -171,9 +171,9 @@ by_sid s turns packet (Some cause) rest took = tt
 
 by_message : (s : ClientState) (turns : List Turn) (packet : List ℕ) (k : LinkState) (open_one : Option ClientSession) (message : Message) → Now s turns packet k message
     → s.session ≡ open_one → TookOn s turns packet (hears_message (record s { link = k }) open_one message)
-by_message s turns packet k None message now is = by_shake s turns packet k message (shake_take s.shake message) now refl
+by_message s turns packet k None message now is = by_handshake_take s turns packet k message (handshake_take s.handshake message) now refl
 by_message s turns packet k (Some session) message now is =
-    by_sid s turns packet (sid_fault s.shake.sid message.sid) (in_session (record s { link = k }) session message message.subtype message.body)
+    by_sid s turns packet (sid_fault s.handshake.sid message.sid) (in_session (record s { link = k }) session message message.subtype message.body)
     (by_session s turns packet k session message message.subtype message.body now is refl refl)
 
 by_bytes : (s : ClientState) (turns : List Turn) (packet : List ℕ) (k : LinkState) (bytes : List ℕ) (d : Result Message TagFault) → k.to_send ≡ s.link.to_send → is_up s.link ≡ true → is_up k ≡ true

@@ -6,18 +6,18 @@ use Rattle.ldc_link.specs.declared.phase.Role.{Role}
 use Rattle.ldc_link.specs.declared.phase.Role.TheVariants.{Initiator, Responder}
 use Rattle.ldc_link.specs.LinkState.{is_up}
 use Rattle.ldc_link.specs.Putting.{behind_put, owes}
-use Rattle.ldc_queue.specs.Talk.{Said, Turn}
+use Rattle.ldc_queue.specs.Transcript.{Said, Turn}
 use Rattle.vio_tag.specs.declared.message.Message.{Message}
 use Rattle.vio_tag.specs.Spelling.{canonical}
 use Rattle.vio_handshake.specs.declared.handshake.Phase.{Phase}
 use Rattle.vio_handshake.specs.declared.handshake.Phase.TheVariants.{Open, PeerReadyTaken}
-use Rattle.vio_handshake.specs.Rules.{opens_by_put, shake_sent}
+use Rattle.vio_handshake.specs.Rules.{opens_by_put, handshake_sent}
 use Rattle.disk_model.specs.Sayings.{half_said, said}
 use Rattle.disk_model.specs.Agreement.{ClientAgrees, ClientCountsAgree}
 use Rattle.disk_model.specs.Messages.{range_in}
 use Rattle.disk_model.specs.WorkLog.{ClientCounts, change_client, length_in, one_in}
 use Rattle.disk_model.specs.ClientPutting.{announcement, announcing, client_holds, holding, is_announcing, opened_if}
-use Rattle.disk_model.specs.ClientRule.{Announces, ClientRule, Completes, Joins, Publishes, Puts, Rests, Says, Takes}
+use Rattle.disk_model.specs.ClientRule.{Announces, ClientRule, Completes, Joins, Publishes, Puts, Idles, Says, Takes}
 use Rattle.disk_model.specs.ClientState.{ClientSession, ClientState, first_id, opened_session}
 use Rattle.disk_model.specs.ClientStep.{ClientAdmits, ClientCompletes, ClientPublishes}
 use Rattle.disk_model.specs.DiskEvent.{Accepted, Admitted, Full, Refused}
@@ -26,7 +26,7 @@ use Rattle.disk_model.specs.Offering.{client_offer}
 use Rattle.disk_model.specs.Seeing.{Seen}
 use Rattle.lane_laws.proofs.ClientPutCounting.{counts_as, none_left, put_as, same_said, says_agrees}
 use Rattle.lane_laws.proofs.EndPutting.{SaysLast}
-use Rattle.lane_laws.proofs.EndUttering.{is_awake, is_open_up, none_half, up_empty}
+use Rattle.lane_laws.proofs.Awake.{is_awake, is_open_up, up_empty}
 use Rattle.lane_laws.proofs.Fitting.{sent_fits}
 use Rattle.lane_laws.proofs.RangeSums.{count_more, ready_more, sum_more}
 use Rattle.lane_laws.proofs.RangesSaid.{canonical_ready, owed_no_range}
@@ -35,9 +35,10 @@ use Rattle.lane_laws.proofs.Ruling.{client_may}
 use Rattle.lane_laws.specs.Counted.{ClientCounted, acked_of, announced_of, infos_of, is_ready, one_where, range_count, range_sum, ready_count}
 use Rattle.lane_laws.specs.LaneRests.{ClientRests, ClientUtters}
 use Rattle.lane_laws.specs.RuleFacts.{ClientMay}
-use Rattle.lane_laws.specs.ShakeFits.{MayOwe, OwedFits}
+use Rattle.lane_laws.specs.HandshakeFits.{MayOwe, OwedFits}
 use Rattle.lane_laws.specs.Sound.{ClientSound}
-use Rattle.disk_model.specs.EndPuts.{EndsShake, put_opens}
+use Rattle.lane_laws.specs.ChannelEnds.{client_core}
+use Rattle.disk_model.specs.EndPuts.{EndsHandshake, put_opens}
 
 -- A MESSAGE OF THE HANDSHAKE is put whole: by the agreement to RDX the session opens
 pub opens_phase : (role : Role) (phase : Phase) → opens_by_put role phase ≡ true → phase ≡ PeerReadyTaken
@@ -53,19 +54,19 @@ closed (Some session) phase opened is = let never : PeerReadyTaken ≡ Open = sy
 record PutsOwed (c : ClientState) (bytes : List ℕ) : Type 0 where
   message : Message
   bytes_are : bytes ≡ canonical message
-  may : MayOwe c.shake.phase message.subtype message.body
+  may : MayOwe c.handshake.phase message.subtype message.body
   none : range_in 1 (Some bytes) ≡ None
 
 puts_owed : (shape : Shape) (c : ClientState) (turns : List Turn) (packet : List ℕ) (done : ℕ) (k : Option ClientCounts) → is_announcing c.session ≡ false → SaysLast c.link turns packet
     → ClientCounted shape c turns done k → PutsOwed c (half_said turns ++ c.link.to_send)
 puts_owed shape c turns packet done k own last counted =
     let holds = counted.holds.owed own last.some in
-    let may : MayOwe c.shake.phase holds.message.subtype holds.message.body = subst (OwedFits c.shake.phase) holds.owed_is counted.shake.owed in
+    let may : MayOwe c.handshake.phase holds.message.subtype holds.message.body = subst (OwedFits c.handshake.phase) holds.owed_is counted.handshake.owed in
     record {
       message = holds.message;
       bytes_are = holds.bytes_are;
       may = may;
-      none = ap (λ (xs : List ℕ). range_in 1 (Some xs)) holds.bytes_are ∙ owed_no_range c.shake.phase 1 holds.message (inl refl) may;
+      none = ap (λ (xs : List ℕ). range_in 1 (Some xs)) holds.bytes_are ∙ owed_no_range c.handshake.phase 1 holds.message (inl refl) may;
     }
 
 record SumsSame (shape : Shape) (turns : List Turn) (packet : List ℕ) : Type 0 where
@@ -84,16 +85,16 @@ not_ready : (b : Bool) (bytes : List ℕ) → is_ready bytes ≡ b → (is_ready
 not_ready true bytes is never = absurd (never is)
 not_ready false bytes is never = ap one_where is
 
-shake_as : (opens : Bool) (shape : Shape) (c : ClientState) (turns : List Turn) (packet : List ℕ) (sid done : ℕ) (k : Option ClientCounts) → opens_by_put c.shake.role c.shake.phase ≡ opens
+handshake_as : (opens : Bool) (shape : Shape) (c : ClientState) (turns : List Turn) (packet : List ℕ) (sid done : ℕ) (k : Option ClientCounts) → opens_by_put c.handshake.role c.handshake.phase ≡ opens
     → ClientRests c turns → first_id c ≡ done → is_announcing c.session ≡ false → SaysLast c.link turns packet → ClientCounted shape c turns done k
-    → ClientCounted shape (record c { link = behind_put c.link; shake = shake_sent c.shake; session = opened_if opens c }) (Said packet ∷ turns) done (counts_as shape opens turns packet sid done k)
-shake_as true shape c turns packet sid done k is rests first own last counted =
-    let none : c.session ≡ None = closed c.session c.shake.phase rests.opened (opens_phase c.shake.role c.shake.phase is) in
+    → ClientCounted shape (record c { link = behind_put c.link; handshake = handshake_sent c.handshake; session = opened_if opens c }) (Said packet ∷ turns) done (counts_as shape opens turns packet sid done k)
+handshake_as true shape c turns packet sid done k is rests first own last counted =
+    let none : c.session ≡ None = closed c.session c.handshake.phase rests.opened (opens_phase c.handshake.role c.handshake.phase is) in
     let same = sums_same shape c turns packet last (puts_owed shape c turns packet done k own last counted) in
     record {
       slots = counted.slots;
-      shake = sent_fits Initiator (client_offer shape.blocks shape.slots) c.shake counted.shake;
-      holds = none_left c turns packet (shake_sent c.shake) (Some (opened_session (first_id c))) last (λ s now announces.
+      handshake = sent_fits Initiator (client_offer shape.blocks shape.slots) c.handshake counted.handshake;
+      holds = none_left c turns packet (handshake_sent c.handshake) (Some (opened_session (first_id c))) last (λ s now announces.
           let here : opened_session (first_id c) ≡ s = cc is in
           let never : false ≡ true = ap (λ (x : ClientSession). x.announcing) here ∙ announces in absurd (cc));
       announced = omega (arith, same.ranges, counted.announced, ap announced_of none);
@@ -102,20 +103,20 @@ shake_as true shape c turns packet sid done k is rests first own last counted =
       ready = λ absent. absurd (cc);
       agrees = record { base = first; published = refl; announced = refl; infos = refl; acked = refl; completed = omega arith };
     }
-shake_as false shape c turns packet sid done k is rests first own last counted =
+handshake_as false shape c turns packet sid done k is rests first own last counted =
     let owed = puts_owed shape c turns packet done k own last counted in
     let same = sums_same shape c turns packet last owed in
     let announced : announced_of c.session ≡ range_sum shape.slots 1 (said (Said packet ∷ turns)) = counted.announced ∙ sym same.ranges in
     let infos : infos_of c.session ≡ range_count 1 (said (Said packet ∷ turns)) = counted.infos ∙ sym same.infos in
     let bytes = half_said turns ++ c.link.to_send in
     let unready : one_where (is_ready bytes) ≡ 0 = not_ready (is_ready bytes) bytes refl (λ test.
-    let phase : c.shake.phase ≡ PeerReadyTaken = canonical_ready c.shake.phase owed.message owed.may (ap is_ready (sym owed.bytes_are) ∙ test) in
-    let now : opens_by_put c.shake.role c.shake.phase ≡ true = ap (λ (r : Role). opens_by_put r c.shake.phase) counted.shake.role_is ∙ ap (λ (p : Phase). opens_by_put Initiator p) phase in
+    let phase : c.handshake.phase ≡ PeerReadyTaken = canonical_ready c.handshake.phase owed.message owed.may (ap is_ready (sym owed.bytes_are) ∙ test) in
+    let now : opens_by_put c.handshake.role c.handshake.phase ≡ true = ap (λ (r : Role). opens_by_put r c.handshake.phase) counted.handshake.role_is ∙ ap (λ (p : Phase). opens_by_put Initiator p) phase in
     let never : false ≡ true = sym is ∙ now in absurd (cc)) in
     record {
       slots = counted.slots;
-      shake = sent_fits Initiator (client_offer shape.blocks shape.slots) c.shake counted.shake;
-      holds = none_left c turns packet (shake_sent c.shake) c.session last (λ s now announces.
+      handshake = sent_fits Initiator (client_offer shape.blocks shape.slots) c.handshake counted.handshake;
+      holds = none_left c turns packet (handshake_sent c.handshake) c.session last (λ s now announces.
           let never : false ≡ true = sym own ∙ ap is_announcing now ∙ announces in absurd (cc));
       announced = announced;
       infos = infos;
@@ -124,11 +125,11 @@ shake_as false shape c turns packet sid done k is rests first own last counted =
       agrees = says_agrees shape c c.session turns packet sid done k counted (record { same = same_said c.session; announced = announced; infos = infos });
     }
 
-pub shake_counting : (shape : Shape) (c : ClientState) (turns : List Turn) (packet : List ℕ) (sid done : ℕ) (k : Option ClientCounts) → ClientRests c turns → first_id c ≡ done
+pub handshake_counting : (shape : Shape) (c : ClientState) (turns : List Turn) (packet : List ℕ) (sid done : ℕ) (k : Option ClientCounts) → ClientRests c turns → first_id c ≡ done
     → is_announcing c.session ≡ false → SaysLast c.link turns packet → ClientCounted shape c turns done k
-    → ClientCounted shape (put_as EndsShake c) (Said packet ∷ turns) done (counts_as shape (put_opens EndsShake c.shake) turns packet sid done k)
-shake_counting shape c turns packet sid done k rests first own last counted =
-    shake_as (opens_by_put c.shake.role c.shake.phase) shape c turns packet sid done k refl rests first own last counted
+    → ClientCounted shape (put_as EndsHandshake c) (Said packet ∷ turns) done (counts_as shape (put_opens EndsHandshake c.handshake) turns packet sid done k)
+handshake_counting shape c turns packet sid done k rests first own last counted =
+    handshake_as (opens_by_put c.handshake.role c.handshake.phase) shape c turns packet sid done k refl rests first own last counted
 
 -- IT HOLDS a message
 record Known (c : ClientState) (turns : List Turn) : Type 0 where
@@ -137,20 +138,20 @@ record Known (c : ClientState) (turns : List Turn) : Type 0 where
   utters : ClientUtters c turns
 
 free_half : (c : ClientState) (turns : List Turn) → ClientUtters c turns → c.link.to_send ≡ [] → half_said turns ≡ []
-free_half c turns utters empty = none_half Initiator c.shake.phase c.shake.offer c.shake.draft (half_said turns) c.link.to_send empty utters.utters.holds
+free_half c turns utters empty = utters.half empty
 
 -- a link that holds nothing holds no INFO
 no_own : (c : ClientState) (session : ClientSession) → ClientSound c → c.link.to_send ≡ [] → c.session ≡ Some session → session.announcing ≡ true → ⊥
 no_own c session sound empty is announces = absurd (omega (arith, sound.own (ap is_announcing is ∙ announces), ap length empty))
 
-says_counting : (shape : Shape) (c : ClientState) (turns : List Turn) (message : Message) (done : ℕ) (k : Option ClientCounts) → Known c turns → owes c.link ≡ false → c.shake.owed ≡ Some message
+says_counting : (shape : Shape) (c : ClientState) (turns : List Turn) (message : Message) (done : ℕ) (k : Option ClientCounts) → Known c turns → owes c.link ≡ false → c.handshake.owed ≡ Some message
     → ClientCounted shape c turns done k → ClientCounted shape (holding message c) turns done k
 says_counting shape c turns message done k known free owed counted =
-    let empty : c.link.to_send ≡ [] = up_empty c.link (is_awake Initiator c.link c.shake turns message owed known.utters) free in
+    let empty : c.link.to_send ≡ [] = up_empty c.link (is_awake (client_core c) turns message owed known.utters) free in
     let half = free_half c turns known.utters empty in
     record {
       slots = counted.slots;
-      shake = counted.shake;
+      handshake = counted.handshake;
       holds = record {
         owed = λ quiet some. record { message = message; owed_is = owed; bytes_are = ap (λ (xs : List ℕ). xs ++ canonical message) half };
         own = λ session is announces. absurd (no_own c session known.sound empty is announces);
@@ -174,11 +175,11 @@ announcing_agrees (Some s) session done (Some c) is agrees =
 announces_counting : (shape : Shape) (c : ClientState) (turns : List Turn) (session : ClientSession) (done : ℕ) (k : Option ClientCounts) → Known c turns → owes c.link ≡ false
     → c.session ≡ Some session → ClientCounted shape c turns done k → ClientCounted shape (announcing session (holding (announcement c session) c)) turns done k
 announces_counting shape c turns session done k known free is counted =
-    let empty : c.link.to_send ≡ [] = up_empty c.link (is_open_up Initiator c.link c.shake (is_some c.session) turns known.rests (ap is_some is)) free in
+    let empty : c.link.to_send ≡ [] = up_empty c.link (is_open_up Initiator (client_core c) turns known.rests (ap is_some is)) free in
     let half = free_half c turns known.utters empty in
     record {
       slots = counted.slots;
-      shake = counted.shake;
+      handshake = counted.handshake;
       holds = record {
         owed = λ quiet some. absurd (cc);
         own = λ other now announces.
@@ -209,7 +210,7 @@ client_holds_counting shape c at Joins held turns done k sound rests utters may 
 client_holds_counting shape c at (Completes session) held turns done k sound rests utters may is counted = absurd (cc)
 client_holds_counting shape c at (Takes packet) held turns done k sound rests utters may is counted = absurd (cc)
 client_holds_counting shape c at (Publishes session request) held turns done k sound rests utters may is counted = absurd (cc)
-client_holds_counting shape c at Rests held turns done k sound rests utters may is counted = absurd (cc)
+client_holds_counting shape c at Idles held turns done k sound rests utters may is counted = absurd (cc)
 
 -- ITS WORK: it publishes a request
 published_agrees : (o : Option ClientSession) (session : ClientSession) (done : ℕ) (k : Option ClientCounts) → o ≡ Some session → ClientAgrees o done k
@@ -226,11 +227,11 @@ pub client_publishes_counting : (shape : Shape) (c : ClientState) (at : Seen) (m
     → ClientCounted shape t turns done (change_client (λ (x : ClientCounts). record x { published = x.published + 1 }) k)
 client_publishes_counting shape c at memory id t new turns done k sound rests step counted =
     let may : ClientMay c at (Publishes step.session step.request) = subst (ClientMay c at) step.rule (client_may c at) in
-    let up : is_up c.link ≡ true = is_open_up Initiator c.link c.shake (is_some c.session) turns rests (ap is_some may.1) in
+    let up : is_up c.link ≡ true = is_open_up Initiator (client_core c) turns rests (ap is_some may.1) in
     let empty : c.link.to_send ≡ [] = up_empty c.link up (publishes_free c at step.session step.request step.rule) in
     subst (λ (x : ClientState). ClientCounted shape x turns done (change_client (λ (y : ClientCounts). record y { published = y.published + 1 }) k)) (sym step.is) (record {
       slots = counted.slots;
-      shake = counted.shake;
+      handshake = counted.handshake;
       holds = record {
         owed = λ quiet some. absurd (omega (arith, some, ap length empty));
         own = λ other now announces.
@@ -267,7 +268,7 @@ client_completes_counting shape c at memory id operation status bytes t new turn
     let may : ClientMay c at (Completes step.session) = subst (ClientMay c at) step.rule (client_may c at) in
     subst (λ (x : ClientState). ClientCounted shape x turns (done + 1) k) (sym step.is) (record {
       slots = counted.slots;
-      shake = counted.shake;
+      handshake = counted.handshake;
       holds = record {
         owed = λ quiet some. counted.holds.owed (ap is_announcing may.1 ∙ quiet) some;
         own = λ other now announces.
@@ -288,7 +289,7 @@ client_admits_counting shape c (Refused why request) t turns done k admits count
 client_admits_counting shape c (Full request) t turns done k admits counted = subst (λ (x : ClientState). ClientCounted shape x turns done k) (sym admits.2) counted
 client_admits_counting shape c (Accepted id request) t turns done k admits counted = subst (λ (x : ClientState). ClientCounted shape x turns done k) (sym admits.5) (record {
   slots = counted.slots;
-  shake = counted.shake;
+  handshake = counted.handshake;
   holds = record { owed = counted.holds.owed; own = counted.holds.own };
   announced = counted.announced;
   infos = counted.infos;

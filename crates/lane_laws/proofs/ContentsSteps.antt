@@ -16,7 +16,7 @@ use Rattle.lane_laws.proofs.MemorySteps.{got_sound}
 use Rattle.lane_laws.specs.Contents.{ContentsStand, HoldsWritten, WritesStand}
 use Rattle.lane_laws.specs.LaneView.{View, place_of}
 use Rattle.lane_laws.proofs.Buffers.{other_buffer, other_slot}
-use Rattle.lane_laws.proofs.Changes.{Accepts, Completes, Disturbs, Keeps, Opens, Placed, Publishes, Rests, filled}
+use Rattle.lane_laws.proofs.Changes.{Accepts, Completes, Disturbs, Keeps, Opens, Placed, Publishes, Unchanged, filled}
 use Rattle.lane_laws.proofs.NearSteps.{get_within}
 
 -- THE SESSION'S PLACES
@@ -32,7 +32,7 @@ writes_kept v o keeps stand = λ session is i below request got.
     (stand from.was from.there i (omega (arith, below, completed, published)) request got)
 
 -- NOTHING, a session that opens, and a reset or a stop
-pub rests_contents : (v w : View) → Rests v w → ContentsStand v → ContentsStand w
+pub rests_contents : (v w : View) → Unchanged v w → ContentsStand v → ContentsStand w
 rests_contents v w change stand =
     subst ContentsStand (sym change.is) (record { writes = writes_kept v w.session change.keeps stand.writes; work = stand.work; none = stand.none })
 

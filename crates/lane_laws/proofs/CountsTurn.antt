@@ -13,9 +13,9 @@ use Rattle.lane_laws.proofs.Agreeing.{always_agree, client_some, server_open}
 use Rattle.lane_laws.proofs.LaneCounting.{Knows, run_knows}
 use Rattle.lane_laws.proofs.SlotsAlong.{announced_in}
 use Rattle.lane_laws.proofs.SlotsStepping.{if_server, work_first}
-use Rattle.lane_laws.proofs.UpRuns.{both_up}
 use Rattle.lane_laws.specs.CountsInTurn.{CountsInTurn}
 use Rattle.lane_laws.specs.RingAgreed.{OneRing}
+use Rattle.lane_laws.proofs.HeardFront.{both_up}
 
 pub counts_in_turn : (shape : Shape) (events : List DiskEvent) (s : LaneState) (k : ClientCounts) (d : ServerCounts) → IsShape shape
     → Run LaneStep (fresh shape) events s → (log_of after (nothing_yet shape) events).wire.forged ≡ false
@@ -40,5 +40,5 @@ counts_in_turn shape events s k d sound run clean client server =
       finished = work_first s.server.session s.server.work l.work.server d server counted.server.agrees;
       fetched = one.descs;
       asked = omega (arith, announced, one.announced);
-      announced = announced_in (length s.client.pending) s.client.session l.work.done l.work.client k client counted.client.agrees knows.all.talks.client.counts;
+      announced = announced_in (length s.client.pending) s.client.session l.work.done l.work.client k client counted.client.agrees knows.all.transcripts.client.counts;
     }

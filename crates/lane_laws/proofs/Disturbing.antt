@@ -9,7 +9,7 @@ use Rattle.vio_tag.specs.declared.cause.Cause.{Cause}
 use Rattle.disk_model.specs.WireEvent.{Blocked, ByRestart, ByScript, ByStep, ByTick, Declines, Giver, Idle, Injected, Joined, Lost, Poked, Reset, Sent, Took, WireEvent, giver}
 use Rattle.disk_model.specs.WireLog.{WireLog}
 use Rattle.disk_model.specs.DiskLog.{DiskLog, after, nothing_yet}
-use Rattle.disk_model.specs.DiskEvent.{Accepted, Admitted, Asks, Desc, DiskEvent, Done, Finished, Full, Misplaced, Moved, Off, OnWire, Published, Refused, Rests, Started, Stopped, Stored, Switched, Turns, Worked, Works}
+use Rattle.disk_model.specs.DiskEvent.{Accepted, Admitted, Asks, Desc, DiskEvent, Done, Finished, Full, Misplaced, Moved, Off, OnWire, Published, Refused, Calms, Started, Stopped, Stored, Switched, Switches, Worked, Works}
 use Rattle.disk_model.specs.LaneState.{IsShape, LaneState, NearCounts, Shape, fresh}
 use Rattle.disk_model.specs.LaneStep.{EndOnWire, LaneStep, ResetBy, TurnStep, WireStep, WorkStep, near_on_wire}
 use Rattle.lane_laws.proofs.RingRuns.{before as clean_before}
@@ -117,18 +117,18 @@ asks_later s l (Accepted id request) t step later =
 asks_later s l (Full request) t step later = same_later s t l (after l (Asks (Full request))) (ap (λ (x : LaneState). x.near) step.1) refl refl (omega arith) later
 asks_later s l (Refused why request) t step later = same_later s t l (after l (Asks (Refused why request))) (ap (λ (x : LaneState). x.near) step.1) refl refl (omega arith) later
 
-turns_later : (s : LaneState) (l : DiskLog) (event : Switched) (t : LaneState) → Before s l → TurnStep s event t → LaterDisturbed s l → LaterDisturbed t (after l (Turns event))
+turns_later : (s : LaneState) (l : DiskLog) (event : Switched) (t : LaneState) → Before s l → TurnStep s event t → LaterDisturbed s l → LaterDisturbed t (after l (Switches event))
 turns_later s l Stopped t before step later =
-    all_disturbed s t l (after l (Turns Stopped)) before (ap (λ (x : LaneState). x.near.m) step.1 ∙ ever_count s l before.known.stands) refl refl refl
-turns_later s l Started t before step later = same_later s t l (after l (Turns Started)) (ap (λ (x : LaneState). x.near) step.1) refl refl (omega arith) later
-turns_later s l Off t before step later = same_later s t l (after l (Turns Off)) (ap (λ (x : LaneState). x.near) step.1) refl refl (omega arith) later
+    all_disturbed s t l (after l (Switches Stopped)) before (ap (λ (x : LaneState). x.near.m) step.1 ∙ ever_count s l before.known.stands) refl refl refl
+turns_later s l Started t before step later = same_later s t l (after l (Switches Started)) (ap (λ (x : LaneState). x.near) step.1) refl refl (omega arith) later
+turns_later s l Off t before step later = same_later s t l (after l (Switches Off)) (ap (λ (x : LaneState). x.near) step.1) refl refl (omega arith) later
 
 event_later : (s : LaneState) (l : DiskLog) (event : DiskEvent) (t : LaneState) → Before s l → LaneStep s event t → LaterDisturbed s l → LaterDisturbed t (after l event)
 event_later s l (OnWire event) t before step later = wire_later s l event t before step later
 event_later s l (Asks event) t before step later = asks_later s l event t step later
 event_later s l (Works event) t before step later = work_later s l event t step later
-event_later s l (Turns event) t before step later = turns_later s l event t before step later
-event_later s l (Rests event) t before step later = same_later s t l (after l (Rests event)) (ap (λ (x : LaneState). x.near) (calm s event t step)) refl refl (omega arith) later
+event_later s l (Switches event) t before step later = turns_later s l event t before step later
+event_later s l (Calms event) t before step later = same_later s t l (after l (Calms event)) (ap (λ (x : LaneState). x.near) (calm s event t step)) refl refl (omega arith) later
 
 -- ALONG A RUN
 record AlongLater (shape : Shape) (s : LaneState) (l : DiskLog) : Type 0 where

@@ -5,7 +5,7 @@ use Rattle.std.proofs.lemmas.List.{append-nil}
 use Rattle.ldc_link.specs.declared.phase.Role.{Role}
 use Rattle.ldc_link.specs.declared.phase.Role.TheVariants.{Initiator, Responder}
 use Rattle.ldc_queue.specs.OneStream.{IsFront}
-use Rattle.ldc_queue.specs.Talk.{Heard as Heard_, Turn}
+use Rattle.ldc_queue.specs.Transcript.{Heard as Heard_, Turn}
 use Rattle.vio_tag.proofs.Canonical.{canonical_spells}
 use Rattle.vio_tag.proofs.Same.{spelled_once}
 use Rattle.vio_tag.specs.declared.message.Message.{Message}
@@ -13,12 +13,12 @@ use Rattle.vio_tag.specs.Form.{IsWellFormed}
 use Rattle.vio_tag.specs.Spelling.{SpellsMessage}
 use Rattle.vio_handshake.specs.declared.handshake.Handshake.{Handshake}
 use Rattle.vio_handshake.specs.Pairing.{other}
-use Rattle.vio_handshake.specs.Rules.{Goes, GoesOpen, ShakeTake, shake_take}
+use Rattle.vio_handshake.specs.Rules.{Goes, GoesOpen, HandshakeTake, handshake_take}
 use Rattle.vio_handshake.proofs.PlaceRows.{GoesTo, take_at}
-use Rattle.vio_handshake.proofs.Places.{AllSaid, AttributesAnswered, AttributesSaid, PeerReadyAnswered, PeerReadySaid, PeerRingAnswered, PeerRingSaid, ReadyAnswered, ReadySaid, RingAnswered, RingSaid, VersionAnswered, VersionSaid, Deal, IsPlace, Place, message_at, next, owner, shake_at}
+use Rattle.vio_handshake.proofs.Places.{AllSaid, AttributesAnswered, AttributesSaid, PeerReadyAnswered, PeerReadySaid, PeerRingAnswered, PeerRingSaid, ReadyAnswered, ReadySaid, RingAnswered, RingSaid, VersionAnswered, VersionSaid, Deal, IsPlace, Place, message_at, next, owner, handshake_at}
 use Rattle.disk_model.specs.Sayings.{heard, said}
 use Rattle.disk_model.specs.LaneState.{Shape}
-use Rattle.lane_laws.proofs.ClientTaken.{HearsMessage, ShakesTo}
+use Rattle.lane_laws.proofs.ClientTaken.{HearsMessage, HandshakesTo}
 use Rattle.lane_laws.proofs.OpeningDeal.{deal, deal_fits, place_form, place_widths}
 use Rattle.lane_laws.proofs.OpeningScript.{beyond_is, bytes_at, count_at, next_is, other_next, said_at, says_next, script, script_next}
 use Rattle.lane_laws.proofs.EndPlaced.{AtPlace, EachData, IsData, data_in, data_more, same_data, sum_of}
@@ -168,7 +168,7 @@ message_is shape sid n m bytes few small is form spells =
     (subst (λ (xs : List ℕ). SpellsMessage xs (message_at (deal shape sid 0) n)) (sym is) (canonical_spells (message_at (deal shape sid 0) n) (place_form shape sid 0 n few) (place_widths shape sid 0 n few small)))
 
 -- IT HEARS a message of the handshake: that of its place, with which it comes to the next
-goes_to : (h g t : Handshake) (opens : Bool) (take answer : ShakeTake) → take ≡ answer → ShakesTo h take opens g → GoesTo answer t → g ≡ t
+goes_to : (h g t : Handshake) (opens : Bool) (take answer : HandshakeTake) → take ≡ answer → HandshakesTo h take opens g → GoesTo answer t → g ≡ t
 goes_to h g t false take answer is takes (inl goes) = let both : Goes g ≡ Goes t = sym takes ∙ is ∙ goes in cc both
 goes_to h g t false take answer is takes (inr goes) = let both : Goes g ≡ GoesOpen t = sym takes ∙ is ∙ goes in absurd (cc)
 goes_to h g t true take answer is takes (inl goes) = let both : GoesOpen g ≡ Goes t = sym takes ∙ is ∙ goes in absurd (cc)
@@ -182,7 +182,7 @@ pub record Sizes (shape : Shape) (sid : ℕ) : Type 0 where
 
 pub hear_place : (shape : Shape) (sid : ℕ) (r : Role) (h g : Handshake) (opens is_open now_open : Bool) (turns : List Turn) (packet : List ℕ) (message : Message) (messages : List (List ℕ)) → Sizes shape sid
     → (at : AtPlace (deal shape sid 0) r h is_open turns) → owner at.place ≡ Some (other r) → HearsMessage turns packet message → PeerSaid (deal shape sid 0) (other r) messages
-    → IsFront (heard (Heard_ packet ∷ turns)) messages → ShakesTo h (shake_take h message) opens g
+    → IsFront (heard (Heard_ packet ∷ turns)) messages → HandshakesTo h (handshake_take h message) opens g
     → (now_open ≡ true → next false at.place ≡ AllSaid) → (next false at.place ≡ AllSaid → now_open ≡ true)
     → AtPlace (deal shape sid 0) r g now_open (Heard_ packet ∷ turns)
 hear_place shape sid r h g opens is_open now_open turns packet message messages sizes at turn hears peer front takes opens_so opened_so =
@@ -192,14 +192,14 @@ hear_place shape sid r h g opens is_open now_open turns packet message messages 
     let is : bytes ≡ bytes_at d at.place = hears_place d r h is_open turns messages bytes at turn peer near in
     let message_at_is : message ≡ message_at d at.place = message_is shape sid at.place message bytes sizes.few sizes.small is hears.form hears.spells in
     let none = at.only (not_last (other r) at.place turn) in
-    let next_is_here : g ≡ shake_at false d r (next false at.place) =
-    goes_to h g (shake_at false d r (next false at.place)) opens (shake_take h message) (shake_take (shake_at false d r at.place) (message_at d at.place))
-    (ap (λ (x : Handshake). shake_take x message) at.shake_is ∙ ap (shake_take (shake_at false d r at.place)) message_at_is) takes
+    let next_is_here : g ≡ handshake_at false d r (next false at.place) =
+    goes_to h g (handshake_at false d r (next false at.place)) opens (handshake_take h message) (handshake_take (handshake_at false d r at.place) (message_at d at.place))
+    (ap (λ (x : Handshake). handshake_take x message) at.handshake_is ∙ ap (handshake_take (handshake_at false d r at.place)) message_at_is) takes
     (take_at false d r at.place (deal_fits shape sid 0 sizes.some sizes.few sizes.blocks) at.here turn) in
     record {
       place = next false at.place;
       here = next_place at.place at.here;
-      shake_is = next_is_here;
+      handshake_is = next_is_here;
       mine = [];
       theirs = [];
       said_is = at.said_is ∙ ap (λ (xs : List (List ℕ)). said_at d r at.place ++ xs) none.0 ∙ ap (λ (xs : List (List ℕ)). xs ++ []) (sym (back_next d r at.place at.here turn));
@@ -226,7 +226,7 @@ hear_data d r h is_open turns packet bytes messages at last one peer front =
     record {
       place = at.place;
       here = at.here;
-      shake_is = at.shake_is;
+      handshake_is = at.handshake_is;
       mine = at.mine;
       theirs = at.theirs ++ bytes ∷ [];
       said_is = at.said_is;
@@ -245,7 +245,7 @@ pub put_data : (d : Deal) (r : Role) (h : Handshake) (is_open now_open : Bool) (
 put_data d r h is_open now_open turns now bytes at last same one heard_now is = record {
   place = at.place;
   here = at.here;
-  shake_is = at.shake_is;
+  handshake_is = at.handshake_is;
   mine = at.mine ++ bytes ∷ [];
   theirs = at.theirs;
   said_is = one ∙ ap (λ (xs : List (List ℕ)). xs ++ bytes ∷ []) at.said_is ∙ append_assoc (said_at d r at.place) at.mine (bytes ∷ []);
@@ -264,7 +264,7 @@ pub same_place : (d : Deal) (r : Role) (h : Handshake) (is_open now_open : Bool)
 same_place d r h is_open now_open turns now at same said_now heard_now = record {
   place = at.place;
   here = at.here;
-  shake_is = at.shake_is;
+  handshake_is = at.handshake_is;
   mine = at.mine;
   theirs = at.theirs;
   said_is = said_now ∙ at.said_is;
@@ -277,11 +277,11 @@ same_place d r h is_open now_open turns now at same said_now heard_now = record 
 }
 
 -- at the first place it has said and heard nothing, whatever the sid is
-pub first_place : (d : Deal) (r : Role) (h : Handshake) (turns : List Turn) → h ≡ shake_at false d r VersionSaid → said turns ≡ [] → heard turns ≡ [] → AtPlace d r h false turns
+pub first_place : (d : Deal) (r : Role) (h : Handshake) (turns : List Turn) → h ≡ handshake_at false d r VersionSaid → said turns ≡ [] → heard turns ≡ [] → AtPlace d r h false turns
 first_place d r h turns is said_none heard_none = record {
   place = VersionSaid;
   here = tt;
-  shake_is = is;
+  handshake_is = is;
   mine = [];
   theirs = [];
   said_is = said_none ∙ nothing r;

@@ -8,15 +8,15 @@ use Rattle.ldc_link.specs.declared.phase.Role.TheVariants.{Initiator, Responder}
 use Rattle.ldc_link.specs.LinkState.{LinkState, first_phase, is_established, is_up, joined_link}
 use Rattle.ldc_packet.specs.declared.packet.Subtype.{Subtype}
 use Rattle.ldc_packet.specs.declared.packet.Subtype.TheVariants.{Ack, Info}
-use Rattle.ldc_queue.specs.Talk.{Turn}
+use Rattle.ldc_queue.specs.Transcript.{Turn}
 use Rattle.vio_tag.specs.declared.message.MsgBody.TheVariants.{DringData}
 use Rattle.vio_tag.specs.Spelling.{canonical}
 use Rattle.vio_handshake.specs.declared.handshake.Handshake.{Handshake}
 use Rattle.vio_handshake.specs.Pairing.{other}
-use Rattle.vio_handshake.specs.Rules.{shake_sent}
-use Rattle.vio_handshake.specs.State.{begun, joined_shake}
+use Rattle.vio_handshake.specs.Rules.{handshake_sent}
+use Rattle.vio_handshake.specs.State.{begun, joined_handshake}
 use Rattle.vio_handshake.proofs.PlaceRows.{put_at}
-use Rattle.vio_handshake.proofs.Places.{AllSaid, VersionSaid, Deal, IsPlace, Place, next, owner, shake_at}
+use Rattle.vio_handshake.proofs.Places.{AllSaid, VersionSaid, Deal, IsPlace, Place, next, owner, handshake_at}
 use Rattle.disk_model.specs.Sayings.{heard, said}
 use Rattle.disk_model.specs.Messages.{range_in}
 use Rattle.disk_model.specs.WorkLog.{length_in}
@@ -61,7 +61,7 @@ sum_of r d messages = range_sum d.asks.slots (code_of r) messages
 pub record AtPlace (d : Deal) (r : Role) (h : Handshake) (is_open : Bool) (turns : List Turn) : Type 0 where
   pub place : Place
   pub here : IsPlace false place
-  pub shake_is : h ≡ shake_at false d r place
+  pub handshake_is : h ≡ handshake_at false d r place
   pub mine : List (List ℕ)
   pub theirs : List (List ℕ)
   pub said_is : said turns ≡ said_at d r place ++ mine
@@ -115,8 +115,8 @@ pub begins_placed : (d : Deal) (r : Role) (k : LinkState) (h : Handshake) → Pl
 begins_placed d r k h = record { down = λ below. refl; up = λ now. let never : false ≡ true = sym (first_down k.role) ∙ now in absurd (cc) }
 
 -- its link comes up: it has said and heard nothing
-pub begun_at : (shape : Shape) (sid : ℕ) (r : Role) (h : Handshake) → h.role ≡ r → h.offer ≡ (shake_at false (deal shape sid 0) r VersionSaid).offer → (r ≡ Responder → h.last_sid ≡ 0) → (r ≡ Initiator → sid ≡ (h.last_sid + 1) % 4294967296)
-    → begun r (joined_shake h) ≡ shake_at false (deal shape sid 0) r VersionSaid
+pub begun_at : (shape : Shape) (sid : ℕ) (r : Role) (h : Handshake) → h.role ≡ r → h.offer ≡ (handshake_at false (deal shape sid 0) r VersionSaid).offer → (r ≡ Responder → h.last_sid ≡ 0) → (r ≡ Initiator → sid ≡ (h.last_sid + 1) % 4294967296)
+    → begun r (joined_handshake h) ≡ handshake_at false (deal shape sid 0) r VersionSaid
 begun_at shape sid Initiator h role offer last is = let same : sid ≡ (h.last_sid + 1) % 4294967296 = is refl in rw (role, offer, same) refl
 begun_at shape sid Responder h role offer last is = let zero : h.last_sid ≡ 0 = last refl in rw (role, offer, zero) refl
 
@@ -124,14 +124,14 @@ begun_at shape sid Responder h role offer last is = let zero : h.last_sid ≡ 0 
 pub put_place : (shape : Shape) (sid : ℕ) (r : Role) (h : Handshake) (is_open now_open : Bool) (turns now : List Turn) → (at : AtPlace (deal shape sid 0) r h is_open turns)
     → owner at.place ≡ Some r → said now ≡ said turns ++ bytes_at (deal shape sid 0) at.place ∷ [] → heard now ≡ heard turns
     → (now_open ≡ true → next false at.place ≡ AllSaid) → (next false at.place ≡ AllSaid → now_open ≡ true) → IsPlace false (next false at.place) → at.place ≢ AllSaid
-    → AtPlace (deal shape sid 0) r (shake_sent h) now_open now
+    → AtPlace (deal shape sid 0) r (handshake_sent h) now_open now
 put_place shape sid r h is_open now_open turns now at own said_now heard_now opens opened here not =
     let d = deal shape sid 0 in
     let none = at.only not in
     record {
       place = next false at.place;
       here = here;
-      shake_is = ap shake_sent at.shake_is ∙ put_at false d r at.place at.here own;
+      handshake_is = ap handshake_sent at.handshake_is ∙ put_at false d r at.place at.here own;
       mine = [];
       theirs = [];
       said_is = said_now ∙ ap (λ (xs : List (List ℕ)). xs ++ bytes_at d at.place ∷ []) (at.said_is ∙ ap (λ (xs : List (List ℕ)). said_at d r at.place ++ xs) none.0 ∙ append-nil (said_at d r at.place))

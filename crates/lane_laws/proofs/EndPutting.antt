@@ -9,8 +9,8 @@ use Rattle.ldc_link.specs.Calls.{Puts}
 use Rattle.ldc_link.specs.Following.{Follows}
 use Rattle.ldc_link.specs.LinkState.{LinkState, is_established, is_up}
 use Rattle.ldc_link.specs.Putting.{behind_put, left_behind_put}
-use Rattle.ldc_queue.specs.Talk.{Said, Turn}
-use Rattle.disk_model.specs.EndPuts.{ComesUp, EndsOwn, EndsShake, Goes, PutKind, ending, kind_in, put_kind}
+use Rattle.ldc_queue.specs.Transcript.{Said, Turn}
+use Rattle.disk_model.specs.EndPuts.{ComesUp, EndsOwn, EndsHandshake, Goes, PutKind, ending, kind_in, put_kind}
 use Rattle.disk_model.specs.Sayings.{half_said, said}
 use Rattle.lane_laws.proofs.PartPut.{SaysNothing, SaysPart, part_puts, quiet_puts, said_last, said_more}
 
@@ -32,7 +32,7 @@ abbrev pub PutSays : PutKind → Bool → LinkState → List Turn → List ℕ �
 PutSays Goes own k turns packet = SaysOn k turns packet
 PutSays ComesUp own k turns packet = SaysOn k turns packet × (is_up k ≡ false)
 PutSays EndsOwn own k turns packet = SaysLast k turns packet × (own ≡ true)
-PutSays EndsShake own k turns packet = SaysLast k turns packet × (own ≡ false)
+PutSays EndsHandshake own k turns packet = SaysLast k turns packet × (own ≡ false)
 
 quiet_on : (k : LinkState) (turns : List Turn) (packet : List ℕ) → SaysNothing turns packet → left_behind_put k.phase k.to_send ≡ k.to_send → SaysOn k turns packet
 quiet_on k turns packet quiet left = record {

@@ -4,10 +4,10 @@ use Rattle.std.specs.Prelude.{⊤}
 use Rattle.dring.specs.declared.peer.RingFault.{RingFault}
 use Rattle.dring.specs.declared.peer.RingFault.TheVariants as refused
 use Rattle.ldc_link.specs.Following.{Follows}
-use Rattle.ldc_link.specs.LinkState.{cleared}
+use Rattle.ldc_link.specs.LinkState.{cleared, LinkState}
 use Rattle.ldc_link.specs.Taking.{Heard, LinkTake, TakesBytes, Unheard}
 use Rattle.ldc_packet.specs.Fault.{first_fault}
-use Rattle.ldc_queue.specs.Talk.{Turn}
+use Rattle.ldc_queue.specs.Transcript.{Turn}
 use Rattle.vio_tag.specs.declared.cause.Cause.{Cause}
 use Rattle.vio_tag.specs.declared.cause.Cause.TheVariants as the_cause
 use Rattle.disk_model.specs.ResetSays.{MessageSays, ResetSays}
@@ -16,28 +16,24 @@ use Rattle.disk_model.specs.ClientRule as client_rule
 use Rattle.disk_model.specs.ClientState.{ClientState}
 use Rattle.disk_model.specs.ClientStep.{ClientFails}
 use Rattle.disk_model.specs.ClientTaking as client
-use Rattle.disk_model.specs.EndPuts.{shake_risen}
+use Rattle.disk_model.specs.EndPuts.{handshake_risen}
 use Rattle.disk_model.specs.ServerRule as server_rule
 use Rattle.disk_model.specs.ServerState.{Ends, Progress, ServerSession, ServerState, Work}
 use Rattle.disk_model.specs.ServerStep.{ServerFails, WorkFails}
 use Rattle.disk_model.specs.ServerTaking as server
 use Rattle.disk_model.specs.ServerWork.{EndFails, FetchFails, Reach, cause_of, slot_at}
-use Rattle.lane_laws.proofs.HeardRuns.{heard_lawfully}
-use Rattle.lane_laws.proofs.LinkEnds.{EndsBy, link_ends}
-use Rattle.lane_laws.proofs.LinkResets.{LiesInPacket, SaysWhy, link_why}
+use Rattle.channel_laws.proofs.Numbering.{heard_so}
 use Rattle.lane_laws.proofs.MessageResets.{client_reads, server_reads}
+use Rattle.channel_laws.specs.Resetting.{LiesInPacket, SaysWhy}
+use Rattle.channel_laws.proofs.TurnCases.{EndsBy, EndsWhole, hears_on}
+use Rattle.channel_laws.proofs.Resets.{by_message}
+use Rattle.channel_laws.proofs.LinkResets.{link_why}
+use Rattle.channel_laws.proofs.LinkCases.{link_heard}
 
--- the packet ends a message that says why
-by_message : (turns : List Turn) (bytes message : List ℕ) (cause : Cause) → first_fault bytes ≡ None → EndsBy turns bytes message → MessageSays message cause → SaysWhy turns bytes cause
-by_message turns bytes message (the_cause.Tag fault) sound by says = record { says = (sound, (by.ends, subst (λ (m : List ℕ). MessageSays m (the_cause.Tag fault)) by.is says)); gap = tt; carried = tt }
-by_message turns bytes message (the_cause.Sid expected found) sound by says = record { says = (sound, (by.ends, subst (λ (m : List ℕ). MessageSays m (the_cause.Sid expected found)) by.is says)); gap = tt; carried = tt }
-by_message turns bytes message the_cause.Order sound by says = record { says = (sound, (by.ends, subst (λ (m : List ℕ). MessageSays m the_cause.Order) by.is says)); gap = tt; carried = tt }
-by_message turns bytes message the_cause.Refused sound by says = record { says = (sound, (by.ends, subst (λ (m : List ℕ). MessageSays m the_cause.Refused) by.is says)); gap = tt; carried = tt }
-by_message turns bytes message (the_cause.Ident expected found) sound by says = record { says = (sound, (by.ends, subst (λ (m : List ℕ). MessageSays m (the_cause.Ident expected found)) by.is says)); gap = tt; carried = tt }
-by_message turns bytes message (the_cause.Seq expected found) sound by says = record { says = (sound, (by.ends, subst (λ (m : List ℕ). MessageSays m (the_cause.Seq expected found)) by.is says)); gap = tt; carried = tt }
-by_message turns bytes message (the_cause.Slot expected found) sound by says = record { says = (sound, (by.ends, subst (λ (m : List ℕ). MessageSays m (the_cause.Slot expected found)) by.is says)); gap = tt; carried = tt }
-by_message turns bytes message (the_cause.RangeEnd found) sound by says = record { says = (sound, (by.ends, subst (λ (m : List ℕ). MessageSays m (the_cause.RangeEnd found)) by.is says)); gap = tt; carried = tt }
-by_message turns bytes message _ sound by says = absurd says
+-- the message that became whole
+ends_when : (turns : List Turn) (bytes : List ℕ) (k m : LinkState) (message : List ℕ) → Follows k turns → k.whole ≡ None → TakesBytes k bytes (Heard m) → m.whole ≡ Some message
+    → EndsBy turns bytes message
+ends_when turns bytes k m message follows none takes is = subst (EndsWhole turns bytes) is (hears_on k m turns bytes none follows (link_heard k m bytes takes)).ends
 
 -- THE CLIENT
 client_whole : (turns : List Turn) (bytes : List ℕ) (s : ClientState) (whole : Option (List ℕ)) (cause : Cause) → first_fault bytes ≡ None
@@ -57,8 +53,8 @@ client_whole turns bytes s (Some message) cause sound ends hears =
 client_link : (turns : List Turn) (bytes : List ℕ) (s : ClientState) (link : LinkTake) (cause : Cause) → Follows s.link turns → s.link.whole ≡ None → TakesBytes s.link bytes link
     → client.HearsLink s link (client.Resets cause) → SaysWhy turns bytes cause
 client_link turns bytes s (Heard k) cause follows none takes hears =
-    client_whole turns bytes (record s { link = k }) k.whole cause (heard_lawfully s.link turns bytes k follows takes).sound
-    (λ message is. link_ends turns bytes s.link k message follows none takes is) hears
+    client_whole turns bytes (record s { link = k }) k.whole cause (heard_so s.link turns bytes k follows takes).sound
+    (λ message is. ends_when turns bytes s.link k message follows none takes is) hears
 client_link turns bytes s (Unheard other) cause follows none takes hears =
     let same : cause ≡ other = cc in link_why turns bytes s.link cause follows (subst (λ (c : Cause). TakesBytes s.link bytes (Unheard c)) (sym same) takes)
 
@@ -99,8 +95,8 @@ server_whole turns bytes s (Some message) cause sound ends hears =
 server_link : (turns : List Turn) (bytes : List ℕ) (s : ServerState) (link : LinkTake) (cause : Cause) → Follows s.link turns → s.link.whole ≡ None → TakesBytes s.link bytes link
     → server.HearsLink s link (server.Resets cause) → SaysWhy turns bytes cause
 server_link turns bytes s (Heard k) cause follows none takes hears =
-    server_whole turns bytes (record s { link = k; shake = shake_risen s.link k s.shake }) k.whole cause (heard_lawfully s.link turns bytes k follows takes).sound
-    (λ message is. link_ends turns bytes s.link k message follows none takes is) hears
+    server_whole turns bytes (record s { link = k; handshake = handshake_risen s.link k s.handshake }) k.whole cause (heard_so s.link turns bytes k follows takes).sound
+    (λ message is. ends_when turns bytes s.link k message follows none takes is) hears
 server_link turns bytes s (Unheard other) cause follows none takes hears =
     let same : cause ≡ other = cc in link_why turns bytes s.link cause follows (subst (λ (c : Cause). TakesBytes s.link bytes (Unheard c)) (sym same) takes)
 

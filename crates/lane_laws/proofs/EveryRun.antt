@@ -14,14 +14,13 @@ use Rattle.disk_model.specs.LaneStep.{LaneStep}
 use Rattle.lane_laws.proofs.CarriedRuns.{carries_lawful}
 use Rattle.lane_laws.proofs.EndsWorking.{works_lawful}
 use Rattle.lane_laws.proofs.FramesLost.{lost_lawful}
-use Rattle.lane_laws.proofs.HeardRuns.{heard_lawful}
+use Rattle.lane_laws.proofs.LaneChannel.{heard_lawful, said_lawful}
 use Rattle.lane_laws.proofs.OpenRuns.{tick_lawful}
 use Rattle.lane_laws.proofs.StandingRuns.{admission_lawful, once_lawful, turns_lawful}
 use Rattle.lane_laws.proofs.TableRuns.{answers_lawful, table_lawful}
 use Rattle.lane_laws.specs.HeardStands.{HeardAt}
 use Rattle.lane_laws.specs.TableStands.{AnswersAt, TableAt}
 use Rattle.lane_laws.proofs.LaneResets.{gaps_lawful, resets_lawful}
-use Rattle.lane_laws.proofs.LaneSaid.{said_lawful}
 use Rattle.lane_laws.proofs.NearOrder.{near_lawful}
 use Rattle.lane_laws.proofs.OpeningLaw.{openings_lawful}
 use Rattle.lane_laws.proofs.OwnResets as own

@@ -23,7 +23,7 @@ use Rattle.lane_laws.specs.Budget.{one_range, range_left}
 use Rattle.lane_laws.specs.Counted.{range_sum}
 use Rattle.lane_laws.specs.Remaining.{asked_in, total}
 use Rattle.lane_laws.specs.RemainingSteps.{total_at, AllDo, DoesSomething}
-use Rattle.ldc_queue.specs.Talk.{Heard as Heard_, Turn}
+use Rattle.ldc_queue.specs.Transcript.{Heard as Heard_, Turn}
 use Rattle.lane_laws.proofs.PlaceOwed.{client_owed, server_owed}
 use Rattle.lane_laws.proofs.RemainingTakes.{client_took_falls, server_took_falls}
 use Rattle.lane_laws.proofs.Ruling.{client_may, server_may}
@@ -51,13 +51,13 @@ use Rattle.lane_laws.specs.Remaining.{remaining}
 
 -- the places after one more event
 placed_behind : (shape : Shape) (events : List DiskEvent) (s : LaneState) (event : DiskEvent) (t : LaneState) → IsShape shape → Run LaneStep (fresh shape) events s → LaneStep s event t → t.wire.forged ≡ false
-    → LanePlaced shape t (after (log_of after (nothing_yet shape) events) event).talk
+    → LanePlaced shape t (after (log_of after (nothing_yet shape) events) event).transcript
 placed_behind shape events s event t sound run step clean =
     let more : List DiskEvent = events ++ event ∷ [] in
     let then_run : Run LaneStep (fresh shape) more t = run_push LaneStep (fresh shape) s t events event run step in
     let behind : log_of after (nothing_yet shape) more ≡ after (log_of after (nothing_yet shape) events) event = log_append after (nothing_yet shape) events (event ∷ []) in
     let clean_more : (log_of after (nothing_yet shape) more).wire.forged ≡ false = ap (λ (w : WireLog). w.forged) (sym (run_knows shape more t sound then_run).all.stands.wire) ∙ clean in
-    subst (λ (x : DiskLog). LanePlaced shape t x.talk) behind (run_placed shape more t sound then_run clean_more)
+    subst (λ (x : DiskLog). LanePlaced shape t x.transcript) behind (run_placed shape more t sound then_run clean_more)
 
 pub client_in_turn : (shape : Shape) (events : List DiskEvent) (s : LaneState) (packet : List ℕ) (opens : Bool) (t : LaneState) → IsShape shape → Run LaneStep (fresh shape) events s → s.wire.forged ≡ false
     → LaneStep s (OnWire (Took A packet opens)) t → ClientInTurn s.client t.client
@@ -67,19 +67,19 @@ client_in_turn shape events s packet opens t sound run clean step =
     let knows : Knows s l = run_knows shape events s sound run in
     let may : ClientMay s.client at (client_rules.Takes packet) = subst (ClientMay s.client at) step.step.0 (client_may s.client at) in
     let placed = placed_behind shape events s (OnWire (Took A packet opens)) t sound run step (ap (λ (x : LaneState). x.wire.forged) step.is ∙ clean) in
-    let took = client_took_what s.client l.talk.client packet t.client knows.all.talks.follows_a knows.rests.client.whole step.step.1 in
+    let took = client_took_what s.client l.transcript.client packet t.client knows.all.transcripts.follows_a knows.rests.client.whole step.step.1 in
     let up : t.wire.wire.end_a ≡ Up = ap (λ (x : LaneState). x.wire.wire.end_a) step.is ∙ may.0 in
     record {
-      one_ring = ap (λ (o : Offer). o.both_rings) knows.counted.client.shake.offer_is;
+      one_ring = ap (λ (o : Offer). o.both_rings) knows.counted.client.handshake.offer_is;
       whole = knows.rests.client.whole;
-      owed = client_owed shape placed.sid s.client t.client l.talk.client packet sound.most_slots placed.small (owes_nothing s.client at packet step.step.0) took (placed.client up);
+      owed = client_owed shape placed.sid s.client t.client l.transcript.client packet sound.most_slots placed.small (owes_nothing s.client at packet step.step.0) took (placed.client up);
     }
 
 pub client_falls : (shape : Shape) (events : List DiskEvent) (s : LaneState) (packet : List ℕ) (opens : Bool) (t : LaneState) → IsShape shape → Run LaneStep (fresh shape) events s → s.wire.forged ≡ false
     → LaneStep s (OnWire (Took A packet opens)) t → remaining t < remaining s
 client_falls shape events s packet opens t sound run clean step =
     let knows : Knows s (log_of after (nothing_yet shape) events) = run_knows shape events s sound run in
-    let falls = client_took_falls s packet opens t knows.all.talks.client.asking (client_in_turn shape events s packet opens t sound run clean step) step in
+    let falls = client_took_falls s packet opens t knows.all.transcripts.client.asking (client_in_turn shape events s packet opens t sound run clean step) step in
     omega (arith, falls)
 
 -- THE SERVER
@@ -108,19 +108,19 @@ never_asks s t none one = absurd (omega (arith, none, one))
 
 abbrev behind_ask : ServerState → ServerSession → SlotRange → ServerSession
 behind_ask v session range =
-    record session { asked = wrapped (session.asked + range_length v.shake.draft.peer_slots range.start range.end); seq = wrapped (session.seq + 1); range = Some range }
+    record session { asked = wrapped (session.asked + range_length v.handshake.draft.peer_slots range.start range.end); seq = wrapped (session.seq + 1); range = Some range }
 
-asks_more : (s t : LaneState) (l next : DiskLog) (turns : List Turn) (packet : List ℕ) (opens : Bool) → (asks : ServerAsked s.server turns packet t.server opens) → l.talk.server ≡ turns → next.talk.server ≡ Heard_ packet ∷ turns
+asks_more : (s t : LaneState) (l next : DiskLog) (turns : List Turn) (packet : List ℕ) (opens : Bool) → (asks : ServerAsked s.server turns packet t.server opens) → l.transcript.server ≡ turns → next.transcript.server ≡ Heard_ packet ∷ turns
     → next.shape.slots ≡ l.shape.slots → t.client ≡ s.client → t.wire.wire.end_a ≡ s.wire.wire.end_a → AskedWithin s l asks.session
     → AskedWithin t next (behind_ask s.server asks.session asks.range)
     → AsksMore s t
-asks_more s t l next turns packet opens asks talk then_talk shape client wire was now one =
-    let slots = s.server.shake.draft.peer_slots in
+asks_more s t l next turns packet opens asks transcript then_transcript shape client wire was now one =
+    let slots = s.server.handshake.draft.peer_slots in
     let behind : ServerSession = behind_ask s.server asks.session asks.range in
     let session_is : t.server.session ≡ Some behind = ap (λ (v : ServerState). v.session) asks.is in
-    let sum_was : asks.session.asked ≡ range_sum l.shape.slots 1 (heard turns) = was.asked ∙ ap (λ (x : List Turn). range_sum l.shape.slots 1 (heard x)) talk in
+    let sum_was : asks.session.asked ≡ range_sum l.shape.slots 1 (heard turns) = was.asked ∙ ap (λ (x : List Turn). range_sum l.shape.slots 1 (heard x)) transcript in
     let sum_now : behind.asked ≡ range_sum l.shape.slots 1 (heard turns ++ asks.hears.bytes ∷ []) =
-    now.asked ∙ ap (λ (n : ℕ). range_sum n 1 (heard next.talk.server)) shape ∙ ap (λ (x : List Turn). range_sum l.shape.slots 1 (heard x)) then_talk ∙ ap (range_sum l.shape.slots 1) asks.hears.messages in
+    now.asked ∙ ap (λ (n : ℕ). range_sum n 1 (heard next.transcript.server)) shape ∙ ap (λ (x : List Turn). range_sum l.shape.slots 1 (heard x)) then_transcript ∙ ap (range_sum l.shape.slots 1) asks.hears.messages in
     let more : asks.session.asked ≤ behind.asked = omega (arith, sum_was, sum_now, sum_front l.shape.slots 1 (heard turns) (asks.hears.bytes ∷ [])) in
     let above : asks.session.asked < behind.asked =
     more_asked slots asks.session.asked behind.asked asks.range.start asks.range.end was.small more refl (omega (arith, asks.ends)) was.slots in
@@ -131,11 +131,11 @@ asks_more s t l next turns packet opens asks talk then_talk shape client wire wa
     )
 
 by_took : (shape : Shape) (events : List DiskEvent) (s : LaneState) (packet : List ℕ) (opens : Bool) (t : LaneState) → IsShape shape → Run LaneStep (fresh shape) events s → s.wire.forged ≡ false → IsUp B s.wire.wire
-    → LaneStep s (OnWire (Took B packet opens)) t → TakesFree s.server → ServerTook s.server (log_of after (nothing_yet shape) events).talk.server packet t.server opens → AsksMore s t
+    → LaneStep s (OnWire (Took B packet opens)) t → TakesFree s.server → ServerTook s.server (log_of after (nothing_yet shape) events).transcript.server packet t.server opens → AsksMore s t
 by_took shape events s packet opens t sound run clean up step free (inl part) =
     never_asks s t (ap (λ (v : ServerState). range_left v.session) part.is ∙ no_range s.server.session free.range)
-by_took shape events s packet opens t sound run clean up step free (inr (inl shakes)) =
-    never_asks s t (ap (λ (v : ServerState). range_left v.session) shakes.is ∙ opened_range opens s.server.session (no_range s.server.session free.range))
+by_took shape events s packet opens t sound run clean up step free (inr (inl handshakes)) =
+    never_asks s t (ap (λ (v : ServerState). range_left v.session) handshakes.is ∙ opened_range opens s.server.session (no_range s.server.session free.range))
 by_took shape events s packet opens t sound run clean up step free (inr (inr asks)) =
     let l = log_of after (nothing_yet shape) events in
     let event = OnWire (Took B packet opens) in
@@ -145,7 +145,7 @@ by_took shape events s packet opens t sound run clean up step free (inr (inr ask
     let clean_t : t.wire.forged ≡ false = ap (λ (x : LaneState). x.wire.forged) step.1.is ∙ clean in
     let up_t : t.wire.wire.end_b ≡ Up = ap (λ (x : LaneState). x.wire.wire.end_b) step.1.is ∙ up in
     let now = asked_within shape more t (behind_ask s.server asks.session asks.range) sound then_run clean_t up_t (ap (λ (v : ServerState). v.session) asks.is) in
-    asks_more s t l (after l event) l.talk.server packet opens asks refl refl refl (ap (λ (x : LaneState). x.client) step.1.is) (ap (λ (x : LaneState). x.wire.wire.end_a) step.1.is)
+    asks_more s t l (after l event) l.transcript.server packet opens asks refl refl refl (ap (λ (x : LaneState). x.client) step.1.is) (ap (λ (x : LaneState). x.wire.wire.end_a) step.1.is)
     (asked_within shape events s asks.session sound run clean up asks.session_is) (subst (λ (x : DiskLog). AskedWithin t x (behind_ask s.server asks.session asks.range)) behind now)
 
 pub server_in_turn : (shape : Shape) (events : List DiskEvent) (s : LaneState) (packet : List ℕ) (opens : Bool) (t : LaneState) → IsShape shape → Run LaneStep (fresh shape) events s → s.wire.forged ≡ false
@@ -157,17 +157,17 @@ server_in_turn shape events s packet opens t sound run clean step =
     let may : ServerMay s.server at (server_rules.Takes packet) = subst (ServerMay s.server at) step.1.step.1.0 (server_may s.server at) in
     let free : TakesFree s.server = subst (ServerFree s.server) step.1.step.1.0 (server_free s.server at) in
     let placed = placed_behind shape events s (OnWire (Took B packet opens)) t sound run step (ap (λ (x : LaneState). x.wire.forged) step.1.is ∙ clean) in
-    let took = server_took_what s.server l.talk.server packet t.server opens knows.all.talks.follows_b knows.rests.server.whole step.1.step.1.1 in
+    let took = server_took_what s.server l.transcript.server packet t.server opens knows.all.transcripts.follows_b knows.rests.server.whole step.1.step.1.1 in
     let up : t.wire.wire.end_b ≡ Up = ap (λ (x : LaneState). x.wire.wire.end_b) step.1.is ∙ may.0 in
     record {
-      role = knows.counted.server.shake.role_is;
-      one_ring = ap (λ (o : Offer). o.both_rings) knows.counted.server.shake.offer_is;
+      role = knows.counted.server.handshake.role_is;
+      one_ring = ap (λ (o : Offer). o.both_rings) knows.counted.server.handshake.offer_is;
       whole = knows.rests.server.whole;
       fits = (steps_stand shape events s run).fit;
-      owed = server_owed shape placed.sid s.server t.server l.talk.server (Heard_ packet ∷ l.talk.server) packet opens sound.most_slots placed.small free.owed took (placed.server up);
+      owed = server_owed shape placed.sid s.server t.server l.transcript.server (Heard_ packet ∷ l.transcript.server) packet opens sound.most_slots placed.small free.owed took (placed.server up);
       link = λ m takes. takes_fine s.server.link m packet (waits_offering shape events s packet sound run clean may.1) takes;
       opened = λ is.
-          let none = opens_new s.server t.server l.talk.server packet knows.rests.server (subst (λ (b : Bool). ServerTook s.server l.talk.server packet t.server b) is took) in
+          let none = opens_new s.server t.server l.transcript.server packet knows.rests.server (subst (λ (b : Bool). ServerTook s.server l.transcript.server packet t.server b) is took) in
           (none, none_work s.server.session s.server.work l.work.server none knows.counted.server.agrees);
       asks = by_took shape events s packet opens t sound run clean may.0 step free took;
     }

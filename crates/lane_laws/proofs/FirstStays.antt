@@ -5,11 +5,11 @@ use Rattle.runs.specs.Lawful.{log_of, run_lawful}
 use Rattle.runs.specs.Run.{Run}
 use Rattle.ldc_queue.specs.declared.end.End.{End}
 use Rattle.ldc_queue.specs.declared.end.End.TheVariants.{A, B}
-use Rattle.ldc_queue.specs.Talk.{Turn}
+use Rattle.ldc_queue.specs.Transcript.{Turn}
 use Rattle.vio_tag.specs.declared.cause.Cause.{Cause}
 use Rattle.disk_model.specs.WireEvent.{Blocked, ByRestart, ByScript, ByStep, ByTick, Declines, Giver, Idle, Injected, Joined, Lost, Poked, Reset, Sent, Took, WireEvent, giver}
 use Rattle.disk_model.specs.DiskLog.{DiskLog, after, nothing_yet}
-use Rattle.disk_model.specs.DiskEvent.{Asks, Desc, DiskEvent, Done, Finished, Misplaced, Moved, Off, OnWire, Published, Rests, Started, Stopped, Stored, Switched, Turns, Worked, Works}
+use Rattle.disk_model.specs.DiskEvent.{Asks, Desc, DiskEvent, Done, Finished, Misplaced, Moved, Off, OnWire, Published, Calms, Started, Stopped, Stored, Switched, Switches, Worked, Works}
 use Rattle.disk_model.specs.LaneState.{IsShape, LaneState, Shape, fresh}
 use Rattle.disk_model.specs.LaneStep.{EndOnWire, LaneStep, ResetBy, TurnStep, WireStep, WorkStep}
 use Rattle.disk_model.specs.Seeing.{seen}
@@ -33,18 +33,18 @@ held_first s server.Joins held is = absurd (cc)
 held_first s (server.Fetches session) held is = absurd (cc)
 held_first s (server.Serves session work) held is = absurd (cc)
 held_first s (server.Takes packet) held is = absurd (cc)
-held_first s server.Rests held is = absurd (cc)
+held_first s server.Idles held is = absurd (cc)
 
 took_first : (s : ServerState) (turns : List Turn) (packet : List ℕ) (t : ServerState) (opens : Bool) → ServerTook s turns packet t opens → t.first ≡ s.first
 took_first s turns packet t opens (inl part) = ap (λ (x : ServerState). x.first) part.is
-took_first s turns packet t opens (inr (inl shakes)) = ap (λ (x : ServerState). x.first) shakes.is
+took_first s turns packet t opens (inr (inl handshakes)) = ap (λ (x : ServerState). x.first) handshakes.is
 took_first s turns packet t opens (inr (inr asks)) = ap (λ (x : ServerState). x.first) asks.is
 
 -- THE WIRE
 server_first : (s : LaneState) (l : DiskLog) (event : WireEvent) (t : LaneState) → Knows s l → EndOnWire B s event t → t.server.first ≡ s.server.first
 server_first s l (Joined B lost) t knows step = ap (λ (x : ServerState). x.first) step.1.step.1.2
 server_first s l (Took B packet opens) t knows step =
-    took_first s.server l.talk.server packet t.server opens (server_took_what s.server l.talk.server packet t.server opens knows.all.talks.follows_b knows.rests.server.whole step.1.step.1.1)
+    took_first s.server l.transcript.server packet t.server opens (server_took_what s.server l.transcript.server packet t.server opens knows.all.transcripts.follows_b knows.rests.server.whole step.1.step.1.1)
 server_first s l (Sent B packet opens) t knows step =
     let sends = step.1.step.1.0 in
     ap (λ (x : ServerState). x.first) sends.is ∙ held_first s.server (server.server_rule s.server (seen B s.shape.entries s.wire.wire)) sends.held sends.holds
@@ -111,8 +111,8 @@ event_first : (s : LaneState) (l : DiskLog) (event : DiskEvent) (t : LaneState) 
 event_first s l (OnWire event) t knows step = wire_first s l event t knows step
 event_first s l (Asks event) t knows step = ap (λ (x : LaneState). x.server.first) step.1
 event_first s l (Works event) t knows step = work_first s event t step
-event_first s l (Turns event) t knows step = turn_first s event t step
-event_first s l (Rests event) t knows step = ap (λ (x : LaneState). x.server.first) (calm s event t step)
+event_first s l (Switches event) t knows step = turn_first s event t step
+event_first s l (Calms event) t knows step = ap (λ (x : LaneState). x.server.first) (calm s event t step)
 
 -- ALONG A RUN
 record AlongFirst (shape : Shape) (s : LaneState) (l : DiskLog) : Type 0 where

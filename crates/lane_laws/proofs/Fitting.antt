@@ -19,30 +19,30 @@ use Rattle.vio_handshake.specs.declared.handshake.Phase.{Phase}
 use Rattle.vio_handshake.specs.declared.handshake.Phase.TheVariants.{Attributes, Open, OwnReady, OwnRing, PeerReady, PeerReadyTaken, PeerRing, PeerRingTaken, Version}
 use Rattle.vio_handshake.specs.declared.session.Offer.{Offer}
 use Rattle.vio_handshake.specs.Messages.{ack, info, nack, own_ring}
-use Rattle.vio_handshake.specs.Rules.{Faults, Goes, GoesOpen, ShakeTake, agrees_minor, answered, asked, behind_ring, fault_or, is_declined, knows, own_named, owes, peer_named, put_in, ready_answered, refuses_version, ring_answered, ring_asked, row, shake_sent, shake_take, sid_fault, version_asked}
-use Rattle.vio_handshake.specs.State.{begun, joined_shake, shake_up}
-use Rattle.disk_model.specs.EndPuts.{ComesUp, EndsOwn, EndsShake, Goes as GoesOn, PutKind, shake_behind}
-use Rattle.lane_laws.specs.ShakeFits.{Fits, FitsIn, OwedFits}
+use Rattle.vio_handshake.specs.Rules.{Faults, Goes, GoesOpen, HandshakeTake, agrees_minor, answered, asked, behind_ring, fault_or, is_declined, knows, own_named, owes, peer_named, put_in, ready_answered, refuses_version, ring_answered, ring_asked, row, handshake_sent, handshake_take, sid_fault, version_asked}
+use Rattle.vio_handshake.specs.State.{begun, joined_handshake, handshake_up}
+use Rattle.disk_model.specs.EndPuts.{ComesUp, EndsOwn, EndsHandshake, Goes as GoesOn, PutKind, handshake_behind}
+use Rattle.lane_laws.specs.HandshakeFits.{Fits, FitsIn, OwedFits}
 
-abbrev pub TakesFit : Role → Offer → ShakeTake → Type 0
+abbrev pub TakesFit : Role → Offer → HandshakeTake → Type 0
 TakesFit role offer (Goes t) = Fits role offer t
 TakesFit role offer (GoesOpen t) = Fits role offer t
 TakesFit role offer (Faults cause) = ⊤
 
-fits_if : (role : Role) (offer : Offer) (b : Bool) (x y : ShakeTake) → TakesFit role offer x → TakesFit role offer y → TakesFit role offer (if b then x else y)
+fits_if : (role : Role) (offer : Offer) (b : Bool) (x y : HandshakeTake) → TakesFit role offer x → TakesFit role offer y → TakesFit role offer (if b then x else y)
 fits_if role offer true x y one other = one
 fits_if role offer false x y one other = other
 
-shakes_if : (role : Role) (offer : Offer) (b : Bool) (x y : Handshake) → (b ≡ true → Fits role offer x) → Fits role offer y → Fits role offer (if b then x else y)
-shakes_if role offer true x y one other = one refl
-shakes_if role offer false x y one other = other
+handshakes_if : (role : Role) (offer : Offer) (b : Bool) (x y : Handshake) → (b ≡ true → Fits role offer x) → Fits role offer y → Fits role offer (if b then x else y)
+handshakes_if role offer true x y one other = one refl
+handshakes_if role offer false x y one other = other
 
-answered_fits : (role : Role) (offer : Offer) (subtype : Subtype) (judged : ShakeTake) → TakesFit role offer judged → TakesFit role offer (answered subtype judged)
+answered_fits : (role : Role) (offer : Offer) (subtype : Subtype) (judged : HandshakeTake) → TakesFit role offer judged → TakesFit role offer (answered subtype judged)
 answered_fits role offer Info judged fits = tt
 answered_fits role offer Ack judged fits = fits
 answered_fits role offer Nack judged fits = tt
 
-asked_fits : (role : Role) (offer : Offer) (subtype : Subtype) (judged : ShakeTake) → TakesFit role offer judged → TakesFit role offer (asked subtype judged)
+asked_fits : (role : Role) (offer : Offer) (subtype : Subtype) (judged : HandshakeTake) → TakesFit role offer judged → TakesFit role offer (asked subtype judged)
 asked_fits role offer Info judged fits = fits
 asked_fits role offer Ack judged fits = tt
 asked_fits role offer Nack judged fits = tt
@@ -64,16 +64,16 @@ accepted_slots offer slots slot_size options count cookies is =
 
 version_fits : (offer : Offer) (s : Handshake) (sid major minor class : ℕ) → FitsIn Responder Version offer s → Fits Responder offer (version_asked s sid major minor class)
 version_fits offer s sid major minor class fits =
-    shakes_if Responder offer (major == 1) (owes Attributes (ack sid (Ver 1 (min minor s.offer.minor) s.offer.class)) (agrees_minor (min minor s.offer.minor) (knows sid s)))
+    handshakes_if Responder offer (major == 1) (owes Attributes (ack sid (Ver 1 (min minor s.offer.minor) s.offer.class)) (agrees_minor (min minor s.offer.minor) (knows sid s)))
     (if major == 0 then (refuses_version sid 0 0 class (knows sid s)) else (refuses_version sid 1 s.offer.minor class (knows sid s)))
     (λ test. record { role_is = fits.role_is; offer_is = fits.offer_is; owed = tt; ring = tt })
-    (shakes_if Responder offer (major == 0) (refuses_version sid 0 0 class (knows sid s)) (refuses_version sid 1 s.offer.minor class (knows sid s))
+    (handshakes_if Responder offer (major == 0) (refuses_version sid 0 0 class (knows sid s)) (refuses_version sid 1 s.offer.minor class (knows sid s))
     (λ test. record { role_is = fits.role_is; offer_is = fits.offer_is; owed = tt; ring = tt })
     (record { role_is = fits.role_is; offer_is = fits.offer_is; owed = tt; ring = tt }))
 
 ring_answered_fits : (role : Role) (offer : Offer) (s : Handshake) (sid ident : ℕ) → s.owed ≡ None → FitsIn role OwnRing offer s → Fits role offer (ring_answered role s sid ident)
 ring_answered_fits Initiator offer s sid ident none fits =
-    shakes_if Initiator offer s.offer.both_rings (record (own_named s ident) { phase = PeerRing }) (owes OwnReady (info sid Rdx) (own_named s ident))
+    handshakes_if Initiator offer s.offer.both_rings (record (own_named s ident) { phase = PeerRing }) (owes OwnReady (info sid Rdx) (own_named s ident))
     (λ test. record { role_is = fits.role_is; offer_is = fits.offer_is; owed = none_fits PeerRing s.owed none; ring = tt })
     (record { role_is = fits.role_is; offer_is = fits.offer_is; owed = tt; ring = tt })
 ring_answered_fits Responder offer s sid ident none fits =
@@ -93,7 +93,7 @@ refused_ring Responder offer s sid body fits = record { role_is = fits.role_is; 
 ring_asked_fits : (role : Role) (offer : Offer) (s : Handshake) (sid ident slots slot_size options count : ℕ) (cookies : List Cookie) → FitsIn role PeerRing offer s
     → Fits role offer (ring_asked s sid ident slots slot_size options count cookies)
 ring_asked_fits role offer s sid ident slots slot_size options count cookies fits =
-    shakes_if role offer (accepts_ring s.offer slots slot_size options count cookies)
+    handshakes_if role offer (accepts_ring s.offer slots slot_size options count cookies)
     (owes (behind_ring s.offer.both_rings) (ack sid (DringReg sid slots slot_size options count cookies)) (peer_named s sid slots count cookies))
     (owes PeerRing (nack sid (DringReg ident slots slot_size options count cookies)) s)
     (λ test. named_fits role s.offer.both_rings offer s sid slots slot_size options count cookies fits
@@ -108,7 +108,7 @@ row_fits : (role : Role) (phase : Phase) (offer : Offer) (s : Handshake) (subtyp
     → TakesFit role offer (row role phase s subtype sid body)
 row_fits Initiator Version offer s subtype sid (Ver major minor class) none fits =
     answered_fits Initiator offer subtype _ (fits_if Initiator offer (major == 1 && nat_le minor s.offer.minor)
-    (Goes (owes Attributes (info sid (Attr (said_attributes s.offer))) (agrees_minor minor s))) (Faults Refused)
+    (Goes (owes Attributes (info sid (Attr (said_attributes s.offer minor))) (agrees_minor minor s))) (Faults Refused)
     (record { role_is = fits.role_is; offer_is = fits.offer_is; owed = tt; ring = tt }) tt)
 row_fits Responder Version offer s subtype sid (Ver major minor class) none fits =
     asked_fits Responder offer subtype (Goes (version_asked s sid major minor class)) (version_fits offer s sid major minor class fits)
@@ -116,7 +116,7 @@ row_fits Initiator Attributes offer s subtype sid (Attr bytes) none fits =
     answered_fits Initiator offer subtype _ (fits_if Initiator offer (accepts_answered s.offer s.draft.minor bytes) (Goes (owes OwnRing (info sid (own_ring s.offer)) s)) (Faults Refused)
     (record { role_is = fits.role_is; offer_is = fits.offer_is; owed = tt; ring = tt }) tt)
 row_fits Responder Attributes offer s subtype sid (Attr bytes) none fits =
-    asked_fits Responder offer subtype _ (shakes_if Responder offer (accepts_said s.offer bytes) (owes PeerRing (ack sid (Attr (answered_attributes s.offer s.draft.minor bytes))) s)
+    asked_fits Responder offer subtype _ (handshakes_if Responder offer (accepts_said s.offer s.draft.minor bytes) (owes PeerRing (ack sid (Attr (answered_attributes s.offer s.draft.minor bytes))) s)
     (owes Attributes (nack sid (Attr bytes)) s)
     (λ test. record { role_is = fits.role_is; offer_is = fits.offer_is; owed = tt; ring = tt })
     (record { role_is = fits.role_is; offer_is = fits.offer_is; owed = tt; ring = tt }))
@@ -137,12 +137,12 @@ row_fits Responder PeerReady offer s subtype sid Rdx none fits =
 row_fits Initiator phase offer s subtype sid body none fits = tt
 row_fits Responder phase offer s subtype sid body none fits = tt
 
-fault_fits : (role : Role) (offer : Offer) (fault : Option Cause) (rest : ShakeTake) → TakesFit role offer rest → TakesFit role offer (fault_or fault rest)
+fault_fits : (role : Role) (offer : Offer) (fault : Option Cause) (rest : HandshakeTake) → TakesFit role offer rest → TakesFit role offer (fault_or fault rest)
 fault_fits role offer None rest fits = fits
 fault_fits role offer (Some cause) rest fits = tt
 
 -- A MESSAGE, where nothing is owed
-pub take_fits : (role : Role) (offer : Offer) (s : Handshake) (message : Message) → s.owed ≡ None → Fits role offer s → TakesFit role offer (shake_take s message)
+pub take_fits : (role : Role) (offer : Offer) (s : Handshake) (message : Message) → s.owed ≡ None → Fits role offer s → TakesFit role offer (handshake_take s message)
 take_fits role offer s message none fits =
     subst (λ (r : Role). TakesFit role offer (fault_or (sid_fault s.sid message.sid) (if is_declined message.subtype message.body
     then (Goes (record s { owed = Some (nack message.sid message.body) })) else row r s.phase s message.subtype message.sid message.body))) (sym fits.role_is)
@@ -163,22 +163,22 @@ put_fits Initiator phase offer s is fits = subst (λ (p : Phase). FitsIn Initiat
 put_fits Responder phase offer s is fits = subst (λ (p : Phase). FitsIn Responder p offer (record s { owed = None })) (sym is)
     (record { role_is = fits.role_is; offer_is = fits.offer_is; owed = tt; ring = fits.ring })
 
-pub sent_fits : (role : Role) (offer : Offer) (s : Handshake) → Fits role offer s → Fits role offer (shake_sent s)
+pub sent_fits : (role : Role) (offer : Offer) (s : Handshake) → Fits role offer s → Fits role offer (handshake_sent s)
 sent_fits role offer s fits = subst (λ (r : Role). Fits role offer (put_in r s.phase s)) (sym fits.role_is) (put_fits role s.phase offer s refl fits)
 
-pub joined_fits : (role : Role) (offer : Offer) (s : Handshake) → Fits role offer s → Fits role offer (joined_shake s)
+pub joined_fits : (role : Role) (offer : Offer) (s : Handshake) → Fits role offer s → Fits role offer (joined_handshake s)
 joined_fits Initiator offer s fits = record { role_is = fits.role_is; offer_is = fits.offer_is; owed = tt; ring = tt }
 joined_fits Responder offer s fits = record { role_is = fits.role_is; offer_is = fits.offer_is; owed = tt; ring = tt }
 
-begun_fits : (role : Role) (offer : Offer) (s : Handshake) → s.role ≡ role → s.offer ≡ offer → Fits role offer (begun role (joined_shake s))
+begun_fits : (role : Role) (offer : Offer) (s : Handshake) → s.role ≡ role → s.offer ≡ offer → Fits role offer (begun role (joined_handshake s))
 begun_fits Initiator offer s role_is offer_is = record { role_is = role_is; offer_is = offer_is; owed = tt; ring = tt }
 begun_fits Responder offer s role_is offer_is = record { role_is = role_is; offer_is = offer_is; owed = tt; ring = tt }
 
-pub up_fits : (role : Role) (offer : Offer) (s : Handshake) → Fits role offer s → Fits role offer (shake_up s)
-up_fits role offer s fits = subst (λ (r : Role). Fits role offer (begun r (joined_shake s))) (sym fits.role_is) (begun_fits role offer s fits.role_is fits.offer_is)
+pub up_fits : (role : Role) (offer : Offer) (s : Handshake) → Fits role offer s → Fits role offer (handshake_up s)
+up_fits role offer s fits = subst (λ (r : Role). Fits role offer (begun r (joined_handshake s))) (sym fits.role_is) (begun_fits role offer s fits.role_is fits.offer_is)
 
-pub behind_fits : (role : Role) (offer : Offer) (kind : PutKind) (s : Handshake) → Fits role offer s → Fits role offer (shake_behind kind s)
+pub behind_fits : (role : Role) (offer : Offer) (kind : PutKind) (s : Handshake) → Fits role offer s → Fits role offer (handshake_behind kind s)
 behind_fits role offer GoesOn s fits = fits
 behind_fits role offer ComesUp s fits = up_fits role offer s fits
 behind_fits role offer EndsOwn s fits = fits
-behind_fits role offer EndsShake s fits = sent_fits role offer s fits
+behind_fits role offer EndsHandshake s fits = sent_fits role offer s fits

@@ -7,7 +7,7 @@ use Rattle.ldc_link.specs.declared.phase.Role.TheVariants.{Initiator, Responder}
 use Rattle.ldc_link.specs.LinkState.{first_phase}
 use Rattle.ldc_queue.specs.declared.end.End.{End}
 use Rattle.ldc_queue.specs.declared.end.End.TheVariants.{A, B}
-use Rattle.ldc_queue.specs.Talk.{Heard as Heard_, Said as Said_, Turn}
+use Rattle.ldc_queue.specs.Transcript.{Heard as Heard_, Said as Said_, Turn}
 use Rattle.vio_handshake.specs.declared.handshake.Phase.TheVariants as hand
 use Rattle.disk_model.specs.Sayings.{half_heard, heard}
 use Rattle.disk_model.specs.WireEvent.{Blocked, Declines, Idle, Injected, Joined, Lost, Poked, Reset, Sent, Took, WireEvent}
@@ -73,10 +73,10 @@ at_server s = seen B s.shape.entries s.wire.wire
 
 -- AN END that begins
 begun_client : (c : ClientState) → c.link.role ≡ Initiator → client_packets (joined_client c) ≡ 9
-begun_client c role = omega (arith, ap (λ (r : Role). client_puts (first_phase r) (later c.shake.role hand.Down)) role)
+begun_client c role = omega (arith, ap (λ (r : Role). client_puts (first_phase r) (later c.handshake.role hand.Down)) role)
 
 begun_server : (v : ServerState) → v.link.role ≡ Responder → server_packets (joined_server v) ≡ 8
-begun_server v role = omega (arith, ap (λ (r : Role). server_puts (first_phase r) (later v.shake.role hand.Down)) role)
+begun_server v role = omega (arith, ap (λ (r : Role). server_puts (first_phase r) (later v.handshake.role hand.Down)) role)
 
 pub client_anew : (s : LaneState) (c : ClientState) (turns : List Turn) → s.client.link.role ≡ Initiator → c ≡ joined_client s.client → InFlight s turns → Flight (wire_moved s.wire (Joined A 0)) c s.server []
 client_anew s c turns role is flight = subst (λ (x : ClientState). Flight (wire_moved s.wire (Joined A 0)) x s.server []) (sym is) (record {
@@ -115,14 +115,14 @@ one_most None = omega arith
 one_most (Some message) = omega arith
 
 client_took : (shape : Shape) (events : List DiskEvent) (s : LaneState) (packet : List ℕ) (opens : Bool) (t : LaneState) → StepKnown shape events s (OnWire (Took A packet opens)) t
-    → InFlight s (log_at shape events).talk.client → InFlight t (Heard_ packet ∷ (log_at shape events).talk.client)
+    → InFlight s (log_at shape events).transcript.client → InFlight t (Heard_ packet ∷ (log_at shape events).transcript.client)
 client_took shape events s packet opens t known flight =
     let l = log_at shape events in
-    let turns : List Turn = l.talk.client in
+    let turns : List Turn = l.transcript.client in
     let step = known.step in
     let knows : Knows s l = knows_at shape events s (OnWire (Took A packet opens)) t known in
     let may : ClientMay s.client (at_client s) (client_rules.Takes packet) = subst (ClientMay s.client (at_client s)) step.step.0 (client_may s.client (at_client s)) in
-    let hears : ClientHears s.client t.client = client_hears s.client (at_client s) packet t.client knows.all.talks.client.asking step.step.0
+    let hears : ClientHears s.client t.client = client_hears s.client (at_client s) packet t.client knows.all.transcripts.client.asking step.step.0
     (client_in_turn shape events s packet opens t known.sound known.run known.clean_s step) step.step.1 in
     let infos : infos_of t.client.session ≡ infos_of s.client.session =
     (knows_step s l (OnWire (Took A packet opens)) t knows step).1.counted.client.infos ∙ sym knows.counted.client.infos in
@@ -136,13 +136,13 @@ client_took shape events s packet opens t known flight =
 
 -- it puts one
 client_sent : (shape : Shape) (events : List DiskEvent) (s : LaneState) (packet : List ℕ) (opens : Bool) (t : LaneState) → StepKnown shape events s (OnWire (Sent A packet opens)) t
-    → InFlight s (log_at shape events).talk.client → InFlight t (Said_ packet ∷ (log_at shape events).talk.client)
+    → InFlight s (log_at shape events).transcript.client → InFlight t (Said_ packet ∷ (log_at shape events).transcript.client)
 client_sent shape events s packet opens t known flight =
     let l = log_at shape events in
-    let turns : List Turn = l.talk.client in
+    let turns : List Turn = l.transcript.client in
     let step = known.step in
     let knows : Knows s l = knows_at shape events s (OnWire (Sent A packet opens)) t known in
-    let sound = knows.all.talks.client in
+    let sound = knows.all.transcripts.client in
     let put = client_sends s.client (at_client s) s.memory packet opens t.client t.memory sound step.step in
     let flies : ClientFlies 1 s.client t.client = client_sends_flies s.client (at_client s) s.memory packet opens t.client t.memory turns step.step sound knows.utters.client
     (closed_in s.client s.client.session refl (steps_stand shape events s known.run).opens) in
@@ -153,20 +153,20 @@ client_sent shape events s packet opens t known flight =
     })
 
 pub client_wire : (shape : Shape) (events : List DiskEvent) (s : LaneState) (event : WireEvent) (t : LaneState) → StepKnown shape events s (OnWire event) t → EndOnWire A s event t
-    → InFlight s (log_at shape events).talk.client → InFlight t (after (log_at shape events) (OnWire event)).talk.client
+    → InFlight s (log_at shape events).transcript.client → InFlight t (after (log_at shape events) (OnWire event)).transcript.client
 client_wire shape events s (Joined A lost) t known step flight =
     flight_is (record s { wire = wire_moved s.wire (Joined A lost); client = t.client; memory = t.memory; near = s.near }) t [] step.is
-    (client_anew s t.client (log_at shape events).talk.client (knows_at shape events s (OnWire (Joined A lost)) t known).all.talks.client.role step.step.2 flight)
+    (client_anew s t.client (log_at shape events).transcript.client (knows_at shape events s (OnWire (Joined A lost)) t known).all.transcripts.client.role step.step.2 flight)
 client_wire shape events s (Took A packet opens) t known step flight = client_took shape events s packet opens t known flight
 client_wire shape events s (Sent A packet opens) t known step flight = client_sent shape events s packet opens t known flight
 client_wire shape events s (Blocked A) t known step flight =
     let knows : Knows s (log_at shape events) = knows_at shape events s (OnWire (Blocked A)) t known in
-    client_on s t (log_at shape events).talk.client (ap (λ (x : LaneState). x.wire) step.is) (ap (λ (x : LaneState). x.server) step.is)
-    (client_blocked_flies s.client (at_client s) t.client (log_at shape events).talk.client step.step.0 knows.all.talks.client knows.utters.client) flight
-client_wire shape events s (Idle A) t known step flight = flight_is s t (log_at shape events).talk.client (client_same s t step) flight
+    client_on s t (log_at shape events).transcript.client (ap (λ (x : LaneState). x.wire) step.is) (ap (λ (x : LaneState). x.server) step.is)
+    (client_blocked_flies s.client (at_client s) t.client (log_at shape events).transcript.client step.step.0 knows.all.transcripts.client knows.utters.client) flight
+client_wire shape events s (Idle A) t known step flight = flight_is s t (log_at shape events).transcript.client (client_same s t step) flight
 client_wire shape events s (Reset A cause packet lost) t known step flight =
     flight_is (record s { wire = wire_moved s.wire (Joined A 0); client = t.client; memory = t.memory; near = _ }) t [] step.is
-    (client_anew s t.client (log_at shape events).talk.client (knows_at shape events s (OnWire (Reset A cause packet lost)) t known).all.talks.client.role step.step.2 flight)
+    (client_anew s t.client (log_at shape events).transcript.client (knows_at shape events s (OnWire (Reset A cause packet lost)) t known).all.transcripts.client.role step.step.2 flight)
 client_wire shape events s (Joined B lost) t known step flight = absurd step.step
 client_wire shape events s (Took B packet opens) t known step flight = absurd step.step
 client_wire shape events s (Sent B packet opens) t known step flight = absurd step.step
@@ -180,7 +180,7 @@ client_wire shape events s (Declines d) t known step flight = absurd step.step
 
 -- THE SERVER takes a packet, and puts one
 server_took : (shape : Shape) (events : List DiskEvent) (s : LaneState) (packet : List ℕ) (opens : Bool) (t : LaneState) → StepKnown shape events s (OnWire (Took B packet opens)) t
-    → InFlight s (log_at shape events).talk.client → InFlight t (log_at shape events).talk.client
+    → InFlight s (log_at shape events).transcript.client → InFlight t (log_at shape events).transcript.client
 server_took shape events s packet opens t known flight =
     let l = log_at shape events in
     let step = known.step in
@@ -189,25 +189,25 @@ server_took shape events s packet opens t known flight =
     let most = total_at s.wire.wire.end_a s.client in
     let turn : ServerTurn most s.server t.server = server_turns most s.server (at_server s) packet t.server opens step.1.step.1.0
     (server_in_turn shape events s packet opens t known.sound known.run known.clean_s step) step.1.step.1.1 in
-    let took = server_took_what s.server l.talk.server packet t.server opens knows.all.talks.follows_b knows.rests.server.whole step.1.step.1.1 in
-    let flies : ServerFlies 0 1 s.server t.server = server_takes_flies most s.server t.server l.talk.server packet opens turn took in
-    flight_is (record s { wire = wire_moved s.wire (Took B packet opens); server = t.server; memory = t.memory; near = s.near }) t l.talk.client step.1.is (record {
+    let took = server_took_what s.server l.transcript.server packet t.server opens knows.all.transcripts.follows_b knows.rests.server.whole step.1.step.1.1 in
+    let flies : ServerFlies 0 1 s.server t.server = server_takes_flies most s.server t.server l.transcript.server packet opens turn took in
+    flight_is (record s { wire = wire_moved s.wire (Took B packet opens); server = t.server; memory = t.memory; near = s.near }) t l.transcript.client step.1.is (record {
       few = server_takes_one s.wire.wire.end_a s.wire.wire.end_b (length s.wire.wire.to_a) (length s.wire.wire.to_b) (length (drop 1 s.wire.wire.to_b)) s.wire.lossy (client_packets s.client)
-          (server_packets s.server) (server_packets t.server) (range_count 2 (heard l.talk.client)) (infos_of s.client.session) may.0 (first_gone packet s.wire.wire.to_b may.1) flies.packets flight.few;
+          (server_packets s.server) (server_packets t.server) (range_count 2 (heard l.transcript.client)) (infos_of s.client.session) may.0 (first_gone packet s.wire.wire.to_b may.1) flies.packets flight.few;
       pieces = flies.pieces flight.pieces;
     })
 
 server_sent : (shape : Shape) (events : List DiskEvent) (s : LaneState) (packet : List ℕ) (opens : Bool) (t : LaneState) → StepKnown shape events s (OnWire (Sent B packet opens)) t
-    → InFlight s (log_at shape events).talk.client → InFlight t (log_at shape events).talk.client
+    → InFlight s (log_at shape events).transcript.client → InFlight t (log_at shape events).transcript.client
 server_sent shape events s packet opens t known flight =
     let l = log_at shape events in
     let step = known.step in
-    let sound = (knows_at shape events s (OnWire (Sent B packet opens)) t known).all.talks.server in
+    let sound = (knows_at shape events s (OnWire (Sent B packet opens)) t known).all.transcripts.server in
     let put = server_sends s.server (at_server s) packet opens t.server sound step.1.step.1.0 in
     let flies : ServerFlies 1 0 s.server t.server = server_sends_flies s.server (at_server s) packet opens t.server sound step.1.step.1.0 in
-    flight_is (record s { wire = wire_moved s.wire (Sent B packet opens); server = t.server; memory = t.memory; near = s.near }) t l.talk.client step.1.is (record {
+    flight_is (record s { wire = wire_moved s.wire (Sent B packet opens); server = t.server; memory = t.memory; near = s.near }) t l.transcript.client step.1.is (record {
       few = server_puts_one s.wire.wire.end_a s.wire.wire.end_b (length s.wire.wire.to_a) (length (s.wire.wire.to_a ++ packet ∷ [])) (length s.wire.wire.to_b) s.wire.lossy (client_packets s.client)
-          (server_packets s.server) (server_packets t.server) (range_count 2 (heard l.talk.client)) (infos_of s.client.session) put.up (one_longer s.wire.wire.to_a packet) flies.packets flight.few;
+          (server_packets s.server) (server_packets t.server) (range_count 2 (heard l.transcript.client)) (infos_of s.client.session) put.up (one_longer s.wire.wire.to_a packet) flies.packets flight.few;
       pieces = flies.pieces flight.pieces;
     })
 
@@ -215,20 +215,20 @@ pub began : (s : LaneState) (v : ServerState) (turns : List Turn) → s.server.l
 began s v turns role is flight = server_anew s v turns (ap server_packets is ∙ begun_server s.server role) (ap (λ (x : ServerState). x.work) is) flight
 
 pub server_wire : (shape : Shape) (events : List DiskEvent) (s : LaneState) (event : WireEvent) (t : LaneState) → StepKnown shape events s (OnWire event) t → EndOnWire B s event t
-    → InFlight s (log_at shape events).talk.client → InFlight t (after (log_at shape events) (OnWire event)).talk.client
+    → InFlight s (log_at shape events).transcript.client → InFlight t (after (log_at shape events) (OnWire event)).transcript.client
 server_wire shape events s (Joined B lost) t known step flight =
-    flight_is (record s { wire = wire_moved s.wire (Joined B lost); server = t.server; memory = t.memory; near = s.near }) t (log_at shape events).talk.client step.1.is
-    (began s t.server (log_at shape events).talk.client (knows_at shape events s (OnWire (Joined B lost)) t known).all.talks.server.role step.1.step.1.2 flight)
+    flight_is (record s { wire = wire_moved s.wire (Joined B lost); server = t.server; memory = t.memory; near = s.near }) t (log_at shape events).transcript.client step.1.is
+    (began s t.server (log_at shape events).transcript.client (knows_at shape events s (OnWire (Joined B lost)) t known).all.transcripts.server.role step.1.step.1.2 flight)
 server_wire shape events s (Took B packet opens) t known step flight = server_took shape events s packet opens t known flight
 server_wire shape events s (Sent B packet opens) t known step flight = server_sent shape events s packet opens t known flight
 server_wire shape events s (Blocked B) t known step flight =
     let knows : Knows s (log_at shape events) = knows_at shape events s (OnWire (Blocked B)) t known in
-    server_on s t (log_at shape events).talk.client (ap (λ (x : LaneState). x.wire) step.1.is) (ap (λ (x : LaneState). x.client) step.1.is)
-    (server_blocked_flies s.server (at_server s) t.server (log_at shape events).talk.server step.1.step.1.0 knows.utters.server) flight
-server_wire shape events s (Idle B) t known step flight = flight_is s t (log_at shape events).talk.client (server_same s t step) flight
+    server_on s t (log_at shape events).transcript.client (ap (λ (x : LaneState). x.wire) step.1.is) (ap (λ (x : LaneState). x.client) step.1.is)
+    (server_blocked_flies s.server (at_server s) t.server (log_at shape events).transcript.server step.1.step.1.0 knows.utters.server) flight
+server_wire shape events s (Idle B) t known step flight = flight_is s t (log_at shape events).transcript.client (server_same s t step) flight
 server_wire shape events s (Reset B cause packet lost) t known step flight =
-    flight_is (record s { wire = wire_moved s.wire (Joined B 0); server = t.server; memory = t.memory; near = _ }) t (log_at shape events).talk.client step.1.is
-    (began s t.server (log_at shape events).talk.client (knows_at shape events s (OnWire (Reset B cause packet lost)) t known).all.talks.server.role step.1.step.1.2 flight)
+    flight_is (record s { wire = wire_moved s.wire (Joined B 0); server = t.server; memory = t.memory; near = _ }) t (log_at shape events).transcript.client step.1.is
+    (began s t.server (log_at shape events).transcript.client (knows_at shape events s (OnWire (Reset B cause packet lost)) t known).all.transcripts.server.role step.1.step.1.2 flight)
 server_wire shape events s (Joined A lost) t known step flight = absurd step.1.step.1
 server_wire shape events s (Took A packet opens) t known step flight = absurd step.1.step.1
 server_wire shape events s (Sent A packet opens) t known step flight = absurd step.1.step.1
@@ -241,6 +241,6 @@ server_wire shape events s (Poked e at bytes) t known step flight = absurd step.
 server_wire shape events s (Declines d) t known step flight = absurd step.1.step.1
 
 pub end_wire : (e : End) (shape : Shape) (events : List DiskEvent) (s : LaneState) (event : WireEvent) (t : LaneState) → StepKnown shape events s (OnWire event) t → EndOnWire e s event t
-    → InFlight s (log_at shape events).talk.client → InFlight t (after (log_at shape events) (OnWire event)).talk.client
+    → InFlight s (log_at shape events).transcript.client → InFlight t (after (log_at shape events) (OnWire event)).transcript.client
 end_wire A shape events s event t known step flight = client_wire shape events s event t known step flight
 end_wire B shape events s event t known step flight = server_wire shape events s event t known step flight

@@ -3,12 +3,12 @@
 use Rattle.std.proofs.Common.{◌≡◌, ℕ, ◌+◌, ◌*◌, ◌≤◌, inl, inr, Bool, Option, Some, None, List, refl, sym, ap, ◌∙◌, subst, arith}
 use Rattle.std.specs.Prelude.{⊤}
 use Rattle.cookie_copy.specs.declared.fault.CopyFault.{CopyFault}
-use Rattle.ldc_queue.specs.Talk.{Turn}
+use Rattle.ldc_queue.specs.Transcript.{Turn}
 use Rattle.vdisk_msg.specs.Descriptor as slot_says
 use Rattle.vdisk_msg.specs.Pieces.{unit_count}
 use Rattle.disk_model.specs.Seeing.{Seen}
 use Rattle.disk_model.specs.ServerPutting.{server_holds, server_kind}
-use Rattle.disk_model.specs.ServerRule.{Fetches, Joins, Puts, Rests, Says, ServerRule, Serves, Takes, server_rule}
+use Rattle.disk_model.specs.ServerRule.{Fetches, Joins, Puts, Idles, Says, ServerRule, Serves, Takes, server_rule}
 use Rattle.disk_model.specs.ServerState.{Progress, ServerSession, ServerState, Work}
 use Rattle.disk_model.specs.ServerStep.{ServerFetches, ServerFinishes, ServerMoves, ServerSends, ServerStores}
 use Rattle.disk_model.specs.ServerWork.{Reach, desc_of}
@@ -49,7 +49,7 @@ held_work s Joins held holds = absurd (cc holds)
 held_work s (Fetches session) held holds = absurd (cc holds)
 held_work s (Serves session work) held holds = absurd (cc holds)
 held_work s (Takes packet) held holds = absurd (cc holds)
-held_work s Rests held holds = absurd (cc holds)
+held_work s Idles held holds = absurd (cc holds)
 
 same_pieces : (v u : ServerState) → u.work ≡ v.work → FewPieces v.work → FewPieces u.work
 same_pieces v u is few = subst FewPieces (sym is) few
@@ -68,7 +68,7 @@ held_packets s at Joins held turns may holds utters = absurd (cc holds)
 held_packets s at (Fetches session) held turns may holds utters = absurd (cc holds)
 held_packets s at (Serves session work) held turns may holds utters = absurd (cc holds)
 held_packets s at (Takes packet) held turns may holds utters = absurd (cc holds)
-held_packets s at Rests held turns may holds utters = absurd (cc holds)
+held_packets s at Idles held turns may holds utters = absurd (cc holds)
 
 pub server_blocked_flies : (s : ServerState) (at : Seen) (held : ServerState) (turns : List Turn) → server_holds (server_rule s at) s ≡ Some held → ServerUtters s turns → ServerFlies 0 0 s held
 server_blocked_flies s at held turns holds utters = record {
@@ -95,7 +95,7 @@ server_sends_flies s at packet opens t sound sends =
 -- TAKING one
 took_work : (s t : ServerState) (turns : List Turn) (packet : List ℕ) (opens : Bool) → ServerTook s turns packet t opens → t.work ≡ s.work
 took_work s t turns packet opens (inl part) = ap (λ (v : ServerState). v.work) part.is
-took_work s t turns packet opens (inr (inl shakes)) = ap (λ (v : ServerState). v.work) shakes.is
+took_work s t turns packet opens (inr (inl handshakes)) = ap (λ (v : ServerState). v.work) handshakes.is
 took_work s t turns packet opens (inr (inr asks)) = ap (λ (v : ServerState). v.work) asks.is
 
 turn_packets : (most : ℕ) (v u : ServerState) → ServerTurn most v u → server_packets u + 0 ≤ server_packets v + 1
@@ -109,7 +109,7 @@ server_takes_flies most s t turns packet opens turn took = record { packets = tu
 works_flies : (s : ServerState) (session : Option ServerSession) (work : Option Work) → range_left session ≡ range_left s.session → (FewPieces s.work → FewPieces work)
     → ServerFlies 0 0 s (record s { session = session; work = work })
 works_flies s session work range pieces = record {
-  packets = omega (arith, ap (λ (n : ℕ). server_puts s.link.phase (later s.shake.role s.shake.phase) + answers_held s.link.to_send s.shake.owed n) range);
+  packets = omega (arith, ap (λ (n : ℕ). server_puts s.link.phase (later s.handshake.role s.handshake.phase) + answers_held s.link.to_send s.handshake.owed n) range);
   pieces = pieces;
 }
 

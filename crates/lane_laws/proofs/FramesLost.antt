@@ -6,7 +6,7 @@ use Rattle.runs.specs.Run.{Run}
 use Rattle.ldc_queue.specs.declared.end.End.{End}
 use Rattle.ldc_queue.specs.declared.end.End.TheVariants.{A, B}
 use Rattle.vio_tag.specs.declared.cause.Cause.{Cause}
-use Rattle.disk_model.specs.DiskEvent.{Asks, DiskEvent, OnWire, Rests, Turns, Works}
+use Rattle.disk_model.specs.DiskEvent.{Asks, DiskEvent, OnWire, Calms, Switches, Works}
 use Rattle.disk_model.specs.DiskLog.{DiskLog, after, nothing_yet}
 use Rattle.disk_model.specs.LaneState.{IsShape, LaneState, Shape, fresh}
 use Rattle.disk_model.specs.LaneStep.{EndOnWire, LaneStep, ResetBy, WireStep}
@@ -60,8 +60,8 @@ lost_at : (s : LaneState) (l : DiskLog) (event : DiskEvent) (t : LaneState) → 
 lost_at s l (OnWire event) t step = wire_lost s event t step
 lost_at s l (Asks event) t step = tt
 lost_at s l (Works event) t step = tt
-lost_at s l (Turns event) t step = tt
-lost_at s l (Rests event) t step = tt
+lost_at s l (Switches event) t step = tt
+lost_at s l (Calms event) t step = tt
 
 -- ALONG EVERY RUN
 pub lost_lawful : (shape : Shape) (events : List DiskEvent) (s : LaneState) → IsShape shape → Run LaneStep (fresh shape) events s

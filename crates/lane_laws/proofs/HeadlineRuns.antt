@@ -11,13 +11,13 @@ use Rattle.vdisk_msg.specs.Fills.{IsRequest}
 use Rattle.vdisk_msg.specs.Requests.{AreSound, defect}
 use Rattle.disk_model.specs.WireLog.{WireLog}
 use Rattle.disk_model.specs.DiskLog.{DiskLog, after, nothing_yet}
-use Rattle.disk_model.specs.DiskEvent.{Accepted, Asks, Desc, DiskEvent, Done, Finished, Full, Misplaced, Moved, Off, OnWire, Published, Refused, Rests, Started, Stopped, Stored, Turns, Works}
+use Rattle.disk_model.specs.DiskEvent.{Accepted, Asks, Desc, DiskEvent, Done, Finished, Full, Misplaced, Moved, Off, OnWire, Published, Refused, Calms, Started, Stopped, Stored, Switches, Works}
 use Rattle.disk_model.specs.LaneState.{IsShape, LaneState, Shape, fresh}
 use Rattle.disk_model.specs.LaneStep.{LaneStep}
 use Rattle.lane_laws.proofs.RingClientSteps.{got_at}
 use Rattle.lane_laws.proofs.RingRuns.{before as clean_before}
 use Rattle.lane_laws.proofs.StandingSteps.{wired_keeps}
-use Rattle.lane_laws.specs.Standing.{LaneStands, RequestsStand}
+use Rattle.lane_laws.specs.Standing.{LaneInvariant, RequestsStand}
 use Rattle.lane_laws.specs.Blocks.{after_requests, block_at}
 use Rattle.lane_laws.specs.Headline.{CompletionShows, HoldsDone, Imaged, ImagedStep, LastWrite, LaterWrite, PendingWrite, ShowsLast, done_content, fresh_image}
 use Rattle.lane_laws.specs.ImageStep.{content_after, front_done}
@@ -52,7 +52,7 @@ same_done first s l event done issued is =
 behind_done : (first : List ℕ) (s : LaneState) (l : DiskLog) (event : DiskEvent) (t : LaneState) → RequestsStand s.client l.work → LaneStep s event t
     → content_after s (done_content first l) event ≡ done_content first (after l event)
 behind_done first s l (OnWire event) t stands step =
-    let keeps = wired_keeps l.shape.slots l.talk l.work event in same_done first s l (OnWire event) keeps.done keeps.issued refl
+    let keeps = wired_keeps l.shape.slots l.transcript l.work event in same_done first s l (OnWire event) keeps.done keeps.issued refl
 behind_done first s l (Asks (Accepted id request)) t stands step = ap (after_requests first) (sym (take-append-le l.work.done l.work.issued (request ∷ []) stands.done))
 behind_done first s l (Asks (Full request)) t stands step = refl
 behind_done first s l (Asks (Refused why request)) t stands step = refl
@@ -65,10 +65,10 @@ behind_done first s l (Works (Moved unit fault)) t stands step = refl
 behind_done first s l (Works (Stored operation block count failed)) t stands step = refl
 behind_done first s l (Works (Finished slot status)) t stands step = refl
 behind_done first s l (Works Misplaced) t stands step = refl
-behind_done first s l (Turns Stopped) t stands step = refl
-behind_done first s l (Turns Started) t stands step = refl
-behind_done first s l (Turns Off) t stands step = refl
-behind_done first s l (Rests event) t stands step = refl
+behind_done first s l (Switches Stopped) t stands step = refl
+behind_done first s l (Switches Started) t stands step = refl
+behind_done first s l (Switches Off) t stands step = refl
+behind_done first s l (Calms event) t stands step = refl
 
 -- EACH REQUEST that was accepted was admitted
 sound_push : (blocks : ℕ) (requests : List Request) (request : Request) → AreSound blocks requests → defect blocks request ≡ None → IsRequest request → AreSound blocks (requests ++ request ∷ [])
@@ -80,12 +80,12 @@ sound_take blocks requests zero sound = tt
 sound_take blocks [] (suc n) sound = tt
 sound_take blocks (one ∷ requests) (suc n) sound = (sound.0, sound.1, sound_take blocks requests n sound.2)
 
-blocks_are : (shape : Shape) (s : LaneState) (l : DiskLog) → l.shape ≡ shape → LaneStands s l → s.client.blocks ≡ shape.blocks
+blocks_are : (shape : Shape) (s : LaneState) (l : DiskLog) → l.shape ≡ shape → LaneInvariant s l → s.client.blocks ≡ shape.blocks
 blocks_are shape s l disk stands = stands.blocks ∙ ap (λ (x : Shape). x.blocks) (stands.shape ∙ disk)
 
 sound_behind : (blocks : ℕ) (s : LaneState) (l : DiskLog) (event : DiskEvent) (t : LaneState) → s.client.blocks ≡ blocks → AreSound blocks l.work.issued → LaneStep s event t
     → AreSound blocks (after l event).work.issued
-sound_behind blocks s l (OnWire event) t same sound step = subst (AreSound blocks) (sym (wired_keeps l.shape.slots l.talk l.work event).issued) sound
+sound_behind blocks s l (OnWire event) t same sound step = subst (AreSound blocks) (sym (wired_keeps l.shape.slots l.transcript l.work event).issued) sound
 sound_behind blocks s l (Asks (Accepted id request)) t same sound step =
     sound_push blocks l.work.issued request sound (subst (λ (n : ℕ). defect n request ≡ None) same step.0.0) step.0.2
 sound_behind blocks s l (Asks (Full request)) t same sound step = sound
@@ -97,10 +97,10 @@ sound_behind blocks s l (Works (Moved unit fault)) t same sound step = sound
 sound_behind blocks s l (Works (Stored operation block count failed)) t same sound step = sound
 sound_behind blocks s l (Works (Finished slot status)) t same sound step = sound
 sound_behind blocks s l (Works Misplaced) t same sound step = sound
-sound_behind blocks s l (Turns Stopped) t same sound step = sound
-sound_behind blocks s l (Turns Started) t same sound step = sound
-sound_behind blocks s l (Turns Off) t same sound step = sound
-sound_behind blocks s l (Rests event) t same sound step = sound
+sound_behind blocks s l (Switches Stopped) t same sound step = sound
+sound_behind blocks s l (Switches Started) t same sound step = sound
+sound_behind blocks s l (Switches Off) t same sound step = sound
+sound_behind blocks s l (Calms event) t same sound step = sound
 
 -- ALONG A RUN with the image
 record AlongImage (shape : Shape) (first : List ℕ) (a : Imaged) (l : DiskLog) : Type 0 where

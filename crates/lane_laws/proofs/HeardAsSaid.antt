@@ -14,9 +14,9 @@ use Rattle.disk_model.specs.DiskEvent.{DiskEvent}
 use Rattle.disk_model.specs.LaneState.{IsShape, LaneState, Shape, fresh}
 use Rattle.disk_model.specs.LaneStep.{LaneStep}
 use Rattle.lane_laws.proofs.HeardFront.{heard_messages}
-use Rattle.lane_laws.proofs.LaneUttering.{client_said, server_said}
-use Rattle.lane_laws.specs.LaneTalks.{talk_behind}
-use Rattle.lane_laws.specs.Utterances.{SaysEach}
+use Rattle.lane_laws.proofs.Speaking.{client_said, server_said}
+use Rattle.lane_laws.specs.LaneTranscripts.{transcript_behind}
+use Rattle.channel_laws.specs.Utterances.{SaysEach}
 
 each_before : (role : Role) (p : Phase) (offer : Offer) (draft : Session) (xs rest : List (List ℕ)) → SaysEach role p offer draft (xs ++ rest) → SaysEach role p offer draft xs
 each_before role p offer draft [] rest says = tt
@@ -29,14 +29,14 @@ each_front role p offer draft xs ys front says =
 
 pub client_heard : (shape : Shape) (events : List DiskEvent) (s : LaneState) → IsShape shape → Run LaneStep (fresh shape) events s
     → s.wire.forged ≡ false → IsUp A s.wire.wire
-    → SaysEach Responder s.server.shake.phase s.server.shake.offer s.server.shake.draft (heard (talk_behind events).client)
+    → SaysEach Responder s.server.handshake.phase s.server.handshake.offer s.server.handshake.draft (heard (transcript_behind events).client)
 client_heard shape events s sound run clean up =
-    each_front Responder s.server.shake.phase s.server.shake.offer s.server.shake.draft (heard (talk_behind events).client) (said (talk_behind events).server)
+    each_front Responder s.server.handshake.phase s.server.handshake.offer s.server.handshake.draft (heard (transcript_behind events).client) (said (transcript_behind events).server)
     (heard_messages shape events s A sound run clean up) (server_said shape events s sound run)
 
 pub server_heard : (shape : Shape) (events : List DiskEvent) (s : LaneState) → IsShape shape → Run LaneStep (fresh shape) events s
     → s.wire.forged ≡ false → IsUp B s.wire.wire
-    → SaysEach Initiator s.client.shake.phase s.client.shake.offer s.client.shake.draft (heard (talk_behind events).server)
+    → SaysEach Initiator s.client.handshake.phase s.client.handshake.offer s.client.handshake.draft (heard (transcript_behind events).server)
 server_heard shape events s sound run clean up =
-    each_front Initiator s.client.shake.phase s.client.shake.offer s.client.shake.draft (heard (talk_behind events).server) (said (talk_behind events).client)
+    each_front Initiator s.client.handshake.phase s.client.handshake.offer s.client.handshake.draft (heard (transcript_behind events).server) (said (transcript_behind events).client)
     (heard_messages shape events s B sound run clean up) (client_said shape events s sound run)

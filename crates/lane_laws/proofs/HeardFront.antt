@@ -1,116 +1,64 @@
--- What an end heard is a front of what the other said.
-use Rattle.std.proofs.Common.{◌≡◌, ℕ, ◌+◌, ◌*◌, ◌≤◌, Bool, true, false, List, [], ◌∷◌, length, refl, sym, subst, arith}
-use Rattle.std.specs.Prelude.{⊤, zero, suc, nat_le, if◌then◌else◌}
-use Rattle.runs.specs.Lawful.{run_lawful}
+-- What an end heard is a front of what the other said, on a lane that nobody forged.
+use Rattle.std.proofs.Common.{◌≡◌, Bool, false, List, [], map, refl, subst}
 use Rattle.runs.specs.Run.{Run}
-use Rattle.ldc_link.proofs.Following.{joins_follow}
 use Rattle.ldc_link.specs.declared.phase.Role.TheVariants.{Initiator, Responder}
-use Rattle.ldc_link.specs.LinkState.{fresh_link}
-use Rattle.ldc_queue.proofs.Messages.{messages_front}
-use Rattle.ldc_queue.proofs.Streams.{heard_front, stream_begins}
+use Rattle.ldc_queue.specs.declared.end.ChannelState.TheVariants.{Up}
 use Rattle.ldc_queue.specs.declared.end.End.{End}
 use Rattle.ldc_queue.specs.declared.end.End.TheVariants.{A, B}
-use Rattle.ldc_queue.specs.Messages.{messages_heard, messages_said}
 use Rattle.ldc_queue.specs.OneStream.{IsFront}
-use Rattle.ldc_queue.specs.Talk.{numbered_heard, numbered_said}
+use Rattle.ldc_queue.specs.Transcript.{numbered_heard, numbered_said}
 use Rattle.ldc_queue.specs.Wire.{peer_of}
-use Rattle.vdisk_msg.specs.Requested.{ring_pages}
-use Rattle.disk_model.proofs.SameSayings.{heard_is, said_is}
 use Rattle.disk_model.specs.Sayings.{heard, said}
-use Rattle.disk_model.specs.TalkLog.{TalkLog, nothing_said, talk_of}
+use Rattle.disk_model.specs.TranscriptLog.{TranscriptLog, transcript_of}
 use Rattle.disk_model.specs.WireAt.{IsUp}
-use Rattle.disk_model.specs.WireLog.{nothing_on_wire}
-use Rattle.disk_model.specs.DiskLog.{after_talk}
-use Rattle.disk_model.specs.ClientState.{fresh_client}
 use Rattle.disk_model.specs.DiskEvent.{DiskEvent}
 use Rattle.disk_model.specs.LaneState.{IsShape, LaneState, Shape, fresh}
 use Rattle.disk_model.specs.LaneStep.{LaneStep}
-use Rattle.disk_model.specs.Offering.{own_cookies, page_cookies}
-use Rattle.disk_model.specs.ServerState.{fresh_server}
-use Rattle.lane_laws.proofs.LaneStepping.{LaneTalks, talks_step}
-use Rattle.lane_laws.proofs.Talking.{few_begins}
-use Rattle.lane_laws.specs.Budget.{client_speaks, server_speaks}
-use Rattle.lane_laws.specs.Conversation.{Conversation}
-use Rattle.lane_laws.specs.LaneTalks.{queue_log, talk_behind}
-use Rattle.lane_laws.specs.Sound.{ClientSound, ServerSound}
-
--- a ring of at most 256 slots has at most 14 cookies
-pages_long : (page n : ℕ) → length (page_cookies page n) ≡ n
-pages_long page zero = refl
-pages_long page (suc n) = omega (arith, pages_long (page + 1) n)
-
-cookies_if : (b : Bool) (slots : ℕ) → slots ≤ 256 → length (if b then page_cookies 0 (ring_pages slots) else record { address = 0; size = 128 * slots } ∷ []) ≤ 14
-cookies_if true slots few = omega (arith, pages_long 0 (ring_pages slots), few)
-cookies_if false slots few = omega arith
-
-own_few : (slots : ℕ) → slots ≤ 256 → length (own_cookies slots) ≤ 14
-own_few slots few = cookies_if (nat_le 64 slots) slots few
-
-fresh_sound : (blocks slots : ℕ) → slots ≤ 256 → ClientSound (fresh_client blocks slots)
-fresh_sound blocks slots few = record {
-  role = refl;
-  asking = tt;
-  short = record { offered = own_few slots few; owed = tt };
-  held = omega arith;
-  own = λ own. absurd (cc);
-  slots = few;
-  pending = omega arith;
-  counts = tt;
-}
-
-server_sound : (first blocks slots : ℕ) → ServerSound (fresh_server first blocks slots)
-server_sound first blocks slots = record { role = refl; short = record { offered = omega arith; owed = tt }; held = omega arith }
-
-fresh_conversation : (first blocks slots : ℕ)
-    → Conversation (queue_log nothing_on_wire nothing_said 0 0) (client_speaks (fresh_client blocks slots)) (server_speaks (fresh_server first blocks slots))
-fresh_conversation first blocks slots = record {
-  stream = stream_begins;
-  follows_a = joins_follow (fresh_link Initiator);
-  follows_b = joins_follow (fresh_link Responder);
-  small_a = omega arith;
-  small_b = omega arith;
-  asking = tt;
-  queue_a = omega arith;
-  queue_b = omega arith;
-  controls = omega arith;
-  few_a = few_begins 1 1 2 (omega arith) (omega arith) (omega arith);
-  few_b = few_begins 1 1 2 (omega arith) (omega arith) (omega arith);
-}
-
-pub fresh_talks : (shape : Shape) → IsShape shape → LaneTalks (fresh shape) nothing_said
-fresh_talks shape sound = record {
-  entries = sound.most_entries;
-  client = fresh_sound shape.blocks shape.slots sound.most_slots;
-  server = server_sound shape.first shape.blocks shape.slots;
-  follows_a = joins_follow (fresh_link Initiator);
-  follows_b = joins_follow (fresh_link Responder);
-  unforged = λ clean. record { lost_a = 0; lost_b = 0; whole = λ clean_yet. (refl, refl); conversation = fresh_conversation shape.first shape.blocks shape.slots };
-}
-
--- along every run
-pub run_talks : (shape : Shape) (events : List DiskEvent) (s : LaneState) → IsShape shape → Run LaneStep (fresh shape) events s → LaneTalks s (talk_behind events)
-run_talks shape events s sound run =
-    (run_lawful LaneStep (λ (l : TalkLog) (e : DiskEvent). ⊤) after_talk (λ (x : LaneState) (l : TalkLog). LaneTalks x l)
-    (λ (x : LaneState) (l : TalkLog) (e : DiskEvent) (y : LaneState) talks step. (tt, talks_step x e y l talks step))
-    (fresh shape) s nothing_said events (fresh_talks shape sound) run).1
-
-packets_of : (s : LaneState) (talk : TalkLog) (e : End) → LaneTalks s talk → s.wire.forged ≡ false → IsUp e s.wire.wire
-    → IsFront (numbered_heard (talk_of e talk)) (numbered_said (talk_of (peer_of e) talk))
-packets_of s talk A talks clean up = let k = talks.unforged clean in heard_front (queue_log s.wire talk k.lost_a k.lost_b) A k.conversation.stream up
-packets_of s talk B talks clean up = let k = talks.unforged clean in heard_front (queue_log s.wire talk k.lost_a k.lost_b) B k.conversation.stream up
-
-messages_of : (s : LaneState) (talk : TalkLog) (e : End) → LaneTalks s talk → s.wire.forged ≡ false → IsUp e s.wire.wire
-    → IsFront (messages_heard (talk_of e talk)) (messages_said (talk_of (peer_of e) talk))
-messages_of s talk e talks clean up =
-    messages_front (numbered_heard (talk_of e talk)) (numbered_said (talk_of (peer_of e) talk)) (packets_of s talk e talks clean up)
+use Rattle.channel_laws.proofs.Conversations.{swap_converse}
+use Rattle.channel_laws.proofs.ConversingRuns as core
+use Rattle.channel_laws.proofs.CoreLaws.{conversing}
+use Rattle.channel_laws.proofs.Sessions.{open_sessions_up}
+use Rattle.channel_laws.specs.Conversing.{Converse}
+use Rattle.channel_laws.specs.Sides.{sides_of, swapped}
+use Rattle.lane_laws.proofs.LaneChannel.{answers_of, asks_of}
+use Rattle.lane_laws.proofs.LaneCores.{lane_cores, lane_fits, said_same}
+use Rattle.lane_laws.specs.ChannelEnds.{core_event, core_of}
+use Rattle.lane_laws.specs.LaneTranscripts.{transcript_behind}
+use Rattle.std.specs.Prelude.{is_some, true}
 
 pub heard_packets : (shape : Shape) (events : List DiskEvent) (s : LaneState) (e : End) → IsShape shape → Run LaneStep (fresh shape) events s
-    → s.wire.forged ≡ false → IsUp e s.wire.wire → IsFront (numbered_heard (talk_of e (talk_behind events))) (numbered_said (talk_of (peer_of e) (talk_behind events)))
-heard_packets shape events s e sound run clean up = packets_of s (talk_behind events) e (run_talks shape events s sound run) clean up
+    → s.wire.forged ≡ false → IsUp e s.wire.wire → IsFront (numbered_heard (transcript_of e (transcript_behind events))) (numbered_said (transcript_of (peer_of e) (transcript_behind events)))
+heard_packets shape events s e sound run clean up =
+    subst (λ (l : TranscriptLog). IsFront (numbered_heard (transcript_of e l)) (numbered_said (transcript_of (peer_of e) l))) (said_same events)
+    (core.heard_packets shape.entries (asks_of shape) (answers_of shape) (map core_event events) (core_of s) e (lane_fits shape sound) (lane_cores shape events s sound run) clean up)
 
 pub heard_messages : (shape : Shape) (events : List DiskEvent) (s : LaneState) (e : End) → IsShape shape → Run LaneStep (fresh shape) events s
-    → s.wire.forged ≡ false → IsUp e s.wire.wire → IsFront (heard (talk_of e (talk_behind events))) (said (talk_of (peer_of e) (talk_behind events)))
+    → s.wire.forged ≡ false → IsUp e s.wire.wire → IsFront (heard (transcript_of e (transcript_behind events))) (said (transcript_of (peer_of e) (transcript_behind events)))
 heard_messages shape events s e sound run clean up =
-    subst (λ (xs : List (List ℕ)). IsFront xs (said (talk_of (peer_of e) (talk_behind events)))) (sym (heard_is (talk_of e (talk_behind events))))
-    (subst (λ (xs : List (List ℕ)). IsFront (messages_heard (talk_of e (talk_behind events))) xs) (sym (said_is (talk_of (peer_of e) (talk_behind events))))
-    (messages_of s (talk_behind events) e (run_talks shape events s sound run) clean up))
+    subst (λ (l : TranscriptLog). IsFront (heard (transcript_of e l)) (said (transcript_of (peer_of e) l))) (said_same events)
+    (core.heard_messages shape.entries (asks_of shape) (answers_of shape) (map core_event events) (core_of s) e (lane_fits shape sound) (lane_cores shape events s sound run) clean up)
+
+-- both directions are one stream each
+pub lane_converses : (shape : Shape) (events : List DiskEvent) (s : LaneState) → IsShape shape → Run LaneStep (fresh shape) events s → s.wire.forged ≡ false
+    → Converse Initiator (sides_of (core_of s) (transcript_behind events))
+lane_converses shape events s sound run clean =
+    subst (λ (l : TranscriptLog). Converse Initiator (sides_of (core_of s) l)) (said_same events)
+    (conversing shape.entries (asks_of shape) (answers_of shape) (map core_event events) (core_of s) (lane_fits shape sound) (lane_cores shape events s sound run) clean)
+
+-- WHERE THE OTHER END ISN'T UP nothing was heard
+pub unheard_client : (shape : Shape) (events : List DiskEvent) (s : LaneState) → IsShape shape → Run LaneStep (fresh shape) events s → s.wire.forged ≡ false
+    → IsUp A s.wire.wire → (s.wire.wire.end_b ≡ Up → ⊥) → heard (transcript_behind events).client ≡ []
+unheard_client shape events s sound run clean up not =
+    core.unheard Initiator (sides_of (core_of s) (transcript_behind events)) (lane_converses shape events s sound run clean) up not
+
+pub unheard_server : (shape : Shape) (events : List DiskEvent) (s : LaneState) → IsShape shape → Run LaneStep (fresh shape) events s → s.wire.forged ≡ false
+    → IsUp B s.wire.wire → (s.wire.wire.end_a ≡ Up → ⊥) → heard (transcript_behind events).server ≡ []
+unheard_server shape events s sound run clean up not =
+    core.unheard Responder (swapped (sides_of (core_of s) (transcript_behind events)))
+    (swap_converse Initiator (sides_of (core_of s) (transcript_behind events)) (lane_converses shape events s sound run clean)) up not
+
+-- BOTH ARE UP where both sessions are open
+pub both_up : (shape : Shape) (events : List DiskEvent) (s : LaneState) → IsShape shape → Run LaneStep (fresh shape) events s → s.wire.forged ≡ false
+    → is_some s.client.session ≡ true → is_some s.server.session ≡ true → IsUp A s.wire.wire × IsUp B s.wire.wire
+both_up shape events s sound run clean client server =
+    open_sessions_up shape.entries (asks_of shape) (answers_of shape) (map core_event events) (core_of s) (lane_fits shape sound) (lane_cores shape events s sound run) clean client server

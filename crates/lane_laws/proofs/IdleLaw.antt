@@ -14,7 +14,7 @@ use Rattle.disk_model.specs.QuietLaws.{ClientIsIdle, EndIsIdle, IdleAt, ServerIs
 use Rattle.disk_model.specs.WorkLaws.{IfClient, IfServer}
 use Rattle.disk_model.specs.WorkLog.{ClientCounts, ServerCounts}
 use Rattle.disk_model.specs.ClientState.{ClientSession}
-use Rattle.disk_model.specs.DiskEvent.{Asks, DiskEvent, OnWire, Rests, Turns, Works}
+use Rattle.disk_model.specs.DiskEvent.{Asks, DiskEvent, OnWire, Calms, Switches, Works}
 use Rattle.disk_model.specs.LaneState.{LaneState}
 use Rattle.disk_model.specs.LaneStep.{EndOnWire, LaneStep, WireStep}
 use Rattle.disk_model.specs.ServerState.{ServerSession, Work}
@@ -57,7 +57,7 @@ idle_client s l grounded idles =
     let both : Some of.counts ≡ Some c = sym of.is ∙ has in
     let same : of.counts ≡ c = cc in
     let order : InOrder (length s.client.pending) session =
-    in_order (length s.client.pending) s.client.session session is grounded.knows.all.talks.client.counts in
+    in_order (length s.client.pending) s.client.session session is grounded.knows.all.transcripts.client.counts in
     let stand = grounded.knows.all.stands.requests in
     let acked = not_below session.completed session.acked (idles.completed session is) in
     let has_done = idles.rests.rests.session session is in
@@ -81,8 +81,8 @@ idle_server s l grounded idles =
     of_server s.server.session session s.server.work l.work.server is grounded.knows.counted.server.agrees in
     let both : Some of.counts ≡ Some c = sym of.is ∙ has in
     let same : of.counts ≡ c = cc in
-    let order : InServerOrder l.shape.slots session of.counts l.talk.server =
-    order_of l.shape.slots s.server.session session l.work.server of.counts l.talk.server is of.is grounded.knows.counted.server.order in
+    let order : InServerOrder l.shape.slots session of.counts l.transcript.server =
+    order_of l.shape.slots s.server.session session l.work.server of.counts l.transcript.server is of.is grounded.knows.counted.server.order in
     let all : of.counts.answered ≡ of.counts.asked =
     subst (λ (r : Option _). RangeStands l.shape.slots r of.counts) (idles.range session is) order.range in
     let finished = finished_descs s.server.work of.counts of.work_agrees in
@@ -119,5 +119,5 @@ pub idle_at : (s : LaneState) (l : DiskLog) (event : DiskEvent) (t : LaneState) 
 idle_at s l (OnWire event) t grounded step = wire_idle s l event t grounded step
 idle_at s l (Asks event) t grounded step = tt
 idle_at s l (Works event) t grounded step = tt
-idle_at s l (Turns event) t grounded step = tt
-idle_at s l (Rests event) t grounded step = tt
+idle_at s l (Switches event) t grounded step = tt
+idle_at s l (Calms event) t grounded step = tt

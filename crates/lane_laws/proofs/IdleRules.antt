@@ -36,9 +36,9 @@ not_owing false false false false owes free none = refl
 not_owing false true c d owes free none = absurd (cc)
 not_owing false false true d owes free none = absurd (cc)
 
-not_urgent : (s : ClientState) → owes s.link ≡ false → s.shake.owed ≡ None → client.is_urgent s ≡ false
+not_urgent : (s : ClientState) → owes s.link ≡ false → s.handshake.owed ≡ None → client.is_urgent s ≡ false
 not_urgent s free none =
-    not_owing (owes_control s.link) (is_some s.shake.owed) (owes s.link) (is_none s.session) (control_in s.link.phase s.link) free (ap is_some none)
+    not_owing (owes_control s.link) (is_some s.handshake.owed) (owes s.link) (is_none s.session) (control_in s.link.phase s.link) free (ap is_some none)
 
 -- THE CLIENT
 pub record HasDone (s : ClientState) (session : ClientSession) : Type 0 where
@@ -47,16 +47,16 @@ pub record HasDone (s : ClientState) (session : ClientSession) : Type 0 where
 
 pub record RestsIn (s : ClientState) : Type 0 where
   pub free : owes s.link ≡ false
-  pub owed : s.shake.owed ≡ None
+  pub owed : s.handshake.owed ≡ None
   pub session : (session : ClientSession) → s.session ≡ Some session → HasDone s session
 
 abbrev WhereRests : ClientState → client.ClientRule → Type 0
-WhereRests s client.Rests = RestsIn s
+WhereRests s client.Idles = RestsIn s
 WhereRests s _ = ⊤
 
-announces_rests : (s : ClientState) (session : ClientSession) (b : Bool) → owes s.link ≡ false → s.shake.owed ≡ None → s.session ≡ Some session
+announces_rests : (s : ClientState) (session : ClientSession) (b : Bool) → owes s.link ≡ false → s.handshake.owed ≡ None → s.session ≡ Some session
     → slice_get s.pending (session.published - session.completed) ≡ None → nat_lt session.announced session.published ≡ b
-    → WhereRests s (if b then client.Announces session else client.Rests)
+    → WhereRests s (if b then client.Announces session else client.Idles)
 announces_rests s session true free none is published announced = tt
 announces_rests s session false free none is published announced = record {
   free = free;
@@ -67,22 +67,22 @@ announces_rests s session false free none is published announced = record {
       subst (λ (x : ClientSession). HasDone s x) same (record { announced = announced; published = published });
 }
 
-next_rests : (s : ClientState) (session : ClientSession) (next : Option Request) → owes s.link ≡ false → s.shake.owed ≡ None → s.session ≡ Some session
+next_rests : (s : ClientState) (session : ClientSession) (next : Option Request) → owes s.link ≡ false → s.handshake.owed ≡ None → s.session ≡ Some session
     → slice_get s.pending (session.published - session.completed) ≡ next → WhereRests s (client.publishes session next)
 next_rests s session None free none is published = announces_rests s session (nat_lt session.announced session.published) free none is published refl
 next_rests s session (Some request) free none is published = tt
 
-session_rests : (s : ClientState) (open_one : Option ClientSession) → owes s.link ≡ false → s.shake.owed ≡ None → s.session ≡ open_one → WhereRests s (client.in_session s open_one)
+session_rests : (s : ClientState) (open_one : Option ClientSession) → owes s.link ≡ false → s.handshake.owed ≡ None → s.session ≡ open_one → WhereRests s (client.in_session s open_one)
 session_rests s None free none is = record { free = free; owed = none; session = λ session now. let both : None ≡ Some session = sym is ∙ now in absurd (cc) }
 session_rests s (Some session) free none is = next_rests s session (slice_get s.pending (session.published - session.completed)) free none is refl
 
-says_rests : (s : ClientState) (owed : Option Message) → owes s.link ≡ false → s.shake.owed ≡ owed → WhereRests s (client.says s owed)
+says_rests : (s : ClientState) (owed : Option Message) → owes s.link ≡ false → s.handshake.owed ≡ owed → WhereRests s (client.says s owed)
 says_rests s None free is = session_rests s s.session free is refl
 says_rests s (Some message) free is = tt
 
-puts_rests : (s : ClientState) (b : Bool) → owes s.link ≡ b → WhereRests s (if b then client.Puts else client.says s s.shake.owed)
+puts_rests : (s : ClientState) (b : Bool) → owes s.link ≡ b → WhereRests s (if b then client.Puts else client.says s s.handshake.owed)
 puts_rests s true is = tt
-puts_rests s false is = says_rests s s.shake.owed is refl
+puts_rests s false is = says_rests s s.handshake.owed is refl
 
 -- and nothing waits for it
 pub record ClientRestsAt (s : ClientState) (at : Seen) : Type 0 where
@@ -90,11 +90,11 @@ pub record ClientRestsAt (s : ClientState) (at : Seen) : Type 0 where
   pub first : at.first ≡ None
 
 abbrev WhereRestsAt : ClientState → Seen → client.ClientRule → Type 0
-WhereRestsAt s at client.Rests = ClientRestsAt s at
+WhereRestsAt s at client.Idles = ClientRestsAt s at
 WhereRestsAt s at _ = ⊤
 
 with_first : (s : ClientState) (at : Seen) (rule : client.ClientRule) → at.first ≡ None → WhereRests s rule → WhereRestsAt s at rule
-with_first s at client.Rests none rests = record { rests = rests; first = none }
+with_first s at client.Idles none rests = record { rests = rests; first = none }
 with_first s at client.Joins none rests = tt
 with_first s at (client.Completes session) none rests = tt
 with_first s at (client.Takes packet) none rests = tt
@@ -108,7 +108,7 @@ takes_rests s at None is = with_first s at (client.puts_first s) is (puts_rests 
 takes_rests s at (Some packet) is = tt
 
 never_urgent : (s : ClientState) (at : Seen) (rule : client.ClientRule) → client.is_urgent s ≡ true → WhereRests s rule → WhereRestsAt s at rule
-never_urgent s at client.Rests urgent rests = let both : true ≡ false = sym urgent ∙ not_urgent s rests.free rests.owed in absurd (cc)
+never_urgent s at client.Idles urgent rests = let both : true ≡ false = sym urgent ∙ not_urgent s rests.free rests.owed in absurd (cc)
 never_urgent s at client.Joins urgent rests = tt
 never_urgent s at (client.Completes session) urgent rests = tt
 never_urgent s at (client.Takes packet) urgent rests = tt
@@ -127,12 +127,12 @@ pub record ClientIdles (s : ClientState) (at : Seen) : Type 0 where
   pub completed : (session : ClientSession) → s.session ≡ Some session → nat_lt session.completed session.acked ≡ false
 
 abbrev WhereIdles : ClientState → Seen → client.ClientRule → Type 0
-WhereIdles s at client.Rests = ClientIdles s at
+WhereIdles s at client.Idles = ClientIdles s at
 WhereIdles s at _ = ⊤
 
 with_completed : (s : ClientState) (at : Seen) (rule : client.ClientRule) → ((session : ClientSession) → s.session ≡ Some session → nat_lt session.completed session.acked ≡ false)
     → WhereRestsAt s at rule → WhereIdles s at rule
-with_completed s at client.Rests none rests = record { rests = rests; completed = none }
+with_completed s at client.Idles none rests = record { rests = rests; completed = none }
 with_completed s at client.Joins none rests = tt
 with_completed s at (client.Completes session) none rests = tt
 with_completed s at (client.Takes packet) none rests = tt
@@ -161,21 +161,21 @@ up_idles : (s : ClientState) (at : Seen) (b : Bool) → WhereIdles s at (if b th
 up_idles s at true = first_idles s at s.session refl
 up_idles s at false = tt
 
-pub client_idles : (s : ClientState) (at : Seen) → client.client_rule s at ≡ client.Rests → ClientIdles s at
+pub client_idles : (s : ClientState) (at : Seen) → client.client_rule s at ≡ client.Idles → ClientIdles s at
 client_idles s at rule = subst (WhereIdles s at) rule (up_idles s at (is_up at.state))
 
 -- THE SERVER
 pub record ServerIdles (s : ServerState) (at : Seen) : Type 0 where
   pub free : owes s.link ≡ false
-  pub owed : s.shake.owed ≡ None
+  pub owed : s.handshake.owed ≡ None
   pub first : at.first ≡ None
   pub range : (session : ServerSession) → s.session ≡ Some session → session.range ≡ None
 
 abbrev ServesNone : ServerState → Seen → server.ServerRule → Type 0
-ServesNone s at server.Rests = ServerIdles s at
+ServesNone s at server.Idles = ServerIdles s at
 ServesNone s at _ = ⊤
 
-first_serves : (s : ServerState) (at : Seen) (first : Option (List ℕ)) → at.first ≡ first → owes s.link ≡ false → s.shake.owed ≡ None
+first_serves : (s : ServerState) (at : Seen) (first : Option (List ℕ)) → at.first ≡ first → owes s.link ≡ false → s.handshake.owed ≡ None
     → ((session : ServerSession) → s.session ≡ Some session → session.range ≡ None) → ServesNone s at (server.takes_first first)
 first_serves s at None is free owed none = record { free = free; owed = owed; first = is; range = none }
 first_serves s at (Some packet) is free owed none = tt
@@ -189,7 +189,7 @@ served_if : (s : ServerState) (at : Seen) (session : ServerSession) (range : Slo
 served_if s at session range true = tt
 served_if s at session range false = served_work s at session s.work
 
-range_serves : (s : ServerState) (at : Seen) (session : ServerSession) (range : Option SlotRange) → owes s.link ≡ false → s.shake.owed ≡ None → s.session ≡ Some session → session.range ≡ range
+range_serves : (s : ServerState) (at : Seen) (session : ServerSession) (range : Option SlotRange) → owes s.link ≡ false → s.handshake.owed ≡ None → s.session ≡ Some session → session.range ≡ range
     → ServesNone s at (server.in_range s session range at)
 range_serves s at session None free owed is ranged =
     first_serves s at at.first refl free owed
@@ -199,23 +199,23 @@ range_serves s at session None free owed is ranged =
     subst (λ (x : ServerSession). x.range ≡ None) same ranged)
 range_serves s at session (Some range) free owed is ranged = served_if s at session range (session.finished == session.asked)
 
-session_serves : (s : ServerState) (at : Seen) (open_one : Option ServerSession) → owes s.link ≡ false → s.shake.owed ≡ None → s.session ≡ open_one
+session_serves : (s : ServerState) (at : Seen) (open_one : Option ServerSession) → owes s.link ≡ false → s.handshake.owed ≡ None → s.session ≡ open_one
     → ServesNone s at (server.in_session s open_one at)
 session_serves s at None free owed is =
     first_serves s at at.first refl free owed (λ session now. let both : None ≡ Some session = sym is ∙ now in absurd (cc))
 session_serves s at (Some session) free owed is = range_serves s at session session.range free owed is refl
 
-says_serves : (s : ServerState) (at : Seen) (owed : Option Message) → owes s.link ≡ false → s.shake.owed ≡ owed → ServesNone s at (server.says s owed at)
+says_serves : (s : ServerState) (at : Seen) (owed : Option Message) → owes s.link ≡ false → s.handshake.owed ≡ owed → ServesNone s at (server.says s owed at)
 says_serves s at (Some message) free is = tt
 says_serves s at None free is = session_serves s at s.session free is refl
 
-puts_serves : (s : ServerState) (at : Seen) (b : Bool) → owes s.link ≡ b → ServesNone s at (if b then server.Puts else server.says s s.shake.owed at)
+puts_serves : (s : ServerState) (at : Seen) (b : Bool) → owes s.link ≡ b → ServesNone s at (if b then server.Puts else server.says s s.handshake.owed at)
 puts_serves s at true is = tt
-puts_serves s at false is = says_serves s at s.shake.owed is refl
+puts_serves s at false is = says_serves s at s.handshake.owed is refl
 
-up_serves : (s : ServerState) (at : Seen) (b : Bool) → ServesNone s at (if b then (if owes s.link then server.Puts else server.says s s.shake.owed at) else server.Joins)
+up_serves : (s : ServerState) (at : Seen) (b : Bool) → ServesNone s at (if b then (if owes s.link then server.Puts else server.says s s.handshake.owed at) else server.Joins)
 up_serves s at true = puts_serves s at (owes s.link) refl
 up_serves s at false = tt
 
-pub server_idles : (s : ServerState) (at : Seen) → server.server_rule s at ≡ server.Rests → ServerIdles s at
+pub server_idles : (s : ServerState) (at : Seen) → server.server_rule s at ≡ server.Idles → ServerIdles s at
 server_idles s at rule = subst (ServesNone s at) rule (up_serves s at (is_up at.state))

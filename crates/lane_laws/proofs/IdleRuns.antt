@@ -9,7 +9,7 @@ use Rattle.disk_model.specs.WireEvent.{Blocked, Declines, Idle, Injected, Joined
 use Rattle.disk_model.specs.Agreement.{IdleAgrees}
 use Rattle.disk_model.specs.DiskLog.{DiskLog, after, idle_in, nothing_yet}
 use Rattle.disk_model.specs.ClientState.{ClientState}
-use Rattle.disk_model.specs.DiskEvent.{Asks, DiskEvent, OnWire, Rests, Turns, Works}
+use Rattle.disk_model.specs.DiskEvent.{Asks, DiskEvent, OnWire, Calms, Switches, Works}
 use Rattle.disk_model.specs.LaneState.{IsShape, LaneState, Shape, fresh}
 use Rattle.disk_model.specs.LaneStep.{EndOnWire, LaneStep, WireStep}
 use Rattle.disk_model.specs.ServerState.{ServerState}
@@ -53,8 +53,8 @@ idle_step : (s : LaneState) (l : DiskLog) (event : DiskEvent) (t : LaneState) �
 idle_step s l (OnWire event) t step = idle_wire s event t step
 idle_step s l (Asks event) t step = tt
 idle_step s l (Works event) t step = tt
-idle_step s l (Turns event) t step = tt
-idle_step s l (Rests event) t step = tt
+idle_step s l (Switches event) t step = tt
+idle_step s l (Calms event) t step = tt
 
 pub idle_agrees : (shape : Shape) (events : List DiskEvent) (s : LaneState) → IsShape shape → Run LaneStep (fresh shape) events s → IdleAgrees s (log_of after (nothing_yet shape) events).last_idle
 idle_agrees shape events s sound run =

@@ -1,5 +1,5 @@
 -- What remains on a lane that nobody forged is at most 36 and 16 for each pending request, and where a packet was lost at most 69 and 32.
-use Rattle.std.proofs.Common.{◌≡◌, ℕ, ◌+◌, ◌-◌, ◌*◌, ◌≤◌, Bool, true, false, Option, Some, None, List, length, refl, ap, arith}
+use Rattle.std.proofs.Common.{◌≡◌, ℕ, ◌+◌, ◌-◌, ◌*◌, ◌≤◌, Bool, true, false, Option, Some, None, List, [], ◌∷◌, length, refl, ap, arith}
 use Rattle.std.specs.Prelude.{is_some}
 use Rattle.runs.specs.Lawful.{log_of}
 use Rattle.runs.specs.Run.{Run}
@@ -17,12 +17,18 @@ use Rattle.disk_model.specs.ServerState.{ServerState}
 use Rattle.lane_laws.proofs.FlightAlong.{run_flight}
 use Rattle.lane_laws.proofs.FlightRuns.{InFlight}
 use Rattle.lane_laws.proofs.FlightSums.{FewFly}
-use Rattle.lane_laws.proofs.LaneResting.{client_open_rests, server_open_rests}
+use Rattle.lane_laws.proofs.Speaking.{client_open_rests, server_open_rests}
 use Rattle.lane_laws.proofs.LifeBound.{RequestsLeft, by_sessions}
-use Rattle.lane_laws.proofs.UpRuns.{not_among, unheard_client, unheard_server}
 use Rattle.lane_laws.specs.Counted.{infos_of, one_where, range_count}
-use Rattle.lane_laws.specs.LaneTalks.{talk_behind}
+use Rattle.lane_laws.specs.LaneTranscripts.{transcript_behind}
 use Rattle.lane_laws.specs.Remaining.{absent, asked_by, asked_in, client_left, client_packets, life, remaining, requests_left, second_life, server_left, server_packets, serving_left, total}
+use Rattle.lane_laws.proofs.HeardFront.{unheard_client, unheard_server}
+use Rattle.channel_laws.specs.Grounds.{Among}
+use Rattle.vio_tag.specs.declared.message.Message.{Message}
+
+not_among : (message : Message) (messages : List (List ℕ)) → messages ≡ [] → Among message messages → ⊥
+not_among message [] is among = among
+not_among message (bytes ∷ messages) is among = absurd (cc is)
 
 -- an end that is up has no session where the other isn't
 closed_by : {X : Type 0} (o : Option X) → (is_some o ≡ true → ⊥) → o ≡ None
@@ -34,14 +40,14 @@ client_closed : (shape : Shape) (events : List DiskEvent) (s : LaneState) → Is
 client_closed shape events s sound run clean up alone =
     closed_by s.client.session (λ now.
     let rests = client_open_rests shape events s sound run now in
-    not_among (ack s.client.shake.draft.sid (Ver 1 s.client.shake.draft.minor rests.version.0)) (heard (talk_behind events).client) (unheard_client shape events s sound run clean up alone) rests.version.1)
+    not_among (ack s.client.handshake.draft.sid (Ver 1 s.client.handshake.draft.minor rests.version.0)) (heard (transcript_behind events).client) (unheard_client shape events s sound run clean up alone) rests.version.1)
 
 server_closed : (shape : Shape) (events : List DiskEvent) (s : LaneState) → IsShape shape → Run LaneStep (fresh shape) events s → s.wire.forged ≡ false → s.wire.wire.end_b ≡ Up
     → (s.wire.wire.end_a ≡ Up → ⊥) → s.server.session ≡ None
 server_closed shape events s sound run clean up alone =
     closed_by s.server.session (λ now.
     let rests = server_open_rests shape events s sound run now in
-    not_among (info s.server.shake.draft.sid (Ver 1 rests.version.0 rests.version.1)) (heard (talk_behind events).server) (unheard_server shape events s sound run clean up alone) rests.version.2)
+    not_among (info s.server.handshake.draft.sid (Ver 1 rests.version.0 rests.version.1)) (heard (transcript_behind events).server) (unheard_server shape events s sound run clean up alone) rests.version.2)
 
 -- THE SUMS, by who is up
 record Facts (x y : ChannelState) (a b : ℕ) (lossy : Bool) (c : ClientState) (v : ServerState) (answers : ℕ) : Type 0 where
@@ -103,9 +109,9 @@ most_in Resetting Resetting a b lossy c v answers facts = none_up a b (one_where
 life_most : (shape : Shape) (events : List DiskEvent) (s : LaneState) → IsShape shape → Run LaneStep (fresh shape) events s → s.wire.forged ≡ false
     → life s.wire.wire s.client s.server + 3 * one_where s.wire.lossy ≤ 36 + 16 * length s.client.pending
 life_most shape events s sound run clean =
-    let talk = (log_of after (nothing_yet shape) events).talk in
-    let flight : InFlight s talk.client = run_flight shape events s sound run clean in
-    most_in s.wire.wire.end_a s.wire.wire.end_b (length s.wire.wire.to_a) (length s.wire.wire.to_b) s.wire.lossy s.client s.server (range_count 2 (heard talk.client)) (record {
+    let transcript = (log_of after (nothing_yet shape) events).transcript in
+    let flight : InFlight s transcript.client = run_flight shape events s sound run clean in
+    most_in s.wire.wire.end_a s.wire.wire.end_b (length s.wire.wire.to_a) (length s.wire.wire.to_b) s.wire.lossy s.client s.server (range_count 2 (heard transcript.client)) (record {
       few = flight.few;
       client = λ up alone. client_closed shape events s sound run clean up alone;
       server = λ up alone. server_closed shape events s sound run clean up alone;

@@ -6,10 +6,10 @@ use Rattle.ldc_link.specs.LinkState.{is_up}
 use Rattle.ldc_queue.specs.declared.end.ChannelState.{ChannelState}
 use Rattle.ldc_queue.specs.declared.end.ChannelState.TheVariants.{Down, Resetting, Up}
 use Rattle.ldc_queue.specs.OneStream.{IsFront}
-use Rattle.ldc_queue.specs.Talk.{Turn}
-use Rattle.vio_handshake.proofs.Places.{AllSaid, AttributesAnswered, AttributesSaid, Deal, PeerReadyAnswered, PeerReadySaid, PeerRingAnswered, PeerRingSaid, Place, ReadyAnswered, ReadySaid, RingAnswered, RingSaid, VersionAnswered, VersionSaid, shake_at}
+use Rattle.ldc_queue.specs.Transcript.{Turn}
+use Rattle.vio_handshake.proofs.Places.{AllSaid, AttributesAnswered, AttributesSaid, Deal, PeerReadyAnswered, PeerReadySaid, PeerRingAnswered, PeerRingSaid, Place, ReadyAnswered, ReadySaid, RingAnswered, RingSaid, VersionAnswered, VersionSaid, handshake_at}
 use Rattle.disk_model.specs.Sayings.{heard, said}
-use Rattle.disk_model.specs.TalkLog.{TalkLog}
+use Rattle.disk_model.specs.TranscriptLog.{TranscriptLog}
 use Rattle.disk_model.specs.DiskLog.{DiskLog, after}
 use Rattle.disk_model.specs.WorkLog.{ServerCounts}
 use Rattle.disk_model.specs.ClientState.{ClientState}
@@ -25,12 +25,12 @@ use Rattle.lane_laws.proofs.OpeningScript.{said_at}
 use Rattle.lane_laws.proofs.ServerPlacing.{ServerPlaced}
 use Rattle.lane_laws.specs.LaneRests.{ClientUtters, ServerUtters}
 
-pub record LanePlaced (shape : Shape) (s : LaneState) (talk : TalkLog) : Type 0 where
+pub record LanePlaced (shape : Shape) (s : LaneState) (transcript : TranscriptLog) : Type 0 where
   pub sid : ℕ
   pub small : sid < 2 ^ 32
-  pub zero : s.server.shake.last_sid ≡ 0
-  pub client : s.wire.wire.end_a ≡ Up → ClientAt shape sid s.client talk.client
-  pub server : s.wire.wire.end_b ≡ Up → ServerPlaced shape sid s.server talk.server
+  pub zero : s.server.handshake.last_sid ≡ 0
+  pub client : s.wire.wire.end_a ≡ Up → ClientAt shape sid s.client transcript.client
+  pub server : s.wire.wire.end_b ≡ Up → ServerPlaced shape sid s.server transcript.server
 
 -- what is known of an event
 pub record PlaceFacts (shape : Shape) (s : LaneState) (l : DiskLog) (event : DiskEvent) (t : LaneState) : Type 0 where
@@ -39,10 +39,10 @@ pub record PlaceFacts (shape : Shape) (s : LaneState) (l : DiskLog) (event : Dis
   pub few : shape.slots ≤ 256
   pub blocks : shape.blocks < 2 ^ 64
   pub knows : Knows s l
-  pub front_a : t.wire.wire.end_a ≡ Up → IsFront (heard (after l event).talk.client) (said (after l event).talk.server)
-  pub front_b : t.wire.wire.end_b ≡ Up → IsFront (heard (after l event).talk.server) (said (after l event).talk.client)
-  pub silent_a : t.wire.wire.end_a ≡ Up → (t.wire.wire.end_b ≡ Up → ⊥) → heard (after l event).talk.client ≡ []
-  pub silent_b : t.wire.wire.end_b ≡ Up → (t.wire.wire.end_a ≡ Up → ⊥) → heard (after l event).talk.server ≡ []
+  pub front_a : t.wire.wire.end_a ≡ Up → IsFront (heard (after l event).transcript.client) (said (after l event).transcript.server)
+  pub front_b : t.wire.wire.end_b ≡ Up → IsFront (heard (after l event).transcript.server) (said (after l event).transcript.client)
+  pub silent_a : t.wire.wire.end_a ≡ Up → (t.wire.wire.end_b ≡ Up → ⊥) → heard (after l event).transcript.client ≡ []
+  pub silent_b : t.wire.wire.end_b ≡ Up → (t.wire.wire.end_a ≡ Up → ⊥) → heard (after l event).transcript.server ≡ []
   pub answered : s.wire.wire.end_b ≡ Up → (c : ServerCounts) → l.work.server ≡ Some c → c.answered < 2 ^ 64
 
 -- WHAT THE OTHER END said
@@ -58,14 +58,14 @@ pub server_said : (shape : Shape) (sid : ℕ) (v : ServerState) (turns : List Tu
 server_said shape sid v turns utters placed = by_up (is_up v.link) refl
   where
     by_up : (b : Bool) → is_up v.link ≡ b → PeerSaid (deal shape sid 0) Responder (said turns)
-    by_up true is = peer_said (deal shape sid 0) Responder v.shake (is_some v.session) turns (placed.up is)
+    by_up true is = peer_said (deal shape sid 0) Responder v.handshake (is_some v.session) turns (placed.up is)
     by_up false is = record { place = VersionSaid; more = []; is = utters.silent is; only = λ far. refl; are = tt }
 
 pub client_said : (shape : Shape) (sid : ℕ) (c : ClientState) (turns : List Turn) → ClientUtters c turns → ClientAt shape sid c turns → PeerSaid (deal shape sid 0) Initiator (said turns)
 client_said shape sid c turns utters placed = by_up (is_up c.link) refl
   where
     by_up : (b : Bool) → is_up c.link ≡ b → PeerSaid (deal shape sid 0) Initiator (said turns)
-    by_up true is = peer_said (deal shape sid 0) Initiator c.shake (is_some c.session) turns (placed.up is)
+    by_up true is = peer_said (deal shape sid 0) Initiator c.handshake (is_some c.session) turns (placed.up is)
     by_up false is = record { place = VersionSaid; more = []; is = utters.silent is; only = λ far. refl; are = tt }
 
 -- A NEW SID of the client: a server that is up has heard nothing of the last one
@@ -92,8 +92,8 @@ new_sid shape sid other v turns none placed = record {
       let first : at.place ≡ VersionSaid = no_place (deal shape sid 0) at.place at.theirs (sym at.heard_is ∙ none) in
       let far : at.place ≢ AllSaid = λ last. let never : VersionSaid ≡ AllSaid = sym first ∙ last in absurd (cc) in
       let closed : is_some v.session ≡ false = not_open (is_some v.session) (λ open_one. far (at.opens open_one)) in
-      subst (λ (b : Bool). AtPlace (deal shape other 0) Responder v.shake b turns) (sym closed)
-      (first_place (deal shape other 0) Responder v.shake turns (at.shake_is ∙ ap (shake_at false (deal shape sid 0) Responder) first)
+      subst (λ (b : Bool). AtPlace (deal shape other 0) Responder v.handshake b turns) (sym closed)
+      (first_place (deal shape other 0) Responder v.handshake turns (at.handshake_is ∙ ap (handshake_at false (deal shape sid 0) Responder) first)
       (at.said_is ∙ ap (λ (xs : List (List ℕ)). said_at (deal shape sid 0) Responder at.place ++ xs) (at.only far).0 ∙ ap (λ (n : Place). said_at (deal shape sid 0) Responder n ++ []) first) none);
 }
   where
@@ -102,31 +102,31 @@ new_sid shape sid other v turns none placed = record {
     not_open false never = refl
 
 -- ONE END STEPS, and the other stays
-pub by_client : (shape : Shape) (s t : LaneState) (talk now : TalkLog) (placed : LanePlaced shape s talk) (sid : ℕ) → sid < 2 ^ 32 → t.server ≡ s.server → now.server ≡ talk.server
-    → (t.wire.wire.end_b ≡ Up → s.wire.wire.end_b ≡ Up) → (s.wire.wire.end_b ≡ Up → ServerPlaced shape sid s.server talk.server) → (t.wire.wire.end_a ≡ Up → ClientAt shape sid t.client now.client)
+pub by_client : (shape : Shape) (s t : LaneState) (transcript now : TranscriptLog) (placed : LanePlaced shape s transcript) (sid : ℕ) → sid < 2 ^ 32 → t.server ≡ s.server → now.server ≡ transcript.server
+    → (t.wire.wire.end_b ≡ Up → s.wire.wire.end_b ≡ Up) → (s.wire.wire.end_b ≡ Up → ServerPlaced shape sid s.server transcript.server) → (t.wire.wire.end_a ≡ Up → ClientAt shape sid t.client now.client)
     → LanePlaced shape t now
-by_client shape s t talk now placed sid small same silent up server client = record {
+by_client shape s t transcript now placed sid small same silent up server client = record {
   sid = sid;
   small = small;
-  zero = ap (λ (v : ServerState). v.shake.last_sid) same ∙ placed.zero;
+  zero = ap (λ (v : ServerState). v.handshake.last_sid) same ∙ placed.zero;
   client = client;
-  server = λ b. subst (λ (turns : List Turn). ServerPlaced shape sid t.server turns) (sym silent) (subst (λ (v : ServerState). ServerPlaced shape sid v talk.server) (sym same) (server (up b)));
+  server = λ b. subst (λ (turns : List Turn). ServerPlaced shape sid t.server turns) (sym silent) (subst (λ (v : ServerState). ServerPlaced shape sid v transcript.server) (sym same) (server (up b)));
 }
 
-pub by_server : (shape : Shape) (s t : LaneState) (talk now : TalkLog) (placed : LanePlaced shape s talk) → t.client ≡ s.client → now.client ≡ talk.client → (t.wire.wire.end_a ≡ Up → s.wire.wire.end_a ≡ Up)
-    → t.server.shake.last_sid ≡ 0 → (t.wire.wire.end_b ≡ Up → ServerPlaced shape placed.sid t.server now.server) → LanePlaced shape t now
-by_server shape s t talk now placed same silent up zero server = record {
+pub by_server : (shape : Shape) (s t : LaneState) (transcript now : TranscriptLog) (placed : LanePlaced shape s transcript) → t.client ≡ s.client → now.client ≡ transcript.client → (t.wire.wire.end_a ≡ Up → s.wire.wire.end_a ≡ Up)
+    → t.server.handshake.last_sid ≡ 0 → (t.wire.wire.end_b ≡ Up → ServerPlaced shape placed.sid t.server now.server) → LanePlaced shape t now
+by_server shape s t transcript now placed same silent up zero server = record {
   sid = placed.sid;
   small = placed.small;
   zero = zero;
-  client = λ a. subst (λ (turns : List Turn). ClientAt shape placed.sid t.client turns) (sym silent) (subst (λ (c : ClientState). ClientAt shape placed.sid c talk.client) (sym same) (placed.client (up a)));
+  client = λ a. subst (λ (turns : List Turn). ClientAt shape placed.sid t.client turns) (sym silent) (subst (λ (c : ClientState). ClientAt shape placed.sid c transcript.client) (sym same) (placed.client (up a)));
   server = server;
 }
 
-pub stays_placed : (shape : Shape) (s t : LaneState) (talk : TalkLog) → LanePlaced shape s talk → t.client ≡ s.client → t.server ≡ s.server → (t.wire.wire.end_a ≡ Up → s.wire.wire.end_a ≡ Up)
-    → (t.wire.wire.end_b ≡ Up → s.wire.wire.end_b ≡ Up) → LanePlaced shape t talk
-stays_placed shape s t talk placed client server a b =
-    by_client shape s t talk talk placed placed.sid placed.small server refl b placed.server (λ up. subst (λ (c : ClientState). ClientAt shape placed.sid c talk.client) (sym client) (placed.client (a up)))
+pub stays_placed : (shape : Shape) (s t : LaneState) (transcript : TranscriptLog) → LanePlaced shape s transcript → t.client ≡ s.client → t.server ≡ s.server → (t.wire.wire.end_a ≡ Up → s.wire.wire.end_a ≡ Up)
+    → (t.wire.wire.end_b ≡ Up → s.wire.wire.end_b ≡ Up) → LanePlaced shape t transcript
+stays_placed shape s t transcript placed client server a b =
+    by_client shape s t transcript transcript placed placed.sid placed.small server refl b placed.server (λ up. subst (λ (c : ClientState). ClientAt shape placed.sid c transcript.client) (sym client) (placed.client (a up)))
 
 pub sizes_of : (shape : Shape) (s : LaneState) (l : DiskLog) (event : DiskEvent) (t : LaneState) (sid : ℕ) → sid < 2 ^ 32 → PlaceFacts shape s l event t → Sizes shape sid
 sizes_of shape s l event t sid small facts = record { some = facts.some; few = facts.few; blocks = facts.blocks; small = small }

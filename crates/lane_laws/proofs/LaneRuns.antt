@@ -11,7 +11,7 @@ use Rattle.vio_tag.specs.declared.cause.Cause.{Cause}
 use Rattle.disk_model.specs.WireEvent.{Blocked, ByRestart, ByScript, ByStep, ByTick, Declines, Giver, Idle, Injected, Joined, Lost, Poked, Reset, Sent, Took, WireEvent, giver}
 use Rattle.disk_model.specs.WireLog.{WireLog}
 use Rattle.disk_model.specs.DiskLog.{DiskLog, after, nothing_yet}
-use Rattle.disk_model.specs.DiskEvent.{Asks, Calm, CalmReset, CalmRestart, CalmStart, CalmStop, CalmTick, Desc, DiskEvent, Done, Finished, Misplaced, Moved, Off, OnWire, Published, Rests, Started, Stopped, Stored, Switched, Turns, Worked, Works}
+use Rattle.disk_model.specs.DiskEvent.{Asks, Calm, CalmReset, CalmRestart, CalmStart, CalmStop, CalmTick, Desc, DiskEvent, Done, Finished, Misplaced, Moved, Off, OnWire, Published, Calms, Started, Stopped, Stored, Switched, Switches, Worked, Works}
 use Rattle.disk_model.specs.LaneState.{IsShape, LaneState, Shape, fresh}
 use Rattle.disk_model.specs.LaneStep.{EndOnWire, LaneStep, ResetBy, RestStep, ServerWorks, TurnStep, WireStep, WorkStep}
 use Rattle.lane_laws.proofs.Agreeing.{always_agree, server_alive}
@@ -21,7 +21,7 @@ use Rattle.lane_laws.proofs.RingAlong.{Along, along_run, along_step}
 use Rattle.lane_laws.proofs.RingRuns.{before as clean_before, known_of}
 use Rattle.lane_laws.proofs.SlotsAlong.{facts_at, run_slots}
 use Rattle.lane_laws.proofs.SlotsStepping.{StepFacts}
-use Rattle.lane_laws.specs.Standing.{LaneStands}
+use Rattle.lane_laws.specs.Standing.{LaneInvariant}
 use Rattle.lane_laws.specs.Contents.{ContentsStand}
 use Rattle.lane_laws.specs.LaneView.{view_of}
 use Rattle.lane_laws.proofs.CallChanges.{asks_changes, calm_changes, turn_changes, wire_changes}
@@ -51,8 +51,8 @@ lane_changes s l (Works (Moved unit fault)) t before contents facts clean not st
 lane_changes s l (Works (Finished slot status)) t before contents facts clean not step = finished_changes s l slot status t before step
 lane_changes s l (Works (Stored operation block count failed)) t before contents facts clean not step = absurd not
 lane_changes s l (Works Misplaced) t before contents facts clean not step = absurd step
-lane_changes s l (Turns event) t before contents facts clean not step = turn_changes s l event t before contents step
-lane_changes s l (Rests event) t before contents facts clean not step = calm_changes s event t step
+lane_changes s l (Switches event) t before contents facts clean not step = turn_changes s l event t before contents step
+lane_changes s l (Calms event) t before contents facts clean not step = calm_changes s event t step
 
 -- A STORE that failed stays so
 either_false : (a b : Bool) → (a || b) ≡ false → (a ≡ false) × (b ≡ false)
@@ -117,20 +117,20 @@ pub failed_before : (s : LaneState) (event : DiskEvent) (t : LaneState) → Lane
 failed_before s (OnWire event) t step not = sym (wire_failed s event t step) ∙ not
 failed_before s (Asks event) t step not = sym (ap (λ (x : LaneState). x.failed) step.1) ∙ not
 failed_before s (Works event) t step not = work_failed s event t step not
-failed_before s (Turns event) t step not = sym (turn_failed s event t step) ∙ not
-failed_before s (Rests event) t step not = sym (rest_failed s event t step) ∙ not
+failed_before s (Switches event) t step not = sym (turn_failed s event t step) ∙ not
+failed_before s (Calms event) t step not = sym (rest_failed s event t step) ∙ not
 
 -- a unit whose store didn't fail
 pub stored_well : (s : LaneState) (gave : List ℕ) (operation block count : ℕ) (failed : Bool) (t : LaneState) → ServerWorks s gave (Stored operation block count failed) t → t.failed ≡ false → failed ≡ false
 stored_well s gave operation block count failed t step not = (either_false s.failed failed (sym (ap (λ (x : LaneState). x.failed) step.is) ∙ not)).1
 
 -- THE COUNTS after an event
-near_behind : (s : LaneState) (l : DiskLog) (event : DiskEvent) (t : LaneState) → Before s l → StepFacts s l event t → LaneStands t (after l event) → LaneStep s event t → NearStands t (after l event)
+near_behind : (s : LaneState) (l : DiskLog) (event : DiskEvent) (t : LaneState) → Before s l → StepFacts s l event t → LaneInvariant t (after l event) → LaneStep s event t → NearStands t (after l event)
 near_behind s l (OnWire event) t before facts behind step = near_wire s l event t before facts behind step
 near_behind s l (Asks event) t before facts behind step = near_asked s l event t before step
 near_behind s l (Works event) t before facts behind step = near_work s l event t before step
-near_behind s l (Turns event) t before facts behind step = near_turned s l event t before step
-near_behind s l (Rests event) t before facts behind step = near_calm s l event t before step
+near_behind s l (Switches event) t before facts behind step = near_turned s l event t before step
+near_behind s l (Calms event) t before facts behind step = near_calm s l event t before step
 
 -- THE CONTENTS after it
 store_contents : (s : LaneState) (l : DiskLog) (operation block count : ℕ) (failed : Bool) (gave : List ℕ) (t : LaneState) → Before s l → ContentsStand (view_of s) → failed ≡ false
@@ -160,8 +160,8 @@ contents_behind s l (Works (Moved unit fault)) t before contents facts clean wel
 contents_behind s l (Works (Finished slot status)) t before contents facts clean well step =
     changed_contents s l (Works (Finished slot status)) t before contents (lane_changes s l (Works (Finished slot status)) t before contents facts clean tt step)
 contents_behind s l (Works Misplaced) t before contents facts clean well step = absurd step
-contents_behind s l (Turns event) t before contents facts clean well step = changed_contents s l (Turns event) t before contents (lane_changes s l (Turns event) t before contents facts clean tt step)
-contents_behind s l (Rests event) t before contents facts clean well step = changed_contents s l (Rests event) t before contents (lane_changes s l (Rests event) t before contents facts clean tt step)
+contents_behind s l (Switches event) t before contents facts clean well step = changed_contents s l (Switches event) t before contents (lane_changes s l (Switches event) t before contents facts clean tt step)
+contents_behind s l (Calms event) t before contents facts clean well step = changed_contents s l (Calms event) t before contents (lane_changes s l (Calms event) t before contents facts clean tt step)
 
 -- ALONG A RUN
 pub before_of : (shape : Shape) (events : List DiskEvent) (s : LaneState) → IsShape shape → Run LaneStep (fresh shape) events s → (log_of after (nothing_yet shape) events).wire.forged ≡ false
@@ -190,7 +190,7 @@ pub record AlongContents (shape : Shape) (s : LaneState) (l : DiskLog) : Type 0 
 pub record AtStep (s : LaneState) (l : DiskLog) (event : DiskEvent) (t : LaneState) : Type 0 where
   pub before : Before s l
   pub facts : StepFacts s l event t
-  pub behind : LaneStands t (after l event)
+  pub behind : LaneInvariant t (after l event)
 
 pub at_step : (shape : Shape) → IsShape shape → (s : LaneState) (l : DiskLog) (event : DiskEvent) (t : LaneState) → AlongContents shape s l → LaneStep s event t → (after l event).wire.forged ≡ false
     → AtStep s l event t

@@ -3,7 +3,7 @@ use Rattle.std.proofs.Common.{◌≡◌, ℕ, zero, suc, ◌*◌, ◌<◌, ◌�
 use Rattle.std.specs.Prelude.{slice_get}
 use Rattle.vdisk_msg.specs.declared.request.Request.{Request}
 use Rattle.vdisk_msg.specs.Requests.{AreSound, after_request}
-use Rattle.lane_laws.specs.Blocks.{Puts, Reaches, after_requests, block_at}
+use Rattle.lane_laws.specs.Blocks.{WritesBlock, Reaches, after_requests, block_at}
 use Rattle.lane_laws.specs.Headline.{LastAmong, LastWrite, NoneAmong}
 use Rattle.lane_laws.proofs.BlockWrites.{after_long, after_missed, after_reached, reaches_or_not}
 
@@ -31,7 +31,7 @@ last_write blocks first (request ∷ requests) b sound long =
 
     by_first : NoneAmong (after_request first request) requests b bytes → Reaches request b ⊎ (Reaches request b → ⊥) → LastWrite first (request ∷ requests) b bytes
     by_first none (inl reaches) =
-        let puts : Puts request b bytes = subst (λ (x : List ℕ). Puts request b x) (sym none.bytes_are) (after_reached blocks first request b sound.0 long reaches) in
+        let puts : WritesBlock request b bytes = subst (λ (x : List ℕ). WritesBlock request b x) (sym none.bytes_are) (after_reached blocks first request b sound.0 long reaches) in
         inl (record { id = 0; request = request; there = refl; puts = puts; last = later })
       where
         later : (other : ℕ) (behind : Request) → 0 < other → slice_get (request ∷ requests) other ≡ Some behind → Reaches behind b → ⊥

@@ -1,13 +1,13 @@
 -- What the packets of a client leave of its session's places, and what those of a server leave of its descriptor in work.
 use Rattle.std.proofs.Common.{◌≡◌, ℕ, ◌+◌, Bool, true, false, Option, Some, None, List, inl, inr, refl, sym, ap, ◌∙◌, subst}
 use Rattle.ldc_link.specs.Following.{Follows}
-use Rattle.ldc_queue.specs.Talk.{Turn}
+use Rattle.ldc_queue.specs.Transcript.{Turn}
 use Rattle.disk_model.specs.ClientPutting.{announced, client_holds, client_kind, opened_if, session_behind}
 use Rattle.disk_model.specs.ClientRule as client
 use Rattle.disk_model.specs.ClientState.{ClientSession, ClientState, first_id, opened_session}
 use Rattle.disk_model.specs.ClientStep.{ClientSends}
 use Rattle.disk_model.specs.ClientTaking.{ClientTakes, GoesOn}
-use Rattle.disk_model.specs.EndPuts.{ComesUp, EndsOwn, EndsShake, Goes, PutKind, put_opens}
+use Rattle.disk_model.specs.EndPuts.{ComesUp, EndsOwn, EndsHandshake, Goes, PutKind, put_opens}
 use Rattle.disk_model.specs.Seeing.{Seen}
 use Rattle.disk_model.specs.ServerPutting.{server_holds}
 use Rattle.disk_model.specs.ServerRule as server
@@ -58,8 +58,8 @@ leaves_same c t is = record { ever = ap (λ (x : ClientState). x.ever_published)
 took_leaves : (c : ClientState) (turns : List Turn) (packet : List ℕ) (t : ClientState) → ClientTook c turns packet t → ClientLeaves c t
 took_leaves c turns packet t (inl part) =
     record { ever = ap (λ (x : ClientState). x.ever_published) part.is; keeps = keeps_same c.session t.session (ap (λ (x : ClientState). x.session) part.is) }
-took_leaves c turns packet t (inr (inl shakes)) =
-    record { ever = ap (λ (x : ClientState). x.ever_published) shakes.is; keeps = keeps_same c.session t.session (ap (λ (x : ClientState). x.session) shakes.is) }
+took_leaves c turns packet t (inr (inl handshakes)) =
+    record { ever = ap (λ (x : ClientState). x.ever_published) handshakes.is; keeps = keeps_same c.session t.session (ap (λ (x : ClientState). x.session) handshakes.is) }
 took_leaves c turns packet t (inr (inr acked)) = record {
   ever = ap (λ (x : ClientState). x.ever_published) acked.is;
   keeps = subst (λ (o : Option ClientSession). Keeps c.session o) (sym (ap (λ (x : ClientState). x.session) acked.is)) (keeps_some c.session acked.session _ acked.session_is refl refl);
@@ -79,17 +79,17 @@ held_leaves c at client.Joins held may is = absurd (cc)
 held_leaves c at (client.Completes session) held may is = absurd (cc)
 held_leaves c at (client.Takes packet) held may is = absurd (cc)
 held_leaves c at (client.Publishes session request) held may is = absurd (cc)
-held_leaves c at client.Rests held may is = absurd (cc)
+held_leaves c at client.Idles held may is = absurd (cc)
 
 opened_not : (b : Bool) (c : ClientState) → b ≡ false → Keeps c.session (opened_if b c)
 opened_not false c is = keeps_same c.session c.session refl
 opened_not true c is = absurd (cc is)
 
-put_keeps : (kind : PutKind) (c : ClientState) → put_opens kind c.shake ≡ false → Keeps c.session (session_behind kind c)
+put_keeps : (kind : PutKind) (c : ClientState) → put_opens kind c.handshake ≡ false → Keeps c.session (session_behind kind c)
 put_keeps EndsOwn c is = keeps_announced c.session
 put_keeps Goes c is = keeps_same c.session c.session refl
 put_keeps ComesUp c is = keeps_same c.session c.session refl
-put_keeps EndsShake c is = opened_not (put_opens EndsShake c.shake) c is
+put_keeps EndsHandshake c is = opened_not (put_opens EndsHandshake c.handshake) c is
 
 pub client_sent : (c : ClientState) (at : Seen) (memory packet : List ℕ) (t : ClientState) (new : List ℕ) → ClientSends c at memory packet false t new → ClientLeaves c t
 client_sent c at memory packet t new sends =
@@ -101,11 +101,11 @@ client_sent c at memory packet t new sends =
     }
 
 -- its session opens: nothing is published in it
-opened_behind : (kind : PutKind) (c : ClientState) → put_opens kind c.shake ≡ true → session_behind kind c ≡ Some (opened_session (first_id c))
+opened_behind : (kind : PutKind) (c : ClientState) → put_opens kind c.handshake ≡ true → session_behind kind c ≡ Some (opened_session (first_id c))
 opened_behind EndsOwn c is = absurd (cc is)
 opened_behind Goes c is = absurd (cc is)
 opened_behind ComesUp c is = absurd (cc is)
-opened_behind EndsShake c is = ap (λ (b : Bool). opened_if b c) is
+opened_behind EndsHandshake c is = ap (λ (b : Bool). opened_if b c) is
 
 pub record ClientOpened (c t : ClientState) : Type 0 where
   pub ever : t.ever_published ≡ c.ever_published
@@ -124,7 +124,7 @@ client_opened c at memory packet t new sends =
 -- THE SERVER
 took_work : (s : ServerState) (turns : List Turn) (packet : List ℕ) (t : ServerState) (opens : Bool) → ServerTook s turns packet t opens → t.work ≡ s.work
 took_work s turns packet t opens (inl part) = ap (λ (x : ServerState). x.work) part.is
-took_work s turns packet t opens (inr (inl shakes)) = ap (λ (x : ServerState). x.work) shakes.is
+took_work s turns packet t opens (inr (inl handshakes)) = ap (λ (x : ServerState). x.work) handshakes.is
 took_work s turns packet t opens (inr (inr asks)) = ap (λ (x : ServerState). x.work) asks.is
 
 pub server_took : (s : ServerState) (turns : List Turn) (packet : List ℕ) (t : ServerState) (opens : Bool) → Follows s.link turns → s.link.whole ≡ None
@@ -142,7 +142,7 @@ server_held s server.Joins held is = absurd (cc)
 server_held s (server.Fetches session) held is = absurd (cc)
 server_held s (server.Serves session work) held is = absurd (cc)
 server_held s (server.Takes packet) held is = absurd (cc)
-server_held s server.Rests held is = absurd (cc)
+server_held s server.Idles held is = absurd (cc)
 
 pub server_sent : (s : ServerState) (at : Seen) (packet : List ℕ) (opens : Bool) (t : ServerState) → ServerSends s at packet opens t → t.work ≡ s.work
 server_sent s at packet opens t sends = ap (λ (x : ServerState). x.work) sends.is ∙ server_held s (server.server_rule s at) sends.held sends.holds

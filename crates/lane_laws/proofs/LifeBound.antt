@@ -7,7 +7,7 @@ use Rattle.ldc_queue.specs.declared.end.ChannelState.TheVariants.{Up}
 use Rattle.ldc_queue.specs.declared.end.End.TheVariants.{A, B}
 use Rattle.ldc_queue.specs.OneStream.{IsFront}
 use Rattle.disk_model.specs.Sayings.{heard, said}
-use Rattle.disk_model.specs.TalkLog.{TalkLog}
+use Rattle.disk_model.specs.TranscriptLog.{TranscriptLog}
 use Rattle.disk_model.specs.Agreement.{ServerAgrees, ServerCountsAgree, WorkAgrees}
 use Rattle.disk_model.specs.DiskLog.{DiskLog, after, nothing_yet}
 use Rattle.disk_model.specs.WorkLog.{ServerCounts}
@@ -17,7 +17,8 @@ use Rattle.disk_model.specs.LaneState.{IsShape, LaneState, Shape, fresh}
 use Rattle.disk_model.specs.LaneStep.{LaneStep}
 use Rattle.disk_model.specs.Ranges.{wrapped}
 use Rattle.disk_model.specs.ServerState.{ServerSession, SlotRange, Work}
-use Rattle.lane_laws.proofs.Agreeing.{asked_within, client_some, front_sum, one_ring, talk_is}
+use Rattle.lane_laws.proofs.Agreeing.{asked_within, client_some, front_sum, one_ring}
+use Rattle.lane_laws.proofs.LaneCores.{transcript_is}
 use Rattle.lane_laws.proofs.FlightServer.{FewPieces}
 use Rattle.lane_laws.proofs.HeardFront.{heard_messages}
 use Rattle.lane_laws.proofs.LaneCounting.{Knows, run_knows}
@@ -25,7 +26,7 @@ use Rattle.lane_laws.proofs.RangeSums.{counts_fewer, counts_front}
 use Rattle.lane_laws.proofs.Sharing.{in_order}
 use Rattle.lane_laws.specs.Budget.{one_range}
 use Rattle.lane_laws.specs.Counted.{InServerOrder, NothingAsked, RangeStands, ServerOrder, acked_of, announced_of, infos_of, range_count, range_sum}
-use Rattle.lane_laws.specs.LaneTalks.{talk_behind}
+use Rattle.lane_laws.specs.LaneTranscripts.{transcript_behind}
 use Rattle.lane_laws.specs.Remaining.{asked_in, requests_left, serving_left, total, unfinished, work_left}
 use Rattle.lane_laws.specs.Sound.{InOrder}
 
@@ -59,10 +60,10 @@ record Serving (s : LaneState) (l : DiskLog) (session : ServerSession) : Type 0 
   is : l.work.server ≡ Some counts
   agree : ServerCountsAgree session counts
   work : WorkAgrees s.server.work counts
-  order : InServerOrder l.shape.slots session counts l.talk.server
+  order : InServerOrder l.shape.slots session counts l.transcript.server
 
 serving_by : (q : Option ServerCounts) (s : LaneState) (l : DiskLog) (session : ServerSession) → l.work.server ≡ q → ServerAgrees (Some session) s.server.work q
-    → ServerOrder l.shape.slots (Some session) q l.talk.server → Serving s l session
+    → ServerOrder l.shape.slots (Some session) q l.transcript.server → Serving s l session
 serving_by None s l session is agrees order = absurd agrees
 serving_by (Some d) s l session is agrees order = record { counts = d; is = is; agree = agrees.0; work = agrees.1; order = order }
 
@@ -70,7 +71,7 @@ serving_of : (s : LaneState) (l : DiskLog) (session : ServerSession) → Knows s
 serving_of s l session knows is =
     let server = knows.counted.server in
     serving_by l.work.server s l session refl (subst (λ (p : Option ServerSession). ServerAgrees p s.server.work l.work.server) is server.agrees)
-    (subst (λ (p : Option ServerSession). ServerOrder l.shape.slots p l.work.server l.talk.server) is server.order)
+    (subst (λ (p : Option ServerSession). ServerOrder l.shape.slots p l.work.server l.transcript.server) is server.order)
 
 finished_most : (work : Option Work) (d : ServerCounts) → WorkAgrees work d → d.finished ≤ d.descs
 finished_most None d agrees = omega (arith, agrees.1)
@@ -99,18 +100,18 @@ all_outstanding infos acked announced answers said_count said_sum heard_count he
 -- WHERE BOTH SESSIONS are open
 both_open : (shape : Shape) (events : List DiskEvent) (s : LaneState) (c : ClientSession) (v : ServerSession) → IsShape shape → Run LaneStep (fresh shape) events s → s.wire.forged ≡ false
     → s.wire.wire.end_a ≡ Up → s.wire.wire.end_b ≡ Up → s.client.session ≡ Some c → s.server.session ≡ Some v → FewPieces s.server.work
-    → RequestsLeft (Some c) (Some v) s.server.work (length s.client.pending) (range_count 2 (heard (log_of after (nothing_yet shape) events).talk.client))
+    → RequestsLeft (Some c) (Some v) s.server.work (length s.client.pending) (range_count 2 (heard (log_of after (nothing_yet shape) events).transcript.client))
 both_open shape events s c v sound run clean up_a up_b is_c is_v pieces =
     let l = log_of after (nothing_yet shape) events in
     let slots = l.shape.slots in
     let knows : Knows s l = run_knows shape events s sound run in
-    let talk : l.talk ≡ talk_behind events = talk_is (nothing_yet shape) events in
-    let front_b : IsFront (heard l.talk.server) (said l.talk.client) = subst (λ (t : TalkLog). IsFront (heard t.server) (said t.client)) (sym talk) (heard_messages shape events s B sound run clean up_b) in
-    let front_a : IsFront (heard l.talk.client) (said l.talk.server) = subst (λ (t : TalkLog). IsFront (heard t.client) (said t.server)) (sym talk) (heard_messages shape events s A sound run clean up_a) in
-    let order : InOrder (length s.client.pending) c = in_order (length s.client.pending) s.client.session c is_c knows.all.talks.client.counts in
-    let announced : c.announced ≡ range_sum slots 1 (said l.talk.client) = sym (ap announced_of is_c) ∙ knows.counted.client.announced in
-    let acked : c.acked ≡ range_sum slots 2 (heard l.talk.client) = sym (ap acked_of is_c) ∙ knows.counted.client.acked in
-    let infos : c.infos ≡ range_count 1 (said l.talk.client) = sym (ap infos_of is_c) ∙ knows.counted.client.infos in
+    let transcript : l.transcript ≡ transcript_behind events = transcript_is (nothing_yet shape) events in
+    let front_b : IsFront (heard l.transcript.server) (said l.transcript.client) = subst (λ (t : TranscriptLog). IsFront (heard t.server) (said t.client)) (sym transcript) (heard_messages shape events s B sound run clean up_b) in
+    let front_a : IsFront (heard l.transcript.client) (said l.transcript.server) = subst (λ (t : TranscriptLog). IsFront (heard t.client) (said t.server)) (sym transcript) (heard_messages shape events s A sound run clean up_a) in
+    let order : InOrder (length s.client.pending) c = in_order (length s.client.pending) s.client.session c is_c knows.all.transcripts.client.counts in
+    let announced : c.announced ≡ range_sum slots 1 (said l.transcript.client) = sym (ap announced_of is_c) ∙ knows.counted.client.announced in
+    let acked : c.acked ≡ range_sum slots 2 (heard l.transcript.client) = sym (ap acked_of is_c) ∙ knows.counted.client.acked in
+    let infos : c.infos ≡ range_count 1 (said l.transcript.client) = sym (ap infos_of is_c) ∙ knows.counted.client.infos in
     let serves : Serving s l v = serving_of s l v knows is_v in
     let d = serves.counts in
     let within = asked_within shape events s v sound run clean up_b is_v in
@@ -121,38 +122,38 @@ both_open shape events s c v sound run clean up_a up_b is_c is_v pieces =
     let left : unfinished v + v.finished ≡ v.asked = left_of v.asked v.finished (omega (arith, within.small)) fetched in
     let serving : work_left (unfinished v) s.server.work ≤ 10 * unfinished v =
     serves_most s.server.work (unfinished v) pieces (λ some. more_left (unfinished v) v.finished v.asked d.finished d.asked left finished asked (working_more s.server.work d serves.work serves.order.descs some)) in
-    let outstanding : c.infos + c.acked ≤ c.announced + range_count 2 (heard l.talk.client) =
-    all_outstanding c.infos c.acked c.announced (range_count 2 (heard l.talk.client)) (range_count 1 (said l.talk.client)) (range_sum slots 1 (said l.talk.client)) (range_count 1 (heard l.talk.server))
-    (range_sum slots 1 (heard l.talk.server)) (range_count 2 (said l.talk.server)) (range_sum slots 2 (said l.talk.server)) (range_sum slots 2 (heard l.talk.client)) (one_range v.range) infos acked
-    announced (front_counts slots 1 (heard l.talk.server) (said l.talk.client) front_b) (front_counts slots 2 (heard l.talk.client) (said l.talk.server) front_a) serves.order.replies
+    let outstanding : c.infos + c.acked ≤ c.announced + range_count 2 (heard l.transcript.client) =
+    all_outstanding c.infos c.acked c.announced (range_count 2 (heard l.transcript.client)) (range_count 1 (said l.transcript.client)) (range_sum slots 1 (said l.transcript.client)) (range_count 1 (heard l.transcript.server))
+    (range_sum slots 1 (heard l.transcript.server)) (range_count 2 (said l.transcript.server)) (range_sum slots 2 (said l.transcript.server)) (range_sum slots 2 (heard l.transcript.client)) (one_range v.range) infos acked
+    announced (front_counts slots 1 (heard l.transcript.server) (said l.transcript.client) front_b) (front_counts slots 2 (heard l.transcript.client) (said l.transcript.server) front_a) serves.order.replies
     (omega (arith, range_more slots v.range d serves.order.range, serves.order.asked, serves.order.answered)) in
-    all_requests (length s.client.pending) c.completed c.acked c.announced c.published c.infos (range_count 2 (heard l.talk.client)) v.asked v.finished (work_left (unfinished v) s.server.work) order.completed
-    (omega (arith, acked, front_sum slots 2 (heard l.talk.client) (said l.talk.server) front_a, serves.order.answered, serves.order.finished, finished)) fetched
-    (omega (arith, announced, front_sum slots 1 (heard l.talk.server) (said l.talk.client) front_b, within.asked)) order.announced order.published outstanding (omega (arith, serving, left))
+    all_requests (length s.client.pending) c.completed c.acked c.announced c.published c.infos (range_count 2 (heard l.transcript.client)) v.asked v.finished (work_left (unfinished v) s.server.work) order.completed
+    (omega (arith, acked, front_sum slots 2 (heard l.transcript.client) (said l.transcript.server) front_a, serves.order.answered, serves.order.finished, finished)) fetched
+    (omega (arith, announced, front_sum slots 1 (heard l.transcript.server) (said l.transcript.client) front_b, within.asked)) order.announced order.published outstanding (omega (arith, serving, left))
 
 -- where the client's alone is open
 client_alone : (shape : Shape) (events : List DiskEvent) (s : LaneState) (c : ClientSession) → IsShape shape → Run LaneStep (fresh shape) events s → s.wire.forged ≡ false
     → s.wire.wire.end_a ≡ Up → s.client.session ≡ Some c → s.server.session ≡ None
-    → RequestsLeft (Some c) None s.server.work (length s.client.pending) (range_count 2 (heard (log_of after (nothing_yet shape) events).talk.client))
+    → RequestsLeft (Some c) None s.server.work (length s.client.pending) (range_count 2 (heard (log_of after (nothing_yet shape) events).transcript.client))
 client_alone shape events s c sound run clean up_a is_c is_v =
     let l = log_of after (nothing_yet shape) events in
     let slots = l.shape.slots in
     let knows : Knows s l = run_knows shape events s sound run in
-    let talk : l.talk ≡ talk_behind events = talk_is (nothing_yet shape) events in
-    let front_a : IsFront (heard l.talk.client) (said l.talk.server) = subst (λ (t : TalkLog). IsFront (heard t.client) (said t.server)) (sym talk) (heard_messages shape events s A sound run clean up_a) in
-    let order : InOrder (length s.client.pending) c = in_order (length s.client.pending) s.client.session c is_c knows.all.talks.client.counts in
-    let announced : c.announced ≡ range_sum slots 1 (said l.talk.client) = sym (ap announced_of is_c) ∙ knows.counted.client.announced in
-    let acked : c.acked ≡ range_sum slots 2 (heard l.talk.client) = sym (ap acked_of is_c) ∙ knows.counted.client.acked in
-    let infos : c.infos ≡ range_count 1 (said l.talk.client) = sym (ap infos_of is_c) ∙ knows.counted.client.infos in
-    let nothing : NothingAsked slots l.talk.server = subst (λ (p : Option ServerSession). ServerOrder slots p l.work.server l.talk.server) is_v knows.counted.server.order in
-    let none : c.acked ≡ 0 = omega (arith, acked, front_sum slots 2 (heard l.talk.client) (said l.talk.server) front_a, nothing.answered) in
-    all_requests (length s.client.pending) c.completed c.acked c.announced c.published c.infos (range_count 2 (heard l.talk.client)) 0 0 0 order.completed (omega (arith, none)) (omega arith) (omega arith)
-    order.announced order.published (omega (arith, none, infos, announced, counts_fewer slots 1 (said l.talk.client))) (omega arith)
+    let transcript : l.transcript ≡ transcript_behind events = transcript_is (nothing_yet shape) events in
+    let front_a : IsFront (heard l.transcript.client) (said l.transcript.server) = subst (λ (t : TranscriptLog). IsFront (heard t.client) (said t.server)) (sym transcript) (heard_messages shape events s A sound run clean up_a) in
+    let order : InOrder (length s.client.pending) c = in_order (length s.client.pending) s.client.session c is_c knows.all.transcripts.client.counts in
+    let announced : c.announced ≡ range_sum slots 1 (said l.transcript.client) = sym (ap announced_of is_c) ∙ knows.counted.client.announced in
+    let acked : c.acked ≡ range_sum slots 2 (heard l.transcript.client) = sym (ap acked_of is_c) ∙ knows.counted.client.acked in
+    let infos : c.infos ≡ range_count 1 (said l.transcript.client) = sym (ap infos_of is_c) ∙ knows.counted.client.infos in
+    let nothing : NothingAsked slots l.transcript.server = subst (λ (p : Option ServerSession). ServerOrder slots p l.work.server l.transcript.server) is_v knows.counted.server.order in
+    let none : c.acked ≡ 0 = omega (arith, acked, front_sum slots 2 (heard l.transcript.client) (said l.transcript.server) front_a, nothing.answered) in
+    all_requests (length s.client.pending) c.completed c.acked c.announced c.published c.infos (range_count 2 (heard l.transcript.client)) 0 0 0 order.completed (omega (arith, none)) (omega arith) (omega arith)
+    order.announced order.published (omega (arith, none, infos, announced, counts_fewer slots 1 (said l.transcript.client))) (omega arith)
 
 -- BOTH ENDS ARE UP
 pub by_sessions : (o : Option ClientSession) (p : Option ServerSession) (shape : Shape) (events : List DiskEvent) (s : LaneState) → IsShape shape → Run LaneStep (fresh shape) events s → s.wire.forged ≡ false
     → s.wire.wire.end_a ≡ Up → s.wire.wire.end_b ≡ Up → s.client.session ≡ o → s.server.session ≡ p → FewPieces s.server.work
-    → RequestsLeft o p s.server.work (length s.client.pending) (range_count 2 (heard (log_of after (nothing_yet shape) events).talk.client))
+    → RequestsLeft o p s.server.work (length s.client.pending) (range_count 2 (heard (log_of after (nothing_yet shape) events).transcript.client))
 by_sessions None None shape events s sound run clean up_a up_b is_c is_v pieces = omega arith
 by_sessions (Some c) None shape events s sound run clean up_a up_b is_c is_v pieces = client_alone shape events s c sound run clean up_a is_c is_v
 by_sessions (Some c) (Some v) shape events s sound run clean up_a up_b is_c is_v pieces = both_open shape events s c v sound run clean up_a up_b is_c is_v pieces

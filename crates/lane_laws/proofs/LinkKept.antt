@@ -17,10 +17,10 @@ use Rattle.vio_tag.specs.declared.message.Message.{Message}
 use Rattle.vio_tag.specs.declared.message.MsgBody.{MsgBody}
 use Rattle.vio_tag.specs.declared.message.MsgBody.TheVariants.{DringData}
 use Rattle.vio_tag.specs.declared.message.TagFault.{TagFault}
-use Rattle.vio_handshake.specs.Rules.{Faults, Goes, GoesOpen, ShakeTake, shake_take, sid_fault}
+use Rattle.vio_handshake.specs.Rules.{Faults, Goes, GoesOpen, HandshakeTake, handshake_take, sid_fault}
 use Rattle.disk_model.specs.ClientState.{ClientSession, ClientState, slot_in}
 use Rattle.disk_model.specs.ClientTaking as client
-use Rattle.disk_model.specs.EndPuts.{shake_risen}
+use Rattle.disk_model.specs.EndPuts.{handshake_risen}
 use Rattle.disk_model.specs.Ranges.{is_other, range_length}
 use Rattle.disk_model.specs.ServerState.{ServerSession, ServerState, SlotRange}
 use Rattle.disk_model.specs.ServerTaking as server
@@ -71,7 +71,7 @@ by_same : (k m n : LinkState) → SameSending k m → n ≡ m → SameSending k 
 by_same k m n same is = subst (SameSending k) (sym is) same
 
 -- THE CLIENT
-abbrev ClientLeaves : ClientState → client.ClientTake → Type 0
+abbrev pub ClientLeaves : ClientState → client.ClientTake → Type 0
 ClientLeaves x (client.GoesOn t) = t.link ≡ x.link
 ClientLeaves x (client.Resets cause) = ⊤
 
@@ -79,14 +79,14 @@ client_if : (x : ClientState) (b : Bool) (one other : client.ClientTake) → Cli
 client_if x true one other first rest = first
 client_if x false one other first rest = rest
 
-client_shake : (x : ClientState) (take : ShakeTake) → ClientLeaves x (client.by_handshake x take)
-client_shake x (Goes h) = refl
-client_shake x (GoesOpen h) = refl
-client_shake x (Faults cause) = tt
+client_handshake : (x : ClientState) (take : HandshakeTake) → ClientLeaves x (client.by_handshake x take)
+client_handshake x (Goes h) = refl
+client_handshake x (GoesOpen h) = refl
+client_handshake x (Faults cause) = tt
 
 client_ack : (x : ClientState) (session : ClientSession) (ident start end : ℕ) → ClientLeaves x (client.takes_ack x session ident start end)
 client_ack x session ident start end =
-    client_if x (is_other x.shake.draft.ident_own ident) (client.Resets (the_cause.Ident x.shake.draft.ident_own ident)) _ tt
+    client_if x (is_other x.handshake.draft.ident_own ident) (client.Resets (the_cause.Ident x.handshake.draft.ident_own ident)) _ tt
     (client_if x (is_other (slot_in x session.acked) start) (client.Resets (the_cause.Slot (slot_in x session.acked) start)) _ tt
     (client_if x (nat_lt end x.slots && nat_le (session.acked + range_length x.slots start end) session.announced)
     (client.GoesOn (client.acknowledged x session (range_length x.slots start end))) (client.Resets (the_cause.RangeEnd end)) refl tt))
@@ -94,18 +94,18 @@ client_ack x session ident start end =
 client_in : (x : ClientState) (session : ClientSession) (message : Message) (subtype : Subtype) (b : MsgBody) → ClientLeaves x (client.in_session x session message subtype b)
 client_in x session message Ack (DringData seq ident start end state) = client_ack x session ident start end
 client_in x session message Nack (DringData seq ident start end state) = tt
-client_in x session message _ _ = client_shake x (shake_take x.shake message)
+client_in x session message _ _ = client_handshake x (handshake_take x.handshake message)
 
 client_or : (x : ClientState) (fault : Option Cause) (rest : client.ClientTake) → ClientLeaves x rest → ClientLeaves x (client.sid_first fault rest)
 client_or x None rest leaves = leaves
 client_or x (Some cause) rest leaves = tt
 
 client_hears : (x : ClientState) (session : Option ClientSession) (message : Message) → ClientLeaves x (client.hears_message x session message)
-client_hears x None message = client_shake x (shake_take x.shake message)
+client_hears x None message = client_handshake x (handshake_take x.handshake message)
 client_hears x (Some session) message =
-    client_or x (sid_fault x.shake.sid message.sid) (client.in_session x session message message.subtype message.body) (client_in x session message message.subtype message.body)
+    client_or x (sid_fault x.handshake.sid message.sid) (client.in_session x session message message.subtype message.body) (client_in x session message message.subtype message.body)
 
-client_reads : (x : ClientState) (d : Result Message TagFault) → ClientLeaves x (client.reads x d)
+pub client_reads : (x : ClientState) (d : Result Message TagFault) → ClientLeaves x (client.reads x d)
 client_reads x (Ok message) = client_hears x x.session message
 client_reads x (Err fault) = tt
 
@@ -126,7 +126,7 @@ client_sending s t bytes takes = of takes.link takes.takes takes.hears
     of (Unheard cause) took hears = absurd (cc)
 
 -- THE SERVER
-abbrev ServerLeaves : ServerState → server.ServerTake → Type 0
+abbrev pub ServerLeaves : ServerState → server.ServerTake → Type 0
 ServerLeaves x (server.GoesOn t opens) = t.link ≡ x.link
 ServerLeaves x (server.Resets cause) = ⊤
 
@@ -134,45 +134,45 @@ server_if : (x : ServerState) (b : Bool) (one other : server.ServerTake) → Ser
 server_if x true one other first rest = first
 server_if x false one other first rest = rest
 
-server_shake : (x : ServerState) (take : ShakeTake) → ServerLeaves x (server.by_handshake x take)
-server_shake x (Goes h) = refl
-server_shake x (GoesOpen h) = refl
-server_shake x (Faults cause) = tt
+server_handshake : (x : ServerState) (take : HandshakeTake) → ServerLeaves x (server.by_handshake x take)
+server_handshake x (Goes h) = refl
+server_handshake x (GoesOpen h) = refl
+server_handshake x (Faults cause) = tt
 
 server_info : (x : ServerState) (session : ServerSession) (ident : ℕ) (range : SlotRange) → ServerLeaves x (server.takes_info x session ident range)
 server_info x session ident range =
-    server_if x (is_other x.shake.draft.ident_peer ident) (server.Resets (the_cause.Ident x.shake.draft.ident_peer ident)) _ tt
+    server_if x (is_other x.handshake.draft.ident_peer ident) (server.Resets (the_cause.Ident x.handshake.draft.ident_peer ident)) _ tt
     (server_if x (is_other session.seq range.seq) (server.Resets (the_cause.Seq session.seq range.seq)) _ tt
     (server_if x (is_other (server.place_of x session) range.start) (server.Resets (the_cause.Slot (server.place_of x session) range.start)) _ tt
-    (server_if x (nat_le x.shake.draft.peer_slots range.end) (server.Resets (the_cause.RangeEnd range.end)) (server.GoesOn (server.asked x session range) false) tt refl)))
+    (server_if x (nat_le x.handshake.draft.peer_slots range.end) (server.Resets (the_cause.RangeEnd range.end)) (server.GoesOn (server.asked x session range) false) tt refl)))
 
 server_in : (x : ServerState) (session : ServerSession) (message : Message) (subtype : Subtype) (b : MsgBody) → ServerLeaves x (server.in_session x session message subtype b)
 server_in x session message Info (DringData seq ident start end state) = server_info x session ident (record { seq = seq; start = start; end = end; state = state })
-server_in x session message _ _ = server_shake x (shake_take x.shake message)
+server_in x session message _ _ = server_handshake x (handshake_take x.handshake message)
 
 server_or : (x : ServerState) (fault : Option Cause) (rest : server.ServerTake) → ServerLeaves x rest → ServerLeaves x (server.sid_first fault rest)
 server_or x None rest leaves = leaves
 server_or x (Some cause) rest leaves = tt
 
 server_hears : (x : ServerState) (session : Option ServerSession) (message : Message) → ServerLeaves x (server.hears_message x session message)
-server_hears x None message = server_shake x (shake_take x.shake message)
+server_hears x None message = server_handshake x (handshake_take x.handshake message)
 server_hears x (Some session) message =
-    server_or x (sid_fault x.shake.sid message.sid) (server.in_session x session message message.subtype message.body) (server_in x session message message.subtype message.body)
+    server_or x (sid_fault x.handshake.sid message.sid) (server.in_session x session message message.subtype message.body) (server_in x session message message.subtype message.body)
 
-server_reads : (x : ServerState) (d : Result Message TagFault) → ServerLeaves x (server.reads x d)
+pub server_reads : (x : ServerState) (d : Result Message TagFault) → ServerLeaves x (server.reads x d)
 server_reads x (Ok message) = server_hears x x.session message
 server_reads x (Err fault) = tt
 
 server_whole : (s t : ServerState) (opens : Bool) (k : LinkState) (whole : Option (List ℕ)) → SameSending s.link k
-    → server.HearsWhole (record s { link = k; shake = shake_risen s.link k s.shake }) whole (server.GoesOn t opens) → SameSending s.link t.link
+    → server.HearsWhole (record s { link = k; handshake = handshake_risen s.link k s.handshake }) whole (server.GoesOn t opens) → SameSending s.link t.link
 server_whole s t opens k None same is =
-    let mine : ServerLeaves (record s { link = k; shake = shake_risen s.link k s.shake }) (server.GoesOn t opens) =
-    subst (ServerLeaves (record s { link = k; shake = shake_risen s.link k s.shake })) (sym is) refl in
+    let mine : ServerLeaves (record s { link = k; handshake = handshake_risen s.link k s.handshake }) (server.GoesOn t opens) =
+    subst (ServerLeaves (record s { link = k; handshake = handshake_risen s.link k s.handshake })) (sym is) refl in
     by_same s.link k t.link same mine
 server_whole s t opens k (Some bytes) same is =
     by_same s.link (cleared k) t.link (record { left = same.left; begun = same.begun })
-    (subst (ServerLeaves (record s { link = cleared k; shake = shake_risen s.link k s.shake })) (sym is.2)
-    (server_reads (record s { link = cleared k; shake = shake_risen s.link k s.shake }) is.0))
+    (subst (ServerLeaves (record s { link = cleared k; handshake = handshake_risen s.link k s.handshake })) (sym is.2)
+    (server_reads (record s { link = cleared k; handshake = handshake_risen s.link k s.handshake }) is.0))
 
 pub server_sending : (s t : ServerState) (opens : Bool) (bytes : List ℕ) → server.ServerTakes s bytes (server.GoesOn t opens) → SameSending s.link t.link
 server_sending s t opens bytes takes = of takes.link takes.takes takes.hears

@@ -1,4 +1,4 @@
--- A message for which an end resets itself says why.
+-- A message for which an end of a disk resets itself says why.
 use Rattle.std.proofs.Common.{◌≡◌, ℕ, Bool, true, false, Option, Some, None, List, refl, sym}
 use Rattle.std.specs.Prelude.{nat_eq, nat_le, nat_lt, ◌==◌, ◌&&◌, ◌+◌, if◌then◌else◌, ⊤, Result, Ok, Err}
 use Rattle.ldc_link.specs.declared.phase.Role.{Role}
@@ -21,89 +21,15 @@ use Rattle.vio_handshake.specs.declared.handshake.Handshake.{Handshake}
 use Rattle.vio_handshake.specs.declared.handshake.Phase.{Phase}
 use Rattle.vio_handshake.specs.declared.handshake.Phase.TheVariants as state
 use Rattle.vio_handshake.specs.Rules as rules
-use Rattle.vio_handshake.specs.Rules.{Faults, Goes, GoesOpen, ShakeTake, answered, asked, fault_or, is_declined, row, shake_hear, shake_take, sid_fault}
+use Rattle.vio_handshake.specs.Rules.{Faults, Goes, GoesOpen, HandshakeTake, answered, asked, fault_or, is_declined, row, handshake_hear, handshake_take, sid_fault}
 use Rattle.disk_model.specs.ClientState.{ClientSession, ClientState, slot_in}
 use Rattle.disk_model.specs.ClientTaking as client
 use Rattle.disk_model.specs.Ranges.{is_other, range_length}
 use Rattle.disk_model.specs.ServerState.{ServerSession, ServerState, SlotRange}
 use Rattle.disk_model.specs.ServerTaking as server
 use Rattle.disk_model.specs.ResetSays.{IsOther, MessageSays}
-use Rattle.lane_laws.proofs.LinkResets.{other_number}
-
--- bytes that spell a message
-pub record Spelled (m : List ℕ) (message : Message) : Type 0 where
-  pub sound : first_fault m ≡ None
-  pub spells : SpellsMessage m message
-
--- THE HANDSHAKE
-abbrev ShakeWhy : List ℕ → ShakeTake → Type 0
-ShakeWhy m (Goes h) = ⊤
-ShakeWhy m (GoesOpen h) = ⊤
-ShakeWhy m (Faults cause) = MessageSays m cause
-
-shake_if : (m : List ℕ) (b : Bool) (one other : ShakeTake) → ShakeWhy m one → ShakeWhy m other → ShakeWhy m (if b then one else other)
-shake_if m true one other why rest = why
-shake_if m false one other why rest = rest
-
-answered_why : (m : List ℕ) (s : Subtype) (judged : ShakeTake) → first_fault m ≡ None → ShakeWhy m judged → ShakeWhy m (answered s judged)
-answered_why m Info judged sound why = sound
-answered_why m Ack judged sound why = why
-answered_why m Nack judged sound why = sound
-
-asked_why : (m : List ℕ) (s : Subtype) (judged : ShakeTake) → first_fault m ≡ None → ShakeWhy m judged → ShakeWhy m (asked s judged)
-asked_why m Info judged sound why = why
-asked_why m Ack judged sound why = sound
-asked_why m Nack judged sound why = sound
-
-version_why : (m : List ℕ) (h : Handshake) (sid major minor : ℕ) → first_fault m ≡ None → ShakeWhy m (rules.version_answered h sid major minor)
-version_why m h sid major minor sound = shake_if m (major == 1 && nat_le minor h.offer.minor) (Goes _) (Faults the_cause.Refused) tt sound
-
-attributes_why : (m : List ℕ) (h : Handshake) (sid : ℕ) (bytes : List ℕ) → first_fault m ≡ None → ShakeWhy m (rules.attributes_answered h sid bytes)
-attributes_why m h sid bytes sound = shake_if m (accepts_answered h.offer h.draft.minor bytes) (Goes _) (Faults the_cause.Refused) tt sound
-
-ready_why : (m : List ℕ) (role : Role) (h : Handshake) → ShakeWhy m (rules.ready_answered role h)
-ready_why m Initiator h = tt
-ready_why m Responder h = tt
-
-row_why : (m : List ℕ) (role : Role) (p : Phase) (h : Handshake) (s : Subtype) (sid : ℕ) (b : MsgBody) → first_fault m ≡ None → ShakeWhy m (row role p h s sid b)
-row_why m Initiator state.Version h s sid (Ver major minor class) sound = answered_why m s (rules.version_answered h sid major minor) sound (version_why m h sid major minor sound)
-row_why m Responder state.Version h s sid (Ver major minor class) sound = asked_why m s (Goes (rules.version_asked h sid major minor class)) sound tt
-row_why m Initiator state.Attributes h s sid (Attr bytes) sound = answered_why m s (rules.attributes_answered h sid bytes) sound (attributes_why m h sid bytes sound)
-row_why m Responder state.Attributes h s sid (Attr bytes) sound = asked_why m s (Goes (rules.attributes_asked h sid bytes)) sound tt
-row_why m Initiator state.OwnRing h s sid (DringReg ident slots size options count cookies) sound = answered_why m s (Goes (rules.ring_answered Initiator h sid ident)) sound tt
-row_why m Responder state.OwnRing h s sid (DringReg ident slots size options count cookies) sound = answered_why m s (Goes (rules.ring_answered Responder h sid ident)) sound tt
-row_why m Initiator state.PeerRing h s sid (DringReg ident slots size options count cookies) sound = asked_why m s (Goes (rules.ring_asked h sid ident slots size options count cookies)) sound tt
-row_why m Responder state.PeerRing h s sid (DringReg ident slots size options count cookies) sound = asked_why m s (Goes (rules.ring_asked h sid ident slots size options count cookies)) sound tt
-row_why m Initiator state.OwnReady h s sid Rdx sound = answered_why m s (rules.ready_answered Initiator h) sound tt
-row_why m Responder state.OwnReady h s sid Rdx sound = answered_why m s (rules.ready_answered Responder h) sound tt
-row_why m Initiator state.PeerReady h s sid Rdx sound = asked_why m s (Goes _) sound tt
-row_why m Responder state.PeerReady h s sid Rdx sound = asked_why m s (Goes _) sound tt
-row_why m _ _ h s sid _ sound = sound
-
-abbrev FaultWhy : List ℕ → Option Cause → Type 0
-FaultWhy m None = ⊤
-FaultWhy m (Some cause) = MessageSays m cause
-
-fault_if : (m : List ℕ) (b : Bool) (expected found : ℕ) → first_fault m ≡ None → found ≡ number_at 4 4 m → b ≡ nat_eq expected found
-    → FaultWhy m (if b then None else Some (the_cause.Sid expected found))
-fault_if m true expected found sound there is = tt
-fault_if m false expected found sound there is = (sound, (there, other_number expected found (sym is)))
-
-sid_why : (m : List ℕ) (known : Option ℕ) (message : Message) → Spelled m message → FaultWhy m (sid_fault known message.sid)
-sid_why m None message spelled = tt
-sid_why m (Some expected) message spelled = fault_if m (expected == message.sid) expected message.sid spelled.sound spelled.spells.sid refl
-
-or_why : (m : List ℕ) (fault : Option Cause) (rest : ShakeTake) → FaultWhy m fault → ShakeWhy m rest → ShakeWhy m (fault_or fault rest)
-or_why m None rest why own = own
-or_why m (Some cause) rest why own = why
-
-hear_why : (m : List ℕ) (h : Handshake) (s : Subtype) (sid : ℕ) (b : MsgBody) → first_fault m ≡ None → ShakeWhy m (shake_hear h s sid b)
-hear_why m h s sid b sound = shake_if m (is_declined s b) (Goes _) (row h.role h.phase h s sid b) tt (row_why m h.role h.phase h s sid b sound)
-
-shake_why : (m : List ℕ) (h : Handshake) (message : Message) → Spelled m message → ShakeWhy m (shake_take h message)
-shake_why m h message spelled =
-    or_why m (sid_fault h.sid message.sid) (shake_hear h message.subtype message.sid message.body) (sid_why m h.sid message spelled)
-    (hear_why m h message.subtype message.sid message.body spelled.sound)
+use Rattle.channel_laws.proofs.LinkResets.{other_number}
+use Rattle.channel_laws.proofs.HandshakeResets.{FaultWhy, HandshakeWhy, Spelled, handshake_why, sid_why}
 
 -- what is another than was expected
 is_other_why : (m : List ℕ) (expected found there : ℕ) → is_other expected found ≡ true → found ≡ there → IsOther expected found there
@@ -122,16 +48,16 @@ client_if : (m : List ℕ) (b : Bool) (one other : client.ClientTake) → (b ≡
 client_if m true one other why rest = why refl
 client_if m false one other why rest = rest
 
-client_shake : (m : List ℕ) (s : ClientState) (take : ShakeTake) → ShakeWhy m take → ClientWhy m (client.by_handshake s take)
-client_shake m s (Goes h) why = tt
-client_shake m s (GoesOpen h) why = tt
-client_shake m s (Faults cause) why = why
+client_handshake : (m : List ℕ) (s : ClientState) (take : HandshakeTake) → HandshakeWhy m take → ClientWhy m (client.by_handshake s take)
+client_handshake m s (Goes h) why = tt
+client_handshake m s (GoesOpen h) why = tt
+client_handshake m s (Faults cause) why = why
 
 client_ack : (m : List ℕ) (s : ClientState) (session : ClientSession) (seq ident start end state : ℕ) → first_fault m ≡ None → envelope_at m ≡ 0x0042
     → SpellsBody m (DringData seq ident start end state) → ClientWhy m (client.takes_ack s session ident start end)
 client_ack m s session seq ident start end state sound envelope spells =
-    client_if m (is_other s.shake.draft.ident_own ident) (client.Resets (the_cause.Ident s.shake.draft.ident_own ident)) _
-    (λ is. (sound, envelope, is_other_why m s.shake.draft.ident_own ident (number_at 8 16 m) is spells.1))
+    client_if m (is_other s.handshake.draft.ident_own ident) (client.Resets (the_cause.Ident s.handshake.draft.ident_own ident)) _
+    (λ is. (sound, envelope, is_other_why m s.handshake.draft.ident_own ident (number_at 8 16 m) is spells.1))
     (client_if m (is_other (slot_in s session.acked) start) (client.Resets (the_cause.Slot (slot_in s session.acked) start)) _
     (λ is. (sound, envelope, is_other_why m (slot_in s session.acked) start (number_at 4 24 m) is spells.2))
     (client_if m (nat_lt end s.slots && nat_le (session.acked + range_length s.slots start end) session.announced) (client.GoesOn _) (client.Resets (the_cause.RangeEnd end))
@@ -141,16 +67,16 @@ client_in : (m : List ℕ) (s : ClientState) (session : ClientSession) (message 
     → SpellsBody m b → ClientWhy m (client.in_session s session message subtype b)
 client_in m s session message Ack (DringData seq ident start end state) spelled envelope spells = client_ack m s session seq ident start end state spelled.sound envelope spells
 client_in m s session message Nack (DringData seq ident start end state) spelled envelope spells = spelled.sound
-client_in m s session message _ _ spelled envelope spells = client_shake m s (shake_take s.shake message) (shake_why m s.shake message spelled)
+client_in m s session message _ _ spelled envelope spells = client_handshake m s (handshake_take s.handshake message) (handshake_why m s.handshake message spelled)
 
 client_or : (m : List ℕ) (fault : Option Cause) (rest : client.ClientTake) → FaultWhy m fault → ClientWhy m rest → ClientWhy m (client.sid_first fault rest)
 client_or m None rest why own = own
 client_or m (Some cause) rest why own = why
 
 client_hears : (m : List ℕ) (s : ClientState) (session : Option ClientSession) (message : Message) → Spelled m message → ClientWhy m (client.hears_message s session message)
-client_hears m s None message spelled = client_shake m s (shake_take s.shake message) (shake_why m s.shake message spelled)
+client_hears m s None message spelled = client_handshake m s (handshake_take s.handshake message) (handshake_why m s.handshake message spelled)
 client_hears m s (Some session) message spelled =
-    client_or m (sid_fault s.shake.sid message.sid) (client.in_session s session message message.subtype message.body) (sid_why m s.shake.sid message spelled)
+    client_or m (sid_fault s.handshake.sid message.sid) (client.in_session s session message message.subtype message.body) (sid_why m s.handshake.sid message spelled)
     (client_in m s session message message.subtype message.body spelled spelled.spells.envelope spelled.spells.body)
 
 pub client_reads : (m : List ℕ) (s : ClientState) (d : Result Message TagFault) → Decodes m d → ClientWhy m (client.reads s d)
@@ -167,38 +93,38 @@ server_if : (m : List ℕ) (b : Bool) (one other : server.ServerTake) → (b ≡
 server_if m true one other why rest = why refl
 server_if m false one other why rest = rest
 
-server_shake : (m : List ℕ) (s : ServerState) (take : ShakeTake) → ShakeWhy m take → ServerWhy m (server.by_handshake s take)
-server_shake m s (Goes h) why = tt
-server_shake m s (GoesOpen h) why = tt
-server_shake m s (Faults cause) why = why
+server_handshake : (m : List ℕ) (s : ServerState) (take : HandshakeTake) → HandshakeWhy m take → ServerWhy m (server.by_handshake s take)
+server_handshake m s (Goes h) why = tt
+server_handshake m s (GoesOpen h) why = tt
+server_handshake m s (Faults cause) why = why
 
 server_info : (m : List ℕ) (s : ServerState) (session : ServerSession) (ident : ℕ) (range : SlotRange) → first_fault m ≡ None → envelope_at m ≡ 0x0042
     → range.seq ≡ number_at 8 8 m → ident ≡ number_at 8 16 m → range.start ≡ number_at 4 24 m → range.end ≡ number_at 4 28 m
     → ServerWhy m (server.takes_info s session ident range)
 server_info m s session ident range sound envelope seq own start end =
-    server_if m (is_other s.shake.draft.ident_peer ident) (server.Resets (the_cause.Ident s.shake.draft.ident_peer ident)) _
-    (λ is. (sound, envelope, is_other_why m s.shake.draft.ident_peer ident (number_at 8 16 m) is own))
+    server_if m (is_other s.handshake.draft.ident_peer ident) (server.Resets (the_cause.Ident s.handshake.draft.ident_peer ident)) _
+    (λ is. (sound, envelope, is_other_why m s.handshake.draft.ident_peer ident (number_at 8 16 m) is own))
     (server_if m (is_other session.seq range.seq) (server.Resets (the_cause.Seq session.seq range.seq)) _
     (λ is. (sound, envelope, is_other_why m session.seq range.seq (number_at 8 8 m) is seq))
     (server_if m (is_other (server.place_of s session) range.start) (server.Resets (the_cause.Slot (server.place_of s session) range.start)) _
     (λ is. (sound, envelope, is_other_why m (server.place_of s session) range.start (number_at 4 24 m) is start))
-    (server_if m (nat_le s.shake.draft.peer_slots range.end) (server.Resets (the_cause.RangeEnd range.end)) _
+    (server_if m (nat_le s.handshake.draft.peer_slots range.end) (server.Resets (the_cause.RangeEnd range.end)) _
     (λ is. (sound, envelope, end)) tt)))
 
 server_in : (m : List ℕ) (s : ServerState) (session : ServerSession) (message : Message) (subtype : Subtype) (b : MsgBody) → Spelled m message → envelope_at m ≡ envelope_code b
     → SpellsBody m b → ServerWhy m (server.in_session s session message subtype b)
 server_in m s session message Info (DringData seq ident start end state) spelled envelope spells =
     server_info m s session ident (record { seq = seq; start = start; end = end; state = state }) spelled.sound envelope spells.0 spells.1 spells.2 spells.3
-server_in m s session message _ _ spelled envelope spells = server_shake m s (shake_take s.shake message) (shake_why m s.shake message spelled)
+server_in m s session message _ _ spelled envelope spells = server_handshake m s (handshake_take s.handshake message) (handshake_why m s.handshake message spelled)
 
 server_or : (m : List ℕ) (fault : Option Cause) (rest : server.ServerTake) → FaultWhy m fault → ServerWhy m rest → ServerWhy m (server.sid_first fault rest)
 server_or m None rest why own = own
 server_or m (Some cause) rest why own = why
 
 server_hears : (m : List ℕ) (s : ServerState) (session : Option ServerSession) (message : Message) → Spelled m message → ServerWhy m (server.hears_message s session message)
-server_hears m s None message spelled = server_shake m s (shake_take s.shake message) (shake_why m s.shake message spelled)
+server_hears m s None message spelled = server_handshake m s (handshake_take s.handshake message) (handshake_why m s.handshake message spelled)
 server_hears m s (Some session) message spelled =
-    server_or m (sid_fault s.shake.sid message.sid) (server.in_session s session message message.subtype message.body) (sid_why m s.shake.sid message spelled)
+    server_or m (sid_fault s.handshake.sid message.sid) (server.in_session s session message message.subtype message.body) (sid_why m s.handshake.sid message spelled)
     (server_in m s session message message.subtype message.body spelled spelled.spells.envelope spelled.spells.body)
 
 pub server_reads : (m : List ℕ) (s : ServerState) (d : Result Message TagFault) → Decodes m d → ServerWhy m (server.reads s d)

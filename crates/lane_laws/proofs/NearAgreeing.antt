@@ -14,7 +14,7 @@ use Rattle.disk_model.specs.Agreement.{NearAgrees}
 use Rattle.disk_model.specs.DiskLog.{DiskLog, after, nothing_yet}
 use Rattle.disk_model.specs.NearLog.{NearLog, stored_more}
 use Rattle.disk_model.specs.ClientState.{ClientState, ever_published_count}
-use Rattle.disk_model.specs.DiskEvent.{Accepted, Admitted, Asks, Desc, DiskEvent, Done, Finished, Full, Misplaced, Moved, Off, OnWire, Published, Refused, Rests, Started, Stopped, Stored, Turns, Worked, Works}
+use Rattle.disk_model.specs.DiskEvent.{Accepted, Admitted, Asks, Desc, DiskEvent, Done, Finished, Full, Misplaced, Moved, Off, OnWire, Published, Refused, Calms, Started, Stopped, Stored, Switches, Worked, Works}
 use Rattle.disk_model.specs.LaneState.{IsShape, LaneState, NearCounts, Shape, fresh, near_disturbed, risen}
 use Rattle.disk_model.specs.LaneStep.{LaneStep, WireStep, WorkStep, stored_blocks}
 use Rattle.disk_model.specs.Seeing.{seen}
@@ -209,21 +209,21 @@ event_same s l (Asks event) t before facts step same =
     stays s t l (after l (Asks event)) near refl (asks_ever s event t step) (asks_log l event)
     (parts_room s t (ap (λ (x : LaneState). x.wire) step.1) (ap (λ (x : LaneState). x.server) step.1) near same.room) same
 event_same s l (Works event) t before facts step same = work_same s l event t before step same
-event_same s l (Turns Stopped) t before facts step same =
-    turned_down s t l (after l (Turns Stopped)) before (ap (λ (x : LaneState). x.near) step.1) refl (ap (λ (x : LaneState). x.client.ever_published) step.1) refl
+event_same s l (Switches Stopped) t before facts step same =
+    turned_down s t l (after l (Switches Stopped)) before (ap (λ (x : LaneState). x.near) step.1) refl (ap (λ (x : LaneState). x.client.ever_published) step.1) refl
     (lane_room t None 0 (ap (λ (x : LaneState). work_while x.wire.wire.end_b x.server.work) step.1) (ap (λ (x : LaneState). x.near.u) step.1) refl) same
-event_same s l (Turns Started) t before facts step same =
+event_same s l (Switches Started) t before facts step same =
     let near : t.near ≡ s.near = ap (λ (x : LaneState). x.near) step.1 in
-    stays s t l (after l (Turns Started)) near refl (ap (λ (x : LaneState). x.client.ever_published) step.1) refl
+    stays s t l (after l (Switches Started)) near refl (ap (λ (x : LaneState). x.client.ever_published) step.1) refl
     (parts_room s t (ap (λ (x : LaneState). x.wire) step.1) (ap (λ (x : LaneState). x.server) step.1) near same.room) same
-event_same s l (Turns Off) t before facts step same =
+event_same s l (Switches Off) t before facts step same =
     let near : t.near ≡ s.near = ap (λ (x : LaneState). x.near) step.1 in
-    stays s t l (after l (Turns Off)) near refl (ap (λ (x : LaneState). x.client.ever_published) step.1) refl
+    stays s t l (after l (Switches Off)) near refl (ap (λ (x : LaneState). x.client.ever_published) step.1) refl
     (parts_room s t (ap (λ (x : LaneState). x.wire) step.1) (ap (λ (x : LaneState). x.server) step.1) near same.room) same
-event_same s l (Rests event) t before facts step same =
+event_same s l (Calms event) t before facts step same =
     let is = calm s event t step in
     let near : t.near ≡ s.near = ap (λ (x : LaneState). x.near) is in
-    stays s t l (after l (Rests event)) near refl (ap (λ (x : LaneState). x.client.ever_published) is) refl
+    stays s t l (after l (Calms event)) near refl (ap (λ (x : LaneState). x.client.ever_published) is) refl
     (parts_room s t (ap (λ (x : LaneState). x.wire) is) (ap (λ (x : LaneState). x.server) is) near same.room) same
 
 -- ALONG A RUN

@@ -2,7 +2,7 @@
 use Rattle.std.proofs.Common.{◌≡◌, ◌⊎◌, ℕ, ◌-◌, ◌≤◌, false, None, List, inl, inr, sym, ap, ◌∙◌, arith}
 use Rattle.runs.specs.Lawful.{Lawful, log_of}
 use Rattle.runs.specs.Run.{Run}
-use Rattle.disk_model.specs.DiskEvent.{Asks, Desc, DiskEvent, Done, Finished, Misplaced, Moved, OnWire, Published, Rests, Stored, Turns, Works}
+use Rattle.disk_model.specs.DiskEvent.{Asks, Desc, DiskEvent, Done, Finished, Misplaced, Moved, OnWire, Published, Calms, Stored, Switches, Works}
 use Rattle.disk_model.specs.DiskLog.{DiskLog, after, nothing_yet}
 use Rattle.disk_model.specs.LaneState.{IsShape, LaneState, Shape, fresh}
 use Rattle.disk_model.specs.LaneStep.{LaneStep}
@@ -98,8 +98,8 @@ near_at shape events s (Works (Finished slot status)) t sound run step = tt
 near_at shape events s (Works Misplaced) t sound run step = tt
 near_at shape events s (OnWire event) t sound run step = tt
 near_at shape events s (Asks event) t sound run step = tt
-near_at shape events s (Turns event) t sound run step = tt
-near_at shape events s (Rests event) t sound run step = tt
+near_at shape events s (Switches event) t sound run step = tt
+near_at shape events s (Calms event) t sound run step = tt
 
 pub near_lawful : (shape : Shape) (events : List DiskEvent) (s : LaneState) → IsShape shape → Run LaneStep (fresh shape) events s
     → Lawful NearAt after (nothing_yet shape) events

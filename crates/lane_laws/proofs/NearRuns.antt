@@ -11,7 +11,7 @@ use Rattle.runs.specs.Lawful.{log_of}
 use Rattle.runs.specs.Run.{Run}
 use Rattle.disk_model.specs.DiskLog.{DiskLog, after, nothing_yet}
 use Rattle.disk_model.specs.ClientStep.{given_bytes}
-use Rattle.disk_model.specs.DiskEvent.{Asks, Desc, DiskEvent, Done, Finished, Misplaced, Moved, OnWire, Published, Rests, Stored, Turns, Works}
+use Rattle.disk_model.specs.DiskEvent.{Asks, Desc, DiskEvent, Done, Finished, Misplaced, Moved, OnWire, Published, Calms, Stored, Switches, Works}
 use Rattle.disk_model.specs.LaneState.{IsShape, LaneState, Shape, fresh}
 use Rattle.disk_model.specs.LaneStep.{LaneStep, ServerWorks}
 use Rattle.disk_model.specs.WireLog.{WireLog}
@@ -19,7 +19,7 @@ use Rattle.lane_laws.proofs.CarriedRuns.{all_step}
 use Rattle.lane_laws.proofs.RingRuns.{before as clean_before}
 use Rattle.lane_laws.proofs.SlotsStepping.{StepFacts}
 use Rattle.lane_laws.specs.MemoryStands.{memory_long}
-use Rattle.lane_laws.specs.Blocks.{Puts, block_at}
+use Rattle.lane_laws.specs.Blocks.{WritesBlock, block_at}
 use Rattle.lane_laws.specs.Contents.{ContentsStand}
 use Rattle.lane_laws.specs.ImageStep.{ImageStep, StoreDoes, StoresOn, content_after}
 use Rattle.lane_laws.specs.LaneView.{view_of}
@@ -80,10 +80,10 @@ event_near s l (Works (Moved unit fault)) t content image next before contents f
 event_near s l (Works (Finished slot status)) t content image next before contents facts clean well step does near =
     changed_near s l (Works (Finished slot status)) t content image next before contents (lane_changes s l (Works (Finished slot status)) t before contents facts clean tt step) does near
 event_near s l (Works Misplaced) t content image next before contents facts clean well step does near = absurd step
-event_near s l (Turns event) t content image next before contents facts clean well step does near =
-    changed_near s l (Turns event) t content image next before contents (lane_changes s l (Turns event) t before contents facts clean tt step) does near
-event_near s l (Rests event) t content image next before contents facts clean well step does near =
-    changed_near s l (Rests event) t content image next before contents (lane_changes s l (Rests event) t before contents facts clean tt step) does near
+event_near s l (Switches event) t content image next before contents facts clean well step does near =
+    changed_near s l (Switches event) t content image next before contents (lane_changes s l (Switches event) t before contents facts clean tt step) does near
+event_near s l (Calms event) t content image next before contents facts clean well step does near =
+    changed_near s l (Calms event) t content image next before contents (lane_changes s l (Calms event) t before contents facts clean tt step) does near
 
 -- after a run
 pub record RunStep (shape : Shape) (events : List DiskEvent) (s : LaneState) (event : DiskEvent) (t : LaneState) : Type 0 where
@@ -124,7 +124,7 @@ front_puts block count behind m b bytes puts = by puts.place puts.below puts.the
     by zero below there =
         let both : Some (Read block count) ≡ Some puts.request = there in
         let same : Read block count ≡ puts.request = cc both in
-        absurd (subst (λ (r : Request). Puts r b bytes) (sym same) puts.puts)
+        absurd (subst (λ (r : Request). WritesBlock r b bytes) (sym same) puts.puts)
     by (suc place) below there = record { place = place; request = puts.request; from = omega arith; below = omega (arith, below); there = there; puts = puts.puts }
 
 front_block : (content : List ℕ) (block count : ℕ) (behind : List Request) (m b : ℕ) (bytes : List ℕ) → Shows content (Read block count ∷ behind) 0 m b bytes

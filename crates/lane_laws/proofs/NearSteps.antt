@@ -12,7 +12,7 @@ use Rattle.vio_bytes.proofs.Ranges.{length-range_at, range_at-range_at}
 use Rattle.vio_bytes.specs.Place.{put_at}
 use Rattle.vio_bytes.specs.Range.{range_at}
 use Rattle.lane_laws.proofs.MemorySteps.{got_sound}
-use Rattle.lane_laws.specs.Blocks.{Puts, Reaches, after_requests, block_at}
+use Rattle.lane_laws.specs.Blocks.{WritesBlock, Reaches, after_requests, block_at}
 use Rattle.lane_laws.specs.Contents.{stored_count}
 use Rattle.lane_laws.specs.NearContent.{IsAmong, NearContent, PendingPuts, PutsIn, Shows}
 use Rattle.lane_laws.proofs.BlockWrites.{after_missed, after_more, after_reached, all_long, block_put_in, block_put_out, in_or_out, puts_reaches, puts_same, reaches_or_not}
@@ -123,13 +123,13 @@ near_stored blocks content pending k m u n block count fill image is fits within
     room : 512 * (block + u + n) ≤ length image
     room = omega (arith, long, fits, within)
 
-    old : (b : ℕ) → IsAmong (Some (Write block count fill)) u b → Puts (Write block count fill) b (block_at b image)
+    old : (b : ℕ) → IsAmong (Some (Write block count fill)) u b → WritesBlock (Write block count fill) b (block_at b image)
     old b among = subst (λ (o : Option Request). PutsIn o b (block_at b image)) is (near.stored b (subst (λ (o : Option Request). IsAmong o u b) (sym is) among))
 
-    puts : (b : ℕ) → IsAmong (Some (Write block count fill)) (u + n) b → Puts (Write block count fill) b (block_at b next)
+    puts : (b : ℕ) → IsAmong (Some (Write block count fill)) (u + n) b → WritesBlock (Write block count fill) b (block_at b next)
     puts b among =
         elim (cases_lt b (block + u)) [
-          | inl before ↦ subst (λ (x : List ℕ). Puts (Write block count fill) b x) (sym (block_put_out (block + u) n b piece image piece_long room (inl before))) (old b (among.0, before))
+          | inl before ↦ subst (λ (x : List ℕ). WritesBlock (Write block count fill) b x) (sym (block_put_out (block + u) n b piece image piece_long room (inl before))) (old b (among.0, before))
           | inr past ↦
               let below : b < block + u + n = omega (arith, among.1) in
               let first = block_put_in (block + u) n b piece image piece_long past below (omega (arith, room)) in
@@ -185,7 +185,7 @@ near_finished blocks content pending k m u image request sound long is all near 
   others = λ b below not.
       elim (reaches_or_not request b) [
         | inl reaches ↦
-            let here : Puts request b (block_at b image) =
+            let here : WritesBlock request b (block_at b image) =
             subst (λ (o : Option Request). PutsIn o b (block_at b image)) is
             (near.stored b (subst (λ (o : Option Request). IsAmong o u b) (sym is) (reached_among request u b all reaches))) in
             let there = after_reached blocks (after_requests content (take k pending)) request b (got_sound blocks pending k request sound is) (all_long blocks content pending k sound long) reaches in

@@ -15,14 +15,14 @@ use Rattle.lane_laws.specs.LaneView.{View}
 use Rattle.lane_laws.specs.Near.{NearView}
 use Rattle.lane_laws.specs.NearContent.{NearContent}
 use Rattle.lane_laws.proofs.BlockWrites.{admitted_blocks, after_long}
-use Rattle.lane_laws.proofs.Changes.{Accepts, Asked, Completed, Completes, Disturbed, Disturbs, Ended, Fetched, Fetches, Finishes, Flushed, Flushing, Gathered, Gathering, Given, Giving, ImageChange, IsChange, Kind, Looked, Opened, Opens, Placed, Published, Publishes, Reading, Rested, Rests, Stored, Storing, content_behind}
+use Rattle.lane_laws.proofs.Changes.{Accepts, Asked, Completed, Completes, Disturbed, Disturbs, Ended, Fetched, Fetches, Finishes, Flushed, Flushing, Gathered, Gathering, Given, Giving, ImageChange, IsChange, Kind, Looked, Opened, Opens, Placed, Published, Publishes, Reading, Rested, Unchanged, Stored, Storing, content_behind}
 use Rattle.lane_laws.proofs.NearSteps.{near_accepted, near_disturbed, near_done, near_finished, near_stored}
 use Rattle.lane_laws.proofs.ReadsGiven.{done_finished, done_given, work_flushed, work_gathered, work_given, work_read, work_stored}
 use Rattle.lane_laws.proofs.ReadsSteps.{done_accepted, done_completed, done_kept, work_accepted, work_completed, work_kept}
 use Rattle.lane_laws.proofs.ReadsWork.{done_published, work_fetched, work_published}
 use Rattle.lane_laws.proofs.WorkSteps.{unit_blocks}
 
-pub rests_near : (blocks : ℕ) (content : List ℕ) (v w : View) (image : List ℕ) → Rests v w → NearView blocks content v image → NearView blocks content w image
+pub rests_near : (blocks : ℕ) (content : List ℕ) (v w : View) (image : List ℕ) → Unchanged v w → NearView blocks content v image → NearView blocks content w image
 rests_near blocks content v w image change near =
     subst (λ (x : View). NearView blocks content x image) (sym change.is) (record {
       content_long = near.content_long;

@@ -5,10 +5,11 @@ use Rattle.std.specs.Prelude.{◌&&◌, ◌||◌, is_none, is_some, if◌then◌
 use Rattle.cookie_copy.specs.Faults.{is_up as is_up_end}
 use Rattle.ldc_link.specs.declared.phase.LinkPhase.{LinkPhase}
 use Rattle.ldc_link.specs.declared.phase.LinkPhase.TheVariants as phase
+use Rattle.ldc_link.specs.declared.phase.Role.TheVariants.{Initiator, Responder}
 use Rattle.ldc_link.specs.LinkState.{LinkState}
 use Rattle.ldc_link.specs.Putting.{owed_in, owes, owes_control, owes_in, part_owed}
 use Rattle.ldc_packet.specs.declared.packet.Packet.{Packet}
-use Rattle.ldc_queue.specs.Talk.{Turn}
+use Rattle.ldc_queue.specs.Transcript.{Turn}
 use Rattle.vio_tag.specs.declared.message.Message.{Message}
 use Rattle.disk_model.specs.WorkLog.{ClientCounts, ServerCounts}
 use Rattle.disk_model.specs.ClientPutting.{client_holds, is_announcing}
@@ -21,7 +22,7 @@ use Rattle.disk_model.specs.ServerRule as server
 use Rattle.disk_model.specs.ServerState.{ServerSession, ServerState, SlotRange, Work}
 use Rattle.lane_laws.proofs.RulesFree.{ServerFree, server_free}
 use Rattle.lane_laws.specs.Counted.{ClientCounted, ServerCounted}
-use Rattle.lane_laws.proofs.LinkPlaces.{AnswerTaken, AtMost, BothUp, LinkPlace, ModeAgreed, ModeAnswered, ModePut, ModeTaken, NothingPut, ReadyPut, ToClient, ToServer, VersionAnswered, VersionPut, VersionTaken}
+use Rattle.channel_laws.specs.LinkPlaces.{AnswerTaken, AtMost, BothUp, LinkPlace, ModeAgreed, ModeAnswered, ModePut, ModeTaken, NothingPut, ReadyPut, VersionAnswered, VersionPut, VersionTaken, Waits}
 
 -- THE LINKS ARE UP where many packets wait for both ends
 few_wait : (lossy : Bool) (p : Packet) (waiting : List (List ℕ)) → AtMost lossy p waiting → 2 ≤ length waiting → ⊥
@@ -31,7 +32,7 @@ few_wait lossy p waiting (inr one) many = omega (arith, many, ap length one)
 none_wait : (waiting : List (List ℕ)) → waiting ≡ [] → 2 ≤ length waiting → ⊥
 none_wait waiting none many = omega (arith, many, ap length none)
 
-pub many_wait : (place : LinkPlace) (lossy : Bool) (to_a to_b : List (List ℕ)) → ToServer lossy place to_b → ToClient lossy place to_a → 2 ≤ length to_a → 2 ≤ length to_b → place ≡ BothUp
+pub many_wait : (place : LinkPlace) (lossy : Bool) (to_a to_b : List (List ℕ)) → Waits Responder lossy place to_b → Waits Initiator lossy place to_a → 2 ≤ length to_a → 2 ≤ length to_b → place ≡ BothUp
 many_wait BothUp lossy to_a to_b to_server to_client many_a many_b = refl
 many_wait VersionAnswered lossy to_a to_b to_server to_client many_a many_b = absurd (few_wait lossy _ to_a to_client many_a)
 many_wait ModeAnswered lossy to_a to_b to_server to_client many_a many_b = absurd (few_wait lossy _ to_a to_client many_a)
@@ -97,9 +98,9 @@ not_announcing None none = refl
 not_announcing (Some session) none = absurd (cc none)
 
 pub client_owes : (shape : Shape) (s : ClientState) (turns : List Turn) (done : ℕ) (k : Option ClientCounts) → ClientCounted shape s turns done k → s.link.phase ≡ phase.Established
-    → client.is_urgent s ≡ true → Owes s.shake.owed
+    → client.is_urgent s ≡ true → Owes s.handshake.owed
 client_owes shape s turns done k counted at urgent =
-    elim (by_parts (owes_control s.link) (is_some s.shake.owed) (is_none s.session) (owes s.link) urgent (no_control s.link at)) [
+    elim (by_parts (owes_control s.link) (is_some s.handshake.owed) (is_none s.session) (owes s.link) urgent (no_control s.link at)) [
       | inl owed ↦ owed
       | inr both ↦ ap is_some (counted.holds.owed (not_announcing s.session both.0) (holds_some s.link at both.1)).owed_is
     ]
@@ -130,19 +131,19 @@ says_owed : (s : ServerState) (at : Seen) (owed : Option Message) → PutsOwed s
 says_owed s at (Some message) = tt
 says_owed s at None = session_owed s at s.session
 
-puts_owed : (s : ServerState) (at : Seen) (b : Bool) → owes s.link ≡ b → PutsOwed s (if b then server.Puts else server.says s s.shake.owed at)
+puts_owed : (s : ServerState) (at : Seen) (b : Bool) → owes s.link ≡ b → PutsOwed s (if b then server.Puts else server.says s s.handshake.owed at)
 puts_owed s at true is = is
-puts_owed s at false is = says_owed s at s.shake.owed
+puts_owed s at false is = says_owed s at s.handshake.owed
 
-up_owed : (s : ServerState) (at : Seen) (b : Bool) → PutsOwed s (if b then (if owes s.link then server.Puts else server.says s s.shake.owed at) else server.Joins)
+up_owed : (s : ServerState) (at : Seen) (b : Bool) → PutsOwed s (if b then (if owes s.link then server.Puts else server.says s s.handshake.owed at) else server.Joins)
 up_owed s at true = puts_owed s at (owes s.link) refl
 up_owed s at false = tt
 
 by_rule : (shape : Shape) (s : ServerState) (turns : List Turn) (d : Option ServerCounts) (rule : server.ServerRule) (t : ServerState) → ServerCounted shape s turns d
-    → s.link.phase ≡ phase.Established → PutsOwed s rule → ServerFree s rule → server_holds rule s ≡ Some t → Owes s.shake.owed ⊎ (is_some s.session ≡ true)
+    → s.link.phase ≡ phase.Established → PutsOwed s rule → ServerFree s rule → server_holds rule s ≡ Some t → Owes s.handshake.owed ⊎ (is_some s.session ≡ true)
 by_rule shape s turns d server.Puts t counted at owed free holds =
     elim (counted.holds (holds_some s.link at owed)) [
-      | inl shake ↦ inl (ap is_some shake.owed_is)
+      | inl handshake ↦ inl (ap is_some handshake.owed_is)
       | inr answer ↦ inr (ap is_some answer.session_is)
     ]
 by_rule shape s turns d (server.Says message) t counted at owed free holds =
@@ -154,9 +155,9 @@ by_rule shape s turns d server.Joins t counted at owed free holds = absurd (cc h
 by_rule shape s turns d (server.Fetches session) t counted at owed free holds = absurd (cc holds)
 by_rule shape s turns d (server.Serves session work) t counted at owed free holds = absurd (cc holds)
 by_rule shape s turns d (server.Takes packet) t counted at owed free holds = absurd (cc holds)
-by_rule shape s turns d server.Rests t counted at owed free holds = absurd (cc holds)
+by_rule shape s turns d server.Idles t counted at owed free holds = absurd (cc holds)
 
 pub server_owes : (shape : Shape) (s : ServerState) (at : Seen) (turns : List Turn) (d : Option ServerCounts) (t : ServerState) → ServerCounted shape s turns d
-    → s.link.phase ≡ phase.Established → server_holds (server.server_rule s at) s ≡ Some t → Owes s.shake.owed ⊎ (is_some s.session ≡ true)
+    → s.link.phase ≡ phase.Established → server_holds (server.server_rule s at) s ≡ Some t → Owes s.handshake.owed ⊎ (is_some s.session ≡ true)
 server_owes shape s at turns d t counted up holds =
     by_rule shape s turns d (server.server_rule s at) t counted up (up_owed s at (is_up_end at.state)) (server_free s at) holds

@@ -1,19 +1,27 @@
 -- Behind what ends sessions an end works only in one that opened since: until then it has none while it is up.
-use Rattle.std.proofs.Common.{◌≡◌, true, false, Option, None, List, [], ◌∷◌, ◌++◌, inl, inr, ◌⊎◌, refl, subst}
+use Rattle.std.proofs.Common.{◌≡◌, true, false, Option, Some, None, List, [], ◌∷◌, ◌++◌, inl, inr, ◌⊎◌, refl, subst}
 use Rattle.runs.specs.Lawful.{Lawful, lawful_split, log_of}
 use Rattle.ldc_queue.specs.declared.end.End.{End}
 use Rattle.ldc_queue.specs.declared.end.End.TheVariants.{A, B}
-use Rattle.disk_model.specs.DiskEvent.{Accepted, Asks, Desc, DiskEvent, Done, Finished, Full, Misplaced, Moved, Off, OnWire, Published, Refused, Rests, Started, Stopped, Stored, Turns, Worked, Works}
+use Rattle.disk_model.specs.DiskEvent.{Accepted, Asks, Desc, DiskEvent, Done, Finished, Full, Misplaced, Moved, Off, OnWire, Published, Refused, Calms, Started, Stopped, Stored, Switches, Worked, Works}
 use Rattle.disk_model.specs.DiskLog.{DiskLog, after, nothing_yet}
 use Rattle.disk_model.specs.LaneState.{Shape}
 use Rattle.disk_model.specs.May.{IsLawful, May}
 use Rattle.disk_model.specs.WireAt.{IsUp}
 use Rattle.disk_model.specs.WireEvent.{Blocked, Declines, Idle, Injected, Joined, Lost, Poked, Reset, Sent, Took, WireEvent}
 use Rattle.disk_model.specs.WorkLaws.{FinishesPiece, InClient, InServer, MayComplete, MayFetch, MayPublish, MovesPiece, StoresPiece}
-use Rattle.disk_model.specs.WorkLog.{ClientCounts, ServerCounts, WorkLog}
+use Rattle.disk_model.specs.WorkLog.{ClientCounts, ServerCounts, WorkLog, change_client, change_server}
 use Rattle.lane_laws.proofs.SlotsStepping.{behind_up, upset_not}
-use Rattle.lane_laws.proofs.UpRuns.{none_client, none_server}
 use Rattle.lane_laws.specs.NewSessions.{EndsSessions, OpensAmong, OpensAt, WorkOf}
+
+-- a session that isn't open stays so
+none_client : (f : ClientCounts → ClientCounts) (k : Option ClientCounts) → k ≡ None → change_client f k ≡ None
+none_client f None is = refl
+none_client f (Some c) is = absurd (cc is)
+
+none_server : (f : ServerCounts → ServerCounts) (d : Option ServerCounts) → d ≡ None → change_server f d ≡ None
+none_server f None is = refl
+none_server f (Some c) is = absurd (cc is)
 
 -- AN END THAT WAITS for a new session: while it is up it has none
 abbrev ClosedIn : End → WorkLog → Type 0
@@ -29,8 +37,8 @@ ended_waits A l (OnWire (Reset A cause packet lost)) was = λ up. refl
 ended_waits A l (OnWire (Reset B cause packet lost)) was = λ up. absurd ((behind_up l.wire.wire.end_b l.wire.wire.end_a up).1 was)
 ended_waits B l (OnWire (Reset A cause packet lost)) was = λ up. absurd ((behind_up l.wire.wire.end_a l.wire.wire.end_b up).1 was)
 ended_waits B l (OnWire (Reset B cause packet lost)) was = λ up. refl
-ended_waits A l (Turns Stopped) was = λ up. absurd (upset_not l.wire.wire.end_a up)
-ended_waits B l (Turns Stopped) was = λ up. refl
+ended_waits A l (Switches Stopped) was = λ up. absurd (upset_not l.wire.wire.end_a up)
+ended_waits B l (Switches Stopped) was = λ up. refl
 ended_waits e l (OnWire (Joined f lost)) was = absurd was
 ended_waits e l (OnWire (Took f packet opens)) was = absurd was
 ended_waits e l (OnWire (Sent f packet opens)) was = absurd was
@@ -42,9 +50,9 @@ ended_waits e l (OnWire (Poked f at bytes)) was = absurd was
 ended_waits e l (OnWire (Declines d)) was = absurd was
 ended_waits e l (Asks event) was = absurd was
 ended_waits e l (Works event) was = absurd was
-ended_waits e l (Turns Started) was = absurd was
-ended_waits e l (Turns Off) was = absurd was
-ended_waits e l (Rests event) was = absurd was
+ended_waits e l (Switches Started) was = absurd was
+ended_waits e l (Switches Off) was = absurd was
+ended_waits e l (Calms event) was = absurd was
 
 -- EACH EVENT opens its session, or it still waits: the client
 client_wire : (l : DiskLog) (event : WireEvent) → Waits A l → OpensAt A (OnWire event) ⊎ Waits A (after l (OnWire event))
@@ -79,10 +87,10 @@ client_waits l (Works (Moved unit fault)) waits = inr waits
 client_waits l (Works (Stored operation block count failed)) waits = inr waits
 client_waits l (Works (Finished slot status)) waits = inr waits
 client_waits l (Works Misplaced) waits = inr waits
-client_waits l (Turns Stopped) waits = inr (λ up. absurd (upset_not l.wire.wire.end_a up))
-client_waits l (Turns Started) waits = inr waits
-client_waits l (Turns Off) waits = inr waits
-client_waits l (Rests event) waits = inr waits
+client_waits l (Switches Stopped) waits = inr (λ up. absurd (upset_not l.wire.wire.end_a up))
+client_waits l (Switches Started) waits = inr waits
+client_waits l (Switches Off) waits = inr waits
+client_waits l (Calms event) waits = inr waits
 
 -- the server
 server_wire : (l : DiskLog) (event : WireEvent) → Waits B l → OpensAt B (OnWire event) ⊎ Waits B (after l (OnWire event))
@@ -117,10 +125,10 @@ server_waits l (Works (Moved unit fault)) waits = inr (λ up. none_server _ l.wo
 server_waits l (Works (Stored operation block count failed)) waits = inr (λ up. none_server _ l.work.server (waits up))
 server_waits l (Works (Finished slot status)) waits = inr (λ up. none_server _ l.work.server (waits up))
 server_waits l (Works Misplaced) waits = inr waits
-server_waits l (Turns Stopped) waits = inr (λ up. refl)
-server_waits l (Turns Started) waits = inr waits
-server_waits l (Turns Off) waits = inr waits
-server_waits l (Rests event) waits = inr waits
+server_waits l (Switches Stopped) waits = inr (λ up. refl)
+server_waits l (Switches Started) waits = inr waits
+server_waits l (Switches Off) waits = inr waits
+server_waits l (Calms event) waits = inr waits
 
 goes_on : (e : End) (l : DiskLog) (event : DiskEvent) → Waits e l → OpensAt e event ⊎ Waits e (after l event)
 goes_on A l event waits = client_waits l event waits

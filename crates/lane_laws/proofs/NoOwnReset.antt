@@ -220,7 +220,7 @@ server_ends_all shape events s v work status cause new sound run clean rule fail
     let at = seen B s.shape.entries s.wire.wire in
     let may : ServerMay s.server at (server_rules.Serves v work) = subst (ServerMay s.server at) rule (server_may s.server at) in
     let now : Working s l v = working shape events s v sound run clean may.0 may.1 in
-    let slots : s.server.shake.draft.peer_slots ≡ l.shape.slots = now.work.one.slots ∙ slots_are s l now.known.stands in
+    let slots : s.server.handshake.draft.peer_slots ≡ l.shape.slots = now.work.one.slots ∙ slots_are s l now.known.stands in
     let below : slot_at s.server v.finished < l.shape.slots =
     omega (arith, ap (λ (n : ℕ). v.finished % n) slots, mod_below v.finished l.shape.slots (some_slots s l now.known)) in
     end_fails_not s.server (reach s at.both) (pages_of l.shape) l.shape.slots (slot_at s.server v.finished) work status cause new now.both (now.work.reaches at.both) below fails

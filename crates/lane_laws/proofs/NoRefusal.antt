@@ -21,7 +21,7 @@ use Rattle.ldc_link.specs.Putting.{behind_put, control, first_part, owed_in, par
 use Rattle.ldc_link.specs.Taking.{Heard, LinkTake, TakesBytes, Unheard, answer_to, count, goes_to, in_mode, may_come, phase_behind_rdx, phase_behind_rtr, phase_behind_rts, phase_behind_vers, takes_body, takes_decoded, takes_part, with_part}
 use Rattle.vio_tag.specs.declared.cause.Cause.{Cause}
 use Rattle.vio_tag.specs.declared.cause.Cause.TheVariants as cause
-use Rattle.lane_laws.specs.Conversation.{IsAsking}
+use Rattle.lane_laws.specs.LinkMoves.{IsAsking}
 use Rattle.lane_laws.specs.RemainingTurn.{NotRefusing}
 
 -- A PACKET that offers no other version

@@ -13,7 +13,7 @@ use Rattle.ldc_queue.specs.declared.end.ChannelState.TheVariants.{Up}
 use Rattle.ldc_queue.specs.declared.end.End.TheVariants.{A, B}
 use Rattle.ldc_queue.specs.Numbered.{numbered}
 use Rattle.ldc_queue.specs.OneStream.{IsFront, OneWay, live}
-use Rattle.ldc_queue.specs.Talk.{Turn, numbered_heard, numbered_said}
+use Rattle.ldc_queue.specs.Transcript.{Turn, numbered_heard, numbered_said}
 use Rattle.vio_handshake.proofs.Places.{AllSaid, Deal, Place}
 use Rattle.disk_model.specs.Agreement.{ServerAgrees}
 use Rattle.disk_model.specs.DiskEvent.{DiskEvent}
@@ -24,16 +24,17 @@ use Rattle.disk_model.specs.Messages.{end_of, is_range, range_if, seq_of, start_
 use Rattle.disk_model.specs.Ranges.{range_length, wrapped}
 use Rattle.disk_model.specs.Sayings.{heard, said}
 use Rattle.disk_model.specs.ServerState.{ServerSession, Work}
-use Rattle.disk_model.specs.TalkLog.{TalkLog}
+use Rattle.disk_model.specs.TranscriptLog.{TranscriptLog}
 use Rattle.disk_model.specs.WireLog.{WireLog}
 use Rattle.disk_model.specs.WorkLog.{ClientCounts, ServerCounts, length_in, one_in}
 use Rattle.lane_laws.proofs.AckedFinished.{same_ranges}
-use Rattle.lane_laws.proofs.Agreeing.{client_some, talk_is}
+use Rattle.lane_laws.proofs.Agreeing.{client_some}
+use Rattle.lane_laws.proofs.LaneCores.{transcript_is}
 use Rattle.lane_laws.proofs.ClientInSession.{shape_of}
 use Rattle.lane_laws.proofs.EndHearing.{PeerSaid}
 use Rattle.lane_laws.proofs.EndPlaced.{EachData, IsData, code_of, subtype_of, sum_of}
-use Rattle.lane_laws.proofs.EndUttering.{is_open_up}
-use Rattle.lane_laws.proofs.HeardFront.{heard_messages, run_talks}
+use Rattle.lane_laws.proofs.Awake.{is_open_up}
+use Rattle.lane_laws.proofs.HeardFront.{heard_messages, unheard_client, lane_converses}
 use Rattle.lane_laws.proofs.LaneCounting.{Knows, run_knows}
 use Rattle.lane_laws.proofs.LanePlaces.{counted_client, counted_server}
 use Rattle.lane_laws.proofs.LanePlacing.{LanePlaced, client_said, server_said, up_or}
@@ -43,10 +44,10 @@ use Rattle.lane_laws.proofs.PlacedSums.{kind_of, placed_ranges, placed_sum}
 use Rattle.lane_laws.proofs.PlacesAlong.{run_placed}
 use Rattle.lane_laws.proofs.RangesSaid.{end_is, is_data, seq_is, start_is}
 use Rattle.lane_laws.proofs.ServerCounting.{wraps_more}
-use Rattle.lane_laws.proofs.UpRuns.{unheard_client}
 use Rattle.lane_laws.specs.Counted.{ServerOrder, range_count, range_sum}
-use Rattle.lane_laws.specs.LaneTalks.{talk_behind}
+use Rattle.lane_laws.specs.LaneTranscripts.{transcript_behind}
 use Rattle.lane_laws.specs.OnTheWay.{NameAll, OnTheWay, SeqsFrom, WaitsOrLost, answered_by, asked_by, expected_by, ranges_behind}
+use Rattle.lane_laws.specs.ChannelEnds.{client_core}
 
 same_names : (slots from other to goal : ℕ) (messages : List (List ℕ)) → from ≡ other → to ≡ goal → NameAll slots from to messages → NameAll slots other goal messages
 same_names slots from other to goal messages begins ends names =
@@ -190,14 +191,14 @@ server_up : (shape : Shape) (events : List DiskEvent) (s : LaneState) → IsShap
 server_up shape events s sound run clean up_a now =
     let l = log_of after (nothing_yet shape) events in
     let knows : Knows s l = run_knows shape events s sound run in
-    let placed : LanePlaced shape s l.talk = run_placed shape events s sound run clean in
+    let placed : LanePlaced shape s l.transcript = run_placed shape events s sound run clean in
     let d = deal shape placed.sid 0 in
-    let at = (placed.client up_a).up (is_open_up Initiator s.client.link s.client.shake (is_some s.client.session) l.talk.client knows.rests.client now) in
+    let at = (placed.client up_a).up (is_open_up Initiator (client_core s.client) l.transcript.client knows.rests.client now) in
     let clean_s : s.wire.forged ≡ false = ap (λ (w : WireLog). w.forged) knows.all.stands.wire ∙ clean in
     elim (up_or s.wire.wire.end_b) [
       | inl up ↦ up
       | inr not ↦
-          let none : heard l.talk.client ≡ [] = ap (λ (t : TalkLog). heard t.client) (talk_is (nothing_yet shape) events) ∙ unheard_client shape events s sound run clean_s up_a not in
+          let none : heard l.transcript.client ≡ [] = ap (λ (t : TranscriptLog). heard t.client) (transcript_is (nothing_yet shape) events) ∙ unheard_client shape events s sound run clean_s up_a not in
           let never : [] ≡ said_at d Responder AllSaid ++ at.theirs = sym none ∙ at.heard_is ∙ ap (λ (n : Place). said_at d Responder n ++ at.theirs) (at.opens now) in
           absurd (cc never)
     ]
@@ -211,39 +212,39 @@ on_the_way shape events s k sound run clean is up =
     let knows : Knows s l = run_knows shape events s sound run in
     let shape_is : l.shape ≡ shape = shape_of (nothing_yet shape) events in
     let wire = knows.all.stands.wire in
-    let talk : talk_behind events ≡ l.talk = sym (talk_is (nothing_yet shape) events) in
+    let transcript : transcript_behind events ≡ l.transcript = sym (transcript_is (nothing_yet shape) events) in
     let clean_s : s.wire.forged ≡ false = ap (λ (w : WireLog). w.forged) wire ∙ clean in
     let up_a : s.wire.wire.end_a ≡ Up = ap (λ (w : WireLog). w.wire.end_a) wire ∙ up in
     let now : is_some s.client.session ≡ true = client_some s.client.session l.work.done l.work.client k is knows.counted.client.agrees in
     let up_b : s.wire.wire.end_b ≡ Up = server_up shape events s sound run clean up_a now in
-    let placed : LanePlaced shape s l.talk = run_placed shape events s sound run clean in
+    let placed : LanePlaced shape s l.transcript = run_placed shape events s sound run clean in
     let client = counted_client shape s l shape_is knows in
     let server = counted_server shape s l shape_is knows in
     let counts = same_ranges s.client.session l.work.done l.work.client k is client.agrees in
-    let place : PlaceIs shape.slots s.server.session l.work.server l.talk.server = place_is shape.slots s.server.session s.server.work l.work.server l.talk.server server.order server.agrees in
-    let asks = client_said shape placed.sid s.client l.talk.client knows.utters.client (placed.client up_a) in
-    let answers = server_said shape placed.sid s.server l.talk.server knows.utters.server (placed.server up_b) in
-    let front_a : IsFront (heard l.talk.client) (said l.talk.server) =
-    subst (λ (t : TalkLog). IsFront (heard t.client) (said t.server)) talk (heard_messages shape events s A sound run clean_s up_a) in
-    let front_b : IsFront (heard l.talk.server) (said l.talk.client) =
-    subst (λ (t : TalkLog). IsFront (heard t.server) (said t.client)) talk (heard_messages shape events s B sound run clean_s up_b) in
-    let talks = (run_talks shape events s sound run).unforged clean_s in
-    let stream = talks.conversation.stream in
-    let to_b = direction s.wire.wire.end_a s.wire.wire.end_b (numbered_said (talk_behind events).client) (numbered_heard (talk_behind events).server) (numbered s.wire.wire.to_b) talks.lost_b s.wire.lossy
-    up_a up_b stream.to_b (λ calm. (talks.whole calm).1) in
-    let to_a = direction s.wire.wire.end_b s.wire.wire.end_a (numbered_said (talk_behind events).server) (numbered_heard (talk_behind events).client) (numbered s.wire.wire.to_a) talks.lost_a s.wire.lossy
-    up_b up_a stream.to_a (λ calm. (talks.whole calm).0) in
+    let place : PlaceIs shape.slots s.server.session l.work.server l.transcript.server = place_is shape.slots s.server.session s.server.work l.work.server l.transcript.server server.order server.agrees in
+    let asks = client_said shape placed.sid s.client l.transcript.client knows.utters.client (placed.client up_a) in
+    let answers = server_said shape placed.sid s.server l.transcript.server knows.utters.server (placed.server up_b) in
+    let front_a : IsFront (heard l.transcript.client) (said l.transcript.server) =
+    subst (λ (t : TranscriptLog). IsFront (heard t.client) (said t.server)) transcript (heard_messages shape events s A sound run clean_s up_a) in
+    let front_b : IsFront (heard l.transcript.server) (said l.transcript.client) =
+    subst (λ (t : TranscriptLog). IsFront (heard t.server) (said t.client)) transcript (heard_messages shape events s B sound run clean_s up_b) in
+    let converses = lane_converses shape events s sound run clean_s in
+    let stream = converses.stream in
+    let to_b = direction s.wire.wire.end_a s.wire.wire.end_b (numbered_said (transcript_behind events).client) (numbered_heard (transcript_behind events).server) (numbered s.wire.wire.to_b) converses.lost_theirs s.wire.lossy
+    up_a up_b stream.to_b (λ calm. (converses.whole calm).1) in
+    let to_a = direction s.wire.wire.end_b s.wire.wire.end_a (numbered_said (transcript_behind events).server) (numbered_heard (transcript_behind events).client) (numbered s.wire.wire.to_a) converses.lost_mine s.wire.lossy
+    up_b up_a stream.to_a (λ calm. (converses.whole calm).0) in
     record {
       server_up = ap (λ (w : WireLog). w.wire.end_b) (sym wire) ∙ up_b;
-      infos = subst (λ (x : Shape). NameAll x.slots (asked_by l.work.server) k.announced (ranges_behind 1 (said l.talk.client) (heard l.talk.server))) (sym shape_is)
-          (behind_names shape.slots 1 (asked_by l.work.server) (range_sum shape.slots 1 (said l.talk.client)) k.announced (heard l.talk.server) (said l.talk.client) front_b
-          (peer_names shape placed.sid Initiator (said l.talk.client) sound.most_slots asks) place.asked (sym (counts.announced ∙ client.announced)));
-      seqs = behind_seqs (expected_by s.server.session) (heard l.talk.server) (said l.talk.client) front_b (peer_seqs shape placed.sid (said l.talk.client) asks) place.seq;
-      acks = subst (λ (x : Shape). NameAll x.slots k.acked (answered_by l.work.server) (ranges_behind 2 (said l.talk.server) (heard l.talk.client))) (sym shape_is)
-          (behind_names shape.slots 2 k.acked (range_sum shape.slots 2 (said l.talk.server)) (answered_by l.work.server) (heard l.talk.client) (said l.talk.server) front_a
-          (peer_names shape placed.sid Responder (said l.talk.server) sound.most_slots answers) (sym (counts.acked ∙ client.acked)) place.answered);
-      to_server = subst (λ (w : WireLog). WaitsOrLost (numbered_said l.talk.client) (numbered_heard l.talk.server) (numbered w.wire.to_b) w.lossy) wire
-          (subst (λ (t : TalkLog). WaitsOrLost (numbered_said t.client) (numbered_heard t.server) (numbered s.wire.wire.to_b) s.wire.lossy) talk to_b);
-      to_client = subst (λ (w : WireLog). WaitsOrLost (numbered_said l.talk.server) (numbered_heard l.talk.client) (numbered w.wire.to_a) w.lossy) wire
-          (subst (λ (t : TalkLog). WaitsOrLost (numbered_said t.server) (numbered_heard t.client) (numbered s.wire.wire.to_a) s.wire.lossy) talk to_a);
+      infos = subst (λ (x : Shape). NameAll x.slots (asked_by l.work.server) k.announced (ranges_behind 1 (said l.transcript.client) (heard l.transcript.server))) (sym shape_is)
+          (behind_names shape.slots 1 (asked_by l.work.server) (range_sum shape.slots 1 (said l.transcript.client)) k.announced (heard l.transcript.server) (said l.transcript.client) front_b
+          (peer_names shape placed.sid Initiator (said l.transcript.client) sound.most_slots asks) place.asked (sym (counts.announced ∙ client.announced)));
+      seqs = behind_seqs (expected_by s.server.session) (heard l.transcript.server) (said l.transcript.client) front_b (peer_seqs shape placed.sid (said l.transcript.client) asks) place.seq;
+      acks = subst (λ (x : Shape). NameAll x.slots k.acked (answered_by l.work.server) (ranges_behind 2 (said l.transcript.server) (heard l.transcript.client))) (sym shape_is)
+          (behind_names shape.slots 2 k.acked (range_sum shape.slots 2 (said l.transcript.server)) (answered_by l.work.server) (heard l.transcript.client) (said l.transcript.server) front_a
+          (peer_names shape placed.sid Responder (said l.transcript.server) sound.most_slots answers) (sym (counts.acked ∙ client.acked)) place.answered);
+      to_server = subst (λ (w : WireLog). WaitsOrLost (numbered_said l.transcript.client) (numbered_heard l.transcript.server) (numbered w.wire.to_b) w.lossy) wire
+          (subst (λ (t : TranscriptLog). WaitsOrLost (numbered_said t.client) (numbered_heard t.server) (numbered s.wire.wire.to_b) s.wire.lossy) transcript to_b);
+      to_client = subst (λ (w : WireLog). WaitsOrLost (numbered_said l.transcript.server) (numbered_heard l.transcript.client) (numbered w.wire.to_a) w.lossy) wire
+          (subst (λ (t : TranscriptLog). WaitsOrLost (numbered_said t.server) (numbered_heard t.client) (numbered s.wire.wire.to_a) s.wire.lossy) transcript to_a);
     }

@@ -13,11 +13,11 @@ use Rattle.disk_model.specs.DiskLog.{DiskLog, after, nothing_yet}
 use Rattle.disk_model.specs.QuietLaws.{IsFinished, TickAt, TickOf}
 use Rattle.disk_model.specs.WorkLog.{ClientCounts, change_client, opened_client}
 use Rattle.disk_model.specs.ClientPutting.{announced, announcement, announcing, client_holds, client_kind, holding, opened_if, session_behind}
-use Rattle.disk_model.specs.ClientRule.{Announces, ClientRule, Completes, Joins, Publishes, Puts, Rests as RestsNow, Says, Takes, client_rule}
+use Rattle.disk_model.specs.ClientRule.{Announces, ClientRule, Completes, Joins, Publishes, Puts, Idles, Says, Takes, client_rule}
 use Rattle.disk_model.specs.ClientState.{ClientSession, ClientState, is_finished, is_nothing}
 use Rattle.disk_model.specs.ClientStep.{ClientAdmits, ClientSends}
-use Rattle.disk_model.specs.DiskEvent.{Accepted, Admitted, Asks, Calm, CalmReset, CalmRestart, CalmStart, CalmStop, CalmTick, Desc, DiskEvent, Done, Finished, Full, Misplaced, Moved, Off, OnWire, Published, Refused, Rests, Started, Stopped, Stored, Switched, Turns, Worked, Works}
-use Rattle.disk_model.specs.EndPuts.{ComesUp, EndsOwn, EndsShake, Goes, PutKind, put_opens}
+use Rattle.disk_model.specs.DiskEvent.{Accepted, Admitted, Asks, Calm, CalmReset, CalmRestart, CalmStart, CalmStop, CalmTick, Desc, DiskEvent, Done, Finished, Full, Misplaced, Moved, Off, OnWire, Published, Refused, Calms, Started, Stopped, Stored, Switched, Switches, Worked, Works}
+use Rattle.disk_model.specs.EndPuts.{ComesUp, EndsOwn, EndsHandshake, Goes, PutKind, put_opens}
 use Rattle.disk_model.specs.LaneState.{IsShape, LaneState, Shape, fresh}
 use Rattle.disk_model.specs.LaneStep.{EndOnWire, LaneStep, ResetBy, RestStep, TurnStep, WireStep, WorkStep}
 use Rattle.disk_model.specs.Seeing.{Seen, seen}
@@ -27,7 +27,7 @@ use Rattle.lane_laws.proofs.Ruling.{client_may}
 use Rattle.lane_laws.proofs.StandingRuns.{pending_is}
 use Rattle.lane_laws.specs.RuleFacts.{ClientMay}
 use Rattle.lane_laws.specs.Sound.{ClientSound}
-use Rattle.lane_laws.specs.Standing.{LaneStands}
+use Rattle.lane_laws.specs.Standing.{LaneInvariant}
 
 -- what a server does on the wire
 abbrev IsServers : WireEvent → Type 0
@@ -60,11 +60,11 @@ opened_if_open : (b : Bool) (c : ClientState) → is_some (opened_if b c) ≡ (b
 opened_if_open true c = refl
 opened_if_open false c = refl
 
-pub behind_open : (kind : PutKind) (c : ClientState) → is_some (session_behind kind c) ≡ (put_opens kind c.shake || is_some c.session)
+pub behind_open : (kind : PutKind) (c : ClientState) → is_some (session_behind kind c) ≡ (put_opens kind c.handshake || is_some c.session)
 behind_open EndsOwn c = announced_open c.session
 behind_open Goes c = refl
 behind_open ComesUp c = refl
-behind_open EndsShake c = opened_if_open (put_opens EndsShake c.shake) c
+behind_open EndsHandshake c = opened_if_open (put_opens EndsHandshake c.handshake) c
 
 held_is : (one other : ClientState) → Some one ≡ Some other → one ≡ other
 held_is one other is = cc is
@@ -78,7 +78,7 @@ held_open c at Joins held may is = absurd (cc)
 held_open c at (Completes session) held may is = absurd (cc)
 held_open c at (Takes packet) held may is = absurd (cc)
 held_open c at (Publishes session request) held may is = absurd (cc)
-held_open c at RestsNow held may is = absurd (cc)
+held_open c at Idles held may is = absurd (cc)
 
 abbrev at_client : LaneState → Seen
 at_client s = seen A s.shape.entries s.wire.wire
@@ -204,10 +204,10 @@ asks_open s l (Refused why request) t open_now admits = ap (λ (c : ClientState)
 asks_open s l (Full request) t open_now admits = ap (λ (c : ClientState). is_some c.session) admits.2 ∙ open_now
 asks_open s l (Accepted id request) t open_now admits = ap (λ (c : ClientState). is_some c.session) admits.5 ∙ open_now
 
-turn_open : (s : LaneState) (l : DiskLog) (event : Switched) (t : LaneState) → OpenStands s l → TurnStep s event t → OpenStands t (after l (Turns event))
-turn_open s l Stopped t open_now step = same_open s l t (after l (Turns Stopped)) open_now (ap (λ (x : LaneState). x.client) step.1) refl
-turn_open s l Started t open_now step = same_open s l t (after l (Turns Started)) open_now (ap (λ (x : LaneState). x.client) step.1) refl
-turn_open s l Off t open_now step = same_open s l t (after l (Turns Off)) open_now (ap (λ (x : LaneState). x.client) step.1) refl
+turn_open : (s : LaneState) (l : DiskLog) (event : Switched) (t : LaneState) → OpenStands s l → TurnStep s event t → OpenStands t (after l (Switches event))
+turn_open s l Stopped t open_now step = same_open s l t (after l (Switches Stopped)) open_now (ap (λ (x : LaneState). x.client) step.1) refl
+turn_open s l Started t open_now step = same_open s l t (after l (Switches Started)) open_now (ap (λ (x : LaneState). x.client) step.1) refl
+turn_open s l Off t open_now step = same_open s l t (after l (Switches Off)) open_now (ap (λ (x : LaneState). x.client) step.1) refl
 
 rest_same : (s : LaneState) (event : Calm) (t : LaneState) → RestStep s event t → t ≡ s
 rest_same s CalmTick t step = step.1
@@ -221,8 +221,8 @@ open_step : (s : LaneState) (l : DiskLog) (event : DiskEvent) (t : LaneState) �
 open_step s l (OnWire event) t sound open_now step = wire_open s l event t sound open_now step
 open_step s l (Asks event) t sound open_now step = asks_open s l event t open_now step.0
 open_step s l (Works event) t sound open_now step = work_open s l event t open_now step
-open_step s l (Turns event) t sound open_now step = turn_open s l event t open_now step
-open_step s l (Rests event) t sound open_now step = same_open s l t (after l (Rests event)) open_now (ap (λ (x : LaneState). x.client) (rest_same s event t step)) refl
+open_step s l (Switches event) t sound open_now step = turn_open s l event t open_now step
+open_step s l (Calms event) t sound open_now step = same_open s l t (after l (Calms event)) open_now (ap (λ (x : LaneState). x.client) (rest_same s event t step)) refl
 
 -- A TICK is calm exactly where the client's session is open and nothing is pending
 some_of : (o : Option ClientCounts) → o ≢ None → is_some o ≡ true
@@ -241,19 +241,19 @@ of_nothing : (pending : List Request) → is_nothing pending ≡ true → length
 of_nothing [] none = refl
 of_nothing (request ∷ pending) none = absurd (cc)
 
-finished_at : (s : LaneState) (l : DiskLog) → LaneStands s l → OpenStands s l → IsFinished l → is_finished s.client ≡ true
+finished_at : (s : LaneState) (l : DiskLog) → LaneInvariant s l → OpenStands s l → IsFinished l → is_finished s.client ≡ true
 finished_at s l stands open_now finished =
     and_from (is_some s.client.session) (is_nothing s.client.pending) (open_now ∙ some_of l.work.client finished.0)
     (nothing_of s.client.pending (omega (arith, pending_is s.client l.work stands.requests, finished.1)))
 
-finished_in : (s : LaneState) (l : DiskLog) → LaneStands s l → OpenStands s l → is_finished s.client ≡ true → IsFinished l
+finished_in : (s : LaneState) (l : DiskLog) → LaneInvariant s l → OpenStands s l → is_finished s.client ≡ true → IsFinished l
 finished_in s l stands open_now finished =
     let parts = and_parts (is_some s.client.session) (is_nothing s.client.pending) finished in (
       not_none l.work.client (sym open_now ∙ parts.0),
       omega (arith, of_nothing s.client.pending parts.1, pending_is s.client l.work stands.requests, stands.requests.done),
     )
 
-reset_tick : (by : Giver) (e : End) (s : LaneState) (l : DiskLog) (cause : Cause) (packet : Option (List ℕ)) (lost : ℕ) (t : LaneState) → LaneStands s l → OpenStands s l
+reset_tick : (by : Giver) (e : End) (s : LaneState) (l : DiskLog) (cause : Cause) (packet : Option (List ℕ)) (lost : ℕ) (t : LaneState) → LaneInvariant s l → OpenStands s l
     → ResetBy by e s cause packet lost t → TickOf by l
 reset_tick ByStep e s l cause packet lost t stands open_now step = tt
 reset_tick ByScript e s l cause packet lost t stands open_now step = tt
@@ -261,7 +261,7 @@ reset_tick ByRestart e s l cause packet lost t stands open_now step = tt
 reset_tick ByTick A s l cause packet lost t stands open_now step = λ finished. let is = finished_at s l stands open_now finished in absurd (cc (is, step.0))
 reset_tick ByTick B s l cause packet lost t stands open_now step = absurd step
 
-wire_tick : (s : LaneState) (l : DiskLog) (event : WireEvent) (t : LaneState) → LaneStands s l → OpenStands s l → WireStep s event t → TickAt l (OnWire event)
+wire_tick : (s : LaneState) (l : DiskLog) (event : WireEvent) (t : LaneState) → LaneInvariant s l → OpenStands s l → WireStep s event t → TickAt l (OnWire event)
 wire_tick s l (Reset e cause packet lost) t stands open_now step = reset_tick (giver cause) e s l cause packet lost t stands open_now step
 wire_tick s l (Joined e lost) t stands open_now step = tt
 wire_tick s l (Took e packet opens) t stands open_now step = tt
@@ -273,19 +273,19 @@ wire_tick s l (Injected e packet) t stands open_now step = tt
 wire_tick s l (Poked e at bytes) t stands open_now step = tt
 wire_tick s l (Declines d) t stands open_now step = tt
 
-rest_tick : (s : LaneState) (l : DiskLog) (event : Calm) (t : LaneState) → LaneStands s l → OpenStands s l → RestStep s event t → TickAt l (Rests event)
+rest_tick : (s : LaneState) (l : DiskLog) (event : Calm) (t : LaneState) → LaneInvariant s l → OpenStands s l → RestStep s event t → TickAt l (Calms event)
 rest_tick s l CalmTick t stands open_now step = finished_in s l stands open_now step.0
 rest_tick s l CalmStop t stands open_now step = tt
 rest_tick s l CalmStart t stands open_now step = tt
 rest_tick s l (CalmReset e) t stands open_now step = tt
 rest_tick s l CalmRestart t stands open_now step = tt
 
-tick_at : (s : LaneState) (l : DiskLog) (event : DiskEvent) (t : LaneState) → LaneStands s l → OpenStands s l → LaneStep s event t → TickAt l event
+tick_at : (s : LaneState) (l : DiskLog) (event : DiskEvent) (t : LaneState) → LaneInvariant s l → OpenStands s l → LaneStep s event t → TickAt l event
 tick_at s l (OnWire event) t stands open_now step = wire_tick s l event t stands open_now step
 tick_at s l (Asks event) t stands open_now step = tt
 tick_at s l (Works event) t stands open_now step = tt
-tick_at s l (Turns event) t stands open_now step = tt
-tick_at s l (Rests event) t stands open_now step = rest_tick s l event t stands open_now step
+tick_at s l (Switches event) t stands open_now step = tt
+tick_at s l (Calms event) t stands open_now step = rest_tick s l event t stands open_now step
 
 record OpenToo (s : LaneState) (l : DiskLog) : Type 0 where
   all : AllStand s l
@@ -294,7 +294,7 @@ record OpenToo (s : LaneState) (l : DiskLog) : Type 0 where
 tick_step : (s : LaneState) (l : DiskLog) (event : DiskEvent) (t : LaneState) → OpenToo s l → LaneStep s event t → TickAt l event × OpenToo t (after l event)
 tick_step s l event t too step = (
   tick_at s l event t too.all.stands too.open_now step,
-  record { all = (all_step s l event t too.all step).1; open_now = open_step s l event t too.all.talks.client too.open_now step },
+  record { all = (all_step s l event t too.all step).1; open_now = open_step s l event t too.all.transcripts.client too.open_now step },
 )
 
 pub tick_lawful : (shape : Shape) (events : List DiskEvent) (s : LaneState) → IsShape shape → Run LaneStep (fresh shape) events s → Lawful TickAt after (nothing_yet shape) events

@@ -83,7 +83,7 @@ deal_fits shape sid last some few blocks = record {
 }
 
 -- THE MESSAGES
-client_widths : (blocks slots : ℕ) → slots ≤ 256 → OfferHasWidths (client_offer blocks slots)
+pub client_widths : (blocks slots : ℕ) → slots ≤ 256 → OfferHasWidths (client_offer blocks slots)
 client_widths blocks slots few = record {
   minor = omega arith;
   class = omega arith;
@@ -94,7 +94,7 @@ client_widths blocks slots few = record {
   form = offered_form blocks slots few;
 }
 
-server_widths : (blocks slots : ℕ) → OfferHasWidths (server_offer blocks slots)
+pub server_widths : (blocks slots : ℕ) → OfferHasWidths (server_offer blocks slots)
 server_widths blocks slots = record {
   minor = omega arith;
   class = omega arith;

@@ -12,7 +12,7 @@ use Rattle.disk_model.specs.DiskLog.{DiskLog, after, nothing_yet}
 use Rattle.disk_model.specs.ClientRule as client_rules
 use Rattle.disk_model.specs.ClientStep.{ClientFails}
 use Rattle.disk_model.specs.ClientTaking as client
-use Rattle.disk_model.specs.DiskEvent.{Asks, DiskEvent, OnWire, Rests, Turns, Works}
+use Rattle.disk_model.specs.DiskEvent.{Asks, DiskEvent, OnWire, Calms, Switches, Works}
 use Rattle.disk_model.specs.LaneState.{IsShape, LaneState, Shape, fresh}
 use Rattle.disk_model.specs.LaneStep.{EndOnWire, LaneStep, ResetBy, WireStep, reach}
 use Rattle.disk_model.specs.Seeing.{seen}
@@ -37,7 +37,7 @@ clean_log shape events s sound run clean = sym (ap (λ (w : WireLog). w.forged) 
 
 -- THE CLIENT
 client_never : (shape : Shape) (events : List DiskEvent) (s : LaneState) (cause : Cause) → IsShape shape → Run LaneStep (fresh shape) events s → s.wire.forged ≡ false
-    → ClientHearsBadly s (log_at shape events).talk cause → ⊥
+    → ClientHearsBadly s (log_at shape events).transcript cause → ⊥
 client_never shape events s cause sound run clean badly =
     let goes = client_hears_in_session shape events s badly.session badly.link badly.message (client.Resets cause) sound run (clean_log shape events s sound run clean) badly.is badly.up
     badly.next.up badly.next.front badly.hears in
@@ -56,7 +56,7 @@ client_own _ shape events s cause packet sound run clean rule fails = absurd fai
 
 -- THE SERVER
 server_never : (shape : Shape) (events : List DiskEvent) (s : LaneState) (cause : Cause) → IsShape shape → Run LaneStep (fresh shape) events s → s.wire.forged ≡ false
-    → ServerHearsBadly s (log_at shape events).talk cause → ⊥
+    → ServerHearsBadly s (log_at shape events).transcript cause → ⊥
 server_never shape events s cause sound run clean badly =
     let goes = server_hears_in_session shape events s badly.session badly.link badly.message (server.Resets cause) sound run (clean_log shape events s sound run clean) badly.is badly.up
     badly.next.up badly.next.front badly.hears in
@@ -123,8 +123,8 @@ event_unforged shape events s (OnWire event) t sound run step =
     subst (λ (w : WireLog). WireUnforgedAt w event) (run_knows shape events s sound run).all.stands.wire (wire_unforged shape events s event t sound run step)
 event_unforged shape events s (Asks event) t sound run step = tt
 event_unforged shape events s (Works event) t sound run step = tt
-event_unforged shape events s (Turns event) t sound run step = tt
-event_unforged shape events s (Rests event) t sound run step = tt
+event_unforged shape events s (Switches event) t sound run step = tt
+event_unforged shape events s (Calms event) t sound run step = tt
 
 pub unforged_lawful : (shape : Shape) (events : List DiskEvent) (s : LaneState) → IsShape shape → Run LaneStep (fresh shape) events s → Lawful UnforgedAt after (nothing_yet shape) events
 unforged_lawful shape events s sound run =

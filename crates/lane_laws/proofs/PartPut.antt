@@ -10,7 +10,7 @@ use Rattle.ldc_packet.specs.Form.{HasWidths}
 use Rattle.ldc_packet.specs.Spelling.{canonical, type_at, type_code}
 use Rattle.ldc_packet.proofs.Canonical.{canonical_spells}
 use Rattle.ldc_queue.specs.Fragments.{Fragment, fragment_at, is_part}
-use Rattle.ldc_queue.specs.Talk.{Said, Turn}
+use Rattle.ldc_queue.specs.Transcript.{Said, Turn}
 use Rattle.ldc_link.specs.declared.phase.LinkPhase.{LinkPhase}
 use Rattle.ldc_link.specs.declared.phase.LinkPhase.TheVariants as phase
 use Rattle.ldc_link.specs.Calls.{Puts}

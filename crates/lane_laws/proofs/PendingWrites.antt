@@ -6,7 +6,7 @@ use Rattle.std.proofs.lemmas.List.{take-append-le}
 use Rattle.vdisk_msg.specs.declared.request.Request.{Request}
 use Rattle.vdisk_msg.specs.Requests.{AreSound, after_request}
 use Rattle.lane_laws.proofs.SlotBytes.{issued_more}
-use Rattle.lane_laws.specs.Blocks.{Puts, after_requests, block_at}
+use Rattle.lane_laws.specs.Blocks.{WritesBlock, after_requests, block_at}
 use Rattle.lane_laws.specs.NearContent.{PendingPuts, Shows}
 use Rattle.lane_laws.proofs.BlockWrites.{after_long, after_missed, after_reached, reaches_or_not}
 
@@ -64,7 +64,7 @@ earlier blocks content (request ∷ pending) (suc n) b sound long = by_later (ea
             from = omega arith;
             below = omega arith;
             there = refl;
-            puts = subst (λ (x : List ℕ). Puts request b x) (sym same) (after_reached blocks content request b sound.0 long reaches);
+            puts = subst (λ (x : List ℕ). WritesBlock request b x) (sym same) (after_reached blocks content request b sound.0 long reaches);
           })
           | inr not ↦ inl (same ∙ after_missed blocks content request b sound.0 long not)
         ]

@@ -14,7 +14,7 @@ use Rattle.disk_model.specs.Agreement.{WorkAgrees, owed_of}
 use Rattle.disk_model.specs.DiskLog.{DiskLog}
 use Rattle.disk_model.specs.WorkLaws.{FinishesPiece, InServer, MovesPiece, Owes, PiecesAt, StoresPiece, access_of, block_in, count_in, desc_in, unit_fault}
 use Rattle.disk_model.specs.WorkLog.{ServerCounts}
-use Rattle.disk_model.specs.DiskEvent.{Asks, Desc, DiskEvent, Done, Finished, Misplaced, Moved, OnWire, Published, Rests, Stored, Turns, Worked, Works}
+use Rattle.disk_model.specs.DiskEvent.{Asks, Desc, DiskEvent, Done, Finished, Misplaced, Moved, OnWire, Published, Calms, Stored, Switches, Worked, Works}
 use Rattle.disk_model.specs.LaneState.{LaneState, own_table, pages_of}
 use Rattle.disk_model.specs.LaneStep.{LaneStep, WorkStep, reach}
 use Rattle.disk_model.specs.ServerState.{Ends, Flushes, Gathers, Gives, Progress, Reads, ServerSession, Work, Writes}
@@ -197,5 +197,5 @@ pub pieces_at : (s : LaneState) (l : DiskLog) (event : DiskEvent) (t : LaneState
 pieces_at s l (Works event) t working step = work_pieces s l event t working step
 pieces_at s l (OnWire event) t working step = tt
 pieces_at s l (Asks event) t working step = tt
-pieces_at s l (Turns event) t working step = tt
-pieces_at s l (Rests event) t working step = tt
+pieces_at s l (Switches event) t working step = tt
+pieces_at s l (Calms event) t working step = tt

@@ -5,7 +5,7 @@ use Rattle.std.specs.Prelude.{if◌then◌else◌}
 use Rattle.ldc_link.specs.declared.phase.Role.{Role}
 use Rattle.ldc_link.specs.declared.phase.Role.TheVariants.{Initiator, Responder}
 use Rattle.ldc_link.specs.LinkState.{is_up}
-use Rattle.ldc_queue.specs.Talk.{Heard as Heard_, Turn}
+use Rattle.ldc_queue.specs.Transcript.{Heard as Heard_, Turn}
 use Rattle.vdisk_msg.specs.Requested.{ring_pages}
 use Rattle.vio_handshake.specs.declared.handshake.Handshake.{Handshake}
 use Rattle.vio_handshake.specs.declared.handshake.Phase.{Phase}
@@ -67,33 +67,33 @@ none_owed phase None is = tt
 none_owed phase (Some message) is = absurd (cc is)
 
 -- THE CLIENT, after a packet that it took
-pub client_owed : (shape : Shape) (sid : ℕ) (c t : ClientState) (turns : List Turn) (packet : List ℕ) → shape.slots ≤ 256 → sid < 2 ^ 32 → c.shake.owed ≡ None → ClientTook c turns packet t
-    → ClientAt shape sid t (Heard_ packet ∷ turns) → OwedInTurn t.shake.phase t.shake.owed
+pub client_owed : (shape : Shape) (sid : ℕ) (c t : ClientState) (turns : List Turn) (packet : List ℕ) → shape.slots ≤ 256 → sid < 2 ^ 32 → c.handshake.owed ≡ None → ClientTook c turns packet t
+    → ClientAt shape sid t (Heard_ packet ∷ turns) → OwedInTurn t.handshake.phase t.handshake.owed
 client_owed shape sid c t turns packet few small none (inl part) placed =
-    subst (λ (x : ClientState). OwedInTurn x.shake.phase x.shake.owed) (sym part.is) (none_owed c.shake.phase c.shake.owed none)
-client_owed shape sid c t turns packet few small none (inr (inl shakes)) placed =
-    let at = placed.up (ap (λ (x : ClientState). is_up x.link) shakes.is ∙ shakes.stays) in
-    subst (λ (h : Handshake). OwedInTurn h.phase h.owed) (sym at.shake_is) (owed_in shape sid Initiator at.place at.here few small)
+    subst (λ (x : ClientState). OwedInTurn x.handshake.phase x.handshake.owed) (sym part.is) (none_owed c.handshake.phase c.handshake.owed none)
+client_owed shape sid c t turns packet few small none (inr (inl handshakes)) placed =
+    let at = placed.up (ap (λ (x : ClientState). is_up x.link) handshakes.is ∙ handshakes.stays) in
+    subst (λ (h : Handshake). OwedInTurn h.phase h.owed) (sym at.handshake_is) (owed_in shape sid Initiator at.place at.here few small)
 client_owed shape sid c t turns packet few small none (inr (inr acked)) placed =
-    subst (λ (x : ClientState). OwedInTurn x.shake.phase x.shake.owed) (sym acked.is) (none_owed c.shake.phase c.shake.owed none)
+    subst (λ (x : ClientState). OwedInTurn x.handshake.phase x.handshake.owed) (sym acked.is) (none_owed c.handshake.phase c.handshake.owed none)
 
 -- THE SERVER
-up_owed : (shape : Shape) (sid : ℕ) (v : ServerState) (turns : List Turn) → shape.slots ≤ 256 → sid < 2 ^ 32 → ServerPlaced shape sid v turns → is_up v.link ≡ true → OwedInTurn v.shake.phase v.shake.owed
+up_owed : (shape : Shape) (sid : ℕ) (v : ServerState) (turns : List Turn) → shape.slots ≤ 256 → sid < 2 ^ 32 → ServerPlaced shape sid v turns → is_up v.link ≡ true → OwedInTurn v.handshake.phase v.handshake.owed
 up_owed shape sid v turns few small placed up =
     let at = placed.up up in
-    subst (λ (h : Handshake). OwedInTurn h.phase h.owed) (sym at.shake_is) (owed_in shape sid Responder at.place at.here few small)
+    subst (λ (h : Handshake). OwedInTurn h.phase h.owed) (sym at.handshake_is) (owed_in shape sid Responder at.place at.here few small)
 
-part_owed : (b : Bool) (shape : Shape) (sid : ℕ) (v u : ServerState) (turns now : List Turn) (packet : List ℕ) (opens : Bool) → is_up u.link ≡ b → shape.slots ≤ 256 → sid < 2 ^ 32 → v.shake.owed ≡ None
-    → ServerTook v turns packet u opens → ServerPlaced shape sid u now → OwedInTurn u.shake.phase u.shake.owed
+part_owed : (b : Bool) (shape : Shape) (sid : ℕ) (v u : ServerState) (turns now : List Turn) (packet : List ℕ) (opens : Bool) → is_up u.link ≡ b → shape.slots ≤ 256 → sid < 2 ^ 32 → v.handshake.owed ≡ None
+    → ServerTook v turns packet u opens → ServerPlaced shape sid u now → OwedInTurn u.handshake.phase u.handshake.owed
 part_owed true shape sid v u turns now packet opens up few small none took placed = up_owed shape sid u now few small placed up
 part_owed false shape sid v u turns now packet opens down few small none (inl part) placed =
     let below = sym (ap (λ (x : ServerState). is_up x.link) part.is) ∙ down in
-    none_owed u.shake.phase u.shake.owed (ap (λ (x : ServerState). x.shake.owed) part.is ∙ ap (λ (h : Handshake). h.owed) (not_risen v.link part.link v.shake below) ∙ none)
-part_owed false shape sid v u turns now packet opens down few small none (inr (inl shakes)) placed =
-    let never : true ≡ false = sym shakes.stays ∙ sym (ap (λ (x : ServerState). is_up x.link) shakes.is) ∙ down in absurd (cc)
+    none_owed u.handshake.phase u.handshake.owed (ap (λ (x : ServerState). x.handshake.owed) part.is ∙ ap (λ (h : Handshake). h.owed) (not_risen v.link part.link v.handshake below) ∙ none)
+part_owed false shape sid v u turns now packet opens down few small none (inr (inl handshakes)) placed =
+    let never : true ≡ false = sym handshakes.stays ∙ sym (ap (λ (x : ServerState). is_up x.link) handshakes.is) ∙ down in absurd (cc)
 part_owed false shape sid v u turns now packet opens down few small none (inr (inr asks)) placed =
     let never : true ≡ false = sym asks.stays ∙ sym (ap (λ (x : ServerState). is_up x.link) asks.is) ∙ down in absurd (cc)
 
-pub server_owed : (shape : Shape) (sid : ℕ) (v u : ServerState) (turns now : List Turn) (packet : List ℕ) (opens : Bool) → shape.slots ≤ 256 → sid < 2 ^ 32 → v.shake.owed ≡ None → ServerTook v turns packet u opens
-    → ServerPlaced shape sid u now → OwedInTurn u.shake.phase u.shake.owed
+pub server_owed : (shape : Shape) (sid : ℕ) (v u : ServerState) (turns now : List Turn) (packet : List ℕ) (opens : Bool) → shape.slots ≤ 256 → sid < 2 ^ 32 → v.handshake.owed ≡ None → ServerTook v turns packet u opens
+    → ServerPlaced shape sid u now → OwedInTurn u.handshake.phase u.handshake.owed
 server_owed shape sid v u turns now packet opens few small none took placed = part_owed (is_up u.link) shape sid v u turns now packet opens refl few small none took placed

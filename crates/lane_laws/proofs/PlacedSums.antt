@@ -17,7 +17,7 @@ use Rattle.vio_handshake.specs.declared.handshake.Phase.TheVariants.{PeerReadyTa
 use Rattle.vio_handshake.proofs.Places.{AttributesAnswered, AttributesSaid, Deal, PeerReadyAnswered, PeerReadySaid, Place, ReadyAnswered, ReadySaid, RingAnswered, RingSaid, VersionAnswered, VersionSaid, message_at}
 use Rattle.disk_model.specs.Messages.{is_range, range_if, range_in}
 use Rattle.disk_model.specs.WorkLog.{length_in, one_in}
-use Rattle.disk_model.specs.EndPuts.{ComesUp, EndsOwn, EndsShake, Goes, PutKind, ending, kind_in, put_kind}
+use Rattle.disk_model.specs.EndPuts.{ComesUp, EndsOwn, EndsHandshake, Goes, PutKind, ending, kind_in, put_kind}
 use Rattle.lane_laws.proofs.EndPlaced.{EachData, IsData, code_of}
 use Rattle.lane_laws.proofs.OpeningScript.{count_at, said_at, script}
 use Rattle.lane_laws.proofs.RangesSaid.{IsNoData, envelope_reads, formed_code, owed_no_range, said_one}
@@ -87,7 +87,7 @@ abbrev pub KindUp : PutKind → LinkState → Type 0
 KindUp Goes k = is_up (behind_put k) ≡ is_up k
 KindUp ComesUp k = (is_up k ≡ false) × (is_up (behind_put k) ≡ true)
 KindUp EndsOwn k = (is_up k ≡ true) × (is_up (behind_put k) ≡ true)
-KindUp EndsShake k = (is_up k ≡ true) × (is_up (behind_put k) ≡ true)
+KindUp EndsHandshake k = (is_up k ≡ true) × (is_up (behind_put k) ≡ true)
 
 ends_up : (last own : Bool) (k : LinkState) → k.phase ≡ phase.Established → KindUp (ending last own) k
 ends_up false own k at = ap (λ (p : LinkPhase). is_established (phase_behind_put p)) at ∙ sym (ap is_established at)

@@ -8,20 +8,21 @@ use Rattle.ldc_queue.specs.declared.end.ChannelState.{ChannelState}
 use Rattle.ldc_queue.specs.declared.end.ChannelState.TheVariants.{Down, Resetting, Up}
 use Rattle.ldc_queue.specs.declared.end.End.TheVariants.{A, B}
 use Rattle.ldc_queue.specs.Wire.{queue_behind}
+use Rattle.disk_model.specs.TranscriptLog.{nothing_said}
 use Rattle.disk_model.specs.WireEvent.{Blocked, Declines, Idle, Injected, Joined, Lost, Poked, Reset, Sent, Took, WireEvent}
 use Rattle.disk_model.specs.WireLog.{WireLog, wire_moved}
 use Rattle.disk_model.specs.DiskLog.{DiskLog, after, nothing_yet}
 use Rattle.disk_model.specs.ClientRule as client_rules
-use Rattle.disk_model.specs.DiskEvent.{Asks, DiskEvent, Off, OnWire, Rests, Started, Stopped, Turns, Works}
+use Rattle.disk_model.specs.DiskEvent.{Asks, DiskEvent, Off, OnWire, Calms, Started, Stopped, Switches, Works}
 use Rattle.disk_model.specs.LaneState.{IsShape, LaneState, Shape, fresh}
 use Rattle.disk_model.specs.LaneStep.{LaneStep}
 use Rattle.disk_model.specs.Seeing.{seen}
 use Rattle.lane_laws.proofs.CarriedRuns.{fresh_all}
 use Rattle.lane_laws.proofs.ClientHolding.{client_held}
-use Rattle.lane_laws.proofs.ClientUttering.{held_link}
+use Rattle.lane_laws.proofs.HeldLinks.{held_link}
 use Rattle.lane_laws.proofs.LaneCounting.{Knows, fresh_counted, knows_step}
-use Rattle.lane_laws.proofs.LaneResting.{fresh_rests}
-use Rattle.lane_laws.proofs.LaneUttering.{fresh_utters}
+use Rattle.lane_laws.proofs.Speaking.{fresh_rests}
+use Rattle.lane_laws.proofs.Speaking.{lane_utters}
 use Rattle.lane_laws.proofs.NoRefusal.{OffersOne, asking_offers}
 use Rattle.lane_laws.proofs.Ruling.{client_may}
 use Rattle.lane_laws.specs.Sound.{ClientSound}
@@ -48,11 +49,11 @@ first_of [] packet each is = absurd (cc is)
 first_of (first ∷ packets) packet each is = let same : first ≡ packet = cc is in subst OffersOne same each.0
 
 -- EACH EVENT of the wire
-abbrev Says : WireEvent → Type 0
-Says (Sent A packet opens) = OffersOne packet
-Says _ = ⊤
+abbrev SentOffers : WireEvent → Type 0
+SentOffers (Sent A packet opens) = OffersOne packet
+SentOffers _ = ⊤
 
-on_wire : (l : WireLog) (event : WireEvent) → Says event → (l.forged ≡ false → EachOffers l.wire.to_b) → (wire_moved l event).forged ≡ false → EachOffers (wire_moved l event).wire.to_b
+on_wire : (l : WireLog) (event : WireEvent) → SentOffers event → (l.forged ≡ false → EachOffers l.wire.to_b) → (wire_moved l event).forged ≡ false → EachOffers (wire_moved l event).wire.to_b
 on_wire l (Joined A lost) says each clean = emptied l.wire.end_a l.wire.to_b (each clean)
 on_wire l (Joined B lost) says each clean = emptied l.wire.end_b l.wire.to_b (each clean)
 on_wire l (Reset A cause packet lost) says each clean = emptied l.wire.end_a l.wire.to_b (each clean)
@@ -74,11 +75,11 @@ client_says s l packet opens t knows step =
     let at = seen A s.shape.entries s.wire.wire in
     let rule = client_rules.client_rule s.client at in
     let sends = step.step in
-    let sound : ClientSound sends.held = (client_held s.client at rule sends.held (client_may s.client at) sends.holds knows.all.talks.client).sound in
-    let follows : Follows sends.held.link l.talk.client = held_link s.client at rule sends.held l.talk.client sends.holds knows.all.talks.follows_a in
+    let sound : ClientSound sends.held = (client_held s.client at rule sends.held (client_may s.client at) sends.holds knows.all.transcripts.client).sound in
+    let follows : Follows sends.held.link l.transcript.client = held_link s.client at rule sends.held l.transcript.client sends.holds knows.all.transcripts.follows_a in
     asking_offers sends.held.link t.client.link packet sound.asking (omega (arith, follows.puts)) sends.packet
 
-says_of : (s : LaneState) (l : DiskLog) (event : WireEvent) (t : LaneState) → Knows s l → LaneStep s (OnWire event) t → Says event
+says_of : (s : LaneState) (l : DiskLog) (event : WireEvent) (t : LaneState) → Knows s l → LaneStep s (OnWire event) t → SentOffers event
 says_of s l (Sent A packet opens) t knows step = client_says s l packet opens t knows step
 says_of s l (Sent B packet opens) t knows step = tt
 says_of s l (Joined e lost) t knows step = tt
@@ -96,10 +97,10 @@ offers_step : (s : LaneState) (l : DiskLog) (event : DiskEvent) (t : LaneState) 
 offers_step s l (OnWire event) t knows step each clean = on_wire l.wire event (says_of s l event t knows step) each clean
 offers_step s l (Asks event) t knows step each clean = each clean
 offers_step s l (Works event) t knows step each clean = each clean
-offers_step s l (Turns Stopped) t knows step each clean = tt
-offers_step s l (Turns Started) t knows step each clean = each clean
-offers_step s l (Turns Off) t knows step each clean = each clean
-offers_step s l (Rests event) t knows step each clean = each clean
+offers_step s l (Switches Stopped) t knows step each clean = tt
+offers_step s l (Switches Started) t knows step each clean = each clean
+offers_step s l (Switches Off) t knows step each clean = each clean
+offers_step s l (Calms event) t knows step each clean = each clean
 
 -- ALONG EVERY RUN
 record AlongOffers (s : LaneState) (l : DiskLog) : Type 0 where
@@ -116,7 +117,7 @@ waits_offering shape events s packet sound run clean first =
     let along : AlongOffers s (log_of after (nothing_yet shape) events) =
     (run_lawful LaneStep (λ (l : DiskLog) (e : DiskEvent). ⊤) after AlongOffers along_step (fresh shape) s (nothing_yet shape) events
     (record {
-      knows = record { all = fresh_all shape sound; rests = fresh_rests shape; utters = fresh_utters shape; counted = fresh_counted shape };
+      knows = record { all = fresh_all shape sound; rests = fresh_rests shape sound; utters = lane_utters (fresh shape) nothing_said (fresh_rests shape sound); counted = fresh_counted shape };
       each = λ clean_yet. tt;
     }) run).1 in
     let wire = along.knows.all.stands.wire in

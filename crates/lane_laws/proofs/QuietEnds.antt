@@ -27,14 +27,14 @@ use Rattle.lane_laws.proofs.Counting.{OfClient, OfServer, of_client, of_server}
 use Rattle.lane_laws.proofs.HeardAll.{BothQuiet, HeardAll, heard_all}
 use Rattle.lane_laws.proofs.IdleLaw.{idle_client, idle_server, none_waits}
 use Rattle.lane_laws.proofs.IdleRules.{ClientIdles, ServerIdles, client_idles, server_idles}
-use Rattle.lane_laws.proofs.LinkRuns.{run_links}
+use Rattle.lane_laws.proofs.LaneChannel.{lane_meets}
 use Rattle.lane_laws.proofs.QuietPlaces.{both_said_all}
 use Rattle.lane_laws.proofs.WorkNumbers.{Grounded, at_client, at_server, order_of}
 
 -- TWO ENDS AT REST: resting is the next step of each
 pub record BothRest (s : LaneState) : Type 0 where
-  pub client : client_rules.client_rule s.client (at_client s) ≡ client_rules.Rests
-  pub server : server_rules.server_rule s.server (at_server s) ≡ server_rules.Rests
+  pub client : client_rules.client_rule s.client (at_client s) ≡ client_rules.Idles
+  pub server : server_rules.server_rule s.server (at_server s) ≡ server_rules.Idles
 
 both_quiet : (s : LaneState) → BothRest s → s.wire.lossy ≡ false → BothQuiet s
 both_quiet s rest whole =
@@ -56,7 +56,7 @@ some_is {X} None now = absurd (cc now)
 some_is {X} (Some x) now = (x, refl)
 
 -- THE COUNTS of both sessions are one
-finished_all : (s : LaneState) (l : DiskLog) → Grounded s l → BothRest s → HeardAll s l.talk → is_some s.client.session ≡ true → is_some s.server.session ≡ true → IsAtRest l
+finished_all : (s : LaneState) (l : DiskLog) → Grounded s l → BothRest s → HeardAll s l.transcript → is_some s.client.session ≡ true → is_some s.server.session ≡ true → IsAtRest l
 finished_all s l grounded rest all client_open server_open =
     let c = some_is s.client.session client_open in
     let v = some_is s.server.session server_open in
@@ -64,11 +64,11 @@ finished_all s l grounded rest all client_open server_open =
     let server = grounded.knows.counted.server in
     let k : OfClient c.0 l.work.done l.work.client = of_client s.client.session c.0 l.work.done l.work.client c.1 client.agrees in
     let d : OfServer v.0 s.server.work l.work.server = of_server s.server.session v.0 s.server.work l.work.server v.1 server.agrees in
-    let order = order_of l.shape.slots s.server.session v.0 l.work.server d.counts l.talk.server v.1 d.is server.order in
+    let order = order_of l.shape.slots s.server.session v.0 l.work.server d.counts l.transcript.server v.1 d.is server.order in
     let idle_c : ClientIsIdle l k.counts = subst (λ (o : Option ClientCounts). IfClient o (ClientIsIdle l)) k.is (idle_client s l grounded (client_idles s.client (at_client s) rest.client)) in
     let idle_v : ServerIsIdle d.counts = subst (λ (o : Option ServerCounts). IfServer o ServerIsIdle) d.is (idle_server s l grounded (server_idles s.server (at_server s) rest.server)) in
-    let announced : c.0.announced ≡ range_sum l.shape.slots 1 (said l.talk.client) = sym (ap announced_of c.1) ∙ client.announced in
-    let acked : c.0.acked ≡ range_sum l.shape.slots 2 (heard l.talk.client) = sym (ap acked_of c.1) ∙ client.acked in
+    let announced : c.0.announced ≡ range_sum l.shape.slots 1 (said l.transcript.client) = sym (ap announced_of c.1) ∙ client.announced in
+    let acked : c.0.acked ≡ range_sum l.shape.slots 2 (heard l.transcript.client) = sym (ap acked_of c.1) ∙ client.acked in
     let asked : d.counts.asked ≡ c.0.announced = order.asked ∙ ap (range_sum l.shape.slots 1) (sym all.to_server) ∙ sym announced in
     let answered : d.counts.answered ≡ c.0.acked = order.answered ∙ ap (range_sum l.shape.slots 2) all.to_client ∙ sym acked in
     record {
@@ -89,11 +89,12 @@ quiet_ends shape events s sound run clean whole grounded rest =
     let l = log_of after (nothing_yet shape) events in
     let quiet : BothQuiet s = both_quiet s rest whole in
     let knows : Knows s l = grounded.knows in
-    let all : HeardAll s l.talk = heard_all s l.talk quiet (knows.all.talks.unforged clean) (run_links shape events s sound run clean) in
-    let placed : LanePlaced shape s l.talk = run_placed shape events s sound run (sym (ap (λ (w : WireLog). w.forged) knows.all.stands.wire) ∙ clean) in
-    let at : AtPlace (deal shape placed.sid 0) Initiator s.client.shake (is_some s.client.session) l.talk.client = (placed.client quiet.up_a).up all.client_up in
-    let there : AtPlace (deal shape placed.sid 0) Responder s.server.shake (is_some s.server.session) l.talk.server = (placed.server quiet.up_b).up all.server_up in
-    let places = both_said_all shape placed.sid s.client.shake s.server.shake (is_some s.client.session) (is_some s.server.session) l.talk.client l.talk.server at there
+    let on = lane_meets shape events s sound run clean in
+    let all : HeardAll s l.transcript = heard_all s l.transcript quiet on.meets.converse on.meets.links in
+    let placed : LanePlaced shape s l.transcript = run_placed shape events s sound run (sym (ap (λ (w : WireLog). w.forged) knows.all.stands.wire) ∙ clean) in
+    let at : AtPlace (deal shape placed.sid 0) Initiator s.client.handshake (is_some s.client.session) l.transcript.client = (placed.client quiet.up_a).up all.client_up in
+    let there : AtPlace (deal shape placed.sid 0) Responder s.server.handshake (is_some s.server.session) l.transcript.server = (placed.server quiet.up_b).up all.server_up in
+    let places = both_said_all shape placed.sid s.client.handshake s.server.handshake (is_some s.client.session) (is_some s.server.session) l.transcript.client l.transcript.server at there
     (client_idles s.client (at_client s) rest.client).rests.rests.owed (server_idles s.server (at_server s) rest.server).owed all.to_server all.to_client in
     let client_open : is_some s.client.session ≡ true = at.opened places.0 in
     let server_open : is_some s.server.session ≡ true = there.opened places.1 in

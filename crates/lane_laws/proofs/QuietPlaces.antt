@@ -5,7 +5,7 @@ use Rattle.std.specs.Prelude.{is_some}
 use Rattle.ldc_link.specs.declared.phase.Role.{Role}
 use Rattle.ldc_link.specs.declared.phase.Role.TheVariants.{Initiator, Responder}
 use Rattle.ldc_queue.specs.OneStream.{IsFront}
-use Rattle.ldc_queue.specs.Talk.{Turn}
+use Rattle.ldc_queue.specs.Transcript.{Turn}
 use Rattle.vio_tag.specs.declared.message.Message.{Message}
 use Rattle.vio_handshake.specs.declared.handshake.Handshake.{Handshake}
 use Rattle.vio_handshake.proofs.Places.{AllSaid, AttributesAnswered, AttributesSaid, Deal, IsPlace, PeerReadyAnswered, PeerReadySaid, PeerRingAnswered, PeerRingSaid, Place, ReadyAnswered, ReadySaid, RingAnswered, RingSaid, VersionAnswered, VersionSaid, message_at, owed_by, owner}
@@ -15,7 +15,14 @@ use Rattle.lane_laws.proofs.EndHearing.{who}
 use Rattle.lane_laws.proofs.EndPlaced.{AtPlace}
 use Rattle.lane_laws.proofs.OpeningDeal.{deal}
 use Rattle.lane_laws.proofs.OpeningScript.{count_at, said_at}
-use Rattle.lane_laws.proofs.OpeningHeard.{owed_at}
+
+-- the message that an end owes at its own place
+owed_at : (r : Role) (shape : Shape) (sid : ℕ) (h : Handshake) (is_open : Bool) (turns : List Turn) (at : AtPlace (deal shape sid 0) r h is_open turns) → owner at.place ≡ Some r
+    → h.owed ≡ Some (message_at (deal shape sid 0) at.place)
+owed_at Initiator shape sid h is_open turns at own =
+    ap (λ (x : Handshake). x.owed) at.handshake_is ∙ ap (λ (o : Option Role). owed_by Initiator o (message_at (deal shape sid 0) at.place)) own
+owed_at Responder shape sid h is_open turns at own =
+    ap (λ (x : Handshake). x.owed) at.handshake_is ∙ ap (λ (o : Option Role). owed_by Responder o (message_at (deal shape sid 0) at.place)) own
 
 -- HOW MANY MESSAGES of the opening were said before a place
 said_long : (d : Deal) (r : Role) (n : Place) → length (said_at d r n) ≡ count_at r n
@@ -168,7 +175,7 @@ asks_own shape sid h open_one turns at owed =
       | inl own ↦ own
       | inr rest ↦
           let none : (o : Option Role) → (o ≡ Some Responder) ⊎ (o ≡ None) → is_some (owed_by Initiator o (message_at (deal shape sid 0) at.place)) ≡ false = not_initiator (message_at (deal shape sid 0) at.place) in
-          let off : is_some h.owed ≡ false = ap (λ (x : Handshake). is_some x.owed) at.shake_is ∙ none (owner at.place) (other_owner rest) in
+          let off : is_some h.owed ≡ false = ap (λ (x : Handshake). is_some x.owed) at.handshake_is ∙ none (owner at.place) (other_owner rest) in
           let never : true ≡ false = sym owed ∙ off in absurd (cc never)
     ]
   where
@@ -189,7 +196,7 @@ answers_own shape sid h open_one turns at (inl owed) =
       | inr (inr last) ↦ inr last
       | inr (inl turn) ↦
           let off : is_some h.owed ≡ false =
-          ap (λ (x : Handshake). is_some x.owed) at.shake_is ∙ ap (λ (x : Option Role). is_some (owed_by Responder x (message_at (deal shape sid 0) at.place))) turn in
+          ap (λ (x : Handshake). is_some x.owed) at.handshake_is ∙ ap (λ (x : Option Role). is_some (owed_by Responder x (message_at (deal shape sid 0) at.place))) turn in
           let never : true ≡ false = sym owed ∙ off in absurd (cc never)
     ]
 

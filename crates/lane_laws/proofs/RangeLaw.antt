@@ -1,54 +1,59 @@
--- The ranges that an end says and hears: an INFO has the next number, begins where the one before it ended and names published requests alone;
--- an ACK that is heard names announced ones alone, and one that is said finished ones alone.
-use Rattle.std.proofs.Common.{◌≡◌, ℕ, ◌+◌, ◌-◌, ◌%◌, ◌^◌, ◌<◌, ◌≤◌, Bool, true, false, Option, Some, None, List, [], ◌∷◌, ◌++◌, length, drop, refl, sym, ap, ◌∙◌, subst, arith, inl, length-append}
-use Rattle.std.specs.Prelude.{◌&&◌}
+-- The ranges that an end says and hears: an INFO has the next number, begins where the one before it ended and names all that was published since;
+-- an ACK that is heard names announced ones alone; and one that is said names all that was asked since the one before it, the last finished.
+use Rattle.std.proofs.Common.{◌≡◌, ℕ, ◌+◌, ◌-◌, ◌%◌, ◌^◌, ◌<◌, ◌≤◌, Bool, true, false, Option, Some, None, List, [], ◌∷◌, ◌++◌, length, drop, refl, sym, ap, ◌∙◌, subst, arith, inl, inr, ◌⊎◌, length-append}
+use Rattle.std.specs.Prelude.{◌&&◌, is_none}
 use Rattle.std.proofs.lemmas.Nat.{mod_below}
-use Rattle.ldc_packet.specs.declared.packet.Subtype.TheVariants.{Info}
+use Rattle.ldc_packet.specs.declared.packet.Subtype.{Subtype}
+use Rattle.ldc_packet.specs.Spelling.{subtype_code}
+use Rattle.ldc_packet.specs.declared.packet.Subtype.TheVariants.{Ack, Info}
+use Rattle.ldc_link.specs.LinkState.{LinkState}
 use Rattle.ldc_queue.specs.declared.end.End.TheVariants.{A, B}
 use Rattle.ldc_queue.specs.Fragments.{Fragment, fragment_at, is_part}
-use Rattle.ldc_queue.specs.Talk as turn
-use Rattle.ldc_queue.specs.Talk.{Turn}
+use Rattle.ldc_queue.specs.Transcript as turn
+use Rattle.ldc_queue.specs.Transcript.{Turn}
+use Rattle.vio_tag.specs.declared.message.Message.{Message}
 use Rattle.vio_tag.specs.declared.message.MsgBody.TheVariants.{DringData}
 use Rattle.vio_tag.specs.Spelling.{canonical}
 use Rattle.disk_model.specs.Sayings.{half_heard, half_said, said, whole_by, whole_past}
 use Rattle.disk_model.specs.WireEvent.{Blocked, Declines, Idle, Injected, Joined, Lost, Poked, Reset, Sent, Took, WireEvent}
-use Rattle.disk_model.specs.Agreement.{ClientAgrees, ServerAgrees}
+use Rattle.disk_model.specs.Agreement.{ClientAgrees, ServerCountsAgree, WorkAgrees}
 use Rattle.disk_model.specs.DiskLog.{DiskLog, after}
 use Rattle.disk_model.specs.Messages.{end_of, ended_by, range_ended, range_in, seq_of, start_of, whole_with}
-use Rattle.disk_model.specs.WorkLaws.{Acknowledges, Announces, Answers, IfClient, IfRange, IfServer, RangesAt}
-use Rattle.disk_model.specs.WorkLog.{ClientCounts, ServerCounts, change_client, change_server, length_in}
+use Rattle.disk_model.specs.WorkLaws.{Acknowledges, Announces, AcknowledgesRange, IfClient, IfRange, IfServer, RangesAt}
+use Rattle.disk_model.specs.WorkLog.{ClientCounts, ServerCounts, change_client, length_in}
 use Rattle.disk_model.specs.ClientPutting.{announcement, client_kind, is_announcing}
 use Rattle.disk_model.specs.ClientRule as client_rules
 use Rattle.disk_model.specs.ClientState.{ClientSession, ClientState, slot_in}
 use Rattle.disk_model.specs.ClientStep.{ClientSends}
-use Rattle.disk_model.specs.EndPuts.{ComesUp, EndsOwn, EndsShake, Goes, PutKind, put_opens}
+use Rattle.disk_model.specs.EndPuts.{ComesUp, EndsOwn, EndsHandshake, Goes, PutKind}
 use Rattle.disk_model.specs.Seeing.{seen}
 use Rattle.disk_model.specs.ServerPutting.{server_kind}
-use Rattle.ldc_link.specs.declared.phase.Role.{Role}
-use Rattle.ldc_link.specs.declared.phase.Role.TheVariants.{Responder}
-use Rattle.vio_handshake.specs.declared.handshake.Handshake.{Handshake}
-use Rattle.vio_handshake.specs.Rules.{opens_by_put}
-use Rattle.disk_model.specs.DiskEvent.{Asks, DiskEvent, OnWire, Rests, Turns, Works}
-use Rattle.disk_model.specs.LaneState.{LaneState}
+use Rattle.disk_model.specs.ServerRule as server_rules
+use Rattle.vio_handshake.specs.declared.handshake.Phase.{Phase}
+use Rattle.disk_model.specs.DiskEvent.{Asks, DiskEvent, OnWire, Calms, Switches, Works}
+use Rattle.disk_model.specs.LaneState.{IsShape, LaneState}
 use Rattle.disk_model.specs.LaneStep.{LaneStep, WireStep}
 use Rattle.disk_model.specs.Ranges.{range_length, wrapped}
-use Rattle.disk_model.specs.ServerState.{ServerSession}
+use Rattle.disk_model.specs.ServerState.{ServerSession, ServerState, SlotRange}
+use Rattle.disk_model.specs.ServerStep.{ServerSends}
 use Rattle.lane_laws.proofs.LaneCounting.{Knows, knows_step}
 use Rattle.lane_laws.proofs.Sharing.{in_order}
 use Rattle.lane_laws.proofs.ClientHolding.{client_held}
 use Rattle.lane_laws.proofs.ClientPutCounting.{OwnInfo, own_info}
-use Rattle.lane_laws.proofs.ClientUttering.{held_link}
+use Rattle.lane_laws.proofs.HeldLinks.{held_link}
 use Rattle.lane_laws.proofs.ClientWorkCounting.{client_holds_counting}
 use Rattle.lane_laws.proofs.EndPutting.{PutSays, SaysLast, put_says}
 use Rattle.lane_laws.proofs.RangeSums.{sum_more, sum_said}
 use Rattle.lane_laws.proofs.RangeTurns.{range_turns}
-use Rattle.lane_laws.proofs.RangesSaid.{envelope_reads, owed_no_range, range_is, said_range, seq_is, start_is, subtype_reads}
+use Rattle.lane_laws.proofs.RangesSaid.{end_is, owed_no_range, said_is, seq_is, start_is}
 use Rattle.lane_laws.proofs.Ruling.{client_may}
-use Rattle.lane_laws.proofs.ServerUttering.{server_blocked_utters}
-use Rattle.lane_laws.specs.Counted.{ClientCounted, ServerOrder, range_sum}
-use Rattle.lane_laws.specs.ShakeFits.{MayOwe, OwedFits}
+use Rattle.lane_laws.proofs.HeldLinks.{held_server}
+use Rattle.lane_laws.proofs.ServerPutCounting.{all_finished, server_holds_counting, some_owed, the_answer}
+use Rattle.lane_laws.proofs.RulesFree.{server_free}
+use Rattle.lane_laws.specs.Counted.{ClientCounted, HoldsAnswer, HoldsOwed, InServerOrder, RangeStands, ServerCounted, ServerOrder, range_sum}
+use Rattle.lane_laws.specs.HandshakeFits.{MayOwe, OwedFits}
 use Rattle.lane_laws.specs.Sound.{ClientSound, InOrder}
-use Rattle.lane_laws.proofs.Counting.{OfClient, of_client}
+use Rattle.lane_laws.proofs.Counting.{OfClient, OfServer, of_client, of_server, slot_of_count}
 use Rattle.lane_laws.proofs.WorkNumbers.{Grounded}
 
 -- the client's session and the log's after an event, where the log has one open
@@ -65,59 +70,36 @@ client_after (Some session) done k agrees = record { session = session; is = ref
 
 -- AN ACK THAT IS HEARD
 heard_ack : (s t : LaneState) (l : DiskLog) (packet : List ℕ) (opens : Bool) → opens ≡ false → Knows t (after l (OnWire (Took A packet opens)))
-    → IfClient l.work.client (λ (c : ClientCounts). IfRange (range_ended 2 (half_heard l.talk.client) packet) (Acknowledges l.shape.slots c))
+    → IfClient l.work.client (λ (c : ClientCounts). IfRange (range_ended 2 (half_heard l.transcript.client) packet) (Acknowledges l.shape.slots c))
 heard_ack s t l packet false quiet knows = of l.work.client knows.counted.client.agrees
   where
     of : (k : Option ClientCounts) → ClientAgrees t.client.session l.work.done
-        (change_client (λ (c : ClientCounts). record c { acked = c.acked + length_in l.shape.slots (range_ended 2 (half_heard l.talk.client) packet) }) k)
-        → IfClient k (λ (c : ClientCounts). IfRange (range_ended 2 (half_heard l.talk.client) packet) (Acknowledges l.shape.slots c))
+        (change_client (λ (c : ClientCounts). record c { acked = c.acked + length_in l.shape.slots (range_ended 2 (half_heard l.transcript.client) packet) }) k)
+        → IfClient k (λ (c : ClientCounts). IfRange (range_ended 2 (half_heard l.transcript.client) packet) (Acknowledges l.shape.slots c))
     of None agrees = tt
-    of (Some c) agrees = by_range (range_ended 2 (half_heard l.talk.client) packet) agrees
+    of (Some c) agrees = by_range (range_ended 2 (half_heard l.transcript.client) packet) agrees
       where
         by_range : (range : Option (List ℕ)) → ClientAgrees t.client.session l.work.done (Some (record c { acked = c.acked + length_in l.shape.slots range }))
             → IfRange range (Acknowledges l.shape.slots c)
         by_range None agrees = tt
         by_range (Some message) agrees =
             let now = client_after t.client.session l.work.done (record c { acked = c.acked + length_in l.shape.slots (Some message) }) agrees in
-            let order : InOrder (length t.client.pending) now.session = in_order (length t.client.pending) t.client.session now.session now.is knows.all.talks.client.counts in
+            let order : InOrder (length t.client.pending) now.session = in_order (length t.client.pending) t.client.session now.session now.is knows.all.transcripts.client.counts in
             omega (arith, now.acked, now.announced, order.acked)
 heard_ack s t l packet true loud knows = absurd (cc)
 
--- AN ACK THAT IS SAID
-said_ack : (s t : LaneState) (l : DiskLog) (packet : List ℕ) (opens : Bool) → opens ≡ false → Knows t (after l (OnWire (Sent B packet opens)))
-    → IfServer l.work.server (λ (c : ServerCounts). IfRange (range_ended 2 (half_said l.talk.server) packet) (Answers l.shape.slots c))
-said_ack s t l packet false quiet knows = of l.work.server knows.counted.server.agrees knows.counted.server.order
-  where
-    turns : List Turn
-    turns = (after l (OnWire (Sent B packet false))).talk.server
-
-    of : (d : Option ServerCounts) → ServerAgrees t.server.session t.server.work
-        (change_server (λ (c : ServerCounts). record c { answered = c.answered + length_in l.shape.slots (range_ended 2 (half_said l.talk.server) packet) }) d)
-        → ServerOrder l.shape.slots t.server.session
-        (change_server (λ (c : ServerCounts). record c { answered = c.answered + length_in l.shape.slots (range_ended 2 (half_said l.talk.server) packet) }) d) turns
-        → IfServer d (λ (c : ServerCounts). IfRange (range_ended 2 (half_said l.talk.server) packet) (Answers l.shape.slots c))
-    of None agrees order = tt
-    of (Some c) agrees order = by_range (range_ended 2 (half_said l.talk.server) packet) t.server.session agrees order
-      where
-        by_range : (range : Option (List ℕ)) (o : Option ServerSession) → ServerAgrees o t.server.work (Some (record c { answered = c.answered + length_in l.shape.slots range }))
-            → ServerOrder l.shape.slots o (Some (record c { answered = c.answered + length_in l.shape.slots range })) turns → IfRange range (Answers l.shape.slots c)
-        by_range None o agrees order = tt
-        by_range (Some message) None agrees order = absurd agrees
-        by_range (Some message) (Some session) agrees order = omega (arith, order.finished)
-said_ack s t l packet true loud knows = absurd (cc)
-
--- AN INFO THAT IS SAID. The message that a packet ends is the one that the talk has more
-same_last : (xs : List (List ℕ)) (a b : List ℕ) → xs ++ a ∷ [] ≡ xs ++ b ∷ [] → a ≡ b
+-- THE MESSAGE that a packet ends is the one that the transcript has more
+pub same_last : (xs : List (List ℕ)) (a b : List ℕ) → xs ++ a ∷ [] ≡ xs ++ b ∷ [] → a ≡ b
 same_last [] a b is = cc
 same_last (x ∷ xs) a b is = same_last xs a b (tail_of (x ∷ (xs ++ a ∷ [])) (x ∷ (xs ++ b ∷ [])) is)
   where
     tail_of : (ys zs : List (List ℕ)) → ys ≡ zs → drop 1 ys ≡ drop 1 zs
     tail_of ys zs same = ap (λ (l : List (List ℕ)). drop 1 l) same
 
-never_last : (xs : List (List ℕ)) (a : List ℕ) → xs ≡ xs ++ a ∷ [] → ⊥
+pub never_last : (xs : List (List ℕ)) (a : List ℕ) → xs ≡ xs ++ a ∷ [] → ⊥
 never_last xs a is = omega (arith, ap length is, length-append xs (a ∷ []))
 
-ended_with : (b c : Bool) (f : Fragment) (half : List ℕ) (messages : List (List ℕ)) (bytes : List ℕ) → f.stop ≡ c → whole_past b f half messages ≡ messages ++ bytes ∷ []
+pub ended_with : (b c : Bool) (f : Fragment) (half : List ℕ) (messages : List (List ℕ)) (bytes : List ℕ) → f.stop ≡ c → whole_past b f half messages ≡ messages ++ bytes ∷ []
     → whole_with (b && c) (half ++ f.bytes) ≡ Some bytes
 ended_with true true f half messages bytes stop is =
     ap (λ (xs : List ℕ). Some xs) (same_last messages (half ++ f.bytes) bytes (sym (ap (λ (d : Bool). whole_by d (half ++ f.bytes) messages) stop) ∙ is))
@@ -128,33 +110,60 @@ ended_with false c f half messages bytes stop is = absurd (never_last messages b
 ended_is : (turns : List Turn) (packet bytes : List ℕ) → said (turn.Said packet ∷ turns) ≡ said turns ++ bytes ∷ [] → ended_by (half_said turns) packet ≡ Some bytes
 ended_is turns packet bytes is = ended_with (is_part packet) (fragment_at packet).stop (fragment_at packet) (half_said turns) (said turns) bytes refl is
 
--- THE CLIENT as it puts the packet
-record Putting (s : LaneState) (l : DiskLog) (packet : List ℕ) (held : ClientState) : Type 0 where
-  sound : ClientSound held
-  counted : ClientCounted l.shape held l.talk.client l.work.done l.work.client
-  says : PutSays (client_kind held) (is_announcing held.session) held.link l.talk.client packet
+-- the end's own range
+record SaysRange (k : ℕ) (turns : List Turn) (packet bytes : List ℕ) (start end : ℕ) : Type 0 where
+  range : range_ended k (half_said turns) packet ≡ Some bytes
+  starts : start_of bytes ≡ start
+  ends : end_of bytes ≡ end
 
-putting : (s : LaneState) (l : DiskLog) (packet : List ℕ) (opens : Bool) (t : ClientState) (new : List ℕ) → Knows s l
+says_range : (k n : ℕ) (s : Subtype) (seq ident start end state : ℕ) (link : LinkState) (turns : List Turn) (packet : List ℕ) → subtype_code s ≡ k → start < 2 ^ 32 → end < 2 ^ 32
+    → half_said turns ++ link.to_send ≡ canonical (record { subtype = s; sid = n; body = DringData seq ident start end state }) → SaysLast link turns packet
+    → SaysRange k turns packet (half_said turns ++ link.to_send) start end
+says_range k n s seq ident start end state link turns packet kind small_start small_end is last = record {
+  range = ap (range_in k) (ended_is turns packet (half_said turns ++ link.to_send) last.messages) ∙ ap (λ (xs : List ℕ). range_in k (Some xs)) is ∙ said_is k n s seq ident start end state kind
+      ∙ ap (λ (xs : List ℕ). Some xs) (sym is);
+  starts = ap start_of is ∙ start_is s n seq ident start end state small_start;
+  ends = ap end_of is ∙ end_is s n seq ident start end state small_end;
+}
+
+-- a packet that ends no range
+no_range : (slots : ℕ) (range : Option (List ℕ)) (holds : List ℕ → Type 0) → length_in slots range ≡ 0 → IfRange range holds
+no_range slots None holds none = tt
+no_range slots (Some message) holds none = absurd (omega (arith, none))
+
+goes_none : (slots k : ℕ) (turns : List Turn) (packet : List ℕ) → said (turn.Said packet ∷ turns) ≡ said turns → length_in slots (range_ended k (half_said turns) packet) ≡ 0
+goes_none slots k turns packet same = omega (arith, sum_said slots k packet turns, ap (range_sum slots k) same)
+
+owed_none : (slots k : ℕ) (phase : Phase) (owed : Option Message) (link : LinkState) (turns : List Turn) (packet : List ℕ) → (k ≡ 1) ⊎ (k ≡ 2) → OwedFits phase owed
+    → HoldsOwed owed (half_said turns ++ link.to_send) → SaysLast link turns packet → length_in slots (range_ended k (half_said turns) packet) ≡ 0
+owed_none slots k phase owed link turns packet kind fits holds last =
+    let bytes = half_said turns ++ link.to_send in
+    let may : MayOwe phase holds.message.subtype holds.message.body = subst (OwedFits phase) holds.owed_is fits in
+    let none : range_in k (Some bytes) ≡ None = ap (λ (xs : List ℕ). range_in k (Some xs)) holds.bytes_are ∙ owed_no_range phase k holds.message kind may in
+    omega (arith, sum_said slots k packet turns, ap (range_sum slots k) last.messages, sum_more slots k (said turns) bytes, ap (length_in slots) none)
+
+-- THE CLIENT as it puts the packet
+pub record Putting (s : LaneState) (l : DiskLog) (packet : List ℕ) (held : ClientState) : Type 0 where
+  pub sound : ClientSound held
+  pub counted : ClientCounted l.shape held l.transcript.client l.work.done l.work.client
+  pub says : PutSays (client_kind held) (is_announcing held.session) held.link l.transcript.client packet
+
+pub putting : (s : LaneState) (l : DiskLog) (packet : List ℕ) (opens : Bool) (t : ClientState) (new : List ℕ) → Knows s l
     → (sends : ClientSends s.client (seen A s.shape.entries s.wire.wire) s.memory packet opens t new) → Putting s l packet sends.held
 putting s l packet opens t new knows sends =
     let at = seen A s.shape.entries s.wire.wire in
     let rule = client_rules.client_rule s.client at in
     record {
-      sound = (client_held s.client at rule sends.held (client_may s.client at) sends.holds knows.all.talks.client).sound;
-      counted = client_holds_counting l.shape s.client at rule sends.held l.talk.client l.work.done l.work.client knows.all.talks.client knows.rests.client knows.utters.client
+      sound = (client_held s.client at rule sends.held (client_may s.client at) sends.holds knows.all.transcripts.client).sound;
+      counted = client_holds_counting l.shape s.client at rule sends.held l.transcript.client l.work.done l.work.client knows.all.transcripts.client knows.rests.client knows.utters.client
           (client_may s.client at) sends.holds knows.counted.client;
-      says = put_says (is_announcing sends.held.session) sends.held.link t.link l.talk.client packet (held_link s.client at rule sends.held l.talk.client sends.holds knows.all.talks.follows_a) sends.packet;
+      says = put_says (is_announcing sends.held.session) sends.held.link t.link l.transcript.client packet (held_link s.client at rule sends.held l.transcript.client sends.holds knows.all.transcripts.follows_a) sends.packet;
     }
 
--- a packet that ends no INFO of a range
-no_range : (slots : ℕ) (range : Option (List ℕ)) (c : ClientCounts) → length_in slots range ≡ 0 → IfRange range (Announces slots c)
-no_range slots None c none = tt
-no_range slots (Some message) c none = absurd (omega (arith, none))
-
--- and one that ends the announcement
-announces : (l : DiskLog) (packet : List ℕ) (held : ClientState) (info : OwnInfo held (half_said l.talk.client ++ held.link.to_send)) (c : ClientCounts) → ClientSound held
-    → ClientCounted l.shape held l.talk.client l.work.done (Some c) → SaysLast held.link l.talk.client packet
-    → IfRange (range_ended 1 (half_said l.talk.client) packet) (Announces l.shape.slots c)
+-- it ends the announcement
+announces : (l : DiskLog) (packet : List ℕ) (held : ClientState) (info : OwnInfo held (half_said l.transcript.client ++ held.link.to_send)) (c : ClientCounts) → ClientSound held
+    → ClientCounted l.shape held l.transcript.client l.work.done (Some c) → SaysLast held.link l.transcript.client packet
+    → IfRange (range_ended 1 (half_said l.transcript.client) packet) (Announces l.shape.slots c)
 announces l packet held info c sound counted last =
     let session = info.session in
     let of : OfClient session l.work.done (Some c) = of_client held.session session l.work.done (Some c) info.is counted.agrees in
@@ -166,93 +175,126 @@ announces l packet held info c sound counted last =
     let wide : 1 ≤ held.slots = omega (arith, some, few) in
     let start = slot_in held session.announced in
     let end = slot_in held (session.published - 1) in
-    let bytes = half_said l.talk.client ++ held.link.to_send in
+    let bytes = half_said l.transcript.client ++ held.link.to_send in
     let seq = wrapped (session.infos + 1) in
     let begun : start < 2 ^ 32 = omega (arith, mod_below session.announced held.slots wide, sound.slots) in
     let ended_small : end < 2 ^ 32 = omega (arith, mod_below (session.published - 1) held.slots wide, sound.slots) in
-    let range : range_ended 1 (half_said l.talk.client) packet ≡ Some bytes =
-    ap (range_in 1) (ended_is l.talk.client packet bytes last.messages)
-    ∙ ap (λ (xs : List ℕ). range_in 1 (Some xs)) info.bytes_are
-    ∙ range_is 1 (canonical (announcement held session)) (envelope_reads Info held.shake.draft.sid (DringData seq held.shake.draft.ident_own start end 1) tt) (subtype_reads (announcement held session))
-    ∙ ap (λ (xs : List ℕ). Some xs) (sym info.bytes_are) in
+    let says = says_range 1 held.handshake.draft.sid Info seq held.handshake.draft.ident_own start end 1 held.link l.transcript.client packet refl begun ended_small info.bytes_are last in
     let spans : range_length l.shape.slots (start_of bytes) (end_of bytes) ≡ session.published - session.announced =
-    ap (length_in l.shape.slots) (sym range ∙ ap (range_in 1) (ended_is l.talk.client packet bytes last.messages))
-    ∙ ap (λ (xs : List ℕ). length_in l.shape.slots (range_in 1 (Some xs))) info.bytes_are
-    ∙ said_range l.shape.slots 1 held.shake.draft.sid Info seq held.shake.draft.ident_own start end 1 refl begun ended_small
-    ∙ ap (λ (n : ℕ). range_length n start end) (sym counted.slots)
-    ∙ range_turns held.slots session.announced session.published some few in
-    subst (λ (r : Option (List ℕ)). IfRange r (Announces l.shape.slots c)) (sym range)
+    ap (λ (x : ℕ). range_length l.shape.slots x (end_of bytes)) says.starts ∙ ap (λ (x : ℕ). range_length l.shape.slots start x) says.ends
+    ∙ ap (λ (n : ℕ). range_length n start end) (sym counted.slots) ∙ range_turns held.slots session.announced session.published some few in
+    subst (λ (r : Option (List ℕ)). IfRange r (Announces l.shape.slots c)) (sym says.range)
     (subst (λ (x : ClientCounts). Announces l.shape.slots x bytes) (sym same) (record {
-      next = ap seq_of info.bytes_are ∙ seq_is Info held.shake.draft.sid seq held.shake.draft.ident_own start end 1 (omega arith) ∙ ap (λ (n : ℕ). wrapped (n + 1)) of.agree.infos;
-      begins = ap start_of info.bytes_are ∙ start_is Info held.shake.draft.sid seq held.shake.draft.ident_own start end 1 begun
-          ∙ ap (λ (n : ℕ). session.announced % n) counted.slots ∙ ap (λ (n : ℕ). n % l.shape.slots) of.agree.announced;
+      next = ap seq_of info.bytes_are ∙ seq_is Info held.handshake.draft.sid seq held.handshake.draft.ident_own start end 1 (omega arith) ∙ ap (λ (n : ℕ). wrapped (n + 1)) of.agree.infos;
+      begins = says.starts ∙ ap (λ (n : ℕ). session.announced % n) counted.slots ∙ ap (λ (n : ℕ). n % l.shape.slots) of.agree.announced;
       published = omega (arith, spans, of.agree.announced, of.agree.published, some);
     }))
 
-goes_none : (slots : ℕ) (turns : List Turn) (packet : List ℕ) → said (turn.Said packet ∷ turns) ≡ said turns → length_in slots (range_ended 1 (half_said turns) packet) ≡ 0
-goes_none slots turns packet same = omega (arith, sum_said slots 1 packet turns, ap (range_sum slots 1) same)
-
-shakes_none : (l : DiskLog) (packet : List ℕ) (held : ClientState) (c : ClientCounts) → is_announcing held.session ≡ false → SaysLast held.link l.talk.client packet
-    → ClientCounted l.shape held l.talk.client l.work.done (Some c) → length_in l.shape.slots (range_ended 1 (half_said l.talk.client) packet) ≡ 0
-shakes_none l packet held c quiet last counted =
-    let bytes = half_said l.talk.client ++ held.link.to_send in
-    let holds = counted.holds.owed quiet last.some in
-    let may : MayOwe held.shake.phase holds.message.subtype holds.message.body = subst (OwedFits held.shake.phase) holds.owed_is counted.shake.owed in
-    let none : range_in 1 (Some bytes) ≡ None = ap (λ (xs : List ℕ). range_in 1 (Some xs)) holds.bytes_are ∙ owed_no_range held.shake.phase 1 holds.message (inl refl) may in
-    omega (arith, sum_said l.shape.slots 1 packet l.talk.client, ap (range_sum l.shape.slots 1) last.messages, sum_more l.shape.slots 1 (said l.talk.client) bytes, ap (length_in l.shape.slots) none)
-
-by_kind : (kind : PutKind) (l : DiskLog) (packet : List ℕ) (held : ClientState) (c : ClientCounts) → ClientSound held → ClientCounted l.shape held l.talk.client l.work.done (Some c)
-    → PutSays kind (is_announcing held.session) held.link l.talk.client packet → IfRange (range_ended 1 (half_said l.talk.client) packet) (Announces l.shape.slots c)
-by_kind Goes l packet held c sound counted says = no_range l.shape.slots (range_ended 1 (half_said l.talk.client) packet) c (goes_none l.shape.slots l.talk.client packet says.messages)
-by_kind ComesUp l packet held c sound counted says = no_range l.shape.slots (range_ended 1 (half_said l.talk.client) packet) c (goes_none l.shape.slots l.talk.client packet says.0.messages)
-by_kind EndsOwn l packet held c sound counted says = announces l packet held (own_info held l.talk.client held.session refl says.1 counted.holds) c sound counted says.0
-by_kind EndsShake l packet held c sound counted says =
-    no_range l.shape.slots (range_ended 1 (half_said l.talk.client) packet) c (shakes_none l packet held c says.1 says.0 counted)
+by_kind : (kind : PutKind) (l : DiskLog) (packet : List ℕ) (held : ClientState) (c : ClientCounts) → ClientSound held → ClientCounted l.shape held l.transcript.client l.work.done (Some c)
+    → PutSays kind (is_announcing held.session) held.link l.transcript.client packet → IfRange (range_ended 1 (half_said l.transcript.client) packet) (Announces l.shape.slots c)
+by_kind Goes l packet held c sound counted says =
+    no_range l.shape.slots (range_ended 1 (half_said l.transcript.client) packet) (Announces l.shape.slots c) (goes_none l.shape.slots 1 l.transcript.client packet says.messages)
+by_kind ComesUp l packet held c sound counted says =
+    no_range l.shape.slots (range_ended 1 (half_said l.transcript.client) packet) (Announces l.shape.slots c) (goes_none l.shape.slots 1 l.transcript.client packet says.0.messages)
+by_kind EndsOwn l packet held c sound counted says = announces l packet held (own_info held l.transcript.client held.session refl says.1 counted.holds) c sound counted says.0
+by_kind EndsHandshake l packet held c sound counted says =
+    no_range l.shape.slots (range_ended 1 (half_said l.transcript.client) packet) (Announces l.shape.slots c)
+    (owed_none l.shape.slots 1 held.handshake.phase held.handshake.owed held.link l.transcript.client packet (inl refl) counted.handshake.owed (counted.holds.owed says.1 says.0.some) says.0)
 
 said_info : (s t : LaneState) (l : DiskLog) (packet : List ℕ) (opens : Bool) → Knows s l → ClientSends s.client (seen A s.shape.entries s.wire.wire) s.memory packet opens t.client t.memory
-    → IfClient l.work.client (λ (c : ClientCounts). IfRange (range_ended 1 (half_said l.talk.client) packet) (Announces l.shape.slots c))
+    → IfClient l.work.client (λ (c : ClientCounts). IfRange (range_ended 1 (half_said l.transcript.client) packet) (Announces l.shape.slots c))
 said_info s t l packet opens knows sends = of l.work.client (putting s l packet opens t.client t.memory knows sends).counted
   where
     held : ClientState
     held = sends.held
 
-    of : (k : Option ClientCounts) → ClientCounted l.shape held l.talk.client l.work.done k
-        → IfClient k (λ (c : ClientCounts). IfRange (range_ended 1 (half_said l.talk.client) packet) (Announces l.shape.slots c))
+    of : (k : Option ClientCounts) → ClientCounted l.shape held l.transcript.client l.work.done k
+        → IfClient k (λ (c : ClientCounts). IfRange (range_ended 1 (half_said l.transcript.client) packet) (Announces l.shape.slots c))
     of None counted = tt
     of (Some c) counted =
         let put = putting s l packet opens t.client t.memory knows sends in by_kind (client_kind held) l packet held c put.sound counted put.says
 
--- a responder's session never opens by what it puts
-quiet_role : (kind : PutKind) (h : Handshake) → h.role ≡ Responder → put_opens kind h ≡ false
-quiet_role Goes h is = refl
-quiet_role ComesUp h is = refl
-quiet_role EndsOwn h is = refl
-quiet_role EndsShake h is = ap (λ (r : Role). opens_by_put r h.phase) is
+-- AN ACK THAT IS SAID answers the whole range
+in_server_order : (slots : ℕ) (o : Option ServerSession) (session : ServerSession) (c : ServerCounts) (turns : List Turn) → o ≡ Some session → ServerOrder slots o (Some c) turns
+    → InServerOrder slots session c turns
+in_server_order slots None session c turns is order = absurd (cc is)
+in_server_order slots (Some other) session c turns is order =
+    let same : other ≡ session = cc is in subst (λ (x : ServerSession). InServerOrder slots x c turns) same order
 
-server_quiet : (s : LaneState) (packet : List ℕ) (opens : Bool) (t : LaneState) (l : DiskLog) → Knows s l → WireStep s (Sent B packet opens) t → opens ≡ false
-server_quiet s packet opens t l knows step =
-    let sends = step.1.step.1.0 in
-    let held = server_blocked_utters s.server (seen B s.shape.entries s.wire.wire) sends.held l.talk.server sends.holds knows.rests.server knows.utters.server in
-    sends.opens_is ∙ quiet_role (server_kind sends.held) sends.held.shake held.utters.role_is
+answers : (l : DiskLog) (packet : List ℕ) (held : ServerState) (c : ServerCounts) → IsShape l.shape → HoldsAnswer held (half_said l.transcript.server ++ held.link.to_send)
+    → ServerCounted l.shape held l.transcript.server (Some c) → SaysLast held.link l.transcript.server packet
+    → IfRange (range_ended 2 (half_said l.transcript.server) packet) (AcknowledgesRange l.shape.slots c)
+answers l packet held c sound a counted last =
+    let turns = l.transcript.server in
+    let slots = l.shape.slots in
+    let range = a.range in
+    let bytes = half_said turns ++ held.link.to_send in
+    let order : InServerOrder slots a.session c turns = in_server_order slots held.session a.session c turns a.session_is counted.order in
+    let of : OfServer a.session held.work (Some c) = of_server held.session a.session held.work (Some c) a.session_is counted.agrees in
+    let both : Some c ≡ Some of.counts = of.is in
+    let same : of.counts ≡ c = cc in
+    let agree : ServerCountsAgree a.session c = subst (ServerCountsAgree a.session) same of.agree in
+    let works : WorkAgrees held.work c = subst (WorkAgrees held.work) same of.work_agrees in
+    let stands : RangeStands slots (Some range) c = subst (λ (r : Option SlotRange). RangeStands slots r c) a.range_is order.range in
+    let begun : range.start < 2 ^ 32 = omega (arith, stands.1, sound.most_slots) in
+    let ended : range.end < 2 ^ 32 = omega (arith, stands.2, sound.most_slots) in
+    let says = says_range 2 held.handshake.draft.sid Ack range.seq held.handshake.draft.ident_peer range.start range.end range.state held.link turns packet refl begun ended a.bytes_are last in
+    let spans : range_length slots (start_of bytes) (end_of bytes) ≡ range_length slots range.start range.end =
+    ap (λ (x : ℕ). range_length slots x (end_of bytes)) says.starts ∙ ap (λ (x : ℕ). range_length slots range.start x) says.ends in
+    subst (λ (r : Option (List ℕ)). IfRange r (AcknowledgesRange slots c)) (sym says.range) (record {
+      begins = says.starts ∙ stands.3 ∙ slot_of_count slots (wrapped c.answered) c.answered sound.slots sound.some_slots sound.most_slots refl;
+      asked = omega (arith, spans, stands.0);
+      finished = all_finished slots a.session held.work c turns range sound.most_slots a.finished stands order agree works;
+    })
+
+answers_by : (kind : PutKind) (l : DiskLog) (packet : List ℕ) (held : ServerState) (c : ServerCounts) → IsShape l.shape → ServerCounted l.shape held l.transcript.server (Some c)
+    → PutSays kind (is_none held.handshake.owed) held.link l.transcript.server packet → IfRange (range_ended 2 (half_said l.transcript.server) packet) (AcknowledgesRange l.shape.slots c)
+answers_by Goes l packet held c sound counted says =
+    no_range l.shape.slots (range_ended 2 (half_said l.transcript.server) packet) (AcknowledgesRange l.shape.slots c) (goes_none l.shape.slots 2 l.transcript.server packet says.messages)
+answers_by ComesUp l packet held c sound counted says =
+    no_range l.shape.slots (range_ended 2 (half_said l.transcript.server) packet) (AcknowledgesRange l.shape.slots c) (goes_none l.shape.slots 2 l.transcript.server packet says.0.messages)
+answers_by EndsOwn l packet held c sound counted says =
+    answers l packet held c sound (the_answer held.handshake.owed held (half_said l.transcript.server ++ held.link.to_send) refl says.1 (counted.holds says.0.some)) counted says.0
+answers_by EndsHandshake l packet held c sound counted says =
+    no_range l.shape.slots (range_ended 2 (half_said l.transcript.server) packet) (AcknowledgesRange l.shape.slots c)
+    (owed_none l.shape.slots 2 held.handshake.phase held.handshake.owed held.link l.transcript.server packet (inr refl) counted.handshake.owed
+    (some_owed held.handshake.owed held (half_said l.transcript.server ++ held.link.to_send) refl says.1 (counted.holds says.0.some)) says.0)
+
+said_ack : (s : LaneState) (l : DiskLog) (packet : List ℕ) (opens : Bool) (t : ServerState) → Grounded s l → ServerSends s.server (seen B s.shape.entries s.wire.wire) packet opens t
+    → IfServer l.work.server (λ (c : ServerCounts). IfRange (range_ended 2 (half_said l.transcript.server) packet) (AcknowledgesRange l.shape.slots c))
+said_ack s l packet opens t grounded sends =
+    let at = seen B s.shape.entries s.wire.wire in
+    let rule = server_rules.server_rule s.server at in
+    let knows = grounded.knows in
+    of l.work.server (server_holds_counting l.shape s.server rule sends.held l.transcript.server l.work.server knows.rests.server knows.utters.server (server_free s.server at) sends.holds
+    knows.counted.server)
+    (put_says (is_none sends.held.handshake.owed) sends.held.link t.link l.transcript.server packet
+    (held_server s.server rule sends.held l.transcript.server sends.holds knows.all.transcripts.follows_b) sends.packet)
+  where
+    of : (d : Option ServerCounts) → ServerCounted l.shape sends.held l.transcript.server d
+        → PutSays (server_kind sends.held) (is_none sends.held.handshake.owed) sends.held.link l.transcript.server packet
+        → IfServer d (λ (c : ServerCounts). IfRange (range_ended 2 (half_said l.transcript.server) packet) (AcknowledgesRange l.shape.slots c))
+    of None counted says = tt
+    of (Some c) counted says = answers_by (server_kind sends.held) l packet sends.held c grounded.sound counted says
 
 -- EACH EVENT
-wire_ranges : (s : LaneState) (l : DiskLog) (event : WireEvent) (t : LaneState) → Knows s l → WireStep s event t → RangesAt l (OnWire event)
-wire_ranges s l (Sent A packet opens) t knows step = said_info s t l packet opens knows step.step
-wire_ranges s l (Sent B packet opens) t knows step = said_ack s t l packet opens (server_quiet s packet opens t l knows step) (knows_step s l (OnWire (Sent B packet opens)) t knows step).1
-wire_ranges s l (Took A packet opens) t knows step = heard_ack s t l packet opens step.step.2 (knows_step s l (OnWire (Took A packet opens)) t knows step).1
-wire_ranges s l (Took B packet opens) t knows step = tt
-wire_ranges s l (Joined e lost) t knows step = tt
-wire_ranges s l (Idle e) t knows step = tt
-wire_ranges s l (Blocked e) t knows step = tt
-wire_ranges s l (Reset e cause packet lost) t knows step = tt
-wire_ranges s l (Lost e packet) t knows step = tt
-wire_ranges s l (Injected e packet) t knows step = tt
-wire_ranges s l (Poked e at bytes) t knows step = tt
-wire_ranges s l (Declines d) t knows step = tt
+wire_ranges : (s : LaneState) (l : DiskLog) (event : WireEvent) (t : LaneState) → Grounded s l → WireStep s event t → RangesAt l (OnWire event)
+wire_ranges s l (Sent A packet opens) t grounded step = said_info s t l packet opens grounded.knows step.step
+wire_ranges s l (Sent B packet opens) t grounded step = said_ack s l packet opens t.server grounded step.1.step.1.0
+wire_ranges s l (Took A packet opens) t grounded step = heard_ack s t l packet opens step.step.2 (knows_step s l (OnWire (Took A packet opens)) t grounded.knows step).1
+wire_ranges s l (Took B packet opens) t grounded step = tt
+wire_ranges s l (Joined e lost) t grounded step = tt
+wire_ranges s l (Idle e) t grounded step = tt
+wire_ranges s l (Blocked e) t grounded step = tt
+wire_ranges s l (Reset e cause packet lost) t grounded step = tt
+wire_ranges s l (Lost e packet) t grounded step = tt
+wire_ranges s l (Injected e packet) t grounded step = tt
+wire_ranges s l (Poked e at bytes) t grounded step = tt
+wire_ranges s l (Declines d) t grounded step = tt
 
 pub ranges_at : (s : LaneState) (l : DiskLog) (event : DiskEvent) (t : LaneState) → Grounded s l → LaneStep s event t → RangesAt l event
-ranges_at s l (OnWire event) t grounded step = wire_ranges s l event t grounded.knows step
+ranges_at s l (OnWire event) t grounded step = wire_ranges s l event t grounded step
 ranges_at s l (Asks event) t grounded step = tt
 ranges_at s l (Works event) t grounded step = tt
-ranges_at s l (Turns event) t grounded step = tt
-ranges_at s l (Rests event) t grounded step = tt
+ranges_at s l (Switches event) t grounded step = tt
+ranges_at s l (Calms event) t grounded step = tt

@@ -2,7 +2,7 @@
 use Rattle.std.proofs.Common.{◌≡◌, ℕ, ◌+◌, ◌≤◌, Bool, true, false, Option, Some, None, List, [], ◌∷◌, ◌++◌, refl, arith}
 use Rattle.std.specs.Prelude.{◌&&◌}
 use Rattle.ldc_queue.specs.Fragments.{Fragment, fragment_at, is_part}
-use Rattle.ldc_queue.specs.Talk.{Heard as Heard_, Said, Turn}
+use Rattle.ldc_queue.specs.Transcript.{Heard as Heard_, Said, Turn}
 use Rattle.disk_model.specs.Sayings.{half_heard, half_said, heard, said, whole_by, whole_past}
 use Rattle.disk_model.specs.Messages.{range_ended, range_in, whole_with}
 use Rattle.disk_model.specs.WorkLog.{length_in, one_in}

@@ -18,7 +18,7 @@ use Rattle.disk_model.specs.Messages.{end_of, is_range, range_if, range_in, seq_
 use Rattle.disk_model.specs.WorkLog.{length_in, one_in}
 use Rattle.disk_model.specs.Ranges.{range_length}
 use Rattle.lane_laws.specs.Counted.{is_ready}
-use Rattle.lane_laws.specs.ShakeFits.{MayOwe}
+use Rattle.lane_laws.specs.HandshakeFits.{MayOwe}
 
 -- THE ENVELOPE AND THE SUBTYPE of canonical bytes
 abbrev pub IsNoPlain : MsgBody → Type 0
@@ -184,7 +184,7 @@ is_data k n s seq ident start end state kind =
     test_is k (range_bytes s n seq ident start end state) (envelope_reads s n (DringData seq ident start end state) tt)
     (subtype_reads (record { subtype = s; sid = n; body = DringData seq ident start end state }) ∙ kind)
 
-said_is : (k n : ℕ) (s : Subtype) (seq ident start end state : ℕ) → subtype_code s ≡ k
+pub said_is : (k n : ℕ) (s : Subtype) (seq ident start end state : ℕ) → subtype_code s ≡ k
     → range_in k (Some (range_bytes s n seq ident start end state)) ≡ Some (range_bytes s n seq ident start end state)
 said_is k n s seq ident start end state kind =
     ap (λ (b : Bool). range_if b (range_bytes s n seq ident start end state)) (is_data k n s seq ident start end state kind)

@@ -3,7 +3,7 @@ use Rattle.std.proofs.Common.{◌≡◌, ℕ, ◌+◌, ◌*◌, ◌≤◌, Bool,
 use Rattle.runs.specs.Lawful.{log_of}
 use Rattle.runs.specs.Run.{Run}
 use Rattle.disk_model.specs.DiskLog.{after, nothing_yet}
-use Rattle.disk_model.specs.DiskEvent.{Asks, Desc, DiskEvent, Done, Finished, Misplaced, Moved, OnWire, Published, Rests, Stored, Turns, Works}
+use Rattle.disk_model.specs.DiskEvent.{Asks, Desc, DiskEvent, Done, Finished, Misplaced, Moved, OnWire, Published, Calms, Stored, Switches, Works}
 use Rattle.disk_model.specs.LaneState.{IsShape, LaneState, Shape, fresh}
 use Rattle.disk_model.specs.LaneStep.{LaneStep, ServerWorks}
 use Rattle.disk_model.specs.Served as served
@@ -51,9 +51,9 @@ served_by shape events s (Works (Finished slot status)) gave store new t sound r
     still shape s (Works (Finished slot status)) t store new (λ same. ap (region_of shape) same) does
 served_by shape events s (Works Misplaced) gave store new t sound run unforged well room step does = still shape s (Works Misplaced) t store new (λ same. ap (region_of shape) same) does
 served_by shape events s (OnWire event) gave store new t sound run unforged well room step does = still shape s (OnWire event) t store new (λ same. ap (region_of shape) same) does
-served_by shape events s (Turns event) gave store new t sound run unforged well room step does = still shape s (Turns event) t store new (λ same. ap (region_of shape) same) does
+served_by shape events s (Switches event) gave store new t sound run unforged well room step does = still shape s (Switches event) t store new (λ same. ap (region_of shape) same) does
 served_by shape events s (Asks event) gave store new t sound run unforged well room step does = absurd step
-served_by shape events s (Rests event) gave store new t sound run unforged well room step does = absurd step
+served_by shape events s (Calms event) gave store new t sound run unforged well room step does = absurd step
 
 pub run_served : (shape : Shape) (events : List DiskEvent) (s : LaneState) (event : DiskEvent) (t : LaneState) (store new : List ℕ) → IsShape shape → Run LaneStep (fresh shape) events s
     → t.wire.forged ≡ false → t.failed ≡ false → 512 * (shape.first + shape.blocks) ≤ length store → served.Served s (Some store) event t (Some new)

@@ -5,12 +5,12 @@ use Rattle.runs.specs.Run.{Run}
 use Rattle.ldc_queue.specs.declared.end.ChannelState.TheVariants.{Up}
 use Rattle.ldc_queue.specs.declared.end.End.{End}
 use Rattle.ldc_queue.specs.declared.end.End.TheVariants.{A, B}
-use Rattle.ldc_queue.specs.Talk.{Turn}
+use Rattle.ldc_queue.specs.Transcript.{Turn}
 use Rattle.ldc_queue.specs.Wire.{Wire}
 use Rattle.disk_model.specs.WireEvent.{Blocked}
 use Rattle.disk_model.specs.DiskLog.{after, nothing_yet}
 use Rattle.disk_model.specs.ClientPutting.{announcement, announcing, client_holds, holding}
-use Rattle.disk_model.specs.ClientRule.{Announces, ClientRule, Completes, Joins, Publishes, Puts, Rests, Says, Takes, client_rule}
+use Rattle.disk_model.specs.ClientRule.{Announces, ClientRule, Completes, Joins, Publishes, Puts, Idles, Says, Takes, client_rule}
 use Rattle.disk_model.specs.ClientState.{ClientState}
 use Rattle.disk_model.specs.DiskEvent.{DiskEvent, OnWire}
 use Rattle.disk_model.specs.LaneState.{IsShape, LaneState, Shape, fresh}
@@ -53,7 +53,7 @@ client_lowers s at Joins held turns may holds sound utters = absurd (cc holds)
 client_lowers s at (Completes session) held turns may holds sound utters = absurd (cc holds)
 client_lowers s at (Takes packet) held turns may holds sound utters = absurd (cc holds)
 client_lowers s at (Publishes session request) held turns may holds sound utters = absurd (cc holds)
-client_lowers s at Rests held turns may holds sound utters = absurd (cc holds)
+client_lowers s at Idles held turns may holds sound utters = absurd (cc holds)
 
 client_waits : (w : Wire) (lossy : Bool) (c t : ClientState) (v : ServerState) → w.end_a ≡ Up → ClientLowers 0 c t → left w lossy t v ≤ left w lossy c v
 client_waits w lossy c t v up lower =
@@ -76,7 +76,7 @@ server_lowers s at server_rules.Joins held turns may holds utters = absurd (cc h
 server_lowers s at (server_rules.Fetches session) held turns may holds utters = absurd (cc holds)
 server_lowers s at (server_rules.Serves session work) held turns may holds utters = absurd (cc holds)
 server_lowers s at (server_rules.Takes packet) held turns may holds utters = absurd (cc holds)
-server_lowers s at server_rules.Rests held turns may holds utters = absurd (cc holds)
+server_lowers s at server_rules.Idles held turns may holds utters = absurd (cc holds)
 
 server_waits : (w : Wire) (lossy : Bool) (c : ClientState) (v u : ServerState) → w.end_b ≡ Up → ServerLowers 0 v u → left w lossy c u ≤ left w lossy c v
 server_waits w lossy c v u up lower =
@@ -98,11 +98,11 @@ blocked_stays shape events s A t sound run step =
     let may = client_may s.client (at_client s) in
     stays_is s t (record s { client = t.client; memory = t.memory }) step.is
     (client_waits s.wire.wire s.wire.lossy s.client t.client s.server (holds_up s.client (at_client s) (client_rule s.client (at_client s)) t.client may step.step.0)
-    (client_lowers s.client (at_client s) (client_rule s.client (at_client s)) t.client l.talk.client may step.step.0 knows.all.talks.client knows.utters.client))
+    (client_lowers s.client (at_client s) (client_rule s.client (at_client s)) t.client l.transcript.client may step.step.0 knows.all.transcripts.client knows.utters.client))
 blocked_stays shape events s B t sound run step =
     let l = log_of after (nothing_yet shape) events in
     let knows : Knows s l = run_knows shape events s sound run in
     let may = server_may s.server (at_server s) in
     stays_is s t (record s { server = t.server; memory = t.memory }) step.1.is
     (server_waits s.wire.wire s.wire.lossy s.client s.server t.server (server_holds_up s.server (at_server s) (server_rules.server_rule s.server (at_server s)) t.server may step.1.step.1.0)
-    (server_lowers s.server (at_server s) (server_rules.server_rule s.server (at_server s)) t.server l.talk.server may step.1.step.1.0 knows.utters.server))
+    (server_lowers s.server (at_server s) (server_rules.server_rule s.server (at_server s)) t.server l.transcript.server may step.1.step.1.0 knows.utters.server))

@@ -22,9 +22,9 @@ use Rattle.vio_tag.specs.declared.message.MsgBody.{MsgBody}
 use Rattle.vio_tag.specs.declared.message.MsgBody.TheVariants.{DringData}
 use Rattle.vio_tag.specs.declared.message.TagFault.{TagFault}
 use Rattle.vio_handshake.specs.declared.handshake.Handshake.{Handshake}
-use Rattle.vio_handshake.specs.Rules.{Faults, Goes, GoesOpen, ShakeTake, shake_take, sid_fault}
+use Rattle.vio_handshake.specs.Rules.{Faults, Goes, GoesOpen, HandshakeTake, handshake_take, sid_fault}
 use Rattle.disk_model.specs.ClientPutting.{is_announcing}
-use Rattle.disk_model.specs.ClientRule.{Announces, ClientRule, Completes, Joins, Puts, Rests, Takes, client_rule, completes_first, in_session, is_urgent, publishes, puts_first, puts_or_takes, says, takes_first}
+use Rattle.disk_model.specs.ClientRule.{Announces, ClientRule, Completes, Joins, Puts, Idles, Takes, client_rule, completes_first, in_session, is_urgent, publishes, puts_first, puts_or_takes, says, takes_first}
 use Rattle.disk_model.specs.ClientState.{ClientSession, ClientState, slot_in}
 use Rattle.disk_model.specs.ClientTaking as hear
 use Rattle.disk_model.specs.Ranges.{is_other, range_length}
@@ -32,7 +32,7 @@ use Rattle.disk_model.specs.Seeing.{Seen}
 use Rattle.lane_laws.proofs.Hearing.{heard_leaves}
 use Rattle.lane_laws.proofs.RemainingRows.{FewerBy, take_fewer}
 use Rattle.lane_laws.proofs.RemainingSums.{held_more}
-use Rattle.lane_laws.specs.Conversation.{IsAsking}
+use Rattle.lane_laws.specs.LinkMoves.{IsAsking}
 use Rattle.lane_laws.specs.Remaining.{client_puts, held_left, later, parts_owed, requests_left, total}
 use Rattle.lane_laws.specs.RemainingSteps.{ClientHears}
 use Rattle.lane_laws.specs.RemainingTurn.{ClientInTurn, OwedInTurn}
@@ -42,7 +42,7 @@ abbrev TakeMay : ClientState → ClientRule → Type 0
 TakeMay s (Takes packet) = is_urgent s ≡ false
 TakeMay s _ = ⊤
 
-announces_may : (s : ClientState) (session : ClientSession) (b : Bool) → TakeMay s (if b then Announces session else Rests)
+announces_may : (s : ClientState) (session : ClientSession) (b : Bool) → TakeMay s (if b then Announces session else Idles)
 announces_may s session true = tt
 announces_may s session false = tt
 
@@ -58,9 +58,9 @@ says_may : (s : ClientState) (owed : Option Message) → TakeMay s (says s owed)
 says_may s None = in_session_may s s.session
 says_may s (Some message) = tt
 
-puts_may : (s : ClientState) (b : Bool) → TakeMay s (if b then Puts else says s s.shake.owed)
+puts_may : (s : ClientState) (b : Bool) → TakeMay s (if b then Puts else says s s.handshake.owed)
 puts_may s true = tt
-puts_may s false = says_may s s.shake.owed
+puts_may s false = says_may s s.handshake.owed
 
 first_may : (s : ClientState) (first : Option (List ℕ)) → is_urgent s ≡ false → TakeMay s (takes_first first (puts_first s))
 first_may s None calm = puts_may s (owes s.link)
@@ -91,10 +91,13 @@ nothing_owed : (owed : Option Message) → is_some owed ≡ false → owed ≡ N
 nothing_owed None is = refl
 nothing_owed (Some message) is = absurd (cc)
 
-pub owes_nothing : (s : ClientState) (at : Seen) (packet : List ℕ) → client_rule s at ≡ Takes packet → s.shake.owed ≡ None
+pub takes_calm : (s : ClientState) (at : Seen) (packet : List ℕ) → client_rule s at ≡ Takes packet → is_urgent s ≡ false
+takes_calm s at packet rule = subst (TakeMay s) rule (up_may s at (end_up at.state))
+
+pub owes_nothing : (s : ClientState) (at : Seen) (packet : List ℕ) → client_rule s at ≡ Takes packet → s.handshake.owed ≡ None
 owes_nothing s at packet rule =
-    let calm : is_urgent s ≡ false = subst (TakeMay s) rule (up_may s at (end_up at.state)) in
-    nothing_owed s.shake.owed (middle_false (owes_control s.link) (is_some s.shake.owed) (is_none s.session && owes s.link) calm)
+    let calm = takes_calm s at packet rule in
+    nothing_owed s.handshake.owed (middle_false (owes_control s.link) (is_some s.handshake.owed) (is_none s.session && owes s.link) calm)
 
 -- ITS LINK comes no further from its end, and has a whole message only where it is up
 abbrev FewIn : LinkPhase → Result LinkPhase Cause → Type 0
@@ -198,35 +201,35 @@ heard_few k m bytes asking takes = subst (λ (answer : LinkTake). FewBy k answer
 
 -- WHAT IT HEARS of a message, after its link
 abbrev HearsBy : ClientState → hear.ClientTake → Type 0
-HearsBy x (hear.GoesOn t) = OwedInTurn t.shake.phase t.shake.owed → ClientHears x t
+HearsBy x (hear.GoesOn t) = OwedInTurn t.handshake.phase t.handshake.owed → ClientHears x t
 HearsBy x (hear.Resets cause) = ⊤
 
 hears_if : (x : ClientState) (b : Bool) (one other : hear.ClientTake) → HearsBy x one → HearsBy x other → HearsBy x (if b then one else other)
 hears_if x true one other first rest = first
 hears_if x false one other first rest = rest
 
-shaken : (x : ClientState) (h : Handshake) → x.link.phase ≡ phase.Established → parts_owed h.owed + later h.role h.phase ≤ later x.shake.role x.shake.phase → ClientHears x (record x { shake = h })
-shaken x h up fewer = record {
+negotiated : (x : ClientState) (h : Handshake) → x.link.phase ≡ phase.Established → parts_owed h.owed + later h.role h.phase ≤ later x.handshake.role x.handshake.phase → ClientHears x (record x { handshake = h })
+negotiated x h up fewer = record {
   packets = omega (
     arith,
     fewer,
     ap (λ (p : LinkPhase). client_puts p (later h.role h.phase)) up,
-    ap (λ (p : LinkPhase). client_puts p (later x.shake.role x.shake.phase)) up,
-    held_more (is_announcing x.session) x.link.to_send x.shake.owed h.owed,
+    ap (λ (p : LinkPhase). client_puts p (later x.handshake.role x.handshake.phase)) up,
+    held_more (is_announcing x.session) x.link.to_send x.handshake.owed h.owed,
   );
   pending = refl;
   requests = refl;
   all = refl;
 }
 
-by_shake : (x : ClientState) (answer : ShakeTake) → x.link.phase ≡ phase.Established → FewerBy (later x.shake.role x.shake.phase) answer → HearsBy x (hear.by_handshake x answer)
-by_shake x (Goes h) up fewer = λ turn. shaken x h up (fewer turn)
-by_shake x (GoesOpen h) up fewer = λ turn. shaken x h up (fewer turn)
-by_shake x (Faults cause) up fewer = tt
+by_handshake_take : (x : ClientState) (answer : HandshakeTake) → x.link.phase ≡ phase.Established → FewerBy (later x.handshake.role x.handshake.phase) answer → HearsBy x (hear.by_handshake x answer)
+by_handshake_take x (Goes h) up fewer = λ turn. negotiated x h up (fewer turn)
+by_handshake_take x (GoesOpen h) up fewer = λ turn. negotiated x h up (fewer turn)
+by_handshake_take x (Faults cause) up fewer = tt
 
 acked : (x : ClientState) (session : ClientSession) (n : ℕ) → x.session ≡ Some session → ClientHears x (hear.acknowledged x session n)
 acked x session n is = record {
-  packets = same_most (ap (λ (o : Option ClientSession). client_puts x.link.phase (later x.shake.role x.shake.phase) + held_left (is_announcing o) x.link.to_send x.shake.owed) (sym is));
+  packets = same_most (ap (λ (o : Option ClientSession). client_puts x.link.phase (later x.handshake.role x.handshake.phase) + held_left (is_announcing o) x.link.to_send x.handshake.owed) (sym is));
   pending = refl;
   requests = ap (requests_left (length x.pending)) (sym is);
   all = ap (total (length x.pending)) (sym is);
@@ -237,36 +240,36 @@ acked x session n is = record {
 
 by_ack : (x : ClientState) (session : ClientSession) (ident start end : ℕ) → x.session ≡ Some session → HearsBy x (hear.takes_ack x session ident start end)
 by_ack x session ident start end is =
-    hears_if x (is_other x.shake.draft.ident_own ident) (hear.Resets (the_cause.Ident x.shake.draft.ident_own ident)) _ tt
+    hears_if x (is_other x.handshake.draft.ident_own ident) (hear.Resets (the_cause.Ident x.handshake.draft.ident_own ident)) _ tt
     (hears_if x (is_other (slot_in x session.acked) start) (hear.Resets (the_cause.Slot (slot_in x session.acked) start)) _ tt
     (hears_if x (nat_lt end x.slots && nat_le (session.acked + range_length x.slots start end) session.announced)
     (hear.GoesOn (hear.acknowledged x session (range_length x.slots start end))) (hear.Resets (the_cause.RangeEnd end))
     (λ turn. acked x session (range_length x.slots start end) is) tt))
 
 by_session : (x : ClientState) (session : ClientSession) (message : Message) (subtype : Subtype) (body : MsgBody) → x.session ≡ Some session → x.link.phase ≡ phase.Established
-    → x.shake.owed ≡ None → x.shake.offer.both_rings ≡ false → HearsBy x (hear.in_session x session message subtype body)
+    → x.handshake.owed ≡ None → x.handshake.offer.both_rings ≡ false → HearsBy x (hear.in_session x session message subtype body)
 by_session x session message Ack (DringData seq ident start end state) is up none one = by_ack x session ident start end is
 by_session x session message Nack (DringData seq ident start end state) is up none one = tt
-by_session x session message _ _ is up none one = by_shake x (shake_take x.shake message) up (take_fewer x.shake message none one)
+by_session x session message _ _ is up none one = by_handshake_take x (handshake_take x.handshake message) up (take_fewer x.handshake message none one)
 
 by_sid : (x : ClientState) (fault : Option Cause) (rest : hear.ClientTake) → HearsBy x rest → HearsBy x (hear.sid_first fault rest)
 by_sid x None rest hears = hears
 by_sid x (Some cause) rest hears = tt
 
-by_message : (x : ClientState) (open_one : Option ClientSession) (message : Message) → x.session ≡ open_one → x.link.phase ≡ phase.Established → x.shake.owed ≡ None
-    → x.shake.offer.both_rings ≡ false → HearsBy x (hear.hears_message x open_one message)
-by_message x None message is up none one = by_shake x (shake_take x.shake message) up (take_fewer x.shake message none one)
+by_message : (x : ClientState) (open_one : Option ClientSession) (message : Message) → x.session ≡ open_one → x.link.phase ≡ phase.Established → x.handshake.owed ≡ None
+    → x.handshake.offer.both_rings ≡ false → HearsBy x (hear.hears_message x open_one message)
+by_message x None message is up none one = by_handshake_take x (handshake_take x.handshake message) up (take_fewer x.handshake message none one)
 by_message x (Some session) message is up none one =
-    by_sid x (sid_fault x.shake.sid message.sid) (hear.in_session x session message message.subtype message.body)
+    by_sid x (sid_fault x.handshake.sid message.sid) (hear.in_session x session message message.subtype message.body)
     (by_session x session message message.subtype message.body is up none one)
 
-by_bytes : (x : ClientState) (d : Result Message TagFault) → x.link.phase ≡ phase.Established → x.shake.owed ≡ None → x.shake.offer.both_rings ≡ false → HearsBy x (hear.reads x d)
+by_bytes : (x : ClientState) (d : Result Message TagFault) → x.link.phase ≡ phase.Established → x.handshake.owed ≡ None → x.handshake.offer.both_rings ≡ false → HearsBy x (hear.reads x d)
 by_bytes x (Ok message) up none one = by_message x x.session message refl up none one
 by_bytes x (Err fault) up none one = tt
 
 -- and after its link alone
-by_whole : (x t : ClientState) (whole : Option (List ℕ)) → (whole ≡ None) ⊎ (x.link.phase ≡ phase.Established) → x.shake.owed ≡ None → x.shake.offer.both_rings ≡ false
-    → OwedInTurn t.shake.phase t.shake.owed → hear.HearsWhole x whole (hear.GoesOn t) → ClientHears x t
+by_whole : (x t : ClientState) (whole : Option (List ℕ)) → (whole ≡ None) ⊎ (x.link.phase ≡ phase.Established) → x.handshake.owed ≡ None → x.handshake.offer.both_rings ≡ false
+    → OwedInTurn t.handshake.phase t.handshake.owed → hear.HearsWhole x whole (hear.GoesOn t) → ClientHears x t
 by_whole x t None known none one turn hears =
     let same : t ≡ x = cc hears in subst (ClientHears x) (sym same) (record { packets = omega arith; pending = refl; requests = refl; all = refl })
 by_whole x t (Some bytes) (inl is) none one turn hears = absurd (cc)
@@ -279,15 +282,15 @@ known_whole : (k m : LinkState) → k.whole ≡ None → (m.whole ≡ k.whole) �
 known_whole k m none (inl same) = inl (same ∙ none)
 known_whole k m none (inr up) = inr up
 
-by_link : (s t : ClientState) (bytes : List ℕ) (link : LinkTake) → IsAsking s.link.phase → s.shake.owed ≡ None → ClientInTurn s t → TakesBytes s.link bytes link
+by_link : (s t : ClientState) (bytes : List ℕ) (link : LinkTake) → IsAsking s.link.phase → s.handshake.owed ≡ None → ClientInTurn s t → TakesBytes s.link bytes link
     → hear.HearsLink s link (hear.GoesOn t) → ClientHears s t
 by_link s t bytes (Heard m) asking none turn takes hears =
     let few = heard_few s.link m bytes asking takes in
     let heard : ClientHears (record s { link = m }) t = by_whole (record s { link = m }) t m.whole (known_whole s.link m turn.whole few.1) none turn.one_ring turn.owed hears in
-    let sends : held_left (is_announcing s.session) m.to_send s.shake.owed ≡ held_left (is_announcing s.session) s.link.to_send s.shake.owed =
-    ap (λ (xs : List ℕ). held_left (is_announcing s.session) xs s.shake.owed) (heard_leaves s.link m bytes takes).0 in
+    let sends : held_left (is_announcing s.session) m.to_send s.handshake.owed ≡ held_left (is_announcing s.session) s.link.to_send s.handshake.owed =
+    ap (λ (xs : List ℕ). held_left (is_announcing s.session) xs s.handshake.owed) (heard_leaves s.link m bytes takes).0 in
     record {
-      packets = omega (arith, heard.packets, few.0 (later s.shake.role s.shake.phase), sends);
+      packets = omega (arith, heard.packets, few.0 (later s.handshake.role s.handshake.phase), sends);
       pending = heard.pending;
       requests = heard.requests;
       all = heard.all;

@@ -8,7 +8,7 @@ use Rattle.vdisk_msg.specs.declared.request.Request.{Request}
 use Rattle.vio_tag.specs.Spelling.{canonical}
 use Rattle.vio_handshake.specs.Rules.{opens_by_put}
 use Rattle.disk_model.specs.ClientPutting.{announcement, announcing, client_holds, client_put, holding, is_announcing}
-use Rattle.disk_model.specs.ClientRule.{Announces, ClientRule, Completes, Joins, Publishes, Puts, Rests, Says, Takes, client_rule}
+use Rattle.disk_model.specs.ClientRule.{Announces, ClientRule, Completes, Joins, Publishes, Puts, Idles, Says, Takes, client_rule}
 use Rattle.disk_model.specs.ClientState.{ClientSession, ClientState}
 use Rattle.disk_model.specs.ClientStep.{ClientCompletes, ClientPublishes, ClientSends}
 use Rattle.disk_model.specs.Seeing.{Seen}
@@ -36,7 +36,7 @@ no_session : (s : ClientState) (session : ClientSession) (b : Bool) → s.sessio
 no_session s session b is closed opens = let none = closed opens in absurd (cc)
 
 rule_lowers : (s : ClientState) (at : Seen) (rule : ClientRule) (held : ClientState) (bytes : List ℕ) (m : LinkState) → ClientMay s at rule
-    → client_holds rule s ≡ Some held → ClientSound s → (opens_by_put s.shake.role s.shake.phase ≡ true → s.session ≡ None) → PutsPacket held.link bytes m
+    → client_holds rule s ≡ Some held → ClientSound s → (opens_by_put s.handshake.role s.handshake.phase ≡ true → s.session ≡ None) → PutsPacket held.link bytes m
     → ClientLowers 2 s (client_put held)
 rule_lowers s at Puts held bytes m may holds sound closed puts =
     let same : s ≡ held = held_is s held holds in
@@ -59,15 +59,15 @@ rule_lowers s at (Announces session) held bytes m may holds sound closed puts =
     let behind = client_held s at (Announces session) next may refl sound in
     subst (λ (x : ClientState). ClientLowers 2 s (client_put x)) same
     (both_lower s next (client_put next) 2 (announces_lowers s session may.2 may.3 empty)
-    (client_put_lowers next bytes m behind.sound (no_session s session (opens_by_put s.shake.role s.shake.phase) may.3 closed) put))
+    (client_put_lowers next bytes m behind.sound (no_session s session (opens_by_put s.handshake.role s.handshake.phase) may.3 closed) put))
 rule_lowers s at Joins held bytes m may holds sound closed puts = absurd (cc)
 rule_lowers s at (Completes session) held bytes m may holds sound closed puts = absurd (cc)
 rule_lowers s at (Takes packet) held bytes m may holds sound closed puts = absurd (cc)
 rule_lowers s at (Publishes session request) held bytes m may holds sound closed puts = absurd (cc)
-rule_lowers s at Rests held bytes m may holds sound closed puts = absurd (cc)
+rule_lowers s at Idles held bytes m may holds sound closed puts = absurd (cc)
 
 pub sends_lowers : (s : ClientState) (at : Seen) (memory packet : List ℕ) (opens : Bool) (t : ClientState) (new : List ℕ) → ClientSound s
-    → (opens_by_put s.shake.role s.shake.phase ≡ true → s.session ≡ None) → ClientSends s at memory packet opens t new → ClientLowers 2 s t
+    → (opens_by_put s.handshake.role s.handshake.phase ≡ true → s.session ≡ None) → ClientSends s at memory packet opens t new → ClientLowers 2 s t
 sends_lowers s at memory packet opens t new sound closed sends =
     subst (ClientLowers 2 s) (sym sends.is)
     (rule_lowers s at (client_rule s at) sends.held packet t.link (client_may s at) sends.holds sound closed sends.packet)
@@ -75,7 +75,7 @@ sends_lowers s at memory packet opens t new sound closed sends =
 -- PUBLISHING
 abbrev sum_with : ClientState → Option ClientSession → ℕ → ℕ
 sum_with s open_one asked =
-    client_sum (client_puts s.link.phase (later s.shake.role s.shake.phase) + held_left (is_announcing open_one) s.link.to_send s.shake.owed) (length s.pending) open_one asked
+    client_sum (client_puts s.link.phase (later s.handshake.role s.handshake.phase) + held_left (is_announcing open_one) s.link.to_send s.handshake.owed) (length s.pending) open_one asked
 
 is_pending : (pending : List Request) (n : ℕ) (request : Request) → slice_get pending n ≡ Some request → n < length pending
 is_pending [] n request is = absurd (cc)
@@ -92,7 +92,7 @@ publishes_lowers s at memory id t new sound step =
     let may : ClientMay s at (Publishes step.session step.request) = subst (ClientMay s at) step.rule (client_may s at) in
     let counts : InOrder (length s.pending) step.session = in_order (length s.pending) s.session step.session may.1 sound.counts in
     let some = is_pending s.pending (step.session.published - step.session.completed) step.request may.2 in
-    let packets : ℕ = client_puts s.link.phase (later s.shake.role s.shake.phase) + held_left step.session.announcing s.link.to_send s.shake.owed in
+    let packets : ℕ = client_puts s.link.phase (later s.handshake.role s.handshake.phase) + held_left step.session.announcing s.link.to_send s.handshake.owed in
     subst (ClientLowers 1 s) (sym step.is)
     (record {
       pending = omega arith;
@@ -119,7 +119,7 @@ completes_lowers s at memory id operation status bytes t new step =
     let may : ClientMay s at (Completes step.session) = subst (ClientMay s at) step.rule (client_may s at) in
     let some = front_some s.pending step.request step.front in
     let less = length-drop 1 s.pending in
-    let packets : ℕ = client_puts s.link.phase (later s.shake.role s.shake.phase) + held_left step.session.announcing s.link.to_send s.shake.owed in
+    let packets : ℕ = client_puts s.link.phase (later s.handshake.role s.handshake.phase) + held_left step.session.announcing s.link.to_send s.handshake.owed in
     subst (ClientLowers 1 s) (sym step.is)
     (record {
       pending = omega (arith, less);

@@ -11,12 +11,12 @@ use Rattle.vio_tag.specs.declared.message.Message.{Message}
 use Rattle.vio_tag.specs.declared.message.MsgBody.{MsgBody}
 use Rattle.vio_tag.specs.declared.message.MsgBody.TheVariants.{DringData}
 use Rattle.vio_tag.specs.declared.message.TagFault.{TagFault}
-use Rattle.vio_handshake.specs.Rules.{Faults, Goes as GoesOnBy, GoesOpen, ShakeTake, shake_take, sid_fault}
-use Rattle.disk_model.specs.EndPuts.{ComesUp, EndsOwn, EndsShake, Goes, PutKind, shake_risen}
+use Rattle.vio_handshake.specs.Rules.{Faults, Goes as GoesOnBy, GoesOpen, HandshakeTake, handshake_take, sid_fault}
+use Rattle.disk_model.specs.EndPuts.{ComesUp, EndsOwn, EndsHandshake, Goes, PutKind, handshake_risen}
 use Rattle.disk_model.specs.Ranges.{is_other}
 use Rattle.disk_model.specs.Seeing.{Seen}
 use Rattle.disk_model.specs.ServerPutting.{server_holds, server_kind, session_behind}
-use Rattle.disk_model.specs.ServerRule.{Fetches, Joins, Puts, Rests, Says, ServerRule, Serves, Takes, server_rule}
+use Rattle.disk_model.specs.ServerRule.{Fetches, Joins, Puts, Idles, Says, ServerRule, Serves, Takes, server_rule}
 use Rattle.disk_model.specs.ServerState.{ServerSession, ServerState, SlotRange}
 use Rattle.disk_model.specs.ServerStep.{ServerFetches, ServerFinishes, ServerMoves, ServerSends, ServerStores}
 use Rattle.disk_model.specs.ServerTaking.{GoesOn, HearsLink, HearsWhole, Resets, ServerTake, ServerTakes, asked, by_handshake, hears_message, in_session, place_of, reads, sid_first, takes_info}
@@ -32,7 +32,7 @@ behind_fits EndsOwn None fit = tt
 behind_fits EndsOwn (Some session) fit = fit
 behind_fits Goes session fit = fit
 behind_fits ComesUp session fit = fit
-behind_fits EndsShake session fit = fit
+behind_fits EndsHandshake session fit = fit
 
 held_is : (one other : ServerState) → Some one ≡ Some other → one ≡ other
 held_is one other is = cc is
@@ -44,7 +44,7 @@ held_fits s Joins held holds fit = absurd (cc)
 held_fits s (Fetches session) held holds fit = absurd (cc)
 held_fits s (Serves session work) held holds fit = absurd (cc)
 held_fits s (Takes packet) held holds fit = absurd (cc)
-held_fits s Rests held holds fit = absurd (cc)
+held_fits s Idles held holds fit = absurd (cc)
 
 pub sends_fit : (s : ServerState) (at : Seen) (packet : List ℕ) (opens : Bool) (t : ServerState) → CountsFit s.session → ServerSends s at packet opens t → CountsFit t.session
 sends_fit s at packet opens t fit sends =
@@ -86,32 +86,32 @@ fits_if : (b : Bool) (one other : ServerTake) → FitsBy one → FitsBy other �
 fits_if true one other first rest = first
 fits_if false one other first rest = rest
 
-shake_fits : (x : ServerState) (answer : ShakeTake) → CountsFit x.session → FitsBy (by_handshake x answer)
-shake_fits x (GoesOnBy h) fit = fit
-shake_fits x (GoesOpen h) fit = (omega arith, omega arith)
-shake_fits x (Faults cause) fit = tt
+handshake_fits : (x : ServerState) (answer : HandshakeTake) → CountsFit x.session → FitsBy (by_handshake x answer)
+handshake_fits x (GoesOnBy h) fit = fit
+handshake_fits x (GoesOpen h) fit = (omega arith, omega arith)
+handshake_fits x (Faults cause) fit = tt
 
 info_fits : (x : ServerState) (session : ServerSession) (ident : ℕ) (range : SlotRange) → CountsFit (Some session) → FitsBy (takes_info x session ident range)
 info_fits x session ident range fit =
-    fits_if (is_other x.shake.draft.ident_peer ident) (Resets (the_cause.Ident x.shake.draft.ident_peer ident)) _ tt
+    fits_if (is_other x.handshake.draft.ident_peer ident) (Resets (the_cause.Ident x.handshake.draft.ident_peer ident)) _ tt
     (fits_if (is_other session.seq range.seq) (Resets (the_cause.Seq session.seq range.seq)) _ tt
     (fits_if (is_other (place_of x session) range.start) (Resets (the_cause.Slot (place_of x session) range.start)) _ tt
-    (fits_if (nat_le x.shake.draft.peer_slots range.end) (Resets (the_cause.RangeEnd range.end)) (GoesOn (asked x session range) false) tt
+    (fits_if (nat_le x.handshake.draft.peer_slots range.end) (Resets (the_cause.RangeEnd range.end)) (GoesOn (asked x session range) false) tt
     (wrapped_fits _, fit.1))))
 
 session_fits : (x : ServerState) (session : ServerSession) (message : Message) (subtype : Subtype) (body : MsgBody) → x.session ≡ Some session → CountsFit (Some session)
     → FitsBy (in_session x session message subtype body)
 session_fits x session message Info (DringData seq ident start end state) is fit = info_fits x session ident (record { seq = seq; start = start; end = end; state = state }) fit
-session_fits x session message _ _ is fit = shake_fits x (shake_take x.shake message) (subst CountsFit (sym is) fit)
+session_fits x session message _ _ is fit = handshake_fits x (handshake_take x.handshake message) (subst CountsFit (sym is) fit)
 
 sid_fits : (fault : Option Cause) (rest : ServerTake) → FitsBy rest → FitsBy (sid_first fault rest)
 sid_fits None rest fit = fit
 sid_fits (Some cause) rest fit = tt
 
 message_fits : (x : ServerState) (open_one : Option ServerSession) (message : Message) → x.session ≡ open_one → CountsFit open_one → FitsBy (hears_message x open_one message)
-message_fits x None message is fit = shake_fits x (shake_take x.shake message) (subst CountsFit (sym is) fit)
+message_fits x None message is fit = handshake_fits x (handshake_take x.handshake message) (subst CountsFit (sym is) fit)
 message_fits x (Some session) message is fit =
-    sid_fits (sid_fault x.shake.sid message.sid) (in_session x session message message.subtype message.body) (session_fits x session message message.subtype message.body is fit)
+    sid_fits (sid_fault x.handshake.sid message.sid) (in_session x session message message.subtype message.body) (session_fits x session message message.subtype message.body is fit)
 
 bytes_fit : (x : ServerState) (d : Result Message TagFault) → CountsFit x.session → FitsBy (reads x d)
 bytes_fit x (Ok message) fit = message_fits x x.session message refl fit
@@ -122,7 +122,7 @@ whole_fits x None answer fit is = subst FitsBy (sym is) fit
 whole_fits x (Some bytes) answer fit is = subst FitsBy (sym is.2) (bytes_fit (record x { link = cleared x.link }) is.0 fit)
 
 link_fits : (s : ServerState) (link : LinkTake) (t : ServerState) (opens : Bool) → CountsFit s.session → HearsLink s link (GoesOn t opens) → CountsFit t.session
-link_fits s (Heard m) t opens fit hears = whole_fits (record s { link = m; shake = shake_risen s.link m s.shake }) m.whole (GoesOn t opens) fit hears
+link_fits s (Heard m) t opens fit hears = whole_fits (record s { link = m; handshake = handshake_risen s.link m s.handshake }) m.whole (GoesOn t opens) fit hears
 link_fits s (Unheard cause) t opens fit hears = absurd (cc)
 
 pub server_takes_fit : (s : ServerState) (bytes : List ℕ) (t : ServerState) (opens : Bool) → CountsFit s.session → ServerTakes s bytes (GoesOn t opens) → CountsFit t.session

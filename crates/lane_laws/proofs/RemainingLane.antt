@@ -104,11 +104,11 @@ server_puts_one w lossy c v u packet up lower =
 
 -- AN END JOINS: one that isn't up counts as one that begins
 pub begun_client : (role : Role) (c : ClientState) (asked : ℕ) → role ≡ Initiator → c.link.role ≡ role → client_left Up asked (joined_client c) ≡ client_left Down asked c
-begun_client Initiator c asked is same = omega (arith, ap (λ (r : Role). client_puts (first_phase r) (later c.shake.role hand.Down)) same)
+begun_client Initiator c asked is same = omega (arith, ap (λ (r : Role). client_puts (first_phase r) (later c.handshake.role hand.Down)) same)
 begun_client Responder c asked is same = absurd (cc)
 
 pub begun_server : (role : Role) (v : ServerState) → role ≡ Responder → v.link.role ≡ role → server_left Up (joined_server v) ≡ 16
-begun_server Responder v is same = omega (arith, ap (λ (r : Role). server_puts (first_phase r) (later v.shake.role hand.Down)) same)
+begun_server Responder v is same = omega (arith, ap (λ (r : Role). server_puts (first_phase r) (later v.handshake.role hand.Down)) same)
 begun_server Initiator v is same = absurd (cc)
 
 joins_sum : (away there waits more joined was other second : ℕ) → away ≡ 1 → joined ≡ was → 0 + there + waits + more + joined + other + second + 1 ≤ away + there + waits + more + was + other + second
@@ -165,9 +165,9 @@ opens_at Responder = refl
 opens_closed : (role : Role) (ph : Phase) → ph ≡ hand.Open → opens_by_put role ph ≡ false
 opens_closed role ph is = ap (opens_by_put role) is ∙ opens_at role
 
-pub closed_in : (c : ClientState) (open_one : Option ClientSession) → c.session ≡ open_one → OpensLast c.shake.phase c.link.phase open_one → opens_by_put c.shake.role c.shake.phase ≡ true → c.session ≡ None
+pub closed_in : (c : ClientState) (open_one : Option ClientSession) → c.session ≡ open_one → OpensLast c.handshake.phase c.link.phase open_one → opens_by_put c.handshake.role c.handshake.phase ≡ true → c.session ≡ None
 closed_in c None is opened opens = is
-closed_in c (Some session) is opened opens = let never = opens_closed c.shake.role c.shake.phase opened.0 in absurd (cc)
+closed_in c (Some session) is opened opens = let never = opens_closed c.handshake.role c.handshake.phase opened.0 in absurd (cc)
 
 pub falls_is : (s t u : LaneState) → t ≡ u → remaining u + 1 ≤ remaining s → remaining t + 1 ≤ remaining s
 falls_is s t u is falls = subst (λ (x : LaneState). remaining x + 1 ≤ remaining s) (sym is) falls

@@ -25,17 +25,17 @@ use Rattle.vio_handshake.specs.declared.handshake.Handshake.{Handshake}
 use Rattle.vio_handshake.specs.declared.handshake.Phase.{Phase}
 use Rattle.vio_handshake.specs.declared.handshake.Phase.TheVariants as hand
 use Rattle.vio_handshake.specs.Messages.{nack}
-use Rattle.vio_handshake.specs.Rules.{Faults, Goes as GoesOnBy, GoesOpen, ShakeTake, fault_or, is_declined, opens_by_put, put_in, row, shake_hear, shake_sent, shake_take, sid_fault}
+use Rattle.vio_handshake.specs.Rules.{Faults, Goes as GoesOnBy, GoesOpen, HandshakeTake, fault_or, is_declined, opens_by_put, put_in, row, handshake_hear, handshake_sent, handshake_take, sid_fault}
 use Rattle.disk_model.specs.ClientPutting.{announced, client_put, is_announcing, opened_if, session_behind}
 use Rattle.disk_model.specs.ClientState.{ClientSession, ClientState}
 use Rattle.disk_model.specs.ClientTaking as client
-use Rattle.disk_model.specs.EndPuts.{ending, kind_in, shake_behind}
+use Rattle.disk_model.specs.EndPuts.{ending, kind_in, handshake_behind}
 use Rattle.disk_model.specs.Ranges.{is_other, range_length}
 use Rattle.lane_laws.specs.RemainingSteps.{OpensLast}
 
 -- THE CLIENT'S SESSION
 abbrev pub Opens : ClientState → Type 0
-Opens c = OpensLast c.shake.phase c.link.phase c.session
+Opens c = OpensLast c.handshake.phase c.link.phase c.session
 
 -- one whose link isn't up has none
 closed_below : (hand_before hand_behind : Phase) (before behind : LinkPhase) (session : Option ClientSession) → before ≢ phase.Established → OpensLast hand_before before session
@@ -43,15 +43,15 @@ closed_below : (hand_before hand_behind : Phase) (before behind : LinkPhase) (se
 closed_below hand_before hand_behind before behind None down opens = tt
 closed_below hand_before hand_behind before behind (Some session) down opens = absurd (down opens.1)
 
-announced_opens : (shake : Phase) (link : LinkPhase) (session : Option ClientSession) → OpensLast shake link session → OpensLast shake link (announced session)
-announced_opens shake link None opens = tt
-announced_opens shake link (Some session) opens = opens
+announced_opens : (handshake : Phase) (link : LinkPhase) (session : Option ClientSession) → OpensLast handshake link session → OpensLast handshake link (announced session)
+announced_opens handshake link None opens = tt
+announced_opens handshake link (Some session) opens = opens
 
 open_behind : (role : Role) (s : Handshake) → s.phase ≡ hand.Open → (put_in role hand.Open s).phase ≡ hand.Open
 open_behind Initiator s is = is
 open_behind Responder s is = is
 
-sent_open : (s : Handshake) → s.phase ≡ hand.Open → (shake_sent s).phase ≡ hand.Open
+sent_open : (s : Handshake) → s.phase ≡ hand.Open → (handshake_sent s).phase ≡ hand.Open
 sent_open s is = ap (λ (p : Phase). (put_in s.role p s).phase) is ∙ open_behind s.role s is
 
 opened_by : (role : Role) (ph : Phase) (s : Handshake) → opens_by_put role ph ≡ true → (put_in role ph s).phase ≡ hand.Open
@@ -59,34 +59,34 @@ opened_by Initiator hand.PeerReadyTaken s is = refl
 opened_by Initiator ph s is = absurd (cc)
 opened_by Responder ph s is = absurd (cc)
 
-sent_opens : (c : ClientState) (session : Option ClientSession) → OpensLast c.shake.phase phase.Established session → OpensLast (shake_sent c.shake).phase phase.Established session
+sent_opens : (c : ClientState) (session : Option ClientSession) → OpensLast c.handshake.phase phase.Established session → OpensLast (handshake_sent c.handshake).phase phase.Established session
 sent_opens c None opens = tt
-sent_opens c (Some session) opens = (sent_open c.shake opens.0, refl)
+sent_opens c (Some session) opens = (sent_open c.handshake opens.0, refl)
 
-opened_opens : (b : Bool) (c : ClientState) → opens_by_put c.shake.role c.shake.phase ≡ b → OpensLast c.shake.phase phase.Established c.session
-    → OpensLast (shake_sent c.shake).phase phase.Established (opened_if b c)
-opened_opens true c is opens = (opened_by c.shake.role c.shake.phase c.shake is, refl)
+opened_opens : (b : Bool) (c : ClientState) → opens_by_put c.handshake.role c.handshake.phase ≡ b → OpensLast c.handshake.phase phase.Established c.session
+    → OpensLast (handshake_sent c.handshake).phase phase.Established (opened_if b c)
+opened_opens true c is opens = (opened_by c.handshake.role c.handshake.phase c.handshake is, refl)
 opened_opens false c is opens = sent_opens c c.session opens
 
-ends_opens : (own : Bool) (c : ClientState) → OpensLast c.shake.phase phase.Established c.session
-    → OpensLast (shake_behind (ending true own) c.shake).phase phase.Established (session_behind (ending true own) c)
-ends_opens true c opens = announced_opens c.shake.phase phase.Established c.session opens
-ends_opens false c opens = opened_opens (opens_by_put c.shake.role c.shake.phase) c refl opens
+ends_opens : (own : Bool) (c : ClientState) → OpensLast c.handshake.phase phase.Established c.session
+    → OpensLast (handshake_behind (ending true own) c.handshake).phase phase.Established (session_behind (ending true own) c)
+ends_opens true c opens = announced_opens c.handshake.phase phase.Established c.session opens
+ends_opens false c opens = opened_opens (opens_by_put c.handshake.role c.handshake.phase) c refl opens
 
-parts_open : (last : Bool) (c : ClientState) → OpensLast c.shake.phase phase.Established c.session
-    → OpensLast (shake_behind (ending last (is_announcing c.session)) c.shake).phase phase.Established (session_behind (ending last (is_announcing c.session)) c)
+parts_open : (last : Bool) (c : ClientState) → OpensLast c.handshake.phase phase.Established c.session
+    → OpensLast (handshake_behind (ending last (is_announcing c.session)) c.handshake).phase phase.Established (session_behind (ending last (is_announcing c.session)) c)
 parts_open true c opens = ends_opens (is_announcing c.session) c opens
 parts_open false c opens = opens
 
-put_opens_in : (ph : LinkPhase) (c : ClientState) → OpensLast c.shake.phase ph c.session
-    → OpensLast (shake_behind (kind_in ph c.link (is_announcing c.session)) c.shake).phase (phase_behind_put ph) (session_behind (kind_in ph c.link (is_announcing c.session)) c)
+put_opens_in : (ph : LinkPhase) (c : ClientState) → OpensLast c.handshake.phase ph c.session
+    → OpensLast (handshake_behind (kind_in ph c.link (is_announcing c.session)) c.handshake).phase (phase_behind_put ph) (session_behind (kind_in ph c.link (is_announcing c.session)) c)
 put_opens_in phase.Established c opens = parts_open (nat_le _ 56) c opens
-put_opens_in phase.OwesRdx c opens = closed_below c.shake.phase _ phase.OwesRdx phase.Established c.session (λ is. absurd (cc)) opens
-put_opens_in phase.OwesVersInfo c opens = closed_below c.shake.phase c.shake.phase phase.OwesVersInfo phase.AwaitsVersAck c.session (λ is. absurd (cc)) opens
-put_opens_in phase.OwesRts c opens = closed_below c.shake.phase c.shake.phase phase.OwesRts phase.AwaitsRtr c.session (λ is. absurd (cc)) opens
-put_opens_in phase.OwesVersAck c opens = closed_below c.shake.phase c.shake.phase phase.OwesVersAck phase.AwaitsRts c.session (λ is. absurd (cc)) opens
-put_opens_in (phase.OwesVersNack major) c opens = closed_below c.shake.phase c.shake.phase (phase.OwesVersNack major) phase.AwaitsVersInfo c.session (λ is. absurd (cc)) opens
-put_opens_in phase.OwesRtr c opens = closed_below c.shake.phase c.shake.phase phase.OwesRtr phase.AwaitsRdx c.session (λ is. absurd (cc)) opens
+put_opens_in phase.OwesRdx c opens = closed_below c.handshake.phase _ phase.OwesRdx phase.Established c.session (λ is. absurd (cc)) opens
+put_opens_in phase.OwesVersInfo c opens = closed_below c.handshake.phase c.handshake.phase phase.OwesVersInfo phase.AwaitsVersAck c.session (λ is. absurd (cc)) opens
+put_opens_in phase.OwesRts c opens = closed_below c.handshake.phase c.handshake.phase phase.OwesRts phase.AwaitsRtr c.session (λ is. absurd (cc)) opens
+put_opens_in phase.OwesVersAck c opens = closed_below c.handshake.phase c.handshake.phase phase.OwesVersAck phase.AwaitsRts c.session (λ is. absurd (cc)) opens
+put_opens_in (phase.OwesVersNack major) c opens = closed_below c.handshake.phase c.handshake.phase (phase.OwesVersNack major) phase.AwaitsVersInfo c.session (λ is. absurd (cc)) opens
+put_opens_in phase.OwesRtr c opens = closed_below c.handshake.phase c.handshake.phase phase.OwesRtr phase.AwaitsRdx c.session (λ is. absurd (cc)) opens
 put_opens_in phase.AwaitsVersAck c opens = opens
 put_opens_in phase.AwaitsRtr c opens = opens
 put_opens_in phase.AwaitsVersInfo c opens = opens
@@ -137,7 +137,7 @@ pub heard_up : (k : LinkState) (bytes : List ℕ) (m : LinkState) → k.phase �
 heard_up k bytes m up takes = up_decoded k m takes.decoded up takes.is
 
 -- A HANDSHAKE THAT IS THROUGH stays so
-abbrev StaysOpen : ShakeTake → Type 0
+abbrev StaysOpen : HandshakeTake → Type 0
 StaysOpen (GoesOnBy t) = t.phase ≡ hand.Open
 StaysOpen (GoesOpen t) = t.phase ≡ hand.Open
 StaysOpen (Faults cause) = ⊤
@@ -146,19 +146,19 @@ row_open : (role : Role) (s : Handshake) (subtype : Subtype) (sid : ℕ) (body :
 row_open Initiator s subtype sid body = tt
 row_open Responder s subtype sid body = tt
 
-declined_open : (subtype : Subtype) (body : MsgBody) (s : Handshake) (sid : ℕ) (rest : ShakeTake) → s.phase ≡ hand.Open → StaysOpen rest
+declined_open : (subtype : Subtype) (body : MsgBody) (s : Handshake) (sid : ℕ) (rest : HandshakeTake) → s.phase ≡ hand.Open → StaysOpen rest
     → StaysOpen (if is_declined subtype body then (GoesOnBy (record s { owed = Some (nack sid body) })) else rest)
 declined_open Info (DringUnreg ident) s sid rest is other = is
 declined_open Info (Plain envelope) s sid rest is other = is
 declined_open _ _ s sid rest is other = other
 
-fault_open : (fault : Option Cause) (rest : ShakeTake) → StaysOpen rest → StaysOpen (fault_or fault rest)
+fault_open : (fault : Option Cause) (rest : HandshakeTake) → StaysOpen rest → StaysOpen (fault_or fault rest)
 fault_open None rest is = is
 fault_open (Some cause) rest is = tt
 
-take_open : (s : Handshake) (message : Message) → s.phase ≡ hand.Open → StaysOpen (shake_take s message)
+take_open : (s : Handshake) (message : Message) → s.phase ≡ hand.Open → StaysOpen (handshake_take s message)
 take_open s message is =
-    fault_open (sid_fault s.sid message.sid) (shake_hear s message.subtype message.sid message.body)
+    fault_open (sid_fault s.sid message.sid) (handshake_hear s message.subtype message.sid message.body)
     (declined_open message.subtype message.body s message.sid (row s.role s.phase s message.subtype message.sid message.body) is
     (subst (λ (p : Phase). StaysOpen (row s.role p s message.subtype message.sid message.body)) (sym is) (row_open s.role s message.subtype message.sid message.body)))
 
@@ -171,40 +171,40 @@ opens_if : (b : Bool) (one other : client.ClientTake) → OpensBy one → OpensB
 opens_if true one other first rest = first
 opens_if false one other first rest = rest
 
-shake_closed : (x : ClientState) (answer : ShakeTake) → x.session ≡ None → OpensBy (client.by_handshake x answer)
-shake_closed x (GoesOnBy h) none = subst (OpensLast h.phase x.link.phase) (sym none) tt
-shake_closed x (GoesOpen h) none = subst (OpensLast h.phase x.link.phase) (sym none) tt
-shake_closed x (Faults cause) none = tt
+handshake_closed : (x : ClientState) (answer : HandshakeTake) → x.session ≡ None → OpensBy (client.by_handshake x answer)
+handshake_closed x (GoesOnBy h) none = subst (OpensLast h.phase x.link.phase) (sym none) tt
+handshake_closed x (GoesOpen h) none = subst (OpensLast h.phase x.link.phase) (sym none) tt
+handshake_closed x (Faults cause) none = tt
 
-shake_opens : (x : ClientState) (session : ClientSession) (answer : ShakeTake) → x.session ≡ Some session → x.link.phase ≡ phase.Established → StaysOpen answer
+handshake_opens : (x : ClientState) (session : ClientSession) (answer : HandshakeTake) → x.session ≡ Some session → x.link.phase ≡ phase.Established → StaysOpen answer
     → OpensBy (client.by_handshake x answer)
-shake_opens x session (GoesOnBy h) is up through = subst (OpensLast h.phase x.link.phase) (sym is) (through, up)
-shake_opens x session (GoesOpen h) is up through = subst (OpensLast h.phase x.link.phase) (sym is) (through, up)
-shake_opens x session (Faults cause) is up through = tt
+handshake_opens x session (GoesOnBy h) is up through = subst (OpensLast h.phase x.link.phase) (sym is) (through, up)
+handshake_opens x session (GoesOpen h) is up through = subst (OpensLast h.phase x.link.phase) (sym is) (through, up)
+handshake_opens x session (Faults cause) is up through = tt
 
-ack_opens : (x : ClientState) (session : ClientSession) (ident start end : ℕ) → x.shake.phase ≡ hand.Open → x.link.phase ≡ phase.Established
+ack_opens : (x : ClientState) (session : ClientSession) (ident start end : ℕ) → x.handshake.phase ≡ hand.Open → x.link.phase ≡ phase.Established
     → OpensBy (client.takes_ack x session ident start end)
 ack_opens x session ident start end through up =
-    opens_if (is_other x.shake.draft.ident_own ident) (client.Resets _) _ tt
+    opens_if (is_other x.handshake.draft.ident_own ident) (client.Resets _) _ tt
     (opens_if (is_other _ start) (client.Resets _) _ tt
     (opens_if (nat_lt end x.slots && nat_le (session.acked + range_length x.slots start end) session.announced) (client.GoesOn (client.acknowledged x session (range_length x.slots start end)))
     (client.Resets (the_cause.RangeEnd end)) (through, up) tt))
 
-session_opens : (x : ClientState) (session : ClientSession) (message : Message) (subtype : Subtype) (body : MsgBody) → x.session ≡ Some session → x.shake.phase ≡ hand.Open
+session_opens : (x : ClientState) (session : ClientSession) (message : Message) (subtype : Subtype) (body : MsgBody) → x.session ≡ Some session → x.handshake.phase ≡ hand.Open
     → x.link.phase ≡ phase.Established → OpensBy (client.in_session x session message subtype body)
 session_opens x session message Ack (DringData seq ident start end state) is through up = ack_opens x session ident start end through up
 session_opens x session message Nack (DringData seq ident start end state) is through up = tt
-session_opens x session message _ _ is through up = shake_opens x session (shake_take x.shake message) is up (take_open x.shake message through)
+session_opens x session message _ _ is through up = handshake_opens x session (handshake_take x.handshake message) is up (take_open x.handshake message through)
 
 sid_opens : (fault : Option Cause) (rest : client.ClientTake) → OpensBy rest → OpensBy (client.sid_first fault rest)
 sid_opens None rest opens = opens
 sid_opens (Some cause) rest opens = tt
 
-message_opens : (x : ClientState) (open_one : Option ClientSession) (message : Message) → x.session ≡ open_one → OpensLast x.shake.phase x.link.phase open_one
+message_opens : (x : ClientState) (open_one : Option ClientSession) (message : Message) → x.session ≡ open_one → OpensLast x.handshake.phase x.link.phase open_one
     → OpensBy (client.hears_message x open_one message)
-message_opens x None message is opens = shake_closed x (shake_take x.shake message) is
+message_opens x None message is opens = handshake_closed x (handshake_take x.handshake message) is
 message_opens x (Some session) message is opens =
-    sid_opens (sid_fault x.shake.sid message.sid) (client.in_session x session message message.subtype message.body)
+    sid_opens (sid_fault x.handshake.sid message.sid) (client.in_session x session message message.subtype message.body)
     (session_opens x session message message.subtype message.body is opens.0 opens.1)
 
 bytes_open : (x : ClientState) (d : Result Message TagFault) → Opens x → OpensBy (client.reads x d)
@@ -215,8 +215,8 @@ whole_opens : (x : ClientState) (whole : Option (List ℕ)) (answer : client.Cli
 whole_opens x None answer opens is = subst OpensBy (sym is) opens
 whole_opens x (Some bytes) answer opens is = subst OpensBy (sym is.2) (bytes_open (record x { link = cleared x.link }) is.0 opens)
 
-heard_opens : (s : ClientState) (bytes : List ℕ) (m : LinkState) → TakesBytes s.link bytes (Heard m) → (session : Option ClientSession) → OpensLast s.shake.phase s.link.phase session
-    → OpensLast s.shake.phase m.phase session
+heard_opens : (s : ClientState) (bytes : List ℕ) (m : LinkState) → TakesBytes s.link bytes (Heard m) → (session : Option ClientSession) → OpensLast s.handshake.phase s.link.phase session
+    → OpensLast s.handshake.phase m.phase session
 heard_opens s bytes m takes None opens = tt
 heard_opens s bytes m takes (Some session) opens = (opens.0, heard_up s.link bytes m opens.1 takes)
 

@@ -17,35 +17,35 @@ use Rattle.vio_handshake.specs.declared.handshake.Handshake.{Handshake}
 use Rattle.vio_handshake.specs.declared.handshake.Phase.{Phase}
 use Rattle.vio_handshake.specs.declared.handshake.Phase.TheVariants.{Attributes, OwnRing, OwnReady, Open, PeerReady, PeerReadyTaken, PeerRing, Version}
 use Rattle.vio_handshake.specs.Messages.{ack, info, nack, own_ring}
-use Rattle.vio_handshake.specs.Rules.{Faults, Goes, GoesOpen, ShakeTake, agrees_minor, answered, asked, attributes_answered, attributes_asked, behind_ring, fault_or, is_declined, knows, owes, own_named, peer_named, ready_answered, refuses_version, ring_answered, ring_asked, row, shake_hear, shake_take, sid_fault, version_answered, version_asked}
+use Rattle.vio_handshake.specs.Rules.{Faults, Goes, GoesOpen, HandshakeTake, agrees_minor, answered, asked, attributes_answered, attributes_asked, behind_ring, fault_or, is_declined, knows, owes, own_named, peer_named, ready_answered, refuses_version, ring_answered, ring_asked, row, handshake_hear, handshake_take, sid_fault, version_answered, version_asked}
 use Rattle.lane_laws.specs.Remaining.{later, parts_owed}
 use Rattle.lane_laws.specs.RemainingTurn.{OwedInTurn, most_parts}
 
 abbrev FewerOf : ℕ → Handshake → Type 0
 FewerOf most t = OwedInTurn t.phase t.owed → parts_owed t.owed + later t.role t.phase ≤ most
 
-abbrev pub FewerBy : ℕ → ShakeTake → Type 0
+abbrev pub FewerBy : ℕ → HandshakeTake → Type 0
 FewerBy most (Goes t) = FewerOf most t
 FewerBy most (GoesOpen t) = FewerOf most t
 FewerBy most (Faults cause) = ⊤
 
-answered_fewer : (most : ℕ) (subtype : Subtype) (judged : ShakeTake) → FewerBy most judged → FewerBy most (answered subtype judged)
+answered_fewer : (most : ℕ) (subtype : Subtype) (judged : HandshakeTake) → FewerBy most judged → FewerBy most (answered subtype judged)
 answered_fewer most Info judged fewer = tt
 answered_fewer most Ack judged fewer = fewer
 answered_fewer most Nack judged fewer = tt
 
-asked_fewer : (most : ℕ) (subtype : Subtype) (judged : ShakeTake) → FewerBy most judged → FewerBy most (asked subtype judged)
+asked_fewer : (most : ℕ) (subtype : Subtype) (judged : HandshakeTake) → FewerBy most judged → FewerBy most (asked subtype judged)
 asked_fewer most Info judged fewer = fewer
 asked_fewer most Ack judged fewer = tt
 asked_fewer most Nack judged fewer = tt
 
-take_if : (most : ℕ) (test : Bool) (x y : ShakeTake) → FewerBy most x → FewerBy most y → FewerBy most (if test then x else y)
+take_if : (most : ℕ) (test : Bool) (x y : HandshakeTake) → FewerBy most x → FewerBy most y → FewerBy most (if test then x else y)
 take_if most true x y fewer other = fewer
 take_if most false x y fewer other = other
 
-shake_if : (most : ℕ) (test : Bool) (x y : Handshake) → FewerOf most x → FewerOf most y → FewerOf most (if test then x else y)
-shake_if most true x y fewer other = fewer
-shake_if most false x y fewer other = other
+handshake_if : (most : ℕ) (test : Bool) (x y : Handshake) → FewerOf most x → FewerOf most y → FewerOf most (if test then x else y)
+handshake_if most true x y fewer other = fewer
+handshake_if most false x y fewer other = other
 
 later_at : (one other : Role) (ph : Phase) → one ≡ other → later one ph ≡ later other ph
 later_at one other ph is = ap (λ (r : Role). later r ph) is
@@ -61,15 +61,15 @@ owes_fewer most n role ph message s is follows enough turn = omega (arith, turn.
 
 version_answered_fewer : (s : Handshake) (sid major minor : ℕ) → s.role ≡ Initiator → FewerBy 5 (version_answered s sid major minor)
 version_answered_fewer s sid major minor is =
-    take_if 5 (major == 1 && nat_le minor s.offer.minor) (Goes (owes Attributes (info sid (Attr (said_attributes s.offer))) (agrees_minor minor s))) (Faults Refused)
-    (owes_fewer 5 4 Initiator Attributes (info sid (Attr (said_attributes s.offer))) (agrees_minor minor s) is refl (omega arith)) tt
+    take_if 5 (major == 1 && nat_le minor s.offer.minor) (Goes (owes Attributes (info sid (Attr (said_attributes s.offer minor))) (agrees_minor minor s))) (Faults Refused)
+    (owes_fewer 5 4 Initiator Attributes (info sid (Attr (said_attributes s.offer minor))) (agrees_minor minor s) is refl (omega arith)) tt
 
 version_asked_fewer : (s : Handshake) (sid major minor class : ℕ) → s.role ≡ Responder → FewerOf 6 (version_asked s sid major minor class)
 version_asked_fewer s sid major minor class is =
-    shake_if 6 (major == 1) (owes Attributes (ack sid (Ver 1 (min minor s.offer.minor) s.offer.class)) (agrees_minor (min minor s.offer.minor) (knows sid s)))
+    handshake_if 6 (major == 1) (owes Attributes (ack sid (Ver 1 (min minor s.offer.minor) s.offer.class)) (agrees_minor (min minor s.offer.minor) (knows sid s)))
     (if major == 0 then (refuses_version sid 0 0 class (knows sid s)) else (refuses_version sid 1 s.offer.minor class (knows sid s)))
     (owes_fewer 6 5 Responder Attributes (ack sid (Ver 1 (min minor s.offer.minor) s.offer.class)) (agrees_minor (min minor s.offer.minor) (knows sid s)) is refl (omega arith))
-    (shake_if 6 (major == 0) (refuses_version sid 0 0 class (knows sid s)) (refuses_version sid 1 s.offer.minor class (knows sid s))
+    (handshake_if 6 (major == 0) (refuses_version sid 0 0 class (knows sid s)) (refuses_version sid 1 s.offer.minor class (knows sid s))
     (refusal 6 Version sid (Ver 0 0 class) (knows sid s)) (refusal 6 Version sid (Ver 1 s.offer.minor class) (knows sid s)))
 
 attributes_answered_fewer : (s : Handshake) (sid : ℕ) (bytes : List ℕ) → s.role ≡ Initiator → FewerBy 4 (attributes_answered s sid bytes)
@@ -79,7 +79,7 @@ attributes_answered_fewer s sid bytes is =
 
 attributes_asked_fewer : (s : Handshake) (sid : ℕ) (bytes : List ℕ) → s.role ≡ Responder → FewerOf 5 (attributes_asked s sid bytes)
 attributes_asked_fewer s sid bytes is =
-    shake_if 5 (accepts_said s.offer bytes) (owes PeerRing (ack sid (Attr (answered_attributes s.offer s.draft.minor bytes))) s) (owes Attributes (nack sid (Attr bytes)) s)
+    handshake_if 5 (accepts_said s.offer s.draft.minor bytes) (owes PeerRing (ack sid (Attr (answered_attributes s.offer s.draft.minor bytes))) s) (owes Attributes (nack sid (Attr bytes)) s)
     (owes_fewer 5 4 Responder PeerRing (ack sid (Attr (answered_attributes s.offer s.draft.minor bytes))) s is refl (omega arith)) (refusal 5 Attributes sid (Attr bytes) s)
 
 ring_answered_fewer : (s : Handshake) (sid ident : ℕ) → s.role ≡ Initiator → s.offer.both_rings ≡ false → FewerOf 2 (ring_answered Initiator s sid ident)
@@ -94,7 +94,7 @@ still_none most n role ph s is none follows enough turn = omega (arith, ap parts
 ring_asked_fewer : (most n : ℕ) (role : Role) (s : Handshake) (sid ident slots slot_size options count : ℕ) (cookies : List Cookie) → s.role ≡ role → s.offer.both_rings ≡ false
     → later role PeerReady ≡ n → 2 + n ≤ most → FewerOf most (ring_asked s sid ident slots slot_size options count cookies)
 ring_asked_fewer most n role s sid ident slots slot_size options count cookies is one follows enough =
-    shake_if most (accepts_ring s.offer slots slot_size options count cookies)
+    handshake_if most (accepts_ring s.offer slots slot_size options count cookies)
     (owes (behind_ring s.offer.both_rings) (ack sid (DringReg sid slots slot_size options count cookies)) (peer_named s sid slots count cookies))
     (owes PeerRing (nack sid (DringReg ident slots slot_size options count cookies)) s)
     (subst (λ (b : Bool). FewerOf most (owes (behind_ring b) (ack sid (DringReg sid slots slot_size options count cookies)) (peer_named s sid slots count cookies))) (sym one)
@@ -132,18 +132,18 @@ row_fewer Responder PeerReady s subtype sid Rdx is none one =
 row_fewer Initiator ph s subtype sid body is none one = tt
 row_fewer Responder ph s subtype sid body is none one = tt
 
-declined_fewer : (most : ℕ) (subtype : Subtype) (body : MsgBody) (s : Handshake) (sid : ℕ) (rest : ShakeTake) → FewerBy most rest
+declined_fewer : (most : ℕ) (subtype : Subtype) (body : MsgBody) (s : Handshake) (sid : ℕ) (rest : HandshakeTake) → FewerBy most rest
     → FewerBy most (if is_declined subtype body then (Goes (record s { owed = Some (nack sid body) })) else rest)
 declined_fewer most Info (DringUnreg ident) s sid rest other = refusal most s.phase sid (DringUnreg ident) s
 declined_fewer most Info (Plain envelope) s sid rest other = refusal most s.phase sid (Plain envelope) s
 declined_fewer most _ _ s sid rest other = other
 
-fault_fewer : (most : ℕ) (fault : Option Cause) (rest : ShakeTake) → FewerBy most rest → FewerBy most (fault_or fault rest)
+fault_fewer : (most : ℕ) (fault : Option Cause) (rest : HandshakeTake) → FewerBy most rest → FewerBy most (fault_or fault rest)
 fault_fewer most None rest fewer = fewer
 fault_fewer most (Some cause) rest fewer = tt
 
-pub take_fewer : (s : Handshake) (message : Message) → s.owed ≡ None → s.offer.both_rings ≡ false → FewerBy (later s.role s.phase) (shake_take s message)
+pub take_fewer : (s : Handshake) (message : Message) → s.owed ≡ None → s.offer.both_rings ≡ false → FewerBy (later s.role s.phase) (handshake_take s message)
 take_fewer s message none one =
-    fault_fewer (later s.role s.phase) (sid_fault s.sid message.sid) (shake_hear s message.subtype message.sid message.body)
+    fault_fewer (later s.role s.phase) (sid_fault s.sid message.sid) (handshake_hear s message.subtype message.sid message.body)
     (declined_fewer (later s.role s.phase) message.subtype message.body s message.sid (row s.role s.phase s message.subtype message.sid message.body)
     (row_fewer s.role s.phase s message.subtype message.sid message.body refl none one))

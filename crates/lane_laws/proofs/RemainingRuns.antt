@@ -10,13 +10,12 @@ use Rattle.disk_model.specs.ClientPutting.{announcement, announcing, client_hold
 use Rattle.disk_model.specs.ClientRule as client_rules
 use Rattle.disk_model.specs.ClientState.{ClientState}
 use Rattle.disk_model.specs.ClientStep.{ClientAdmits}
-use Rattle.disk_model.specs.DiskEvent.{Accepted, Admitted, Asks, Calm, CalmReset, CalmRestart, CalmStart, CalmStop, CalmTick, Desc, DiskEvent, Done, Finished, Full, Misplaced, Moved, Off, OnWire, Published, Refused, Rests, Started, Stopped, Stored, Switched, Turns, Worked, Works}
+use Rattle.disk_model.specs.DiskEvent.{Accepted, Admitted, Asks, Calm, CalmReset, CalmRestart, CalmStart, CalmStop, CalmTick, Desc, DiskEvent, Done, Finished, Full, Misplaced, Moved, Off, OnWire, Published, Refused, Calms, Started, Stopped, Stored, Switched, Switches, Worked, Works}
 use Rattle.disk_model.specs.LaneState.{IsShape, LaneState, Shape, fresh}
 use Rattle.disk_model.specs.LaneStep.{EndOnWire, LaneStep, ResetBy, RestStep, TurnStep, WireStep, WorkStep}
 use Rattle.disk_model.specs.Seeing.{Seen, seen}
 use Rattle.disk_model.specs.ServerRule as server_rules
 use Rattle.disk_model.specs.ServerState.{ServerState}
-use Rattle.lane_laws.proofs.HeardFront.{run_talks}
 use Rattle.lane_laws.proofs.RemainingBounds.{reset_falls, reset_remains}
 use Rattle.lane_laws.proofs.RemainingFits.{fetches_fit, finishes_fit, held_fits, moves_fit, sends_fit, server_takes_fit, stores_fit}
 use Rattle.lane_laws.proofs.RemainingLane.{step_falls}
@@ -25,6 +24,7 @@ use Rattle.lane_laws.proofs.Ruling.{client_may}
 use Rattle.lane_laws.specs.Remaining.{remaining}
 use Rattle.lane_laws.specs.RemainingSteps.{CountsFit, OpensLast, StepsStand, TakesNothing}
 use Rattle.lane_laws.specs.RuleFacts.{ClientMay}
+use Rattle.lane_laws.proofs.LaneStepping.{run_transcripts}
 
 abbrev at_client : LaneState → Seen
 at_client s = seen A s.shape.entries s.wire.wire
@@ -40,13 +40,13 @@ held_opens : (s : ClientState) (at : Seen) (rule : client_rules.ClientRule) (hel
 held_opens s at client_rules.Puts held may holds opens = subst Opens (held_is s held holds) opens
 held_opens s at (client_rules.Says message) held may holds opens = subst Opens (held_is (holding message s) held holds) opens
 held_opens s at (client_rules.Announces session) held may holds opens =
-    let now : OpensLast s.shake.phase s.link.phase (Some session) = subst (OpensLast s.shake.phase s.link.phase) may.3 opens in
+    let now : OpensLast s.handshake.phase s.link.phase (Some session) = subst (OpensLast s.handshake.phase s.link.phase) may.3 opens in
     subst Opens (held_is (announcing session (holding (announcement s session) s)) held holds) (now.0, now.1)
 held_opens s at client_rules.Joins held may holds opens = absurd (cc)
 held_opens s at (client_rules.Completes session) held may holds opens = absurd (cc)
 held_opens s at (client_rules.Takes packet) held may holds opens = absurd (cc)
 held_opens s at (client_rules.Publishes session request) held may holds opens = absurd (cc)
-held_opens s at client_rules.Rests held may holds opens = absurd (cc)
+held_opens s at client_rules.Idles held may holds opens = absurd (cc)
 
 -- by the ends after a step
 by_client : (s t u : LaneState) → t ≡ u → u.server ≡ s.server → Opens u.client → StepsStand s → StepsStand t
@@ -106,12 +106,12 @@ works : (s : LaneState) (event : Worked) (t : LaneState) → StepsStand s → Wo
 works s (Published id) t stands step =
     let may : ClientMay s.client (at_client s) (client_rules.Publishes step.step.session step.step.request) =
     subst (ClientMay s.client (at_client s)) step.step.rule (client_may s.client (at_client s)) in
-    let now : OpensLast s.client.shake.phase s.client.link.phase (Some step.step.session) = subst (OpensLast s.client.shake.phase s.client.link.phase) may.1 stands.opens in
+    let now : OpensLast s.client.handshake.phase s.client.link.phase (Some step.step.session) = subst (OpensLast s.client.handshake.phase s.client.link.phase) may.1 stands.opens in
     by_client s t _ step.is refl (subst Opens (sym step.step.is) (now.0, now.1)) stands
 works s (Done id operation status bytes) t stands step =
     let may : ClientMay s.client (at_client s) (client_rules.Completes step.step.session) =
     subst (ClientMay s.client (at_client s)) step.step.rule (client_may s.client (at_client s)) in
-    let now : OpensLast s.client.shake.phase s.client.link.phase (Some step.step.session) = subst (OpensLast s.client.shake.phase s.client.link.phase) may.1 stands.opens in
+    let now : OpensLast s.client.handshake.phase s.client.link.phase (Some step.step.session) = subst (OpensLast s.client.handshake.phase s.client.link.phase) may.1 stands.opens in
     by_client s t _ step.is refl (subst Opens (sym step.step.is) (now.0, now.1)) stands
 works s (Desc slot bytes) t stands step = by_server s t _ step.1.is refl (fetches_fit s.server (at_server s) _ slot bytes t.server t.memory stands.fit step.1.step.1.0) stands
 works s (Moved unit fault) t stands step = by_server s t _ step.1.is refl (moves_fit s.server (at_server s) _ unit fault t.server t.memory stands.fit step.1.step.1.0) stands
@@ -142,8 +142,8 @@ pub stands_step : (s : LaneState) (event : DiskEvent) (t : LaneState) → LaneSt
 stands_step s (OnWire event) t step stands = on_wire s event t stands step
 stands_step s (Asks event) t step stands = by_client s t _ step.1 refl (admits s event t.client stands.opens step.0) stands
 stands_step s (Works event) t step stands = works s event t stands step
-stands_step s (Turns event) t step stands = turns s event t stands step
-stands_step s (Rests event) t step stands = rests s event t stands step
+stands_step s (Switches event) t step stands = turns s event t stands step
+stands_step s (Calms event) t step stands = rests s event t stands step
 
 pub steps_stand : (shape : Shape) (events : List DiskEvent) (s : LaneState) → Run LaneStep (fresh shape) events s → StepsStand s
 steps_stand shape events s run = run_keeps LaneStep StepsStand stands_step (fresh shape) s events run (record { opens = tt; fit = tt })
@@ -155,15 +155,15 @@ less_by_one n m less = omega (arith, less)
 pub steps_fall : (shape : Shape) (events : List DiskEvent) (s : LaneState) (event : DiskEvent) (t : LaneState) → IsShape shape → Run LaneStep (fresh shape) events s
     → LaneStep s event t → TakesNothing event → remaining t < remaining s
 steps_fall shape events s event t sound run step is =
-    let talks = run_talks shape events s sound run in
-    less_by_one (remaining t) (remaining s) (step_falls s event t talks.client talks.server (steps_stand shape events s run) step is)
+    let transcripts = run_transcripts shape events s sound run in
+    less_by_one (remaining t) (remaining s) (step_falls s event t transcripts.client transcripts.server (steps_stand shape events s run) step is)
 
 pub resets_remain : (shape : Shape) (events : List DiskEvent) (s : LaneState) (e : End) (cause : Cause) (packet : Option (List ℕ)) (lost : ℕ) (t : LaneState) → IsShape shape
     → Run LaneStep (fresh shape) events s → IsUp e s.wire.wire → LaneStep s (OnWire (Reset e cause packet lost)) t → remaining t ≡ 35 + 16 * length s.client.pending
 resets_remain shape events s e cause packet lost t sound run up step =
-    let talks = run_talks shape events s sound run in reset_remains s e cause packet lost t talks.client talks.server up step
+    let transcripts = run_transcripts shape events s sound run in reset_remains s e cause packet lost t transcripts.client transcripts.server up step
 
 pub resets_fall : (shape : Shape) (events : List DiskEvent) (s : LaneState) (e : End) (cause : Cause) (packet : Option (List ℕ)) (lost : ℕ) (t : LaneState) → IsShape shape
     → Run LaneStep (fresh shape) events s → IsUp e s.wire.wire → s.wire.lossy ≡ true → LaneStep s (OnWire (Reset e cause packet lost)) t → remaining t < remaining s
 resets_fall shape events s e cause packet lost t sound run up lossy step =
-    let talks = run_talks shape events s sound run in reset_falls s e cause packet lost t talks.client talks.server up lossy step
+    let transcripts = run_transcripts shape events s sound run in reset_falls s e cause packet lost t transcripts.client transcripts.server up lossy step

@@ -26,7 +26,7 @@ use Rattle.lane_laws.specs.RemainingTurn.{NotRefusing}
 
 -- A SERVER TAKES only where it owes nothing, and no range is in work
 pub record Quiet (s : ServerState) : Type 0 where
-  pub owed : s.shake.owed ≡ None
+  pub owed : s.handshake.owed ≡ None
   pub range : range_left s.session ≡ 0
 
 abbrev TakeMay : ServerState → ServerRule → Type 0
@@ -45,24 +45,24 @@ range_may : (s : ServerState) (session : ServerSession) (range : SlotRange) (b :
 range_may s session range true = tt
 range_may s session range false = serves_may s session s.work
 
-in_range_may : (s : ServerState) (at : Seen) (session : ServerSession) (range : Option SlotRange) → s.shake.owed ≡ None → s.session ≡ Some session → session.range ≡ range
+in_range_may : (s : ServerState) (at : Seen) (session : ServerSession) (range : Option SlotRange) → s.handshake.owed ≡ None → s.session ≡ Some session → session.range ≡ range
     → TakeMay s (in_range s session range at)
 in_range_may s at session None none is free = first_may s at.first (record { owed = none; range = ap range_left is ∙ ap one_range free })
 in_range_may s at session (Some range) none is free = range_may s session range (session.finished == session.asked)
 
-in_session_may : (s : ServerState) (at : Seen) (open_one : Option ServerSession) → s.shake.owed ≡ None → s.session ≡ open_one → TakeMay s (in_session s open_one at)
+in_session_may : (s : ServerState) (at : Seen) (open_one : Option ServerSession) → s.handshake.owed ≡ None → s.session ≡ open_one → TakeMay s (in_session s open_one at)
 in_session_may s at None none is = first_may s at.first (record { owed = none; range = ap range_left is })
 in_session_may s at (Some session) none is = in_range_may s at session session.range none is refl
 
-says_may : (s : ServerState) (at : Seen) (owed : Option Message) → s.shake.owed ≡ owed → TakeMay s (says s owed at)
+says_may : (s : ServerState) (at : Seen) (owed : Option Message) → s.handshake.owed ≡ owed → TakeMay s (says s owed at)
 says_may s at (Some message) is = tt
 says_may s at None is = in_session_may s at s.session is refl
 
-puts_may : (s : ServerState) (at : Seen) (b : Bool) → TakeMay s (if b then Puts else says s s.shake.owed at)
+puts_may : (s : ServerState) (at : Seen) (b : Bool) → TakeMay s (if b then Puts else says s s.handshake.owed at)
 puts_may s at true = tt
-puts_may s at false = says_may s at s.shake.owed refl
+puts_may s at false = says_may s at s.handshake.owed refl
 
-up_may : (s : ServerState) (at : Seen) (b : Bool) → TakeMay s (if b then (if owes s.link then Puts else says s s.shake.owed at) else Joins)
+up_may : (s : ServerState) (at : Seen) (b : Bool) → TakeMay s (if b then (if owes s.link then Puts else says s s.handshake.owed at) else Joins)
 up_may s at true = puts_may s at (owes s.link)
 up_may s at false = tt
 

@@ -11,15 +11,15 @@ use Rattle.ldc_packet.specs.declared.packet.Packet.{Packet}
 use Rattle.ldc_queue.specs.declared.end.ChannelState.TheVariants.{Up}
 use Rattle.vio_tag.specs.declared.message.Message.{Message}
 use Rattle.vio_tag.specs.Spelling.{canonical}
-use Rattle.vio_handshake.specs.Rules.{shake_sent}
-use Rattle.vio_handshake.specs.State.{shake_up}
-use Rattle.disk_model.specs.EndPuts.{ComesUp, EndsOwn, EndsShake, Goes, PutKind, ending, kind_in, shake_behind}
+use Rattle.vio_handshake.specs.Rules.{handshake_sent}
+use Rattle.vio_handshake.specs.State.{handshake_up}
+use Rattle.disk_model.specs.EndPuts.{ComesUp, EndsOwn, EndsHandshake, Goes, PutKind, ending, kind_in, handshake_behind}
 use Rattle.disk_model.specs.Seeing.{Seen}
 use Rattle.disk_model.specs.ServerPutting.{answered, server_holds, server_put, session_behind}
-use Rattle.disk_model.specs.ServerRule.{Fetches, Joins, Puts, Rests, Says, ServerRule, Serves, Takes, server_rule}
+use Rattle.disk_model.specs.ServerRule.{Fetches, Joins, Puts, Idles, Says, ServerRule, Serves, Takes, server_rule}
 use Rattle.disk_model.specs.ServerState.{ServerSession, ServerState, Work}
 use Rattle.disk_model.specs.ServerStep.{ServerSends}
-use Rattle.lane_laws.proofs.RemainingShake.{answer_part, sent_left, up_left}
+use Rattle.lane_laws.proofs.RemainingHandshake.{answer_part, sent_left, up_left}
 use Rattle.lane_laws.proofs.RemainingSums.{answers_empty, answers_more, answers_own, answers_owed, answers_part, part_less, quiet_put, some_part}
 use Rattle.lane_laws.proofs.Ruling.{server_may}
 use Rattle.lane_laws.proofs.ServerSpeaking.{range_few, server_held}
@@ -41,41 +41,41 @@ holding message s = record s { link = offered (canonical message) s.link }
 
 pub says_lowers : (s : ServerState) (message : Message) → ServerSays s message → s.link.to_send ≡ [] → ServerLowers 0 s (holding message s)
 says_lowers s message (inl owed) empty =
-    let before : answers_held s.link.to_send s.shake.owed (range_left s.session) ≡ parts_owed s.shake.owed + range_left s.session =
-    answers_empty s.link.to_send s.shake.owed (range_left s.session) empty in
-    let behind : answers_held (canonical message) s.shake.owed (range_left s.session) ≡ parts (length (canonical message)) + range_left s.session =
-    answers_owed (canonical message) s.shake.owed message (range_left s.session) (some_bytes message) owed in
+    let before : answers_held s.link.to_send s.handshake.owed (range_left s.session) ≡ parts_owed s.handshake.owed + range_left s.session =
+    answers_empty s.link.to_send s.handshake.owed (range_left s.session) empty in
+    let behind : answers_held (canonical message) s.handshake.owed (range_left s.session) ≡ parts (length (canonical message)) + range_left s.session =
+    answers_owed (canonical message) s.handshake.owed message (range_left s.session) (some_bytes message) owed in
     record { asked = refl; lowers = omega (arith, before, behind, ap parts_owed owed) }
 says_lowers s message (inr says) empty =
-    let before : answers_held s.link.to_send s.shake.owed (range_left s.session) ≡ parts_owed s.shake.owed + range_left s.session =
-    answers_empty s.link.to_send s.shake.owed (range_left s.session) empty in
+    let before : answers_held s.link.to_send s.handshake.owed (range_left s.session) ≡ parts_owed s.handshake.owed + range_left s.session =
+    answers_empty s.link.to_send s.handshake.owed (range_left s.session) empty in
     let one : range_left s.session ≡ 1 = ap range_left says.session_is ∙ ap one_range says.range_is in
-    let behind : answers_held (canonical message) s.shake.owed (range_left s.session) ≡ parts (length (canonical message)) =
-    answers_own (canonical message) s.shake.owed (range_left s.session) (some_bytes message) says.nothing_owed in
+    let behind : answers_held (canonical message) s.handshake.owed (range_left s.session) ≡ parts (length (canonical message)) =
+    answers_own (canonical message) s.handshake.owed (range_left s.session) (some_bytes message) says.nothing_owed in
     let long : parts (length (canonical message)) ≡ 1 =
     ap (λ (m : Message). parts (length (canonical m))) says.message_is
-    ∙ answer_part s.shake.draft.sid says.range.seq s.shake.draft.ident_peer says.range.start says.range.end says.range.state in
+    ∙ answer_part s.handshake.draft.sid says.range.seq s.handshake.draft.ident_peer says.range.start says.range.end says.range.state in
     record { asked = refl; lowers = omega (arith, before, behind, one, long) }
 
 -- PUTTING a packet
 abbrev packets_by : PutKind → List ℕ → ServerState → ℕ
-packets_by kind left s = answers_held left (shake_behind kind s.shake).owed (range_left (session_behind kind s.session))
+packets_by kind left s = answers_held left (handshake_behind kind s.handshake).owed (range_left (session_behind kind s.session))
 
 abbrev later_by : PutKind → ServerState → ℕ
-later_by kind s = later (shake_behind kind s.shake).role (shake_behind kind s.shake).phase
+later_by kind s = later (handshake_behind kind s.handshake).role (handshake_behind kind s.handshake).phase
 
 abbrev Falls : LinkPhase → ServerState → Type 0
 Falls ph s =
-    server_puts (phase_behind_put ph) (later_by (kind_in ph s.link (is_none s.shake.owed)) s)
-    + packets_by (kind_in ph s.link (is_none s.shake.owed)) (left_behind_put ph s.link.to_send) s + 1
-    ≤ server_puts ph (later s.shake.role s.shake.phase) + answers_held s.link.to_send s.shake.owed (range_left s.session)
+    server_puts (phase_behind_put ph) (later_by (kind_in ph s.link (is_none s.handshake.owed)) s)
+    + packets_by (kind_in ph s.link (is_none s.handshake.owed)) (left_behind_put ph s.link.to_send) s + 1
+    ≤ server_puts ph (later s.handshake.role s.handshake.phase) + answers_held s.link.to_send s.handshake.owed (range_left s.session)
 
 abbrev left_of : ServerState → List ℕ
 left_of s = drop 56 s.link.to_send
 
 abbrev FallsBy : PutKind → ServerState → Type 0
 FallsBy kind s =
-    later_by kind s + packets_by kind (left_of s) s + 1 ≤ later s.shake.role s.shake.phase + answers_held s.link.to_send s.shake.owed (range_left s.session)
+    later_by kind s + packets_by kind (left_of s) s + 1 ≤ later s.handshake.role s.handshake.phase + answers_held s.link.to_send s.handshake.owed (range_left s.session)
 
 answered_none : (session : Option ServerSession) → range_left (answered session) ≡ 0
 answered_none None = refl
@@ -83,31 +83,31 @@ answered_none (Some s) = refl
 
 part_falls : (s : ServerState) → 57 ≤ length s.link.to_send → FallsBy Goes s
 part_falls s long =
-    omega (arith, answers_part (left_of s) s.link.to_send s.shake.owed (range_left s.session) (omega (arith, length-drop 56 s.link.to_send, long)) (omega (arith, long)) (part_less s.link.to_send long))
+    omega (arith, answers_part (left_of s) s.link.to_send s.handshake.owed (range_left s.session) (omega (arith, length-drop 56 s.link.to_send, long)) (omega (arith, long)) (part_less s.link.to_send long))
 
-ends_fall : (s : ServerState) (owed : Option Message) → ServerSound s → s.shake.owed ≡ owed → 1 ≤ length s.link.to_send → length s.link.to_send ≤ 56
+ends_fall : (s : ServerState) (owed : Option Message) → ServerSound s → s.handshake.owed ≡ owed → 1 ≤ length s.link.to_send → length s.link.to_send ≤ 56
     → FallsBy (ending true (is_none owed)) s
 ends_fall s None sound is some short =
     let none : left_of s ≡ [] = nothing (left_of s) (omega (arith, length-drop 56 s.link.to_send, short)) in
-    let before : answers_held s.link.to_send s.shake.owed (range_left s.session) ≡ parts (length s.link.to_send) = answers_own s.link.to_send s.shake.owed (range_left s.session) some is in
-    let behind : answers_held (left_of s) s.shake.owed (range_left (answered s.session)) ≡ parts_owed s.shake.owed + range_left (answered s.session) =
-    answers_empty (left_of s) s.shake.owed (range_left (answered s.session)) none in
+    let before : answers_held s.link.to_send s.handshake.owed (range_left s.session) ≡ parts (length s.link.to_send) = answers_own s.link.to_send s.handshake.owed (range_left s.session) some is in
+    let behind : answers_held (left_of s) s.handshake.owed (range_left (answered s.session)) ≡ parts_owed s.handshake.owed + range_left (answered s.session) =
+    answers_empty (left_of s) s.handshake.owed (range_left (answered s.session)) none in
     omega (arith, before, behind, answered_none s.session, ap parts_owed is, some_part (length s.link.to_send) some)
 ends_fall s (Some message) sound is some short =
     let none : left_of s ≡ [] = nothing (left_of s) (omega (arith, length-drop 56 s.link.to_send, short)) in
-    let before : answers_held s.link.to_send s.shake.owed (range_left s.session) ≡ parts (length s.link.to_send) + range_left s.session =
-    answers_owed s.link.to_send s.shake.owed message (range_left s.session) some is in
-    let behind : answers_held (left_of s) (shake_sent s.shake).owed (range_left s.session) ≡ parts_owed (shake_sent s.shake).owed + range_left s.session =
-    answers_empty (left_of s) (shake_sent s.shake).owed (range_left s.session) none in
-    omega (arith, before, behind, sent_left s.shake sound.short, some_part (length s.link.to_send) some)
+    let before : answers_held s.link.to_send s.handshake.owed (range_left s.session) ≡ parts (length s.link.to_send) + range_left s.session =
+    answers_owed s.link.to_send s.handshake.owed message (range_left s.session) some is in
+    let behind : answers_held (left_of s) (handshake_sent s.handshake).owed (range_left s.session) ≡ parts_owed (handshake_sent s.handshake).owed + range_left s.session =
+    answers_empty (left_of s) (handshake_sent s.handshake).owed (range_left s.session) none in
+    omega (arith, before, behind, sent_left s.handshake sound.short, some_part (length s.link.to_send) some)
 
 parts_fall : (s : ServerState) (last : Bool) → ServerSound s → nat_le (length s.link.to_send) 56 ≡ last → 1 ≤ length s.link.to_send
-    → FallsBy (ending last (is_none s.shake.owed)) s
-parts_fall s true sound is some = ends_fall s s.shake.owed sound refl some (leb-true (length s.link.to_send) 56 is)
+    → FallsBy (ending last (is_none s.handshake.owed)) s
+parts_fall s true sound is some = ends_fall s s.handshake.owed sound refl some (leb-true (length s.link.to_send) 56 is)
 parts_fall s false sound is some = part_falls s (omega (arith, leb-false (length s.link.to_send) 56 is))
 
 comes_up : (s : ServerState) → Falls phase.OwesRdx s
-comes_up s = omega (arith, up_left s.shake, answers_more s.link.to_send s.shake.owed (shake_up s.shake).owed (range_left s.session), range_few s.session)
+comes_up s = omega (arith, up_left s.handshake, answers_more s.link.to_send s.handshake.owed (handshake_up s.handshake).owed (range_left s.session), range_few s.session)
 
 falls_in : (ph : LinkPhase) (s : ServerState) (one : Packet × LinkState) (m : LinkState) → ServerSound s → with_link (owed_in ph s.link) m ≡ Some one → Falls ph s
 falls_in phase.Established s one m sound is = parts_fall s (nat_le (length s.link.to_send) 56) sound refl (some_left s.link s.link.to_send one m is)
@@ -129,18 +129,18 @@ answered_asked EndsOwn None = refl
 answered_asked EndsOwn (Some s) = refl
 answered_asked Goes session = refl
 answered_asked ComesUp session = refl
-answered_asked EndsShake session = refl
+answered_asked EndsHandshake session = refl
 
 pub answered_serving : (kind : PutKind) (work : Option Work) (session : Option ServerSession) → serving_left work (session_behind kind session) ≡ serving_left work session
 answered_serving EndsOwn work None = refl
 answered_serving EndsOwn work (Some s) = refl
 answered_serving Goes work session = refl
 answered_serving ComesUp work session = refl
-answered_serving EndsShake work session = refl
+answered_serving EndsHandshake work session = refl
 
 pub server_put_lowers : (s : ServerState) (bytes : List ℕ) (m : LinkState) → ServerSound s → PutsPacket s.link bytes m → ServerLowers 2 s (server_put s)
 server_put_lowers s bytes m sound puts =
-    let kind : PutKind = kind_in s.link.phase s.link (is_none s.shake.owed) in
+    let kind : PutKind = kind_in s.link.phase s.link (is_none s.handshake.owed) in
     let fall : server_packets (server_put s) + 1 ≤ server_packets s = falls_in s.link.phase s (puts.packet, m) (behind_put s.link) sound puts.next in
     let serving : serving_left s.work (session_behind kind s.session) ≡ serving_left s.work s.session = answered_serving kind s.work s.session in
     record { asked = answered_asked kind s.session; lowers = server_sum (server_packets (server_put s)) (server_packets s) fall serving }
@@ -170,7 +170,7 @@ rule_lowers s at Joins held bytes m may holds sound behind puts = absurd (cc)
 rule_lowers s at (Fetches session) held bytes m may holds sound behind puts = absurd (cc)
 rule_lowers s at (Serves session work) held bytes m may holds sound behind puts = absurd (cc)
 rule_lowers s at (Takes packet) held bytes m may holds sound behind puts = absurd (cc)
-rule_lowers s at Rests held bytes m may holds sound behind puts = absurd (cc)
+rule_lowers s at Idles held bytes m may holds sound behind puts = absurd (cc)
 
 pub sends_lowers : (s : ServerState) (at : Seen) (packet : List ℕ) (opens : Bool) (t : ServerState) → ServerSound s → ServerSends s at packet opens t → ServerLowers 2 s t
 sends_lowers s at packet opens t sound sends =

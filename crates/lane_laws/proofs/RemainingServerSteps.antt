@@ -59,11 +59,11 @@ says_may : (s : ServerState) (at : Seen) (owed : Option Message) → WorkMay s (
 says_may s at (Some message) = tt
 says_may s at None = in_session_may s at s.session refl
 
-puts_may : (s : ServerState) (at : Seen) (b : Bool) → WorkMay s (if b then Puts else says s s.shake.owed at)
+puts_may : (s : ServerState) (at : Seen) (b : Bool) → WorkMay s (if b then Puts else says s s.handshake.owed at)
 puts_may s at true = tt
-puts_may s at false = says_may s at s.shake.owed
+puts_may s at false = says_may s at s.handshake.owed
 
-up_may : (s : ServerState) (at : Seen) (b : Bool) → WorkMay s (if b then (if owes s.link then Puts else says s s.shake.owed at) else Joins)
+up_may : (s : ServerState) (at : Seen) (b : Bool) → WorkMay s (if b then (if owes s.link then Puts else says s s.handshake.owed at) else Joins)
 up_may s at true = puts_may s at (owes s.link)
 up_may s at false = tt
 

@@ -18,9 +18,9 @@ use Rattle.vio_tag.specs.declared.message.MsgBody.TheVariants.{DringData}
 use Rattle.vio_tag.specs.declared.message.TagFault.{TagFault}
 use Rattle.vio_handshake.specs.declared.handshake.Handshake.{Handshake}
 use Rattle.vio_handshake.specs.declared.session.Offer.{Offer}
-use Rattle.vio_handshake.specs.Rules.{Faults, Goes, GoesOpen, ShakeTake, shake_take, sid_fault}
-use Rattle.vio_handshake.specs.State.{begun, joined_shake, shake_up}
-use Rattle.disk_model.specs.EndPuts.{shake_risen}
+use Rattle.vio_handshake.specs.Rules.{Faults, Goes, GoesOpen, HandshakeTake, handshake_take, sid_fault}
+use Rattle.vio_handshake.specs.State.{begun, joined_handshake, handshake_up}
+use Rattle.disk_model.specs.EndPuts.{handshake_risen}
 use Rattle.disk_model.specs.Ranges.{is_other}
 use Rattle.disk_model.specs.Seeing.{Seen}
 use Rattle.disk_model.specs.ServerRule.{Takes, server_rule}
@@ -29,7 +29,7 @@ use Rattle.disk_model.specs.ServerTaking as hear
 use Rattle.lane_laws.proofs.Hearing.{heard_leaves}
 use Rattle.lane_laws.proofs.RemainingRows.{FewerBy, take_fewer}
 use Rattle.lane_laws.proofs.RemainingServerHears.{Comes, Quiet, established, heard_few, quiet_takes}
-use Rattle.lane_laws.proofs.RemainingShake.{up_left}
+use Rattle.lane_laws.proofs.RemainingHandshake.{up_left}
 use Rattle.lane_laws.proofs.RemainingSums.{answers_more}
 use Rattle.lane_laws.specs.Budget.{range_left}
 use Rattle.lane_laws.specs.Remaining.{answers_held, asked_in, later, parts_owed, pieces_left, server_packets, server_puts, serving_left, unfinished, work_left}
@@ -39,58 +39,58 @@ use Rattle.lane_laws.specs.RemainingTurn.{OwedInTurn, ServerInTurn}
 -- what is known of the server before the message
 pub record Calm (most : ℕ) (x : ServerState) : Type 0 where
   pub quiet : Quiet x
-  pub one_ring : x.shake.offer.both_rings ≡ false
+  pub one_ring : x.handshake.offer.both_rings ≡ false
   pub fits : CountsFit x.session
 
 -- and what is asked of it after
-pub record Turns (most : ℕ) (x u : ServerState) (opens : Bool) : Type 0 where
-  pub owed : OwedInTurn u.shake.phase u.shake.owed
+pub record ServerTurns (most : ℕ) (x u : ServerState) (opens : Bool) : Type 0 where
+  pub owed : OwedInTurn u.handshake.phase u.handshake.owed
   pub opened : opens ≡ true → (x.session ≡ None) × (x.work ≡ None)
   pub asks : range_left u.session ≡ 1 → (asked_in x.session < asked_in u.session) × (asked_in u.session ≤ most)
 
 abbrev HearsBy : ℕ → ServerState → hear.ServerTake → Type 0
-HearsBy most x (hear.GoesOn u opens) = Turns most x u opens → ServerTurn most x u
+HearsBy most x (hear.GoesOn u opens) = ServerTurns most x u opens → ServerTurn most x u
 HearsBy most x (hear.Resets cause) = ⊤
 
 hears_if : (most : ℕ) (x : ServerState) (b : Bool) (one other : hear.ServerTake) → HearsBy most x one → HearsBy most x other → HearsBy most x (if b then one else other)
 hears_if most x true one other first rest = first
 hears_if most x false one other first rest = rest
 
-shaken : (x : ServerState) (h : Handshake) → x.link.phase ≡ phase.Established → Quiet x → parts_owed h.owed + later h.role h.phase ≤ later x.shake.role x.shake.phase
-    → ServerHears x (record x { shake = h })
-shaken x h up quiet fewer = record {
+negotiated : (x : ServerState) (h : Handshake) → x.link.phase ≡ phase.Established → Quiet x → parts_owed h.owed + later h.role h.phase ≤ later x.handshake.role x.handshake.phase
+    → ServerHears x (record x { handshake = h })
+negotiated x h up quiet fewer = record {
   packets = omega (
     arith,
     fewer,
     quiet.range,
     ap (λ (p : LinkPhase). server_puts p (later h.role h.phase)) up,
-    ap (λ (p : LinkPhase). server_puts p (later x.shake.role x.shake.phase)) up,
-    answers_more x.link.to_send x.shake.owed h.owed (range_left x.session),
+    ap (λ (p : LinkPhase). server_puts p (later x.handshake.role x.handshake.phase)) up,
+    answers_more x.link.to_send x.handshake.owed h.owed (range_left x.session),
   );
   asked = refl;
   serving = omega arith;
 }
 
 opened_one : (x : ServerState) (h : Handshake) → x.link.phase ≡ phase.Established → Quiet x → x.session ≡ None → x.work ≡ None
-    → parts_owed h.owed + later h.role h.phase ≤ later x.shake.role x.shake.phase → ServerHears x (record x { shake = h; session = Some opened_server })
+    → parts_owed h.owed + later h.role h.phase ≤ later x.handshake.role x.handshake.phase → ServerHears x (record x { handshake = h; session = Some opened_server })
 opened_one x h up quiet none idle fewer = record {
   packets = omega (
     arith,
     fewer,
     ap (λ (p : LinkPhase). server_puts p (later h.role h.phase)) up,
-    ap (λ (p : LinkPhase). server_puts p (later x.shake.role x.shake.phase)) up,
-    ap (answers_held x.link.to_send x.shake.owed) quiet.range,
-    answers_more x.link.to_send x.shake.owed h.owed 0,
+    ap (λ (p : LinkPhase). server_puts p (later x.handshake.role x.handshake.phase)) up,
+    ap (answers_held x.link.to_send x.handshake.owed) quiet.range,
+    answers_more x.link.to_send x.handshake.owed h.owed 0,
   );
   asked = sym (ap asked_in none);
   serving = omega (arith, ap (λ (w : Option Work). serving_left w (Some opened_server)) idle);
 }
 
-by_shake : (most : ℕ) (x : ServerState) (answer : ShakeTake) → x.link.phase ≡ phase.Established → Quiet x → FewerBy (later x.shake.role x.shake.phase) answer
+by_handshake_take : (most : ℕ) (x : ServerState) (answer : HandshakeTake) → x.link.phase ≡ phase.Established → Quiet x → FewerBy (later x.handshake.role x.handshake.phase) answer
     → HearsBy most x (hear.by_handshake x answer)
-by_shake most x (Goes h) up quiet fewer = λ turn. inl (shaken x h up quiet (fewer turn.owed))
-by_shake most x (GoesOpen h) up quiet fewer = λ turn. inl (opened_one x h up quiet (turn.opened refl).0 (turn.opened refl).1 (fewer turn.owed))
-by_shake most x (Faults cause) up quiet fewer = tt
+by_handshake_take most x (Goes h) up quiet fewer = λ turn. inl (negotiated x h up quiet (fewer turn.owed))
+by_handshake_take most x (GoesOpen h) up quiet fewer = λ turn. inl (opened_one x h up quiet (turn.opened refl).0 (turn.opened refl).1 (fewer turn.owed))
+by_handshake_take most x (Faults cause) up quiet fewer = tt
 
 -- A RANGE
 answers_one : (xs : List ℕ) (owed : Option Message) → answers_held xs owed 1 ≤ answers_held xs owed 0 + 1
@@ -121,7 +121,7 @@ asked_for most x session range is quiet asks =
       (behind - session.asked),
       record {
         some = omega (arith, rises);
-        packets = omega (arith, ap (answers_held x.link.to_send x.shake.owed) quiet.range, answers_one x.link.to_send x.shake.owed);
+        packets = omega (arith, ap (answers_held x.link.to_send x.handshake.owed) quiet.range, answers_one x.link.to_send x.handshake.owed);
         asked = sums behind session.asked (asked_in x.session) before rises;
         within = asks.1;
         serving = omega (arith, serving, work);
@@ -133,17 +133,17 @@ asked_for most x session range is quiet asks =
 
 by_info : (most : ℕ) (x : ServerState) (session : ServerSession) (ident : ℕ) (range : SlotRange) → x.session ≡ Some session → Quiet x → HearsBy most x (hear.takes_info x session ident range)
 by_info most x session ident range is quiet =
-    hears_if most x (is_other x.shake.draft.ident_peer ident) (hear.Resets (the_cause.Ident x.shake.draft.ident_peer ident)) _ tt
+    hears_if most x (is_other x.handshake.draft.ident_peer ident) (hear.Resets (the_cause.Ident x.handshake.draft.ident_peer ident)) _ tt
     (hears_if most x (is_other session.seq range.seq) (hear.Resets (the_cause.Seq session.seq range.seq)) _ tt
     (hears_if most x (is_other (hear.place_of x session) range.start) (hear.Resets (the_cause.Slot (hear.place_of x session) range.start)) _ tt
-    (hears_if most x (nat_le x.shake.draft.peer_slots range.end) (hear.Resets (the_cause.RangeEnd range.end)) (hear.GoesOn (hear.asked x session range) false) tt
+    (hears_if most x (nat_le x.handshake.draft.peer_slots range.end) (hear.Resets (the_cause.RangeEnd range.end)) (hear.GoesOn (hear.asked x session range) false) tt
     (λ turn. inr (asked_for most x session range is quiet (turn.asks refl))))))
 
 by_session : (most : ℕ) (x : ServerState) (session : ServerSession) (message : Message) (subtype : Subtype) (body : MsgBody) → x.session ≡ Some session
     → x.link.phase ≡ phase.Established → Calm most x → HearsBy most x (hear.in_session x session message subtype body)
 by_session most x session message Info (DringData seq ident start end state) is up calm =
     by_info most x session ident (record { seq = seq; start = start; end = end; state = state }) is calm.quiet
-by_session most x session message _ _ is up calm = by_shake most x (shake_take x.shake message) up calm.quiet (take_fewer x.shake message calm.quiet.owed calm.one_ring)
+by_session most x session message _ _ is up calm = by_handshake_take most x (handshake_take x.handshake message) up calm.quiet (take_fewer x.handshake message calm.quiet.owed calm.one_ring)
 
 by_sid : (most : ℕ) (x : ServerState) (fault : Option Cause) (rest : hear.ServerTake) → HearsBy most x rest → HearsBy most x (hear.sid_first fault rest)
 by_sid most x None rest hears = hears
@@ -151,9 +151,9 @@ by_sid most x (Some cause) rest hears = tt
 
 by_message : (most : ℕ) (x : ServerState) (open_one : Option ServerSession) (message : Message) → x.session ≡ open_one → x.link.phase ≡ phase.Established → Calm most x
     → HearsBy most x (hear.hears_message x open_one message)
-by_message most x None message is up calm = by_shake most x (shake_take x.shake message) up calm.quiet (take_fewer x.shake message calm.quiet.owed calm.one_ring)
+by_message most x None message is up calm = by_handshake_take most x (handshake_take x.handshake message) up calm.quiet (take_fewer x.handshake message calm.quiet.owed calm.one_ring)
 by_message most x (Some session) message is up calm =
-    by_sid most x (sid_fault x.shake.sid message.sid) (hear.in_session x session message message.subtype message.body)
+    by_sid most x (sid_fault x.handshake.sid message.sid) (hear.in_session x session message message.subtype message.body)
     (by_session most x session message message.subtype message.body is up calm)
 
 by_bytes : (most : ℕ) (x : ServerState) (d : Result Message TagFault) → x.link.phase ≡ phase.Established → Calm most x → HearsBy most x (hear.reads x d)
@@ -166,16 +166,16 @@ below_same phase.Established is n m = absurd (cc)
 below_same phase.OwesVersInfo is n m = refl
 below_same _ is n m = refl
 
-begun_owed : (role : Role) (h : Handshake) → role ≡ Responder → (begun role (joined_shake h)).owed ≡ None
+begun_owed : (role : Role) (h : Handshake) → role ≡ Responder → (begun role (joined_handshake h)).owed ≡ None
 begun_owed Responder h is = refl
 begun_owed Initiator h is = absurd (cc)
 
-begun_offer : (role : Role) (h : Handshake) → (begun role (joined_shake h)).offer ≡ h.offer
+begun_offer : (role : Role) (h : Handshake) → (begun role (joined_handshake h)).offer ≡ h.offer
 begun_offer Initiator h = refl
 begun_offer Responder h = refl
 
 abbrev risen : Bool → Handshake → Handshake
-risen b h = if b then shake_up h else h
+risen b h = if b then handshake_up h else h
 
 risen_owed : (b : Bool) (h : Handshake) → h.role ≡ Responder → h.owed ≡ None → (risen b h).owed ≡ None
 risen_owed true h role none = begun_owed h.role h role
@@ -197,10 +197,10 @@ still_up false b is up = absurd (cc)
 risen_packets : (b : Bool) (k m : LinkState) (h : Handshake) → Comes k.phase m.phase → (is_up m && not (is_up k)) ≡ b
     → server_puts m.phase (later (risen b h).role (risen b h).phase) ≤ server_puts k.phase (later h.role h.phase)
 risen_packets true k m h (inl less) is =
-    let n : ℕ = later (shake_up h).role (shake_up h).phase in
+    let n : ℕ = later (handshake_up h).role (handshake_up h).phase in
     omega (arith, less n, below_same k.phase (not_true (is_up k) (and_parts (is_up m) (not (is_up k)) is).1) n (later h.role h.phase))
 risen_packets true k m h (inr up) is =
-    let n : ℕ = later (shake_up h).role (shake_up h).phase in
+    let n : ℕ = later (handshake_up h).role (handshake_up h).phase in
     omega (arith, ap (λ (p : LinkPhase). server_puts p n) up.0, up_left h, up.1 (later h.role h.phase))
 risen_packets false k m h (inl less) is = less (later h.role h.phase)
 risen_packets false k m h (inr up) is =
@@ -225,7 +225,7 @@ onto most s x u packets session work (inr asks) = inr (
   },
 )
 
-by_whole : (most : ℕ) (x u : ServerState) (opens : Bool) (whole : Option (List ℕ)) → (whole ≡ None) ⊎ (x.link.phase ≡ phase.Established) → Calm most x → Turns most x u opens
+by_whole : (most : ℕ) (x u : ServerState) (opens : Bool) (whole : Option (List ℕ)) → (whole ≡ None) ⊎ (x.link.phase ≡ phase.Established) → Calm most x → ServerTurns most x u opens
     → hear.HearsWhole x whole (hear.GoesOn u opens) → ServerTurn most x u
 by_whole most x u opens None known calm turn hears =
     let same : u ≡ x = cc hears in subst (ServerTurn most x) (sym same) (inl (record { packets = omega arith; asked = refl; serving = omega arith }))
@@ -245,15 +245,15 @@ by_link : (most : ℕ) (s u : ServerState) (packet : List ℕ) (opens : Bool) (l
 by_link most s u packet opens (Heard m) quiet turn takes hears =
     let few = heard_few s.link m packet takes in
     let b : Bool = is_up m && not (is_up s.link) in
-    let x : ServerState = record s { link = m; shake = shake_risen s.link m s.shake } in
-    let owed : x.shake.owed ≡ None = risen_owed b s.shake turn.role quiet.owed in
-    let puts = risen_packets b s.link m s.shake (few.0 (turn.link m takes)) refl in
-    let answers : answers_held m.to_send x.shake.owed (range_left s.session) ≡ answers_held s.link.to_send s.shake.owed (range_left s.session) =
-    ap (λ (xs : List ℕ). answers_held xs x.shake.owed (range_left s.session)) (heard_leaves s.link m packet takes).0
+    let x : ServerState = record s { link = m; handshake = handshake_risen s.link m s.handshake } in
+    let owed : x.handshake.owed ≡ None = risen_owed b s.handshake turn.role quiet.owed in
+    let puts = risen_packets b s.link m s.handshake (few.0 (turn.link m takes)) refl in
+    let answers : answers_held m.to_send x.handshake.owed (range_left s.session) ≡ answers_held s.link.to_send s.handshake.owed (range_left s.session) =
+    ap (λ (xs : List ℕ). answers_held xs x.handshake.owed (range_left s.session)) (heard_leaves s.link m packet takes).0
     ∙ ap (λ (o : Option Message). answers_held s.link.to_send o (range_left s.session)) (owed ∙ sym quiet.owed) in
     onto most s x u (omega (arith, puts, answers)) refl refl
     (by_whole most x u opens m.whole (known_whole s.link m turn.whole few.1)
-    (record { quiet = record { owed = owed; range = quiet.range }; one_ring = risen_offer b s.shake turn.one_ring; fits = turn.fits })
+    (record { quiet = record { owed = owed; range = quiet.range }; one_ring = risen_offer b s.handshake turn.one_ring; fits = turn.fits })
     (record { owed = turn.owed; opened = turn.opened; asks = turn.asks }) hears)
 by_link most s u packet opens (Unheard cause) quiet turn takes hears = absurd (cc)
 

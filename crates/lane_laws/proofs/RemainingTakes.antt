@@ -25,7 +25,7 @@ use Rattle.lane_laws.specs.Remaining.{absent, asked_by, asked_in, client_left, c
 use Rattle.lane_laws.specs.RemainingSteps.{ClientHears, ServerHears, ServerIsAsked, ServerTurn, TakesInTurn, total_at}
 use Rattle.lane_laws.specs.RemainingTurn.{ClientInTurn, ServerInTurn}
 use Rattle.lane_laws.specs.RuleFacts.{ClientMay, ServerMay}
-use Rattle.lane_laws.specs.Conversation.{IsAsking}
+use Rattle.lane_laws.specs.LinkMoves.{IsAsking}
 
 -- a packet that waits is one more
 pub first_gone : (packet : List ℕ) (packets : List (List ℕ)) → slice_get packets 0 ≡ Some packet → length (drop 1 packets) + 1 ≡ length packets

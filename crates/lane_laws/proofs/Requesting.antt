@@ -6,11 +6,11 @@ use Rattle.vdisk_msg.specs.declared.request.Request.{Request}
 use Rattle.vdisk_msg.specs.Requests.{operation_of}
 use Rattle.disk_model.specs.WorkLog.{WorkLog}
 use Rattle.disk_model.specs.ClientPutting.{announced, announcement, announcing, client_holds, client_kind, client_put, holding, opened_if, session_behind}
-use Rattle.disk_model.specs.ClientRule.{Announces, ClientRule, Completes, Joins, Publishes, Puts, Rests, Says, Takes, client_rule}
+use Rattle.disk_model.specs.ClientRule.{Announces, ClientRule, Completes, Joins, Publishes, Puts, Idles, Says, Takes, client_rule}
 use Rattle.disk_model.specs.ClientState.{ClientSession, ClientState, first_id, joined_client}
 use Rattle.disk_model.specs.ClientStep.{ClientCompletes, ClientPublishes, ClientSends}
 use Rattle.disk_model.specs.ClientTaking.{ClientTakes, GoesOn}
-use Rattle.disk_model.specs.EndPuts.{ComesUp, EndsOwn, EndsShake, Goes, PutKind, put_opens}
+use Rattle.disk_model.specs.EndPuts.{ComesUp, EndsOwn, EndsHandshake, Goes, PutKind, put_opens}
 use Rattle.disk_model.specs.Seeing.{Seen}
 use Rattle.lane_laws.proofs.ClientHearing.{by_link}
 use Rattle.lane_laws.proofs.Ruling.{client_may}
@@ -50,7 +50,7 @@ behind_stands : (kind : PutKind) (c : ClientState) (done : ℕ) → done ≡ fir
 behind_stands EndsOwn c done first stands = announced_stands done c.session stands
 behind_stands Goes c done first stands = stands
 behind_stands ComesUp c done first stands = stands
-behind_stands EndsShake c done first stands = opened_stands (put_opens EndsShake c.shake) c done first stands
+behind_stands EndsHandshake c done first stands = opened_stands (put_opens EndsHandshake c.handshake) c done first stands
 
 put_kept : (c : ClientState) (kind : PutKind) (t : ClientState) → t.session ≡ session_behind kind c → t.pending ≡ c.pending → t.next_id ≡ c.next_id
     → t.blocks ≡ c.blocks → t.slots ≡ c.slots → KeepsRequests c t
@@ -83,7 +83,7 @@ held_kept c at Joins held may is = absurd (cc)
 held_kept c at (Completes session) held may is = absurd (cc)
 held_kept c at (Takes packet) held may is = absurd (cc)
 held_kept c at (Publishes session request) held may is = absurd (cc)
-held_kept c at Rests held may is = absurd (cc)
+held_kept c at Idles held may is = absurd (cc)
 
 -- one after the other
 both_kept : (c m t : ClientState) → KeepsRequests c m → KeepsRequests m t → KeepsRequests c t

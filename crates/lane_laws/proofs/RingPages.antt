@@ -10,7 +10,7 @@ use Rattle.ldc_queue.specs.declared.end.End.{End}
 use Rattle.ldc_queue.specs.declared.end.End.TheVariants.{A, B}
 use Rattle.vio_tag.specs.declared.cause.Cause.{Cause}
 use Rattle.disk_model.specs.WireEvent.{Blocked, ByRestart, ByScript, ByStep, ByTick, Declines, Giver, Idle, Injected, Joined, Lost, Poked, Reset, Sent, Took, WireEvent, giver}
-use Rattle.disk_model.specs.DiskEvent.{Asks, Calm, CalmReset, CalmRestart, CalmStart, CalmStop, CalmTick, Desc, DiskEvent, Done, Finished, Misplaced, Moved, Off, OnWire, Published, Rests, Started, Stopped, Stored, Switched, Turns, Worked, Works}
+use Rattle.disk_model.specs.DiskEvent.{Asks, Calm, CalmReset, CalmRestart, CalmStart, CalmStop, CalmTick, Desc, DiskEvent, Done, Finished, Misplaced, Moved, Off, OnWire, Published, Calms, Started, Stopped, Stored, Switched, Switches, Worked, Works}
 use Rattle.disk_model.specs.LaneState.{IsShape, LaneState, Shape, fresh, own_table, pages_of}
 use Rattle.disk_model.specs.LaneStep.{EndOnWire, LaneStep, ResetBy, RestStep, TurnStep, WireStep, WorkStep}
 
@@ -77,8 +77,8 @@ pub same_pages : (s : LaneState) (event : DiskEvent) (t : LaneState) → LaneSte
 same_pages s (OnWire event) t step = of_wire s event t step
 same_pages s (Asks event) t step = record { shape = ap (λ (x : LaneState). x.shape) step.1; table = ap (λ (x : LaneState). x.table) step.1 }
 same_pages s (Works event) t step = of_work s event t step
-same_pages s (Turns event) t step = of_turn s event t step
-same_pages s (Rests event) t step = of_rest s event t step
+same_pages s (Switches event) t step = of_turn s event t step
+same_pages s (Calms event) t step = of_rest s event t step
 
 -- THE TABLE as it began
 own_within : (pages index : ℕ) → index < pages → slice_index_or (own_table pages) index None ≡ Some (own_entry index)

@@ -15,13 +15,13 @@ use Rattle.vdisk_msg.specs.declared.desc.DescFault.{DescFault}
 use Rattle.vdisk_msg.specs.declared.desc.DescFault.TheVariants.{Cookies, Operation, Range, Size}
 use Rattle.vdisk_msg.specs.declared.desc.DiskDesc.{DiskDesc}
 use Rattle.vdisk_msg.specs.Pieces.{Finishes, Moves, Piece, Stores, checked_pieces, operation_pieces, pieces, read_pieces, refusal_status, unit_count, write_pieces}
-use Rattle.disk_model.specs.TalkLog.{TalkLog}
+use Rattle.disk_model.specs.TranscriptLog.{TranscriptLog}
 use Rattle.disk_model.specs.WireEvent.{Blocked, Declines, Idle, Injected, Joined, Lost, Poked, Reset, Sent, Took, WireEvent}
 use Rattle.disk_model.specs.Agreement.{RingAgrees, SlotAgrees}
 use Rattle.disk_model.specs.DiskLog.{DiskLog, after, nothing_yet}
 use Rattle.disk_model.specs.RingLog.{Accepted as IsAccepted, Done as IsDone, Free, Ready, SlotLog, Zeros, no_ring}
 use Rattle.disk_model.specs.WorkLog.{ServerCounts, WorkLog, change_server, moved_rest, opened_counts, rest_of, stored_rest, work_wired}
-use Rattle.disk_model.specs.DiskEvent.{Accepted, Admitted, Asks, Desc, DiskEvent, Done, Finished, Full, Misplaced, Moved, Off, OnWire, Published, Refused, Rests, Started, Stopped, Stored, Turns, Works}
+use Rattle.disk_model.specs.DiskEvent.{Accepted, Admitted, Asks, Desc, DiskEvent, Done, Finished, Full, Misplaced, Moved, Off, OnWire, Published, Refused, Calms, Started, Stopped, Stored, Switches, Works}
 use Rattle.disk_model.specs.LaneState.{IsShape, LaneState, Shape, fresh, pages_of}
 use Rattle.disk_model.specs.LaneStep.{LaneStep}
 use Rattle.lane_laws.proofs.CarriedRuns.{AllStand}
@@ -31,7 +31,7 @@ use Rattle.lane_laws.proofs.RingWork.{Known}
 use Rattle.lane_laws.proofs.StandingSteps.{wired_keeps}
 use Rattle.lane_laws.specs.RingAgreed.{RingStands, SessionsAgree, ring_in}
 use Rattle.lane_laws.specs.RingSlots.{OwesStatus, RingHolds, RingOf, SlotHolds, StatusStands}
-use Rattle.lane_laws.specs.Standing.{LaneStands}
+use Rattle.lane_laws.specs.Standing.{LaneInvariant}
 
 -- A STATUS that is owed has 4 bytes
 rest_status : (owed : List Piece) → OwesStatus owed → OwesStatus (rest_of owed)
@@ -90,24 +90,24 @@ opened_status : (b : Bool) (sid : ℕ) (o : Option ServerCounts) → StatusStand
 opened_status true sid o stands = tt
 opened_status false sid o stands = stands
 
-wire_status : (slots : ℕ) (talk : TalkLog) (w : WorkLog) (event : WireEvent) → StatusStands w.server → StatusStands (work_wired slots talk w event).server
-wire_status slots talk w (Joined A lost) stands = stands
-wire_status slots talk w (Joined B lost) stands = tt
-wire_status slots talk w (Reset A cause packet lost) stands = stands
-wire_status slots talk w (Reset B cause packet lost) stands = tt
-wire_status slots talk w (Took A packet opens) stands = stands
-wire_status slots talk w (Took B packet opens) stands = opened_status opens _ _ (changed_status _ w.server (λ c small. small) stands)
-wire_status slots talk w (Sent A packet opens) stands = stands
-wire_status slots talk w (Sent B packet opens) stands = opened_status opens _ _ (changed_status _ w.server (λ c small. small) stands)
-wire_status slots talk w (Lost e packet) stands = stands
-wire_status slots talk w (Injected e packet) stands = stands
-wire_status slots talk w (Poked e at bytes) stands = stands
-wire_status slots talk w (Idle e) stands = stands
-wire_status slots talk w (Blocked e) stands = stands
-wire_status slots talk w (Declines d) stands = stands
+wire_status : (slots : ℕ) (transcript : TranscriptLog) (w : WorkLog) (event : WireEvent) → StatusStands w.server → StatusStands (work_wired slots transcript w event).server
+wire_status slots transcript w (Joined A lost) stands = stands
+wire_status slots transcript w (Joined B lost) stands = tt
+wire_status slots transcript w (Reset A cause packet lost) stands = stands
+wire_status slots transcript w (Reset B cause packet lost) stands = tt
+wire_status slots transcript w (Took A packet opens) stands = stands
+wire_status slots transcript w (Took B packet opens) stands = opened_status opens _ _ (changed_status _ w.server (λ c small. small) stands)
+wire_status slots transcript w (Sent A packet opens) stands = stands
+wire_status slots transcript w (Sent B packet opens) stands = opened_status opens _ _ (changed_status _ w.server (λ c small. small) stands)
+wire_status slots transcript w (Lost e packet) stands = stands
+wire_status slots transcript w (Injected e packet) stands = stands
+wire_status slots transcript w (Poked e at bytes) stands = stands
+wire_status slots transcript w (Idle e) stands = stands
+wire_status slots transcript w (Blocked e) stands = stands
+wire_status slots transcript w (Declines d) stands = stands
 
 statuses : (l : DiskLog) (event : DiskEvent) → StatusStands l.work.server → StatusStands (after l event).work.server
-statuses l (OnWire event) stands = wire_status l.shape.slots l.talk l.work event stands
+statuses l (OnWire event) stands = wire_status l.shape.slots l.transcript l.work event stands
 statuses l (Asks (Accepted id request)) stands = stands
 statuses l (Asks (Full request)) stands = stands
 statuses l (Asks (Refused why request)) stands = stands
@@ -118,24 +118,24 @@ statuses l (Works (Moved unit fault)) stands = changed_status _ l.work.server (�
 statuses l (Works (Stored operation block count failed)) stands = changed_status _ l.work.server (λ c small. stored_status failed c.owed small) stands
 statuses l (Works (Finished slot status)) stands = changed_status _ l.work.server (λ c small. rest_status c.owed small) stands
 statuses l (Works Misplaced) stands = stands
-statuses l (Turns Stopped) stands = tt
-statuses l (Turns Started) stands = stands
-statuses l (Turns Off) stands = stands
-statuses l (Rests event) stands = stands
+statuses l (Switches Stopped) stands = tt
+statuses l (Switches Started) stands = stands
+statuses l (Switches Off) stands = stands
+statuses l (Calms event) stands = stands
 
 -- THE IDS are below 2^64
-issued_wired : (slots : ℕ) (talk : TalkLog) (w : WorkLog) (event : WireEvent) → length w.issued < 2 ^ 64 → length (work_wired slots talk w event).issued < 2 ^ 64
-issued_wired slots talk w event few = omega (arith, ap length (wired_keeps slots talk w event).issued, few)
+issued_wired : (slots : ℕ) (transcript : TranscriptLog) (w : WorkLog) (event : WireEvent) → length w.issued < 2 ^ 64 → length (work_wired slots transcript w event).issued < 2 ^ 64
+issued_wired slots transcript w event few = omega (arith, ap length (wired_keeps slots transcript w event).issued, few)
 
-issued_asked : (s : LaneState) (l : DiskLog) (event : Admitted) (t : LaneState) → LaneStands s l → length l.work.issued < 2 ^ 64 → LaneStep s (Asks event) t
+issued_asked : (s : LaneState) (l : DiskLog) (event : Admitted) (t : LaneState) → LaneInvariant s l → length l.work.issued < 2 ^ 64 → LaneStep s (Asks event) t
     → length (after l (Asks event)).work.issued < 2 ^ 64
 issued_asked s l (Refused why request) t stands few step = few
 issued_asked s l (Full request) t stands few step = few
 issued_asked s l (Accepted id request) t stands few step = omega (arith, stands.requests.next, step.0.3, length-append l.work.issued (request ∷ []))
 
-pub issued_behind : (s : LaneState) (l : DiskLog) (event : DiskEvent) (t : LaneState) → LaneStands s l → length l.work.issued < 2 ^ 64 → LaneStep s event t
+pub issued_behind : (s : LaneState) (l : DiskLog) (event : DiskEvent) (t : LaneState) → LaneInvariant s l → length l.work.issued < 2 ^ 64 → LaneStep s event t
     → length (after l event).work.issued < 2 ^ 64
-issued_behind s l (OnWire event) t stands few step = issued_wired l.shape.slots l.talk l.work event few
+issued_behind s l (OnWire event) t stands few step = issued_wired l.shape.slots l.transcript l.work event few
 issued_behind s l (Asks event) t stands few step = issued_asked s l event t stands few step
 issued_behind s l (Works (Published id)) t stands few step = few
 issued_behind s l (Works (Done id operation status bytes)) t stands few step = few
@@ -144,10 +144,10 @@ issued_behind s l (Works (Moved unit fault)) t stands few step = few
 issued_behind s l (Works (Stored operation block count failed)) t stands few step = few
 issued_behind s l (Works (Finished slot status)) t stands few step = few
 issued_behind s l (Works Misplaced) t stands few step = few
-issued_behind s l (Turns Stopped) t stands few step = few
-issued_behind s l (Turns Started) t stands few step = few
-issued_behind s l (Turns Off) t stands few step = few
-issued_behind s l (Rests event) t stands few step = few
+issued_behind s l (Switches Stopped) t stands few step = few
+issued_behind s l (Switches Started) t stands few step = few
+issued_behind s l (Switches Off) t stands few step = few
+issued_behind s l (Calms event) t stands few step = few
 
 -- where nobody forged after an event, nobody had before it
 wire_before : (l : DiskLog) (event : WireEvent) → (after l (OnWire event)).wire.forged ≡ false → l.wire.forged ≡ false
@@ -166,10 +166,10 @@ pub before : (l : DiskLog) (event : DiskEvent) → (after l event).wire.forged �
 before l (OnWire event) not = wire_before l event not
 before l (Asks event) not = not
 before l (Works event) not = not
-before l (Turns Stopped) not = not
-before l (Turns Started) not = not
-before l (Turns Off) not = not
-before l (Rests event) not = not
+before l (Switches Stopped) not = not
+before l (Switches Started) not = not
+before l (Switches Off) not = not
+before l (Calms event) not = not
 
 -- EACH EVENT
 pub known_of : (s : LaneState) (l : DiskLog) → AllStand s l → RingStands s l → SessionsAgree s l → l.wire.forged ≡ false → Known s l
@@ -177,7 +177,7 @@ known_of s l all ring agree not = record {
   pages = ring.pages;
   stands = all.stands;
   memory = all.memory;
-  sound = all.talks.client;
+  sound = all.transcripts.client;
   ring = ring.unforged not;
   unforged = not;
   statuses = ring.statuses;

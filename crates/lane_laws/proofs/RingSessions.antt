@@ -27,12 +27,12 @@ pub of_client : (s : LaneState) (l : DiskLog) (c : ClientSession) → s.client.s
 of_client s l c is agree = of_client_if s.client.session l.work.done l.work.client c is agree.client
 
 -- what is published is within one turn behind what is done
-pub record Turn (k : ClientCounts) (done slots : ℕ) : Type 0 where
+pub record RingTurn (k : ClientCounts) (done slots : ℕ) : Type 0 where
   pub based : k.base ≤ done
   pub turn : k.base + k.published ≤ done + slots
 
 pub turn_of : (o : Option ClientSession) (done pending slots : ℕ) (q : Option ClientCounts) (k : ClientCounts) → q ≡ Some k → ClientAgrees o done q → CountsInOrder pending o → pending ≤ slots
-    → Turn k done slots
+    → RingTurn k done slots
 turn_of None done pending slots None k is agree order few = absurd (cc is)
 turn_of None done pending slots (Some x) k is agree order few = absurd agree
 turn_of (Some c) done pending slots None k is agree order few = absurd (cc is)

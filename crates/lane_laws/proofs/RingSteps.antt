@@ -4,7 +4,7 @@ use Rattle.ldc_queue.specs.declared.end.End.TheVariants.{A, B}
 use Rattle.disk_model.specs.WireLog.{WireLog}
 use Rattle.disk_model.specs.DiskLog.{DiskLog, after}
 use Rattle.disk_model.specs.WorkLog.{WorkLog}
-use Rattle.disk_model.specs.DiskEvent.{Accepted, Admitted, Asks, Calm, CalmReset, CalmRestart, CalmStart, CalmStop, CalmTick, Desc, DiskEvent, Done, Finished, Full, Misplaced, Moved, Off, OnWire, Published, Refused, Rests, Started, Stopped, Stored, Switched, Turns, Worked, Works}
+use Rattle.disk_model.specs.DiskEvent.{Accepted, Admitted, Asks, Calm, CalmReset, CalmRestart, CalmStart, CalmStop, CalmTick, Desc, DiskEvent, Done, Finished, Full, Misplaced, Moved, Off, OnWire, Published, Refused, Calms, Started, Stopped, Stored, Switched, Switches, Worked, Works}
 use Rattle.disk_model.specs.LaneState.{LaneState}
 use Rattle.disk_model.specs.LaneStep.{LaneStep, RestStep, TurnStep, WorkStep}
 use Rattle.lane_laws.proofs.RingClientSteps.{completed_in_ring, published_in_ring}
@@ -67,7 +67,7 @@ work_in_ring s l (Finished slot status) t known few agree step = finished_in_rin
 work_in_ring s l Misplaced t known few agree step = absurd step
 
 -- STOPS and calm calls
-stopped_leaves : (l : DiskLog) → LeavesRing l (Turns Stopped)
+stopped_leaves : (l : DiskLog) → LeavesRing l (Switches Stopped)
 stopped_leaves l = record {
   ring = refl;
   issued = refl;
@@ -78,7 +78,7 @@ stopped_leaves l = record {
   live = λ up. inr refl;
 }
 
-started_leaves : (l : DiskLog) → LeavesRing l (Turns Started)
+started_leaves : (l : DiskLog) → LeavesRing l (Switches Started)
 started_leaves l = record {
   ring = refl;
   issued = refl;
@@ -89,23 +89,23 @@ started_leaves l = record {
   live = λ up. inl up;
 }
 
-turn_in_ring : (s : LaneState) (l : DiskLog) (event : Switched) (t : LaneState) → Known s l → TurnStep s event t → InRing t (after l (Turns event))
-turn_in_ring s l Stopped t known step = rest_in_ring s l (Turns Stopped) t known (stopped_leaves l) (ap (λ (x : LaneState). x.memory) step.1)
-turn_in_ring s l Started t known step = rest_in_ring s l (Turns Started) t known (started_leaves l) (ap (λ (x : LaneState). x.memory) step.1)
-turn_in_ring s l Off t known step = rest_in_ring s l (Turns Off) t known (same_log l (Turns Off) refl refl refl) (ap (λ (x : LaneState). x.memory) step.1)
+turn_in_ring : (s : LaneState) (l : DiskLog) (event : Switched) (t : LaneState) → Known s l → TurnStep s event t → InRing t (after l (Switches event))
+turn_in_ring s l Stopped t known step = rest_in_ring s l (Switches Stopped) t known (stopped_leaves l) (ap (λ (x : LaneState). x.memory) step.1)
+turn_in_ring s l Started t known step = rest_in_ring s l (Switches Started) t known (started_leaves l) (ap (λ (x : LaneState). x.memory) step.1)
+turn_in_ring s l Off t known step = rest_in_ring s l (Switches Off) t known (same_log l (Switches Off) refl refl refl) (ap (λ (x : LaneState). x.memory) step.1)
 
-calm_in_ring : (s : LaneState) (l : DiskLog) (event : Calm) (t : LaneState) → Known s l → RestStep s event t → InRing t (after l (Rests event))
+calm_in_ring : (s : LaneState) (l : DiskLog) (event : Calm) (t : LaneState) → Known s l → RestStep s event t → InRing t (after l (Calms event))
 calm_in_ring s l (CalmReset A) t known step = absurd step
-calm_in_ring s l (CalmReset B) t known step = rest_in_ring s l (Rests (CalmReset B)) t known (same_log l (Rests (CalmReset B)) refl refl refl) (ap (λ (x : LaneState). x.memory) step.1)
-calm_in_ring s l CalmTick t known step = rest_in_ring s l (Rests CalmTick) t known (same_log l (Rests CalmTick) refl refl refl) (ap (λ (x : LaneState). x.memory) step.1)
-calm_in_ring s l CalmStop t known step = rest_in_ring s l (Rests CalmStop) t known (same_log l (Rests CalmStop) refl refl refl) (ap (λ (x : LaneState). x.memory) step.1)
-calm_in_ring s l CalmStart t known step = rest_in_ring s l (Rests CalmStart) t known (same_log l (Rests CalmStart) refl refl refl) (ap (λ (x : LaneState). x.memory) step.1)
-calm_in_ring s l CalmRestart t known step = rest_in_ring s l (Rests CalmRestart) t known (same_log l (Rests CalmRestart) refl refl refl) (ap (λ (x : LaneState). x.memory) step.1)
+calm_in_ring s l (CalmReset B) t known step = rest_in_ring s l (Calms (CalmReset B)) t known (same_log l (Calms (CalmReset B)) refl refl refl) (ap (λ (x : LaneState). x.memory) step.1)
+calm_in_ring s l CalmTick t known step = rest_in_ring s l (Calms CalmTick) t known (same_log l (Calms CalmTick) refl refl refl) (ap (λ (x : LaneState). x.memory) step.1)
+calm_in_ring s l CalmStop t known step = rest_in_ring s l (Calms CalmStop) t known (same_log l (Calms CalmStop) refl refl refl) (ap (λ (x : LaneState). x.memory) step.1)
+calm_in_ring s l CalmStart t known step = rest_in_ring s l (Calms CalmStart) t known (same_log l (Calms CalmStart) refl refl refl) (ap (λ (x : LaneState). x.memory) step.1)
+calm_in_ring s l CalmRestart t known step = rest_in_ring s l (Calms CalmRestart) t known (same_log l (Calms CalmRestart) refl refl refl) (ap (λ (x : LaneState). x.memory) step.1)
 
 pub event_in_ring : (s : LaneState) (l : DiskLog) (event : DiskEvent) (t : LaneState) → Known s l → length l.work.issued < 2 ^ 64 → SessionsAgree t (after l event) → LaneStep s event t
     → (after l event).wire.forged ≡ false → InRing t (after l event)
 event_in_ring s l (OnWire event) t known few agree step unforged = wire_in_ring s l event t known agree step unforged
 event_in_ring s l (Asks event) t known few agree step unforged = asked_in_ring s l event t known step
 event_in_ring s l (Works event) t known few agree step unforged = work_in_ring s l event t known few agree step
-event_in_ring s l (Turns event) t known few agree step unforged = turn_in_ring s l event t known step
-event_in_ring s l (Rests event) t known few agree step unforged = calm_in_ring s l event t known step
+event_in_ring s l (Switches event) t known few agree step unforged = turn_in_ring s l event t known step
+event_in_ring s l (Calms event) t known few agree step unforged = calm_in_ring s l event t known step

@@ -27,7 +27,7 @@ use Rattle.disk_model.specs.ServerRule as server_rules
 use Rattle.disk_model.specs.ServerState.{ServerSession, Work}
 use Rattle.disk_model.specs.ServerWork.{header_of, slot_fetched, with_word}
 use Rattle.lane_laws.proofs.RingServer.{Reaches, header_long, writes_word}
-use Rattle.lane_laws.proofs.RingSessions.{OfServer, Turn, of_server, one_ring, sizes_of, turn_of, unwrapped}
+use Rattle.lane_laws.proofs.RingSessions.{OfServer, RingTurn, of_server, one_ring, sizes_of, turn_of, unwrapped}
 use Rattle.lane_laws.proofs.RingTable.{each_set, got_same, id_is, set_holds, some_entry}
 use Rattle.lane_laws.proofs.RingWrites.{ring_fetched}
 use Rattle.lane_laws.proofs.Ruling.{server_may}
@@ -37,12 +37,12 @@ use Rattle.lane_laws.specs.RingAgreed.{InRing, OneRing, PagesStand, SessionsAgre
 use Rattle.lane_laws.specs.RingSlots.{HoldsIssued, IdStands, IdsStand, InWork, RingHolds, SlotStands, StatusStands, WorkStands}
 use Rattle.lane_laws.specs.RuleFacts.{ServerMay}
 use Rattle.lane_laws.specs.Sound.{ClientSound}
-use Rattle.lane_laws.specs.Standing.{LaneStands}
+use Rattle.lane_laws.specs.Standing.{LaneInvariant}
 
 -- what is known of a lane whose ring is looked at
 pub record Known (s : LaneState) (l : DiskLog) : Type 0 where
   pub pages : PagesStand s l
-  pub stands : LaneStands s l
+  pub stands : LaneInvariant s l
   pub memory : MemoryStands s
   pub sound : ClientSound s.client
   pub ring : InRing s l
@@ -50,7 +50,7 @@ pub record Known (s : LaneState) (l : DiskLog) : Type 0 where
   pub statuses : StatusStands l.work.server
   pub agree : SessionsAgree s l
 
-pub slots_are : (s : LaneState) (l : DiskLog) → LaneStands s l → s.client.slots ≡ l.shape.slots
+pub slots_are : (s : LaneState) (l : DiskLog) → LaneInvariant s l → s.client.slots ≡ l.shape.slots
 slots_are s l stands = stands.slots ∙ ap (λ (x : Shape). x.slots) stands.shape
 
 pub memory_is : (s : LaneState) (l : DiskLog) → Known s l → length s.memory ≡ memory_long l.shape.slots
@@ -59,15 +59,15 @@ memory_is s l known = known.memory.long ∙ ap memory_long (slots_are s l known.
 pub some_slots : (s : LaneState) (l : DiskLog) → Known s l → 1 ≤ l.shape.slots
 some_slots s l known = omega (arith, slots_are s l known.stands, known.memory.some)
 
-pub turn_in : (s : LaneState) (l : DiskLog) (k : ClientCounts) → Known s l → l.work.client ≡ Some k → Turn k l.work.done l.shape.slots
+pub turn_in : (s : LaneState) (l : DiskLog) (k : ClientCounts) → Known s l → l.work.client ≡ Some k → RingTurn k l.work.done l.shape.slots
 turn_in s l k known is =
-    subst (Turn k l.work.done) (slots_are s l known.stands)
+    subst (RingTurn k l.work.done) (slots_are s l known.stands)
     (turn_of s.client.session l.work.done (length s.client.pending) s.client.slots l.work.client k is known.agree.client known.sound.counts known.sound.pending)
 
 pub ids_in : (s : LaneState) (l : DiskLog) (k : ClientCounts) → Known s l → l.work.client ≡ Some k → IdsStand l.shape.slots l.work.done l.ring (Some k)
 ids_in s l k known is = subst (IdsStand l.shape.slots l.work.done l.ring) is known.ring.ids
 
-up_in : (s : LaneState) (l : DiskLog) → LaneStands s l → s.wire.wire.end_b ≡ Up → l.wire.wire.end_b ≡ Up
+up_in : (s : LaneState) (l : DiskLog) → LaneInvariant s l → s.wire.wire.end_b ≡ Up → l.wire.wire.end_b ≡ Up
 up_in s l stands up = subst (λ (w : WireLog). w.wire.end_b ≡ Up) stands.wire up
 
 -- THE SERVER AT WORK: its session is open, and of the client's ring
@@ -95,8 +95,8 @@ at_work s l v known up is =
     }
 
 -- the slot of a number of the server's
-pub numbered : (s : LaneState) (l : DiskLog) (v : ServerSession) (work : AtWork s l v) (count number : ℕ) → LaneStands s l → count ≡ number % 18446744073709551616 → number < 2 ^ 64
-    → count % s.server.shake.draft.peer_slots ≡ number % l.shape.slots
+pub numbered : (s : LaneState) (l : DiskLog) (v : ServerSession) (work : AtWork s l v) (count number : ℕ) → LaneInvariant s l → count ≡ number % 18446744073709551616 → number < 2 ^ 64
+    → count % s.server.handshake.draft.peer_slots ≡ number % l.shape.slots
 numbered s l v work count number stands is small =
     ap (λ (m : ℕ). count % m) (work.one.slots ∙ slots_are s l stands) ∙ ap (λ (x : ℕ). x % l.shape.slots) (is ∙ unwrapped number small)
 
@@ -115,7 +115,7 @@ pub record ReadyNext (s : LaneState) (l : DiskLog) (d : ServerCounts) (k : Clien
   pub bytes_are : bytes ≡ slot_bytes 128 slot s.memory
 
 ready_next : (s : LaneState) (l : DiskLog) (slot : ℕ) (bytes : List ℕ) (v : ServerSession) → Known s l → (work : AtWork s l v)
-    → slot ≡ v.descs % s.server.shake.draft.peer_slots → work.of.counts.descs < work.one.client.published → work.of.counts.descs < 2 ^ 64
+    → slot ≡ v.descs % s.server.handshake.draft.peer_slots → work.of.counts.descs < work.one.client.published → work.of.counts.descs < 2 ^ 64
     → l.work.done ≤ work.one.client.base + work.of.counts.descs
     → bytes ≡ slot_bytes 128 slot s.memory → slice_index bytes 0 ≡ 2 → ReadyNext s l work.of.counts work.one.client slot bytes
 ready_next s l slot bytes v known work slot_is more small since bytes_are state =

@@ -12,12 +12,13 @@ use Rattle.disk_model.specs.Seeing.{Seen}
 use Rattle.disk_model.specs.ServerRule as server
 use Rattle.disk_model.specs.ServerState.{ServerSession, ServerState, SlotRange, Work}
 
--- THE CLIENT publishes only where its link holds nothing
+-- THE CLIENT publishes only where its link holds nothing, and puts a packet where it owes one
 abbrev PublishesFree : ClientState → client.ClientRule → Type 0
 PublishesFree s (client.Publishes session request) = owes s.link ≡ false
+PublishesFree s client.Puts = owes s.link ≡ true
 PublishesFree s _ = ⊤
 
-announces_free : (s : ClientState) (session : ClientSession) (b : Bool) → PublishesFree s (if b then client.Announces session else client.Rests)
+announces_free : (s : ClientState) (session : ClientSession) (b : Bool) → PublishesFree s (if b then client.Announces session else client.Idles)
 announces_free s session true = tt
 announces_free s session false = tt
 
@@ -33,9 +34,9 @@ says_free : (s : ClientState) (owed : Option Message) → owes s.link ≡ false 
 says_free s None free = session_free s s.session free
 says_free s (Some message) free = tt
 
-puts_free : (s : ClientState) (b : Bool) → owes s.link ≡ b → PublishesFree s (if b then client.Puts else client.says s s.shake.owed)
-puts_free s true is = tt
-puts_free s false is = says_free s s.shake.owed is
+puts_free : (s : ClientState) (b : Bool) → owes s.link ≡ b → PublishesFree s (if b then client.Puts else client.says s s.handshake.owed)
+puts_free s true is = is
+puts_free s false is = says_free s s.handshake.owed is
 
 takes_free : (s : ClientState) (first : Option (List ℕ)) → PublishesFree s (client.takes_first first (client.puts_first s))
 takes_free s None = puts_free s (owes s.link) refl
@@ -60,6 +61,9 @@ up_free s at false = tt
 pub publishes_free : (s : ClientState) (at : Seen) (session : ClientSession) (request : Request) → client.client_rule s at ≡ client.Publishes session request → owes s.link ≡ false
 publishes_free s at session request rule = subst (PublishesFree s) rule (up_free s at (is_up at.state))
 
+pub puts_owe : (s : ClientState) (at : Seen) → client.client_rule s at ≡ client.Puts → owes s.link ≡ true
+puts_owe s at rule = subst (PublishesFree s) rule (up_free s at (is_up at.state))
+
 -- THE SERVER answers a range whose descriptors are all finished, and serves one that isn't
 pub record ServesFree (s : ServerState) (session : ServerSession) : Type 0 where
   pub free : owes s.link ≡ false
@@ -68,13 +72,13 @@ pub record ServesFree (s : ServerState) (session : ServerSession) : Type 0 where
 
 pub record TakesFree (s : ServerState) : Type 0 where
   pub free : owes s.link ≡ false
-  pub owed : s.shake.owed ≡ None
+  pub owed : s.handshake.owed ≡ None
   pub range : (session : ServerSession) → s.session ≡ Some session → session.range ≡ None
 
 pub record AnswersFree (s : ServerState) (message : Message) : Type 0 where
   pub session : ServerSession
   pub range : SlotRange
-  pub owed : s.shake.owed ≡ None
+  pub owed : s.handshake.owed ≡ None
   pub session_is : s.session ≡ Some session
   pub range_is : session.range ≡ Some range
   pub finished : session.finished ≡ session.asked
@@ -82,7 +86,8 @@ pub record AnswersFree (s : ServerState) (message : Message) : Type 0 where
 
 abbrev pub ServerFree : ServerState → server.ServerRule → Type 0
 ServerFree s (server.Takes packet) = TakesFree s
-ServerFree s (server.Says message) = (owes s.link ≡ false) × ((s.shake.owed ≡ Some message) ⊎ AnswersFree s message)
+ServerFree s server.Puts = owes s.link ≡ true
+ServerFree s (server.Says message) = (owes s.link ≡ false) × ((s.handshake.owed ≡ Some message) ⊎ AnswersFree s message)
 ServerFree s (server.Fetches session) = ServesFree s session × (s.work ≡ None)
 ServerFree s (server.Serves session work) = ServesFree s session × (s.work ≡ Some work)
 ServerFree s _ = ⊤
@@ -95,7 +100,7 @@ serves_free : (s : ServerState) (session : ServerSession) (work : Option Work) �
 serves_free s session None free is = (free, is)
 serves_free s session (Some work) free is = (free, is)
 
-range_free : (s : ServerState) (session : ServerSession) (range : SlotRange) (b : Bool) → owes s.link ≡ false → s.shake.owed ≡ None → s.session ≡ Some session
+range_free : (s : ServerState) (session : ServerSession) (range : SlotRange) (b : Bool) → owes s.link ≡ false → s.handshake.owed ≡ None → s.session ≡ Some session
     → session.range ≡ Some range → (session.finished == session.asked) ≡ b → ServerFree s (if b then server.Says (server.answer s range) else server.serves session s.work)
 range_free s session range true free none is ranged test = (
   free,
@@ -106,7 +111,7 @@ range_free s session range false free none is ranged test = serves_free s sessio
 same_range : (session other : ServerSession) → Some session ≡ Some other → session.range ≡ None → other.range ≡ None
 same_range session other is none = let same : session ≡ other = cc is in subst (λ (x : ServerSession). x.range ≡ None) same none
 
-in_range_free : (s : ServerState) (at : Seen) (session : ServerSession) (range : Option SlotRange) → owes s.link ≡ false → s.shake.owed ≡ None → s.session ≡ Some session
+in_range_free : (s : ServerState) (at : Seen) (session : ServerSession) (range : Option SlotRange) → owes s.link ≡ false → s.handshake.owed ≡ None → s.session ≡ Some session
     → session.range ≡ range → ServerFree s (server.in_range s session range at)
 in_range_free s at session None free none is ranged =
     first_free s at.first (record {
@@ -116,20 +121,20 @@ in_range_free s at session None free none is ranged =
     })
 in_range_free s at session (Some range) free none is ranged = range_free s session range (session.finished == session.asked) free none is ranged refl
 
-in_session_free : (s : ServerState) (at : Seen) (open_one : Option ServerSession) → owes s.link ≡ false → s.shake.owed ≡ None → s.session ≡ open_one
+in_session_free : (s : ServerState) (at : Seen) (open_one : Option ServerSession) → owes s.link ≡ false → s.handshake.owed ≡ None → s.session ≡ open_one
     → ServerFree s (server.in_session s open_one at)
 in_session_free s at None free none is = first_free s at.first (record { free = free; owed = none; range = λ session now. let none : None ≡ Some session = sym is ∙ now in absurd (cc) })
 in_session_free s at (Some session) free none is = in_range_free s at session session.range free none is refl
 
-server_says_free : (s : ServerState) (at : Seen) (owed : Option Message) → owes s.link ≡ false → s.shake.owed ≡ owed → ServerFree s (server.says s owed at)
+server_says_free : (s : ServerState) (at : Seen) (owed : Option Message) → owes s.link ≡ false → s.handshake.owed ≡ owed → ServerFree s (server.says s owed at)
 server_says_free s at (Some message) free is = (free, inl is)
 server_says_free s at None free is = in_session_free s at s.session free is refl
 
-server_puts_free : (s : ServerState) (at : Seen) (b : Bool) → owes s.link ≡ b → ServerFree s (if b then server.Puts else server.says s s.shake.owed at)
-server_puts_free s at true is = tt
-server_puts_free s at false is = server_says_free s at s.shake.owed is refl
+server_puts_free : (s : ServerState) (at : Seen) (b : Bool) → owes s.link ≡ b → ServerFree s (if b then server.Puts else server.says s s.handshake.owed at)
+server_puts_free s at true is = is
+server_puts_free s at false is = server_says_free s at s.handshake.owed is refl
 
-server_up_free : (s : ServerState) (at : Seen) (b : Bool) → ServerFree s (if b then (if owes s.link then server.Puts else server.says s s.shake.owed at) else server.Joins)
+server_up_free : (s : ServerState) (at : Seen) (b : Bool) → ServerFree s (if b then (if owes s.link then server.Puts else server.says s s.handshake.owed at) else server.Joins)
 server_up_free s at true = server_puts_free s at (owes s.link) refl
 server_up_free s at false = tt
 

@@ -26,29 +26,29 @@ not_up Down down up = absurd (cc)
 not_up Resetting down up = absurd (cc)
 
 -- THE CLIENT
-announces_may : (s : ClientState) (at : Seen) (session : ClientSession) (b : Bool) → at.state ≡ Up → owes s.link ≡ false → s.shake.owed ≡ None
-    → s.session ≡ Some session → nat_lt session.announced session.published ≡ b → ClientMay s at (if b then client.Announces session else client.Rests)
+announces_may : (s : ClientState) (at : Seen) (session : ClientSession) (b : Bool) → at.state ≡ Up → owes s.link ≡ false → s.handshake.owed ≡ None
+    → s.session ≡ Some session → nat_lt session.announced session.published ≡ b → ClientMay s at (if b then client.Announces session else client.Idles)
 announces_may s at session true up quiet none is more = (up, quiet, none, is, ltb-true session.announced session.published more)
 announces_may s at session false up quiet none is more = up
 
-publishes_may : (s : ClientState) (at : Seen) (session : ClientSession) (next : Option Request) → at.state ≡ Up → owes s.link ≡ false → s.shake.owed ≡ None
+publishes_may : (s : ClientState) (at : Seen) (session : ClientSession) (next : Option Request) → at.state ≡ Up → owes s.link ≡ false → s.handshake.owed ≡ None
     → s.session ≡ Some session → slice_get s.pending (session.published - session.completed) ≡ next → ClientMay s at (client.publishes session next)
 publishes_may s at session None up quiet none is got = announces_may s at session (nat_lt session.announced session.published) up quiet none is refl
 publishes_may s at session (Some request) up quiet none is got = (up, is, got)
 
-in_session_may : (s : ClientState) (at : Seen) (open_one : Option ClientSession) → at.state ≡ Up → owes s.link ≡ false → s.shake.owed ≡ None → s.session ≡ open_one
+in_session_may : (s : ClientState) (at : Seen) (open_one : Option ClientSession) → at.state ≡ Up → owes s.link ≡ false → s.handshake.owed ≡ None → s.session ≡ open_one
     → ClientMay s at (client.in_session s open_one)
 in_session_may s at None up quiet none is = up
 in_session_may s at (Some session) up quiet none is =
     publishes_may s at session (slice_get s.pending (session.published - session.completed)) up quiet none is refl
 
-says_may : (s : ClientState) (at : Seen) (owed : Option Message) → at.state ≡ Up → owes s.link ≡ false → s.shake.owed ≡ owed → ClientMay s at (client.says s owed)
+says_may : (s : ClientState) (at : Seen) (owed : Option Message) → at.state ≡ Up → owes s.link ≡ false → s.handshake.owed ≡ owed → ClientMay s at (client.says s owed)
 says_may s at None up quiet is = in_session_may s at s.session up quiet is refl
 says_may s at (Some message) up quiet is = (up, quiet, is)
 
-puts_may : (s : ClientState) (at : Seen) (b : Bool) → at.state ≡ Up → owes s.link ≡ b → ClientMay s at (if b then client.Puts else client.says s s.shake.owed)
+puts_may : (s : ClientState) (at : Seen) (b : Bool) → at.state ≡ Up → owes s.link ≡ b → ClientMay s at (if b then client.Puts else client.says s s.handshake.owed)
 puts_may s at true up is = up
-puts_may s at false up is = says_may s at s.shake.owed up is refl
+puts_may s at false up is = says_may s at s.handshake.owed up is refl
 
 takes_may : (s : ClientState) (at : Seen) (first : Option (List ℕ)) → at.state ≡ Up → at.first ≡ first → ClientMay s at (client.takes_first first (client.puts_first s))
 takes_may s at None up is = puts_may s at (owes s.link) up refl
@@ -86,35 +86,35 @@ serves_may : (s : ServerState) (at : Seen) (session : ServerSession) (work : Opt
 serves_may s at session None up is worked = (up, is)
 serves_may s at session (Some work) up is worked = (up, is, worked)
 
-range_if : (s : ServerState) (at : Seen) (session : ServerSession) (range : SlotRange) (b : Bool) → at.state ≡ Up → owes s.link ≡ false → s.shake.owed ≡ None
+range_if : (s : ServerState) (at : Seen) (session : ServerSession) (range : SlotRange) (b : Bool) → at.state ≡ Up → owes s.link ≡ false → s.handshake.owed ≡ None
     → s.session ≡ Some session → session.range ≡ Some range
     → ServerMay s at (if b then server.Says (server.answer s range) else server.serves session s.work)
 range_if s at session range true up quiet none is asked =
     (up, quiet, inr (record { session = session; range = range; nothing_owed = none; session_is = is; range_is = asked; message_is = refl }))
 range_if s at session range false up quiet none is asked = serves_may s at session s.work up is refl
 
-in_range_may : (s : ServerState) (at : Seen) (session : ServerSession) (range : Option SlotRange) → at.state ≡ Up → owes s.link ≡ false → s.shake.owed ≡ None
+in_range_may : (s : ServerState) (at : Seen) (session : ServerSession) (range : Option SlotRange) → at.state ≡ Up → owes s.link ≡ false → s.handshake.owed ≡ None
     → s.session ≡ Some session → session.range ≡ range → ServerMay s at (server.in_range s session range at)
 in_range_may s at session None up quiet none is asked = server_takes_may s at at.first up refl
 in_range_may s at session (Some range) up quiet none is asked =
     range_if s at session range (session.finished == session.asked) up quiet none is asked
 
-server_in_session_may : (s : ServerState) (at : Seen) (open_one : Option ServerSession) → at.state ≡ Up → owes s.link ≡ false → s.shake.owed ≡ None
+server_in_session_may : (s : ServerState) (at : Seen) (open_one : Option ServerSession) → at.state ≡ Up → owes s.link ≡ false → s.handshake.owed ≡ None
     → s.session ≡ open_one → ServerMay s at (server.in_session s open_one at)
 server_in_session_may s at None up quiet none is = server_takes_may s at at.first up refl
 server_in_session_may s at (Some session) up quiet none is = in_range_may s at session session.range up quiet none is refl
 
-server_says_may : (s : ServerState) (at : Seen) (owed : Option Message) → at.state ≡ Up → owes s.link ≡ false → s.shake.owed ≡ owed
+server_says_may : (s : ServerState) (at : Seen) (owed : Option Message) → at.state ≡ Up → owes s.link ≡ false → s.handshake.owed ≡ owed
     → ServerMay s at (server.says s owed at)
 server_says_may s at (Some message) up quiet is = (up, quiet, inl is)
 server_says_may s at None up quiet is = server_in_session_may s at s.session up quiet is refl
 
-server_puts_may : (s : ServerState) (at : Seen) (b : Bool) → at.state ≡ Up → owes s.link ≡ b → ServerMay s at (if b then server.Puts else server.says s s.shake.owed at)
+server_puts_may : (s : ServerState) (at : Seen) (b : Bool) → at.state ≡ Up → owes s.link ≡ b → ServerMay s at (if b then server.Puts else server.says s s.handshake.owed at)
 server_puts_may s at true up is = up
-server_puts_may s at false up is = server_says_may s at s.shake.owed up is refl
+server_puts_may s at false up is = server_says_may s at s.handshake.owed up is refl
 
 server_if : (s : ServerState) (at : Seen) (b : Bool) → is_up at.state ≡ b
-    → ServerMay s at (if b then (if owes s.link then server.Puts else server.says s s.shake.owed at) else server.Joins)
+    → ServerMay s at (if b then (if owes s.link then server.Puts else server.says s s.handshake.owed at) else server.Joins)
 server_if s at true is = server_puts_may s at (owes s.link) (up_is at.state is) refl
 server_if s at false is = not_up at.state is
 

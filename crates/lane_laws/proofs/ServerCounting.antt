@@ -5,42 +5,42 @@ use Rattle.std.proofs.lemmas.Nat.{mod_below}
 use Rattle.ldc_link.specs.declared.phase.Role.TheVariants.{Responder}
 use Rattle.ldc_link.specs.LinkState.{LinkState, is_up}
 use Rattle.ldc_packet.specs.Spelling.{subtype_code}
-use Rattle.ldc_queue.specs.Talk.{Heard as Heard_, Turn}
+use Rattle.ldc_queue.specs.Transcript.{Heard as Heard_, Turn}
 use Rattle.vio_handshake.specs.declared.handshake.Handshake.{Handshake}
 use Rattle.vio_handshake.specs.declared.handshake.Phase.{Phase}
 use Rattle.vio_handshake.specs.declared.handshake.Phase.TheVariants.{Open}
 use Rattle.vio_handshake.specs.declared.session.Offer.{Offer}
-use Rattle.vio_handshake.specs.Rules.{ShakeTake, shake_take}
-use Rattle.vio_handshake.specs.State.{shake_up}
+use Rattle.vio_handshake.specs.Rules.{HandshakeTake, handshake_take}
+use Rattle.vio_handshake.specs.State.{handshake_up}
 use Rattle.disk_model.specs.Sayings.{half_heard, half_said, heard, said}
 use Rattle.disk_model.specs.Agreement.{ServerAgrees, ServerCountsAgree, WorkAgrees}
 use Rattle.disk_model.specs.Messages.{range_ended, range_in}
 use Rattle.disk_model.specs.WorkLog.{ServerCounts, change_server, length_in, one_in, opened_counts}
-use Rattle.disk_model.specs.EndPuts.{shake_risen}
+use Rattle.disk_model.specs.EndPuts.{handshake_risen}
 use Rattle.disk_model.specs.LaneState.{Shape}
 use Rattle.disk_model.specs.Offering.{server_offer}
 use Rattle.disk_model.specs.Ranges.{range_length, wrapped}
 use Rattle.disk_model.specs.ServerState.{ServerSession, ServerState, SlotRange, Work, joined_server, restarted_server}
-use Rattle.lane_laws.proofs.ClientTaken.{HearsMessage, ShakesTo}
-use Rattle.lane_laws.proofs.EndUttering.{up_empty}
+use Rattle.lane_laws.proofs.ClientTaken.{HearsMessage, HandshakesTo}
+use Rattle.lane_laws.proofs.Awake.{up_empty}
 use Rattle.lane_laws.proofs.Fitting.{TakesFit, joined_fits, take_fits, up_fits}
 use Rattle.lane_laws.proofs.RangeSums.{count_more, ready_more, sum_heard, sum_more}
 use Rattle.lane_laws.proofs.RangesSaid.{IsNoData, heard_no_range, heard_one, heard_range, ready_heard}
 use Rattle.lane_laws.proofs.RulesFree.{TakesFree}
-use Rattle.lane_laws.proofs.ServerTaken.{ServerAsked, ServerHearsPart, ServerShakes, ServerTook, still}
-use Rattle.lane_laws.proofs.ShakingOpen.{no_data, opens_not_open, opens_ready}
+use Rattle.lane_laws.proofs.ServerTaken.{ServerAsked, ServerHearsPart, ServerHandshakes, ServerTook, still}
+use Rattle.lane_laws.proofs.HandshakesOpen.{no_data, opens_not_open, opens_ready}
 use Rattle.lane_laws.specs.Budget.{one_range}
 use Rattle.lane_laws.specs.Counted.{HoldsEither, NothingAsked, RangeStands, ServerCounted, ServerHolds, ServerOrder, is_ready, one_where, range_count, range_sum, ready_count}
 use Rattle.vio_tag.specs.declared.message.Message.{Message}
 use Rattle.lane_laws.specs.LaneRests.{ServerRests, ServerUtters}
-use Rattle.lane_laws.specs.ShakeFits.{Fits, RingFits}
+use Rattle.lane_laws.specs.HandshakeFits.{Fits, RingFits}
 
 -- IT BEGINS
 pub server_begins_counting : (shape : Shape) (v : ServerState) (turns : List Turn) (d : Option ServerCounts) → ServerCounted shape v turns d → ServerCounted shape (joined_server v) [] None
 server_begins_counting shape v turns d counted = record {
   slots = counted.slots;
   blocks = counted.blocks;
-  shake = joined_fits Responder (server_offer shape.blocks shape.slots) v.shake counted.shake;
+  handshake = joined_fits Responder (server_offer shape.blocks shape.slots) v.handshake counted.handshake;
   holds = λ some. absurd (omega (arith, some));
   order = record { asked = refl; answered = refl; infos = refl };
   unit = tt;
@@ -52,7 +52,7 @@ pub server_restarts_counting : (shape : Shape) (v : ServerState) (turns : List T
 server_restarts_counting shape v turns d counted = record {
   slots = counted.slots;
   blocks = counted.blocks;
-  shake = record {
+  handshake = record {
     role_is = refl;
     offer_is = ap (λ (n : ℕ). server_offer n v.slots) counted.blocks ∙ ap (server_offer shape.blocks) counted.slots;
     owed = tt;
@@ -111,17 +111,17 @@ abbrev Behind : Shape → List Turn → List ℕ → ℕ → Option ServerCounts
 Behind shape turns packet sid d opens t = ServerCounted shape t (Heard_ packet ∷ turns) (opened_counts opens sid (asks_more shape turns packet d))
 
 -- IT TAKES a packet: a part of a message, or one of its link's handshake, with which the link may come up
-fits_risen : (b c : Bool) (offer : Offer) (h : Handshake) → Fits Responder offer h → Fits Responder offer (if b && not c then shake_up h else h)
+fits_risen : (b c : Bool) (offer : Offer) (h : Handshake) → Fits Responder offer h → Fits Responder offer (if b && not c then handshake_up h else h)
 fits_risen true true offer h fits = fits
 fits_risen true false offer h fits = up_fits Responder offer h fits
 fits_risen false c offer h fits = fits
 
 holds_risen : (b : Bool) (v : ServerState) (k : LinkState) (turns : List Turn) → is_up v.link ≡ b → k.to_send ≡ v.link.to_send → (is_up v.link ≡ false → v.link.to_send ≡ []) → ServerHolds v turns
-    → ServerHolds (record v { link = k; shake = shake_risen v.link k v.shake }) turns
+    → ServerHolds (record v { link = k; handshake = handshake_risen v.link k v.handshake }) turns
 holds_risen false v k turns is left idle holds = λ some. absurd (omega (arith, some, ap length left, ap length (idle is)))
 holds_risen true v k turns is left idle holds =
-    let same : shake_risen v.link k v.shake ≡ v.shake = still (is_up k) (is_up v.link) v.shake is in
-    subst (λ (h : Handshake). ServerHolds (record v { link = k; shake = h }) turns) (sym same)
+    let same : handshake_risen v.link k v.handshake ≡ v.handshake = still (is_up k) (is_up v.link) v.handshake is in
+    subst (λ (h : Handshake). ServerHolds (record v { link = k; handshake = h }) turns) (sym same)
     (λ some. elim (subst (λ (xs : List ℕ). HoldsEither v xs) (ap (λ (xs : List ℕ). half_said turns ++ xs) (sym left)) (holds (omega (arith, some, ap length left)))) [
       | inl owed ↦ inl owed
       | inr answer ↦ inr (record {
@@ -144,7 +144,7 @@ takes_part shape v t turns packet sid d opens utters counted part =
     (subst (Behind shape turns packet sid d false) (sym part.is) (record {
       slots = counted.slots;
       blocks = counted.blocks;
-      shake = fits_risen (is_up part.link) (is_up v.link) (server_offer shape.blocks shape.slots) v.shake counted.shake;
+      handshake = fits_risen (is_up part.link) (is_up v.link) (server_offer shape.blocks shape.slots) v.handshake counted.handshake;
       holds = holds_risen (is_up v.link) v part.link turns refl part.left utters.idle counted.holds;
       order = order_same shape v.session d turns packet same (ap (range_count 1) part.messages) counted.order;
       unit = counted.unit;
@@ -153,7 +153,7 @@ takes_part shape v t turns packet sid d opens utters counted part =
     }))
 
 -- a message of the handshake: its session may open by it
-fits_to : (offer : Offer) (h g : Handshake) (answer : ShakeTake) (opens : Bool) → ShakesTo h answer opens g → TakesFit Responder offer answer → Fits Responder offer g
+fits_to : (offer : Offer) (h g : Handshake) (answer : HandshakeTake) (opens : Bool) → HandshakesTo h answer opens g → TakesFit Responder offer answer → Fits Responder offer g
 fits_to offer h g answer false is fits = subst (TakesFit Responder offer) is fits
 fits_to offer h g answer true is fits = subst (TakesFit Responder offer) is fits
 
@@ -186,64 +186,64 @@ no_more_infos turns packet message hears apart =
       ap one_in (heard_no_range 1 hears.bytes message hears.spells hears.form apart),
     )
 
-takes_shake : (opens : Bool) (shape : Shape) (v t : ServerState) (turns : List Turn) (packet : List ℕ) (sid : ℕ) (d : Option ServerCounts) → ServerRests v turns → TakesFree v
-    → ServerCounted shape v turns d → ServerShakes v turns packet t opens → Behind shape turns packet sid d opens t
-takes_shake false shape v t turns packet sid d rests free counted shakes =
-    let bytes = shakes.hears.bytes in
-    let apart : IsNoData shakes.message.body = no_data v.shake shakes.message false shakes.shake shakes.takes in
-    let empty : v.link.to_send ≡ [] = up_empty v.link shakes.up free.free in
+takes_handshake : (opens : Bool) (shape : Shape) (v t : ServerState) (turns : List Turn) (packet : List ℕ) (sid : ℕ) (d : Option ServerCounts) → ServerRests v turns → TakesFree v
+    → ServerCounted shape v turns d → ServerHandshakes v turns packet t opens → Behind shape turns packet sid d opens t
+takes_handshake false shape v t turns packet sid d rests free counted handshakes =
+    let bytes = handshakes.hears.bytes in
+    let apart : IsNoData handshakes.message.body = no_data v.handshake handshakes.message false handshakes.handshake handshakes.takes in
+    let empty : v.link.to_send ≡ [] = up_empty v.link handshakes.up free.free in
     let same : range_sum shape.slots 1 (heard (Heard_ packet ∷ turns)) ≡ range_sum shape.slots 1 (heard turns) =
     omega (
       arith,
-      ap (range_sum shape.slots 1) shakes.hears.messages,
+      ap (range_sum shape.slots 1) handshakes.hears.messages,
       sum_more shape.slots 1 (heard turns) bytes,
-      ap (length_in shape.slots) (heard_no_range 1 bytes shakes.message shakes.hears.spells shakes.hears.form apart),
+      ap (length_in shape.slots) (heard_no_range 1 bytes handshakes.message handshakes.hears.spells handshakes.hears.form apart),
     ) in
-    let as_many : range_count 1 (heard (Heard_ packet ∷ turns)) ≡ range_count 1 (heard turns) = no_more_infos turns packet shakes.message shakes.hears apart in
+    let as_many : range_count 1 (heard (Heard_ packet ∷ turns)) ≡ range_count 1 (heard turns) = no_more_infos turns packet handshakes.message handshakes.hears apart in
     let none : length_in shape.slots (range_ended 1 (half_heard turns) packet) ≡ 0 = omega (arith, same, sum_heard shape.slots 1 packet turns) in
-    subst (Behind shape turns packet sid d false) (sym shakes.is) (record {
+    subst (Behind shape turns packet sid d false) (sym handshakes.is) (record {
       slots = counted.slots;
       blocks = counted.blocks;
-      shake = fits_to (server_offer shape.blocks shape.slots) v.shake shakes.shake (shake_take v.shake shakes.message) false shakes.takes
-          (take_fits Responder (server_offer shape.blocks shape.slots) v.shake shakes.message free.owed counted.shake);
-      holds = λ some. absurd (omega (arith, some, ap length shakes.left, ap length empty));
+      handshake = fits_to (server_offer shape.blocks shape.slots) v.handshake handshakes.handshake (handshake_take v.handshake handshakes.message) false handshakes.takes
+          (take_fits Responder (server_offer shape.blocks shape.slots) v.handshake handshakes.message free.owed counted.handshake);
+      holds = λ some. absurd (omega (arith, some, ap length handshakes.left, ap length empty));
       order = order_same shape v.session d turns packet same as_many counted.order;
       unit = counted.unit;
-      ready = λ now. omega (arith, counted.ready now, ap ready_count shakes.hears.messages, ready_more (heard turns) bytes);
+      ready = λ now. omega (arith, counted.ready now, ap ready_count handshakes.hears.messages, ready_more (heard turns) bytes);
       agrees = agrees_same v.session v.work d (length_in shape.slots (range_ended 1 (half_heard turns) packet)) none counted.agrees;
     })
-takes_shake true shape v t turns packet sid d rests free counted shakes =
-    let bytes = shakes.hears.bytes in
-    let apart : IsNoData shakes.message.body = no_data v.shake shakes.message true shakes.shake shakes.takes in
-    let empty : v.link.to_send ≡ [] = up_empty v.link shakes.up free.free in
-    let none : v.session ≡ None = closed v.session v.shake.phase rests.opened (λ (now : v.shake.phase ≡ Open). opens_not_open v.shake shakes.message shakes.shake now shakes.takes) in
+takes_handshake true shape v t turns packet sid d rests free counted handshakes =
+    let bytes = handshakes.hears.bytes in
+    let apart : IsNoData handshakes.message.body = no_data v.handshake handshakes.message true handshakes.handshake handshakes.takes in
+    let empty : v.link.to_send ≡ [] = up_empty v.link handshakes.up free.free in
+    let none : v.session ≡ None = closed v.session v.handshake.phase rests.opened (λ (now : v.handshake.phase ≡ Open). opens_not_open v.handshake handshakes.message handshakes.handshake now handshakes.takes) in
     let nothing = nothing_asked shape.slots v.session d turns none counted.order in
-    let is = opens_ready v.shake shakes.message shakes.shake shakes.takes in
-    let readies : one_where (is_ready bytes) ≡ 1 = ap one_where (ready_heard bytes shakes.message shakes.hears.spells is.0 is.1) in
-    subst (Behind shape turns packet sid d true) (sym shakes.is) (record {
+    let is = opens_ready v.handshake handshakes.message handshakes.handshake handshakes.takes in
+    let readies : one_where (is_ready bytes) ≡ 1 = ap one_where (ready_heard bytes handshakes.message handshakes.hears.spells is.0 is.1) in
+    subst (Behind shape turns packet sid d true) (sym handshakes.is) (record {
       slots = counted.slots;
       blocks = counted.blocks;
-      shake = fits_to (server_offer shape.blocks shape.slots) v.shake shakes.shake (shake_take v.shake shakes.message) true shakes.takes
-          (take_fits Responder (server_offer shape.blocks shape.slots) v.shake shakes.message free.owed counted.shake);
-      holds = λ some. absurd (omega (arith, some, ap length shakes.left, ap length empty));
+      handshake = fits_to (server_offer shape.blocks shape.slots) v.handshake handshakes.handshake (handshake_take v.handshake handshakes.message) true handshakes.takes
+          (take_fits Responder (server_offer shape.blocks shape.slots) v.handshake handshakes.message free.owed counted.handshake);
+      holds = λ some. absurd (omega (arith, some, ap length handshakes.left, ap length empty));
       order = record {
         asked = omega (
           arith,
           nothing.asked,
-          ap (range_sum shape.slots 1) shakes.hears.messages,
+          ap (range_sum shape.slots 1) handshakes.hears.messages,
           sum_more shape.slots 1 (heard turns) bytes,
-          ap (length_in shape.slots) (heard_no_range 1 bytes shakes.message shakes.hears.spells shakes.hears.form apart),
+          ap (length_in shape.slots) (heard_no_range 1 bytes handshakes.message handshakes.hears.spells handshakes.hears.form apart),
         );
         answered = sym nothing.answered;
         finished = omega arith;
         descs = omega arith;
         range = refl;
-        seq = let none_yet : range_count 1 (heard (Heard_ packet ∷ turns)) ≡ 0 = no_more_infos turns packet shakes.message shakes.hears apart ∙ nothing.infos in
+        seq = let none_yet : range_count 1 (heard (Heard_ packet ∷ turns)) ≡ 0 = no_more_infos turns packet handshakes.message handshakes.hears apart ∙ nothing.infos in
             ap (λ (x : ℕ). wrapped (x + 1)) (sym none_yet);
-        replies = omega (arith, no_more_infos turns packet shakes.message shakes.hears apart, nothing.infos);
+        replies = omega (arith, no_more_infos turns packet handshakes.message handshakes.hears apart, nothing.infos);
       };
       unit = counted.unit;
-      ready = λ now. omega (arith, ap ready_count shakes.hears.messages, ready_more (heard turns) bytes, readies);
+      ready = λ now. omega (arith, ap ready_count handshakes.hears.messages, ready_more (heard turns) bytes, readies);
       agrees = (record { asked = refl; descs = refl; finished = refl; answered = refl }, opened_work v.work sid (no_work v.session v.work d none counted.agrees));
     })
 
@@ -306,19 +306,19 @@ asked_agrees (Some s) w (Some c) session next range n added is same adds agrees 
 
 -- in session the server's ring has as many slots as the lane's
 pub own_slots : (shape : Shape) (v : ServerState) (turns : List Turn) (d : Option ServerCounts) → ServerRests v turns → is_some v.session ≡ true → ServerCounted shape v turns d
-    → v.shake.draft.peer_slots ≡ shape.slots
+    → v.handshake.draft.peer_slots ≡ shape.slots
 own_slots shape v turns d rests now counted =
-    subst (λ (p : Phase). RingFits Responder p v.shake.draft (server_offer shape.blocks shape.slots)) (rests.opened now) counted.shake.ring
+    subst (λ (p : Phase). RingFits Responder p v.handshake.draft (server_offer shape.blocks shape.slots)) (rests.opened now) counted.handshake.ring
 
 takes_ask : (shape : Shape) (v t : ServerState) (turns : List Turn) (packet : List ℕ) (sid : ℕ) (d : Option ServerCounts) (opens : Bool) → ServerRests v turns → TakesFree v
     → ServerCounted shape v turns d → ServerAsked v turns packet t opens → Behind shape turns packet sid d opens t
 takes_ask shape v t turns packet sid d opens rests free counted asks =
     let bytes = asks.hears.bytes in
     let session = asks.session in
-    let n = range_length v.shake.draft.peer_slots asks.range.start asks.range.end in
+    let n = range_length v.handshake.draft.peer_slots asks.range.start asks.range.end in
     let added = length_in shape.slots (range_ended 1 (half_heard turns) packet) in
     let empty : v.link.to_send ≡ [] = up_empty v.link asks.up free.free in
-    let own : v.shake.draft.peer_slots ≡ shape.slots = own_slots shape v turns d rests (ap is_some asks.session_is) counted in
+    let own : v.handshake.draft.peer_slots ≡ shape.slots = own_slots shape v turns d rests (ap is_some asks.session_is) counted in
     let length_is : n ≡ range_length shape.slots asks.range.start asks.range.end = ap (λ (x : ℕ). range_length x asks.range.start asks.range.end) own in
     let message : length_in shape.slots (range_in 1 (Some bytes)) ≡ range_length shape.slots asks.range.start asks.range.end =
     heard_range shape.slots 1 bytes asks.message asks.range.seq asks.ident asks.range.start asks.range.end asks.range.state asks.hears.spells (ap subtype_code asks.subtype_is) asks.body_is in
@@ -326,7 +326,7 @@ takes_ask shape v t turns packet sid d opens rests free counted asks =
     omega (arith, sum_heard shape.slots 1 packet turns, ap (range_sum shape.slots 1) asks.hears.messages, sum_more shape.slots 1 (heard turns) bytes, message, length_is) in
     let ends : asks.range.end < shape.slots = omega (arith, asks.ends, own) in
     let begins : asks.range.start < shape.slots =
-    omega (arith, asks.begins, mod_below session.asked v.shake.draft.peer_slots (omega (arith, asks.ends)), own) in
+    omega (arith, asks.begins, mod_below session.asked v.handshake.draft.peer_slots (omega (arith, asks.ends)), own) in
     let asks_of : AsksOf shape.slots session asks.range n added =
     record { none = free.range session asks.session_is; adds = adds; length_is = length_is; begins = begins; ends = ends; place = asks.begins ∙ ap (λ (x : ℕ). session.asked % x) own } in
     let next : ServerSession = record session { asked = wrapped (session.asked + n); seq = wrapped (session.seq + 1); range = Some asks.range } in
@@ -341,7 +341,7 @@ takes_ask shape v t turns packet sid d opens rests free counted asks =
     (subst (Behind shape turns packet sid d false) (sym asks.is) (record {
       slots = counted.slots;
       blocks = counted.blocks;
-      shake = counted.shake;
+      handshake = counted.handshake;
       holds = λ some. absurd (omega (arith, some, ap length asks.left, ap length empty));
       order = asked_order shape.slots added n v.session d turns (Heard_ packet ∷ turns) session next asks.range asks.session_is refl asks_of (sum_heard shape.slots 1 packet turns) refl one_more refl v.work counted.agrees counted.order;
       unit = counted.unit;
@@ -353,12 +353,12 @@ pub server_takes_counting : (shape : Shape) (v t : ServerState) (turns : List Tu
     → TakesFree v → ServerCounted shape v turns d → ServerTook v turns packet t opens
     → ServerCounted shape t (Heard_ packet ∷ turns) (opened_counts opens sid (asks_more shape turns packet d))
 server_takes_counting shape v t turns packet sid d opens rests utters free counted (inl part) = takes_part shape v t turns packet sid d opens utters counted part
-server_takes_counting shape v t turns packet sid d opens rests utters free counted (inr (inl shakes)) = takes_shake opens shape v t turns packet sid d rests free counted shakes
+server_takes_counting shape v t turns packet sid d opens rests utters free counted (inr (inl handshakes)) = takes_handshake opens shape v t turns packet sid d rests free counted handshakes
 server_takes_counting shape v t turns packet sid d opens rests utters free counted (inr (inr asks)) = takes_ask shape v t turns packet sid d opens rests free counted asks
 
 -- its session opens where it had none
 pub opens_new : (v t : ServerState) (turns : List Turn) (packet : List ℕ) → ServerRests v turns → ServerTook v turns packet t true → v.session ≡ None
 opens_new v t turns packet rests (inl part) = let never : true ≡ false = part.opens_is in absurd (cc)
-opens_new v t turns packet rests (inr (inl shakes)) =
-    closed v.session v.shake.phase rests.opened (λ (now : v.shake.phase ≡ Open). opens_not_open v.shake shakes.message shakes.shake now shakes.takes)
+opens_new v t turns packet rests (inr (inl handshakes)) =
+    closed v.session v.handshake.phase rests.opened (λ (now : v.handshake.phase ≡ Open). opens_not_open v.handshake handshakes.message handshakes.handshake now handshakes.takes)
 opens_new v t turns packet rests (inr (inr asks)) = let never : true ≡ false = asks.opens_is in absurd (cc)

@@ -5,7 +5,7 @@ use Rattle.std.proofs.lemmas.Bool.Decides.{nat_tests}
 use Rattle.ldc_link.specs.declared.phase.Role.{Role}
 use Rattle.ldc_link.specs.declared.phase.Role.TheVariants.{Responder}
 use Rattle.ldc_link.specs.Following.{Follows}
-use Rattle.ldc_queue.specs.Talk.{Said, Turn}
+use Rattle.ldc_queue.specs.Transcript.{Said, Turn}
 use Rattle.vdisk_msg.specs.Descriptor.{disk_desc_of}
 use Rattle.vdisk_msg.specs.Pieces.{pieces}
 use Rattle.vio_handshake.specs.declared.handshake.Handshake.{Handshake}
@@ -13,7 +13,7 @@ use Rattle.vio_handshake.specs.declared.handshake.Phase.{Phase}
 use Rattle.vio_handshake.specs.Rules.{opens_by_put}
 use Rattle.disk_model.specs.Agreement.{ServerAgrees, ServerCountsAgree, WorkAgrees, owed_of}
 use Rattle.disk_model.specs.WorkLog.{ServerCounts, change_server, rest_of}
-use Rattle.disk_model.specs.EndPuts.{ComesUp, EndsOwn, EndsShake, Goes, PutKind, put_opens}
+use Rattle.disk_model.specs.EndPuts.{ComesUp, EndsOwn, EndsHandshake, Goes, PutKind, put_opens}
 use Rattle.disk_model.specs.LaneState.{Shape}
 use Rattle.disk_model.specs.Ranges.{wrapped}
 use Rattle.disk_model.specs.Seeing.{Seen}
@@ -24,8 +24,9 @@ use Rattle.disk_model.specs.ServerStep.{ServerFetches, ServerFinishes, ServerSen
 use Rattle.disk_model.specs.ServerWork.{Reach, desc_of, first_progress}
 use Rattle.lane_laws.proofs.EndPutting.{PutSays, put_says}
 use Rattle.lane_laws.proofs.RulesFree.{ServerFree, server_free}
-use Rattle.lane_laws.proofs.ServerPutCounting.{answers_more, comes_counting, goes_counting, own_counting, put_as, server_holds_counting, shake_counting}
-use Rattle.lane_laws.proofs.ServerUttering.{held_link, server_blocked_utters}
+use Rattle.lane_laws.proofs.ServerPutCounting.{answers_more, comes_counting, goes_counting, own_counting, put_as, server_holds_counting, handshake_counting}
+use Rattle.lane_laws.proofs.HeldLinks.{held_server as held_link}
+use Rattle.lane_laws.proofs.Speaking.{server_blocked_utters}
 use Rattle.lane_laws.proofs.ServerWorkCounting.{begins_owing, first_unit, holds_none}
 use Rattle.lane_laws.specs.Budget.{one_range}
 use Rattle.lane_laws.specs.Counted.{RangeStands, ServerCounted, ServerOrder}
@@ -91,7 +92,7 @@ server_fetches_counting shape v at reach slot bytes t new turns d rests step cou
     subst (λ (x : ServerState). ServerCounted shape x turns (change_server (fetched_log shape.blocks bytes) d)) (sym is) (record {
       slots = counted.slots;
       blocks = counted.blocks;
-      shake = counted.shake;
+      handshake = counted.handshake;
       holds = holds_none v behind turns rests now free.0.free refl;
       order = both.0;
       unit = first_unit shape.blocks (disk_desc_of bytes);
@@ -144,7 +145,7 @@ server_finishes_counting shape v at reach slot status t new turns d rests step c
     subst (λ (x : ServerState). ServerCounted shape x turns (change_server finished_log d)) (sym step.is) (record {
       slots = counted.slots;
       blocks = counted.blocks;
-      shake = counted.shake;
+      handshake = counted.handshake;
       holds = holds_none v behind turns rests now free.0.free refl;
       order = both.0;
       unit = tt;
@@ -154,11 +155,11 @@ server_finishes_counting shape v at reach slot status t new turns d rests step c
 
 -- EACH PACKET that it puts; its session never opens by one
 put_counting : (kind : PutKind) (shape : Shape) (v : ServerState) (turns : List Turn) (packet : List ℕ) (d : Option ServerCounts) → shape.slots ≤ 256 → ServerUtters v turns
-    → PutSays kind (is_none v.shake.owed) v.link turns packet → ServerCounted shape v turns d → ServerCounted shape (put_as kind v) (Said packet ∷ turns) (answers_more shape turns packet d)
+    → PutSays kind (is_none v.handshake.owed) v.link turns packet → ServerCounted shape v turns d → ServerCounted shape (put_as kind v) (Said packet ∷ turns) (answers_more shape turns packet d)
 put_counting Goes shape v turns packet d few utters says counted = goes_counting shape v turns packet d says counted
 put_counting ComesUp shape v turns packet d few utters says counted = comes_counting shape v turns packet d utters says.1 says.0 counted
 put_counting EndsOwn shape v turns packet d few utters says counted = own_counting shape v turns packet d few says.1 says.0 counted
-put_counting EndsShake shape v turns packet d few utters says counted = shake_counting shape v turns packet d says.1 says.0 counted
+put_counting EndsHandshake shape v turns packet d few utters says counted = handshake_counting shape v turns packet d says.1 says.0 counted
 
 responder_never : (role : Role) (phase : Phase) → role ≡ Responder → opens_by_put role phase ≡ false
 responder_never Responder phase is = refl
@@ -168,16 +169,16 @@ never_opens : (kind : PutKind) (h : Handshake) → h.role ≡ Responder → put_
 never_opens Goes h is = refl
 never_opens ComesUp h is = refl
 never_opens EndsOwn h is = refl
-never_opens EndsShake h is = responder_never h.role h.phase is
+never_opens EndsHandshake h is = responder_never h.role h.phase is
 
 pub server_puts_counting : (shape : Shape) (v : ServerState) (at : Seen) (packet : List ℕ) (opens : Bool) (t : ServerState) (turns : List Turn) (d : Option ServerCounts) → shape.slots ≤ 256
     → Follows v.link turns → ServerSends v at packet opens t → ServerRests v turns → ServerUtters v turns → ServerCounted shape v turns d
     → ServerCounted shape t (Said packet ∷ turns) (answers_more shape turns packet d) × (opens ≡ false)
 server_puts_counting shape v at packet opens t turns d few follows sends rests utters counted =
     let held : ServerCounted shape sends.held turns d = server_holds_counting shape v (server_rule v at) sends.held turns d rests utters (server_free v at) sends.holds counted in
-    let held_utters = server_blocked_utters v at sends.held turns sends.holds rests utters in
-    let says = put_says (is_none sends.held.shake.owed) sends.held.link t.link turns packet (held_link v (server_rule v at) sends.held turns sends.holds follows) sends.packet in (
+    let held_utters = server_blocked_utters v at sends.held turns sends.holds rests in
+    let says = put_says (is_none sends.held.handshake.owed) sends.held.link t.link turns packet (held_link v (server_rule v at) sends.held turns sends.holds follows) sends.packet in (
       subst (λ (x : ServerState). ServerCounted shape x (Said packet ∷ turns) (answers_more shape turns packet d)) (sym sends.is)
           (put_counting (server_kind sends.held) shape sends.held turns packet d few held_utters says held),
-      sends.opens_is ∙ never_opens (server_kind sends.held) sends.held.shake held.shake.role_is,
+      sends.opens_is ∙ never_opens (server_kind sends.held) sends.held.handshake held.handshake.role_is,
     )

@@ -13,25 +13,23 @@ use Rattle.vio_tag.specs.declared.message.MsgBody.TheVariants.{DringData}
 use Rattle.vio_tag.specs.declared.message.TagFault.{TagFault}
 use Rattle.vio_tag.specs.Decoding.{Decodes}
 use Rattle.vio_handshake.specs.declared.handshake.Handshake.{Handshake}
-use Rattle.vio_handshake.specs.Rules.{Faults, Goes, GoesOpen, ShakeTake, shake_take, sid_fault}
-use Rattle.vio_handshake.specs.State.{shake_up}
-use Rattle.disk_model.specs.EndPuts.{shake_risen}
+use Rattle.vio_handshake.specs.Rules.{Faults, Goes, GoesOpen, HandshakeTake, handshake_take, sid_fault}
+use Rattle.vio_handshake.specs.State.{handshake_up}
+use Rattle.disk_model.specs.EndPuts.{handshake_risen}
 use Rattle.disk_model.specs.Ranges.{is_other}
 use Rattle.disk_model.specs.ServerState.{ServerSession, ServerState, SlotRange}
 use Rattle.disk_model.specs.ServerTaking.{GoesOn, HearsLink, HearsWhole, Resets, ServerTake, ServerTakes, asked, by_handshake, hears_message, in_session, place_of, reads, sid_first, takes_info}
 use Rattle.lane_laws.proofs.Hearing.{heard_leaves}
-use Rattle.lane_laws.proofs.ServerSpeaking.{server_small}
 use Rattle.lane_laws.proofs.Short.{ComesShort, TakesShort, message_comes, take_short, up_short}
-use Rattle.lane_laws.specs.Budget.{server_speaks}
-use Rattle.lane_laws.specs.Conversation.{SameTalk, TakesOne}
+use Rattle.lane_laws.specs.LinkMoves.{SameTranscript, TakesOne}
 use Rattle.lane_laws.specs.Sound.{OwesShort, ServerSound}
 
 -- the server after a link that heard a packet
 pub record TakenBy (m : LinkState) (t : ServerState) : Type 0 where
-  pub link : SameTalk t.link m
+  pub link : SameTranscript t.link m
   pub sends : t.link.to_send ≡ m.to_send
   pub role : t.link.role ≡ m.role
-  pub short : OwesShort t.shake
+  pub short : OwesShort t.handshake
 
 abbrev TookBy : LinkState → ServerTake → Type 0
 TookBy m (GoesOn t opens) = TakenBy m t
@@ -41,24 +39,24 @@ took_if : (m : LinkState) (b : Bool) (one other : ServerTake) → TookBy m one �
 took_if m true one other first rest = first
 took_if m false one other first rest = rest
 
-by_shake : (m : LinkState) (x : ServerState) (answer : ShakeTake) → TakenBy m x → TakesShort answer → TookBy m (by_handshake x answer)
-by_shake m x (Goes h) taken short = record { link = taken.link; sends = taken.sends; role = taken.role; short = short }
-by_shake m x (GoesOpen h) taken short = record { link = taken.link; sends = taken.sends; role = taken.role; short = short }
-by_shake m x (Faults cause) taken short = tt
+by_handshake_take : (m : LinkState) (x : ServerState) (answer : HandshakeTake) → TakenBy m x → TakesShort answer → TookBy m (by_handshake x answer)
+by_handshake_take m x (Goes h) taken short = record { link = taken.link; sends = taken.sends; role = taken.role; short = short }
+by_handshake_take m x (GoesOpen h) taken short = record { link = taken.link; sends = taken.sends; role = taken.role; short = short }
+by_handshake_take m x (Faults cause) taken short = tt
 
 by_info : (m : LinkState) (x : ServerState) (session : ServerSession) (ident : ℕ) (range : SlotRange) → TakenBy m x → TookBy m (takes_info x session ident range)
 by_info m x session ident range taken =
-    took_if m (is_other x.shake.draft.ident_peer ident) (Resets (the_cause.Ident x.shake.draft.ident_peer ident)) _ tt
+    took_if m (is_other x.handshake.draft.ident_peer ident) (Resets (the_cause.Ident x.handshake.draft.ident_peer ident)) _ tt
     (took_if m (is_other session.seq range.seq) (Resets (the_cause.Seq session.seq range.seq)) _ tt
     (took_if m (is_other (place_of x session) range.start) (Resets (the_cause.Slot (place_of x session) range.start)) _ tt
-    (took_if m (nat_le x.shake.draft.peer_slots range.end) (Resets (the_cause.RangeEnd range.end)) (GoesOn (asked x session range) false) tt
+    (took_if m (nat_le x.handshake.draft.peer_slots range.end) (Resets (the_cause.RangeEnd range.end)) (GoesOn (asked x session range) false) tt
     (record { link = taken.link; sends = taken.sends; role = taken.role; short = taken.short }))))
 
 by_session : (m : LinkState) (x : ServerState) (session : ServerSession) (message : Message) (subtype : Subtype) (body : MsgBody) → TakenBy m x
     → ComesShort message.body → TookBy m (in_session x session message subtype body)
 by_session m x session message Info (DringData seq ident start end state) taken comes =
     by_info m x session ident (record { seq = seq; start = start; end = end; state = state }) taken
-by_session m x session message _ _ taken comes = by_shake m x (shake_take x.shake message) taken (take_short x.shake message taken.short comes)
+by_session m x session message _ _ taken comes = by_handshake_take m x (handshake_take x.handshake message) taken (take_short x.handshake message taken.short comes)
 
 by_sid : (m : LinkState) (fault : Option Cause) (rest : ServerTake) → TookBy m rest → TookBy m (sid_first fault rest)
 by_sid m None rest took = took
@@ -66,9 +64,9 @@ by_sid m (Some cause) rest took = tt
 
 by_message : (m : LinkState) (x : ServerState) (open_one : Option ServerSession) (message : Message) → TakenBy m x → ComesShort message.body
     → TookBy m (hears_message x open_one message)
-by_message m x None message taken comes = by_shake m x (shake_take x.shake message) taken (take_short x.shake message taken.short comes)
+by_message m x None message taken comes = by_handshake_take m x (handshake_take x.handshake message) taken (take_short x.handshake message taken.short comes)
 by_message m x (Some session) message taken comes =
-    by_sid m (sid_fault x.shake.sid message.sid) (in_session x session message message.subtype message.body)
+    by_sid m (sid_fault x.handshake.sid message.sid) (in_session x session message message.subtype message.body)
     (by_session m x session message message.subtype message.body taken comes)
 
 by_bytes : (m : LinkState) (x : ServerState) (bytes : List ℕ) (d : Result Message TagFault) → TakenBy m x → Decodes bytes d → TookBy m (reads x d)
@@ -76,22 +74,22 @@ by_bytes m x bytes (Ok message) taken decodes = by_message m x x.session message
 by_bytes m x bytes (Err fault) taken decodes = tt
 
 -- the link may come up
-risen_if : (b : Bool) (h : Handshake) → OwesShort h → OwesShort (if b then shake_up h else h)
+risen_if : (b : Bool) (h : Handshake) → OwesShort h → OwesShort (if b then handshake_up h else h)
 risen_if true h short = up_short h short
 risen_if false h short = short
 
-risen_short : (k m : LinkState) (h : Handshake) → OwesShort h → OwesShort (shake_risen k m h)
+risen_short : (k m : LinkState) (h : Handshake) → OwesShort h → OwesShort (handshake_risen k m h)
 risen_short k m h short = risen_if (is_up m && not (is_up k)) h short
 
 by_whole : (s : ServerState) (k : LinkState) (whole : Option (List ℕ)) (answer : ServerTake) → ServerSound s
-    → HearsWhole (record s { link = k; shake = shake_risen s.link k s.shake }) whole answer → TookBy k answer
+    → HearsWhole (record s { link = k; handshake = handshake_risen s.link k s.handshake }) whole answer → TookBy k answer
 by_whole s k None answer sound is =
     subst (λ (x : ServerTake). TookBy k x) (sym is)
-    (record { link = record { phase = refl; put_next = refl; take_next = refl; half = refl }; sends = refl; role = refl; short = risen_short s.link k s.shake sound.short })
+    (record { link = record { phase = refl; put_next = refl; take_next = refl; half = refl }; sends = refl; role = refl; short = risen_short s.link k s.handshake sound.short })
 by_whole s k (Some bytes) answer sound is =
     subst (λ (x : ServerTake). TookBy k x) (sym is.2)
-    (by_bytes k (record s { link = cleared k; shake = shake_risen s.link k s.shake }) bytes is.0
-    (record { link = record { phase = refl; put_next = refl; take_next = refl; half = refl }; sends = refl; role = refl; short = risen_short s.link k s.shake sound.short })
+    (by_bytes k (record s { link = cleared k; handshake = handshake_risen s.link k s.handshake }) bytes is.0
+    (record { link = record { phase = refl; put_next = refl; take_next = refl; half = refl }; sends = refl; role = refl; short = risen_short s.link k s.handshake sound.short })
     is.1)
 
 by_link : (s : ServerState) (bytes : List ℕ) (link : LinkTake) (t : ServerState) (opens : Bool) → ServerSound s → TakesBytes s.link bytes link
@@ -101,7 +99,7 @@ by_link s bytes (Unheard cause) t opens sound takes hears = absurd (cc)
 
 pub record ServerTook (s : ServerState) (packet : List ℕ) (t : ServerState) : Type 0 where
   pub sound : ServerSound t
-  pub takes : TakesOne packet (server_speaks s) (server_speaks t)
+  pub takes : TakesOne packet s.link t.link
 
 taken_sound : (s : ServerState) (packet : List ℕ) (m : LinkState) (t : ServerState) → ServerSound s → TakesBytes s.link packet (Heard m) → TakenBy m t → ServerSound t
 taken_sound s packet m t sound takes taken =
@@ -112,4 +110,4 @@ pub server_takes : (s : ServerState) (packet : List ℕ) (t : ServerState) (open
 server_takes s packet t opens sound takes =
     let by = by_link s packet takes.link t opens sound takes.takes takes.hears in
     let behind : ServerSound t = taken_sound s packet by.0 t sound by.1 by.2 in
-    record { sound = behind; takes = record { heard = by.0; takes = by.1; same = by.2.link; budget = server_small t behind } }
+    record { sound = behind; takes = record { heard = by.0; takes = by.1; same = by.2.link } }

@@ -10,20 +10,20 @@ use Rattle.ldc_link.specs.LinkState.{LinkState, cleared, is_up}
 use Rattle.ldc_packet.specs.declared.packet.Subtype.TheVariants.{Info}
 use Rattle.ldc_queue.specs.declared.end.ChannelState.TheVariants.{Up}
 use Rattle.ldc_queue.specs.OneStream.{IsFront}
-use Rattle.ldc_queue.specs.Talk.{Turn}
+use Rattle.ldc_queue.specs.Transcript.{Turn}
 use Rattle.vio_bytes.specs.Place.{number_at}
 use Rattle.vio_tag.specs.declared.cause.Cause.{Cause}
 use Rattle.vio_tag.specs.declared.cause.Cause.TheVariants as the_cause
 use Rattle.vio_tag.specs.declared.message.Message.{Message}
 use Rattle.vio_tag.specs.Spelling.{SpellsMessage}
-use Rattle.vio_handshake.proofs.Places.{AllSaid, Place, shake_at}
+use Rattle.vio_handshake.proofs.Places.{AllSaid, Place, handshake_at}
 use Rattle.vio_handshake.specs.declared.handshake.Handshake.{Handshake}
 use Rattle.disk_model.specs.Sayings.{heard, said}
 use Rattle.disk_model.specs.WireLog.{WireLog}
 use Rattle.disk_model.specs.DiskLog.{after, nothing_yet}
 use Rattle.disk_model.specs.WorkLog.{ServerCounts}
 use Rattle.disk_model.specs.DiskEvent.{DiskEvent}
-use Rattle.disk_model.specs.EndPuts.{shake_risen}
+use Rattle.disk_model.specs.EndPuts.{handshake_risen}
 use Rattle.disk_model.specs.LaneState.{IsShape, LaneState, Shape, fresh}
 use Rattle.disk_model.specs.LaneStep.{LaneStep}
 use Rattle.disk_model.specs.Ranges.{is_other, wrapped}
@@ -33,7 +33,7 @@ use Rattle.lane_laws.proofs.Agreeing.{asked_within}
 use Rattle.lane_laws.proofs.ClientInSession.{no_fault, same_is, shape_of}
 use Rattle.lane_laws.proofs.DataHeard.{data_spells, decodes_to, read_data, seq_reads}
 use Rattle.lane_laws.proofs.EndHearing.{hears_data}
-use Rattle.lane_laws.proofs.EndUttering.{is_open_up}
+use Rattle.lane_laws.proofs.Awake.{is_open_up}
 use Rattle.lane_laws.proofs.EndPlaced.{AtPlace, IsData, sum_of}
 use Rattle.lane_laws.proofs.LaneCounting.{Knows, run_knows}
 use Rattle.lane_laws.proofs.LanePlaces.{counted_server}
@@ -43,6 +43,7 @@ use Rattle.lane_laws.proofs.PlacedSums.{placed_count, placed_sum}
 use Rattle.lane_laws.proofs.PlacesAlong.{run_placed}
 use Rattle.lane_laws.proofs.ServerTaken.{still}
 use Rattle.lane_laws.specs.Counted.{ServerOrder, range_count, range_sum}
+use Rattle.lane_laws.specs.ChannelEnds.{server_core}
 
 -- IT TAKES an INFO that names the ring of the session, has the next number, and begins where the range before ended
 past : (b : Bool) (x y : ServerTake) → b ≡ false → (if b then x else y) ≡ y
@@ -50,19 +51,19 @@ past true x y is = absurd (cc is)
 past false x y is = refl
 
 record InfoFits (s : ServerState) (session : ServerSession) (n ident : ℕ) (range : SlotRange) : Type 0 where
-  sid : s.shake.sid ≡ Some n
-  named : s.shake.draft.ident_peer ≡ ident
+  sid : s.handshake.sid ≡ Some n
+  named : s.handshake.draft.ident_peer ≡ ident
   number : session.seq ≡ range.seq
   begins : place_of s session ≡ range.start
-  ends : range.end < s.shake.draft.peer_slots
+  ends : range.end < s.handshake.draft.peer_slots
 
 takes_fitting : (s : ServerState) (session : ServerSession) (n ident : ℕ) (range : SlotRange) → InfoFits s session n ident range
     → takes_info s session ident range ≡ GoesOn (asked s session range) false
 takes_fitting s session n ident range fits =
-    past (is_other s.shake.draft.ident_peer ident) (Resets (the_cause.Ident s.shake.draft.ident_peer ident)) _ (same_is s.shake.draft.ident_peer ident fits.named)
+    past (is_other s.handshake.draft.ident_peer ident) (Resets (the_cause.Ident s.handshake.draft.ident_peer ident)) _ (same_is s.handshake.draft.ident_peer ident fits.named)
     ∙ past (is_other session.seq range.seq) (Resets (the_cause.Seq session.seq range.seq)) _ (same_is session.seq range.seq fits.number)
     ∙ past (is_other (place_of s session) range.start) (Resets (the_cause.Slot (place_of s session) range.start)) _ (same_is (place_of s session) range.start fits.begins)
-    ∙ past (nat_le s.shake.draft.peer_slots range.end) (Resets (the_cause.RangeEnd range.end)) _ (lt-leb s.shake.draft.peer_slots range.end fits.ends)
+    ∙ past (nat_le s.handshake.draft.peer_slots range.end) (Resets (the_cause.RangeEnd range.end)) _ (lt-leb s.handshake.draft.peer_slots range.end fits.ends)
 
 -- the range that the bytes name
 abbrev range_read : ℕ → ℕ → List ℕ → SlotRange
@@ -71,7 +72,7 @@ range_read start end bytes = record { seq = number_at 8 8 bytes; start = start; 
 hears_fitting : (s : ServerState) (session : ServerSession) (n ident start end : ℕ) (bytes : List ℕ) → InfoFits s session n ident (range_read start end bytes)
     → hears_message s (Some session) (read_data Info n ident start end bytes) ≡ GoesOn (asked s session (range_read start end bytes)) false
 hears_fitting s session n ident start end bytes fits =
-    ap (λ (f : Option Cause). sid_first f (takes_info s session ident (range_read start end bytes))) (no_fault s.shake.sid n fits.sid)
+    ap (λ (f : Option Cause). sid_first f (takes_info s session ident (range_read start end bytes))) (no_fault s.handshake.sid n fits.sid)
     ∙ takes_fitting s session n ident (range_read start end bytes) fits
 
 -- so what it hears whole makes it go on
@@ -97,7 +98,7 @@ number_of slots (Some s) (Some c) turns session is order = let same : s ≡ sess
 
 -- the next range of the client is one that the server takes
 info_fits : (shape : Shape) (sid : ℕ) (v : ServerState) (session : ServerSession) (turns : List Turn) (bytes : List ℕ)
-    → (at : AtPlace (deal shape sid 0) Responder v.shake (is_some v.session) turns) → at.place ≡ AllSaid → shape.slots ≤ 256 → sid < 2 ^ 32
+    → (at : AtPlace (deal shape sid 0) Responder v.handshake (is_some v.session) turns) → at.place ≡ AllSaid → shape.slots ≤ 256 → sid < 2 ^ 32
     → session.seq ≡ wrapped (range_count 1 (heard turns) + 1) → session.asked ≡ range_sum shape.slots 1 (heard turns)
     → (is : IsData Initiator (deal shape sid 0) (length at.theirs) (sum_of Initiator (deal shape sid 0) at.theirs) bytes)
     → InfoFits v session sid sid (range_read (sum_of Initiator (deal shape sid 0) at.theirs % shape.slots) is.end bytes)
@@ -113,11 +114,11 @@ info_fits shape sid v session turns bytes at last few small number asked_is is =
     let fits : is.seq < 2 ^ 64 = omega (arith, next) in
     let read : number_at 8 8 bytes ≡ is.seq =
     ap (number_at 8 8) is.bytes_are ∙ seq_reads Info sid is.seq sid (sum % shape.slots) is.end is.state small fits (omega (arith, small)) start_small end_small in
-    let slots : v.shake.draft.peer_slots ≡ shape.slots =
-    ap (λ (h : Handshake). h.draft.peer_slots) at.shake_is ∙ ap (λ (n : Place). (shake_at false d Responder n).draft.peer_slots) last in
+    let slots : v.handshake.draft.peer_slots ≡ shape.slots =
+    ap (λ (h : Handshake). h.draft.peer_slots) at.handshake_is ∙ ap (λ (n : Place). (handshake_at false d Responder n).draft.peer_slots) last in
     record {
-      sid = ap (λ (h : Handshake). h.sid) at.shake_is ∙ ap (λ (n : Place). (shake_at false d Responder n).sid) last;
-      named = ap (λ (h : Handshake). h.draft.ident_peer) at.shake_is ∙ ap (λ (n : Place). (shake_at false d Responder n).draft.ident_peer) last;
+      sid = ap (λ (h : Handshake). h.sid) at.handshake_is ∙ ap (λ (n : Place). (handshake_at false d Responder n).sid) last;
+      named = ap (λ (h : Handshake). h.draft.ident_peer) at.handshake_is ∙ ap (λ (n : Place). (handshake_at false d Responder n).draft.ident_peer) last;
       number = number ∙ ap (λ (x : ℕ). wrapped (x + 1)) count ∙ sym next ∙ sym read;
       begins = ap (λ (n : ℕ). session.asked % n) slots ∙ ap (λ (x : ℕ). x % shape.slots) same;
       ends = omega (arith, ends, slots);
@@ -126,27 +127,27 @@ info_fits shape sid v session turns bytes at last few small number asked_is is =
 pub server_hears_in_session : (shape : Shape) (events : List DiskEvent) (s : LaneState) (session : ServerSession) (k : LinkState) (bytes : List ℕ) (take : ServerTake)
     → IsShape shape → Run LaneStep (fresh shape) events s → (log_of after (nothing_yet shape) events).wire.forged ≡ false
     → s.server.session ≡ Some session → s.wire.wire.end_b ≡ Up → s.wire.wire.end_a ≡ Up
-    → IsFront (heard (log_of after (nothing_yet shape) events).talk.server ++ bytes ∷ []) (said (log_of after (nothing_yet shape) events).talk.client)
-    → HearsWhole (record s.server { link = k; shake = shake_risen s.server.link k s.server.shake }) (Some bytes) take → (t : ServerState) × (take ≡ GoesOn t false)
+    → IsFront (heard (log_of after (nothing_yet shape) events).transcript.server ++ bytes ∷ []) (said (log_of after (nothing_yet shape) events).transcript.client)
+    → HearsWhole (record s.server { link = k; handshake = handshake_risen s.server.link k s.server.handshake }) (Some bytes) take → (t : ServerState) × (take ≡ GoesOn t false)
 server_hears_in_session shape events s session k bytes take sound run clean open_is up_b up_a front hears =
     let l = log_of after (nothing_yet shape) events in
     let knows : Knows s l = run_knows shape events s sound run in
     let shape_is : l.shape ≡ shape = shape_of (nothing_yet shape) events in
-    let placed : LanePlaced shape s l.talk = run_placed shape events s sound run clean in
+    let placed : LanePlaced shape s l.transcript = run_placed shape events s sound run clean in
     let sid = placed.sid in
     let d = deal shape sid 0 in
     let open_one : is_some s.server.session ≡ true = ap is_some open_is in
-    let link : is_up s.server.link ≡ true = is_open_up Responder s.server.link s.server.shake (is_some s.server.session) l.talk.server knows.rests.server open_one in
+    let link : is_up s.server.link ≡ true = is_open_up Responder (server_core s.server) l.transcript.server knows.rests.server open_one in
     let at = (placed.server up_b).up link in
     let last : at.place ≡ AllSaid = at.opens open_one in
-    let peer = client_said shape sid s.client l.talk.client knows.utters.client (placed.client up_a) in
+    let peer = client_said shape sid s.client l.transcript.client knows.utters.client (placed.client up_a) in
     let is : IsData Initiator d (length at.theirs) (sum_of Initiator d at.theirs) bytes =
-    hears_data d Responder s.server.shake (is_some s.server.session) l.talk.server (said l.talk.client) bytes at last peer front in
+    hears_data d Responder s.server.handshake (is_some s.server.session) l.transcript.server (said l.transcript.client) bytes at last peer front in
     let clean_s : s.wire.forged ≡ false = ap (λ (w : WireLog). w.forged) knows.all.stands.wire ∙ clean in
-    let asked_is : session.asked ≡ range_sum shape.slots 1 (heard l.talk.server) =
-    (asked_within shape events s session sound run clean_s up_b open_is).asked ∙ ap (λ (x : Shape). range_sum x.slots 1 (heard l.talk.server)) shape_is in
-    let number = number_of shape.slots s.server.session l.work.server l.talk.server session open_is (counted_server shape s l shape_is knows).order in
-    let fits = info_fits shape sid s.server session l.talk.server bytes at last sound.most_slots placed.small number asked_is is in
+    let asked_is : session.asked ≡ range_sum shape.slots 1 (heard l.transcript.server) =
+    (asked_within shape events s session sound run clean_s up_b open_is).asked ∙ ap (λ (x : Shape). range_sum x.slots 1 (heard l.transcript.server)) shape_is in
+    let number = number_of shape.slots s.server.session l.work.server l.transcript.server session open_is (counted_server shape s l shape_is knows).order in
+    let fits = info_fits shape sid s.server session l.transcript.server bytes at last sound.most_slots placed.small number asked_is is in
     let start = sum_of Initiator d at.theirs % shape.slots in
     let ends = is.ends in
     let small = placed.small in
@@ -154,8 +155,8 @@ server_hears_in_session shape events s session k bytes take sound run clean open
     let spells : SpellsMessage bytes (read_data Info sid sid start is.end bytes) =
     subst (λ (b : List ℕ). SpellsMessage b (read_data Info sid sid start is.end b)) (sym is.bytes_are)
     (data_spells Info sid is.seq sid start is.end is.state small (omega (arith, small)) below (omega (arith, ends, sound.most_slots))) in
-    let same : shake_risen s.server.link k s.server.shake ≡ s.server.shake = still (is_up k) (is_up s.server.link) s.server.shake link in
+    let same : handshake_risen s.server.link k s.server.handshake ≡ s.server.handshake = still (is_up k) (is_up s.server.link) s.server.handshake link in
     let fits_now : InfoFits (record s.server { link = k }) session sid sid (range_read start is.end bytes) =
     record { sid = fits.sid; named = fits.named; number = fits.number; begins = fits.begins; ends = fits.ends } in
     goes_on (record s.server { link = k }) session sid sid start is.end bytes take open_is fits_now spells
-    (subst (λ (h : Handshake). HearsWhole (record s.server { link = k; shake = h }) (Some bytes) take) same hears)
+    (subst (λ (h : Handshake). HearsWhole (record s.server { link = k; handshake = h }) (Some bytes) take) same hears)

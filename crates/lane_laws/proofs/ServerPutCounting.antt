@@ -6,30 +6,31 @@ use Rattle.ldc_link.specs.declared.phase.Role.TheVariants.{Responder}
 use Rattle.ldc_link.specs.LinkState.{LinkState, is_up, offered}
 use Rattle.ldc_link.specs.Putting.{behind_put}
 use Rattle.ldc_packet.specs.declared.packet.Subtype.TheVariants.{Ack}
-use Rattle.ldc_queue.specs.Talk.{Said, Turn}
+use Rattle.ldc_queue.specs.Transcript.{Said, Turn}
 use Rattle.vio_tag.specs.declared.message.Message.{Message}
 use Rattle.vio_tag.specs.Spelling.{canonical}
 use Rattle.disk_model.specs.Sayings.{half_said, heard, said}
-use Rattle.disk_model.specs.Agreement.{ServerAgrees, WorkAgrees}
+use Rattle.disk_model.specs.Agreement.{ServerAgrees, ServerCountsAgree, WorkAgrees}
 use Rattle.disk_model.specs.Messages.{range_ended, range_in}
 use Rattle.disk_model.specs.WorkLog.{ServerCounts, change_server, length_in, one_in}
-use Rattle.disk_model.specs.EndPuts.{ComesUp, EndsOwn, EndsShake, Goes, PutKind, shake_behind}
+use Rattle.disk_model.specs.EndPuts.{ComesUp, EndsOwn, EndsHandshake, Goes, PutKind, handshake_behind}
 use Rattle.disk_model.specs.LaneState.{Shape}
 use Rattle.disk_model.specs.Offering.{server_offer}
 use Rattle.disk_model.specs.Ranges.{range_length, wrapped}
 use Rattle.disk_model.specs.ServerPutting.{answered, server_holds, session_behind}
-use Rattle.disk_model.specs.ServerRule.{Fetches, Joins, Puts, Rests, Says, ServerRule, Serves, Takes}
+use Rattle.disk_model.specs.ServerRule.{Fetches, Joins, Puts, Idles, Says, ServerRule, Serves, Takes}
 use Rattle.disk_model.specs.ServerState.{ServerSession, ServerState, SlotRange, Work}
 use Rattle.lane_laws.proofs.EndPutting.{SaysLast, SaysOn}
-use Rattle.lane_laws.proofs.EndUttering.{is_awake, is_open_up, none_half, up_empty}
+use Rattle.lane_laws.proofs.Awake.{is_awake, is_open_up, up_empty}
 use Rattle.lane_laws.proofs.Fitting.{sent_fits, up_fits}
 use Rattle.lane_laws.proofs.RangeSums.{count_said, sum_more, sum_said}
 use Rattle.lane_laws.proofs.RangesSaid.{owed_no_range, said_range}
 use Rattle.lane_laws.proofs.RulesFree.{AnswersFree, ServerFree}
 use Rattle.lane_laws.specs.Budget.{one_range}
-use Rattle.lane_laws.specs.Counted.{HoldsAnswer, HoldsEither, HoldsOwed, RangeStands, ServerCounted, ServerOrder, range_count, range_sum}
+use Rattle.lane_laws.specs.Counted.{HoldsAnswer, HoldsEither, HoldsOwed, InServerOrder, RangeStands, ServerCounted, ServerOrder, range_count, range_sum}
 use Rattle.lane_laws.specs.LaneRests.{ServerRests, ServerUtters}
-use Rattle.lane_laws.specs.ShakeFits.{MayOwe, OwedFits}
+use Rattle.lane_laws.specs.HandshakeFits.{MayOwe, OwedFits}
+use Rattle.lane_laws.specs.ChannelEnds.{server_core}
 
 -- the same answer of a server with another link
 answer_with : (v : ServerState) (k : LinkState) (bytes : List ℕ) → HoldsAnswer v bytes → HoldsAnswer (record v { link = k }) bytes
@@ -48,7 +49,7 @@ either_with v k bytes (inl owed) = inl owed
 either_with v k bytes (inr a) = inr (answer_with v k bytes a)
 
 -- IT HOLDS a message
-says_either : (v : ServerState) (turns : List Turn) (message : Message) → half_said turns ≡ [] → (v.shake.owed ≡ Some message) ⊎ AnswersFree v message
+says_either : (v : ServerState) (turns : List Turn) (message : Message) → half_said turns ≡ [] → (v.handshake.owed ≡ Some message) ⊎ AnswersFree v message
     → HoldsEither v (half_said turns ++ canonical message)
 says_either v turns message half (inl owed) = inl (record { message = message; owed_is = owed; bytes_are = ap (λ (xs : List ℕ). xs ++ canonical message) half })
 says_either v turns message half (inr a) = inr (record {
@@ -61,9 +62,9 @@ says_either v turns message half (inr a) = inr (record {
   bytes_are = ap (λ (xs : List ℕ). xs ++ canonical message) half ∙ ap canonical a.message_is;
 })
 
-says_up : (v : ServerState) (turns : List Turn) (message : Message) → ServerRests v turns → ServerUtters v turns → (v.shake.owed ≡ Some message) ⊎ AnswersFree v message → is_up v.link ≡ true
-says_up v turns message rests utters (inl owed) = is_awake Responder v.link v.shake turns message owed utters
-says_up v turns message rests utters (inr a) = is_open_up Responder v.link v.shake (is_some v.session) turns rests (ap is_some a.session_is)
+says_up : (v : ServerState) (turns : List Turn) (message : Message) → ServerRests v turns → ServerUtters v turns → (v.handshake.owed ≡ Some message) ⊎ AnswersFree v message → is_up v.link ≡ true
+says_up v turns message rests utters (inl owed) = is_awake (server_core v) turns message owed utters
+says_up v turns message rests utters (inr a) = is_open_up Responder (server_core v) turns rests (ap is_some a.session_is)
 
 held_is : (shape : Shape) (one other : ServerState) (turns : List Turn) (d : Option ServerCounts) → Some one ≡ Some other → ServerCounted shape one turns d → ServerCounted shape other turns d
 held_is shape one other turns d is counted = let same : one ≡ other = cc is in subst (λ (x : ServerState). ServerCounted shape x turns d) same counted
@@ -73,11 +74,11 @@ pub server_holds_counting : (shape : Shape) (v : ServerState) (rule : ServerRule
 server_holds_counting shape v Puts held turns d rests utters free is counted = held_is shape v held turns d is counted
 server_holds_counting shape v (Says message) held turns d rests utters free is counted =
     let empty : v.link.to_send ≡ [] = up_empty v.link (says_up v turns message rests utters free.1) free.0 in
-    let half : half_said turns ≡ [] = none_half Responder v.shake.phase v.shake.offer v.shake.draft (half_said turns) v.link.to_send empty utters.utters.holds in
+    let half : half_said turns ≡ [] = utters.half empty in
     held_is shape (record v { link = offered (canonical message) v.link }) held turns d is (record {
       slots = counted.slots;
       blocks = counted.blocks;
-      shake = counted.shake;
+      handshake = counted.handshake;
       holds = λ some. either_with v (offered (canonical message) v.link) (half_said turns ++ canonical message) (says_either v turns message half free.1);
       order = counted.order;
       unit = counted.unit;
@@ -88,7 +89,7 @@ server_holds_counting shape v Joins held turns d rests utters free is counted = 
 server_holds_counting shape v (Fetches session) held turns d rests utters free is counted = absurd (cc)
 server_holds_counting shape v (Serves session work) held turns d rests utters free is counted = absurd (cc)
 server_holds_counting shape v (Takes packet) held turns d rests utters free is counted = absurd (cc)
-server_holds_counting shape v Rests held turns d rests utters free is counted = absurd (cc)
+server_holds_counting shape v Idles held turns d rests utters free is counted = absurd (cc)
 
 -- THE LOG counts what is said
 abbrev pub answers_more : Shape → List Turn → List ℕ → Option ServerCounts → Option ServerCounts
@@ -139,7 +140,7 @@ agrees_same (Some s) w (Some c) n none agrees = (
 
 -- a server after a packet of this kind
 abbrev pub put_as : PutKind → ServerState → ServerState
-put_as kind v = record v { link = behind_put v.link; shake = shake_behind kind v.shake; session = session_behind kind v.session }
+put_as kind v = record v { link = behind_put v.link; handshake = handshake_behind kind v.handshake; session = session_behind kind v.session }
 
 -- A PACKET THAT GOES ON
 pub goes_counting : (shape : Shape) (v : ServerState) (turns : List Turn) (packet : List ℕ) (d : Option ServerCounts) → SaysOn v.link turns packet → ServerCounted shape v turns d
@@ -150,7 +151,7 @@ goes_counting shape v turns packet d on counted =
     record {
       slots = counted.slots;
       blocks = counted.blocks;
-      shake = counted.shake;
+      handshake = counted.handshake;
       holds = λ some. either_with v (behind_put v.link) (half_said (Said packet ∷ turns) ++ (behind_put v.link).to_send)
           (subst (HoldsEither v) (sym on.whole) (counted.holds (on.some some)));
       order = order_same shape v.session d turns packet same counted.order;
@@ -167,7 +168,7 @@ comes_counting shape v turns packet d utters down on counted =
     record {
       slots = counted.slots;
       blocks = counted.blocks;
-      shake = up_fits Responder (server_offer shape.blocks shape.slots) v.shake counted.shake;
+      handshake = up_fits Responder (server_offer shape.blocks shape.slots) v.handshake counted.handshake;
       holds = λ some. absurd (omega (arith, on.some some, ap length (utters.idle down)));
       order = order_same shape v.session d turns packet same counted.order;
       unit = counted.unit;
@@ -176,26 +177,26 @@ comes_counting shape v turns packet d utters down on counted =
     }
 
 -- A MESSAGE OF THE HANDSHAKE is put whole
-pub some_owed : (owed : Option Message) (v : ServerState) (bytes : List ℕ) → v.shake.owed ≡ owed → is_none owed ≡ false → HoldsEither v bytes → HoldsOwed v.shake.owed bytes
+pub some_owed : (owed : Option Message) (v : ServerState) (bytes : List ℕ) → v.handshake.owed ≡ owed → is_none owed ≡ false → HoldsEither v bytes → HoldsOwed v.handshake.owed bytes
 some_owed owed v bytes is some (inl holds) = holds
 some_owed None v bytes is some (inr a) = absurd (cc)
 some_owed (Some message) v bytes is some (inr a) = let never : None ≡ Some message = sym a.nothing_owed ∙ is in absurd (cc)
 
-pub shake_counting : (shape : Shape) (v : ServerState) (turns : List Turn) (packet : List ℕ) (d : Option ServerCounts) → is_none v.shake.owed ≡ false → SaysLast v.link turns packet
-    → ServerCounted shape v turns d → ServerCounted shape (put_as EndsShake v) (Said packet ∷ turns) (answers_more shape turns packet d)
-shake_counting shape v turns packet d some last counted =
+pub handshake_counting : (shape : Shape) (v : ServerState) (turns : List Turn) (packet : List ℕ) (d : Option ServerCounts) → is_none v.handshake.owed ≡ false → SaysLast v.link turns packet
+    → ServerCounted shape v turns d → ServerCounted shape (put_as EndsHandshake v) (Said packet ∷ turns) (answers_more shape turns packet d)
+handshake_counting shape v turns packet d some last counted =
     let bytes = half_said turns ++ v.link.to_send in
-    let holds = some_owed v.shake.owed v bytes refl some (counted.holds last.some) in
-    let may : MayOwe v.shake.phase holds.message.subtype holds.message.body = subst (OwedFits v.shake.phase) holds.owed_is counted.shake.owed in
+    let holds = some_owed v.handshake.owed v bytes refl some (counted.holds last.some) in
+    let may : MayOwe v.handshake.phase holds.message.subtype holds.message.body = subst (OwedFits v.handshake.phase) holds.owed_is counted.handshake.owed in
     let no_range : range_in 2 (Some bytes) ≡ None =
-    ap (λ (xs : List ℕ). range_in 2 (Some xs)) holds.bytes_are ∙ owed_no_range v.shake.phase 2 holds.message (inr refl) may in
+    ap (λ (xs : List ℕ). range_in 2 (Some xs)) holds.bytes_are ∙ owed_no_range v.handshake.phase 2 holds.message (inr refl) may in
     let same : range_sum shape.slots 2 (said (Said packet ∷ turns)) ≡ range_sum shape.slots 2 (said turns) =
     omega (arith, ap (range_sum shape.slots 2) last.messages, sum_more shape.slots 2 (said turns) bytes, ap (length_in shape.slots) no_range) in
     let none : length_in shape.slots (range_ended 2 (half_said turns) packet) ≡ 0 = omega (arith, same, sum_said shape.slots 2 packet turns) in
     record {
       slots = counted.slots;
       blocks = counted.blocks;
-      shake = sent_fits Responder (server_offer shape.blocks shape.slots) v.shake counted.shake;
+      handshake = sent_fits Responder (server_offer shape.blocks shape.slots) v.handshake counted.handshake;
       holds = λ left. absurd (omega (arith, left, ap length last.none));
       order = order_same shape v.session d turns packet same counted.order;
       unit = counted.unit;
@@ -204,7 +205,7 @@ shake_counting shape v turns packet d some last counted =
     }
 
 -- THE ANSWER to a range is put whole
-pub the_answer : (owed : Option Message) (v : ServerState) (bytes : List ℕ) → v.shake.owed ≡ owed → is_none owed ≡ true → HoldsEither v bytes → HoldsAnswer v bytes
+pub the_answer : (owed : Option Message) (v : ServerState) (bytes : List ℕ) → v.handshake.owed ≡ owed → is_none owed ≡ true → HoldsEither v bytes → HoldsAnswer v bytes
 the_answer owed v bytes is none (inr a) = a
 the_answer None v bytes is none (inl holds) = let never : None ≡ Some holds.message = sym is ∙ holds.owed_is in absurd (cc)
 the_answer (Some message) v bytes is none (inl holds) = absurd (cc)
@@ -225,6 +226,13 @@ same_wrapped slots a b c n few is most least sum short = omega (arith, few, is, 
 length_most : (slots start end : ℕ) → 1 ≤ slots → range_length slots start end ≤ slots
 length_most slots start end some = omega (arith, mod_below (end + slots - start % slots) slots some)
 
+-- a range whose last descriptor is finished: as many are as were asked for, counted without bound
+pub all_finished : (slots : ℕ) (s : ServerSession) (w : Option Work) (c : ServerCounts) (turns : List Turn) (range : SlotRange) → slots ≤ 256 → s.finished ≡ s.asked
+    → RangeStands slots (Some range) c → InServerOrder slots s c turns → ServerCountsAgree s c → WorkAgrees w c → c.finished ≡ c.asked
+all_finished slots s w c turns range few ended stands order counts work =
+    same_wrapped slots c.finished c.asked c.answered (range_length slots range.start range.end) few (sym counts.finished ∙ ended ∙ counts.asked)
+    (omega (arith, work_most w c work, order.descs)) order.finished stands.0 (length_most slots range.start range.end (omega (arith, stands.1)))
+
 answered_order : (slots n : ℕ) (o : Option ServerSession) (w : Option Work) (d : Option ServerCounts) (turns behind : List Turn) (session : ServerSession) (range : SlotRange) → slots ≤ 256
     → o ≡ Some session → Answered slots session range n → range_sum slots 2 (said behind) ≡ range_sum slots 2 (said turns) + n
     → (1 ≤ n → range_count 2 (said behind) ≡ range_count 2 (said turns) + 1) → heard behind ≡ heard turns → ServerOrder slots o d turns → ServerAgrees o w d
@@ -237,13 +245,8 @@ answered_order slots n (Some s) w (Some c) turns behind session range few is ans
     let ranged : s.range ≡ Some range = ap (λ (x : ServerSession). x.range) same ∙ answers.range_is in
     let stands : RangeStands slots (Some range) c = subst (λ (r : Option SlotRange). RangeStands slots r c) ranged order.range in
     let adds : n ≡ range_length slots range.start range.end = answers.adds stands.1 stands.2 in
-    let some : 1 ≤ slots = omega (arith, stands.1) in
-    let most = work_most w c agrees.1 in
-    let finished : wrapped c.finished ≡ wrapped c.asked =
-    sym agrees.0.finished ∙ ap (λ (x : ServerSession). x.finished) same ∙ answers.finished ∙ ap (λ (x : ServerSession). x.asked) (sym same) ∙ agrees.0.asked in
-    let all : c.finished ≡ c.asked =
-    same_wrapped slots c.finished c.asked c.answered (range_length slots range.start range.end) few finished (omega (arith, most, order.descs)) order.finished stands.0
-    (length_most slots range.start range.end some) in
+    let ended : s.finished ≡ s.asked = ap (λ (x : ServerSession). x.finished) same ∙ answers.finished ∙ ap (λ (x : ServerSession). x.asked) (sym same) in
+    let all : c.finished ≡ c.asked = all_finished slots s w c turns range few ended stands order agrees.0 agrees.1 in
     let now : c.answered + n ≡ c.asked = omega (arith, stands.0, adds) in (
       record {
         asked = order.asked ∙ ap (range_sum slots 1) (sym heard_is);
@@ -265,15 +268,15 @@ answered_order slots n (Some s) w (Some c) turns behind session range few is ans
       ),
     )
 
-pub own_counting : (shape : Shape) (v : ServerState) (turns : List Turn) (packet : List ℕ) (d : Option ServerCounts) → shape.slots ≤ 256 → is_none v.shake.owed ≡ true → SaysLast v.link turns packet
+pub own_counting : (shape : Shape) (v : ServerState) (turns : List Turn) (packet : List ℕ) (d : Option ServerCounts) → shape.slots ≤ 256 → is_none v.handshake.owed ≡ true → SaysLast v.link turns packet
     → ServerCounted shape v turns d → ServerCounted shape (put_as EndsOwn v) (Said packet ∷ turns) (answers_more shape turns packet d)
 own_counting shape v turns packet d few none last counted =
     let bytes = half_said turns ++ v.link.to_send in
-    let a = the_answer v.shake.owed v bytes refl none (counted.holds last.some) in
+    let a = the_answer v.handshake.owed v bytes refl none (counted.holds last.some) in
     let n = length_in shape.slots (range_ended 2 (half_said turns) packet) in
     let message : a.range.start < shape.slots → a.range.end < shape.slots → length_in shape.slots (range_in 2 (Some bytes)) ≡ range_length shape.slots a.range.start a.range.end =
     λ start end. ap (λ (xs : List ℕ). length_in shape.slots (range_in 2 (Some xs))) a.bytes_are
-    ∙ said_range shape.slots 2 v.shake.draft.sid Ack a.range.seq v.shake.draft.ident_peer a.range.start a.range.end a.range.state refl
+    ∙ said_range shape.slots 2 v.handshake.draft.sid Ack a.range.seq v.handshake.draft.ident_peer a.range.start a.range.end a.range.state refl
     (omega (arith, start, few)) (omega (arith, end, few)) in
     let whole : n ≡ length_in shape.slots (range_in 2 (Some bytes)) =
     omega (arith, sum_said shape.slots 2 packet turns, ap (range_sum shape.slots 2) last.messages, sum_more shape.slots 2 (said turns) bytes) in
@@ -283,7 +286,7 @@ own_counting shape v turns packet d few none last counted =
     record {
       slots = counted.slots;
       blocks = counted.blocks;
-      shake = counted.shake;
+      handshake = counted.handshake;
       holds = λ left. absurd (omega (arith, left, ap length last.none));
       order = both.0;
       unit = counted.unit;

@@ -8,7 +8,7 @@ use Rattle.ldc_link.specs.LinkState.{LinkState, cleared, is_up}
 use Rattle.ldc_link.specs.Taking.{Heard, LinkTake, TakesBytes, Unheard}
 use Rattle.ldc_packet.specs.declared.packet.Subtype.{Subtype}
 use Rattle.ldc_packet.specs.declared.packet.Subtype.TheVariants.{Info}
-use Rattle.ldc_queue.specs.Talk.{Heard as Heard_, Turn}
+use Rattle.ldc_queue.specs.Transcript.{Heard as Heard_, Turn}
 use Rattle.vio_tag.specs.declared.cause.Cause.{Cause}
 use Rattle.vio_tag.specs.declared.cause.Cause.TheVariants as the_cause
 use Rattle.vio_tag.specs.declared.message.Message.{Message}
@@ -17,15 +17,15 @@ use Rattle.vio_tag.specs.declared.message.MsgBody.TheVariants.{DringData}
 use Rattle.vio_tag.specs.declared.message.TagFault.{TagFault}
 use Rattle.vio_tag.specs.Decoding.{Decodes}
 use Rattle.vio_handshake.specs.declared.handshake.Handshake.{Handshake}
-use Rattle.vio_handshake.specs.Rules.{Faults, Goes, GoesOpen, ShakeTake, shake_take, sid_fault}
-use Rattle.vio_handshake.specs.State.{shake_up}
-use Rattle.disk_model.specs.EndPuts.{shake_risen}
+use Rattle.vio_handshake.specs.Rules.{Faults, Goes, GoesOpen, HandshakeTake, handshake_take, sid_fault}
+use Rattle.vio_handshake.specs.State.{handshake_up}
+use Rattle.disk_model.specs.EndPuts.{handshake_risen}
 use Rattle.disk_model.specs.Ranges.{is_other}
 use Rattle.disk_model.specs.ServerState.{ServerSession, ServerState, SlotRange, opened_server}
 use Rattle.disk_model.specs.ServerTaking.{GoesOn, HearsLink, HearsWhole, Resets, ServerTake, ServerTakes, asked, by_handshake, hears_message, in_session, place_of, reads, sid_first, takes_info}
 use Rattle.disk_model.specs.Sayings.{heard}
-use Rattle.lane_laws.proofs.ClientResting.{was_up}
-use Rattle.lane_laws.proofs.ClientTaken.{HearsMessage, ShakesTo, is_the}
+use Rattle.lane_laws.proofs.Awake.{was_up}
+use Rattle.lane_laws.proofs.ClientTaken.{HearsMessage, HandshakesTo, is_the}
 use Rattle.lane_laws.proofs.Hearing.{heard_leaves}
 use Rattle.lane_laws.proofs.WholeHeard.{HearsOn, link_hears, with_whole}
 
@@ -34,23 +34,23 @@ pub record ServerHearsPart (s : ServerState) (turns : List Turn) (packet : List 
   pub left : link.to_send ≡ s.link.to_send
   pub up : is_up s.link ≡ true → is_up link ≡ true
   pub messages : heard (Heard_ packet ∷ turns) ≡ heard turns
-  pub is : t ≡ record s { link = link; shake = shake_risen s.link link s.shake }
+  pub is : t ≡ record s { link = link; handshake = handshake_risen s.link link s.handshake }
   pub opens_is : opens ≡ false
 
 abbrev pub opened_or : Bool → Option ServerSession → Option ServerSession
 opened_or true session = Some opened_server
 opened_or false session = session
 
-pub record ServerShakes (s : ServerState) (turns : List Turn) (packet : List ℕ) (t : ServerState) (opens : Bool) : Type 0 where
+pub record ServerHandshakes (s : ServerState) (turns : List Turn) (packet : List ℕ) (t : ServerState) (opens : Bool) : Type 0 where
   pub link : LinkState
   pub left : link.to_send ≡ s.link.to_send
   pub up : is_up s.link ≡ true
   pub stays : is_up link ≡ true
   pub message : Message
   pub hears : HearsMessage turns packet message
-  pub shake : Handshake
-  pub takes : ShakesTo s.shake (shake_take s.shake message) opens shake
-  pub is : t ≡ record s { link = link; shake = shake; session = opened_or opens s.session }
+  pub handshake : Handshake
+  pub takes : HandshakesTo s.handshake (handshake_take s.handshake message) opens handshake
+  pub is : t ≡ record s { link = link; handshake = handshake; session = opened_or opens s.session }
 
 pub record ServerAsked (s : ServerState) (turns : List Turn) (packet : List ℕ) (t : ServerState) (opens : Bool) : Type 0 where
   pub link : LinkState
@@ -67,12 +67,12 @@ pub record ServerAsked (s : ServerState) (turns : List Turn) (packet : List ℕ)
   pub body_is : message.body ≡ DringData range.seq ident range.start range.end range.state
   pub next : range.seq ≡ session.seq
   pub begins : range.start ≡ place_of s session
-  pub ends : range.end < s.shake.draft.peer_slots
+  pub ends : range.end < s.handshake.draft.peer_slots
   pub is : t ≡ asked (record s { link = link }) session range
   pub opens_is : opens ≡ false
 
 abbrev pub ServerTook : ServerState → List Turn → List ℕ → ServerState → Bool → Type 0
-ServerTook s turns packet t opens = ServerHearsPart s turns packet t opens ⊎ (ServerShakes s turns packet t opens ⊎ ServerAsked s turns packet t opens)
+ServerTook s turns packet t opens = ServerHearsPart s turns packet t opens ⊎ (ServerHandshakes s turns packet t opens ⊎ ServerAsked s turns packet t opens)
 
 abbrev TookOn : ServerState → List Turn → List ℕ → ServerTake → Type 0
 TookOn s turns packet (GoesOn t opens) = ServerTook s turns packet t opens
@@ -84,13 +84,13 @@ record Now (s : ServerState) (turns : List Turn) (packet : List ℕ) (k : LinkSt
   stays : is_up k ≡ true
   hears : HearsMessage turns packet message
 
-by_shake : (s : ServerState) (turns : List Turn) (packet : List ℕ) (k : LinkState) (message : Message) (answer : ShakeTake) → Now s turns packet k message
-    → shake_take s.shake message ≡ answer → TookOn s turns packet (by_handshake (record s { link = k }) answer)
-by_shake s turns packet k message (Goes h) now is =
-    inr (inl (record { link = k; left = now.left; up = now.up; stays = now.stays; message = message; hears = now.hears; shake = h; takes = is; is = refl }))
-by_shake s turns packet k message (GoesOpen h) now is =
-    inr (inl (record { link = k; left = now.left; up = now.up; stays = now.stays; message = message; hears = now.hears; shake = h; takes = is; is = refl }))
-by_shake s turns packet k message (Faults cause) now is = tt
+by_handshake_take : (s : ServerState) (turns : List Turn) (packet : List ℕ) (k : LinkState) (message : Message) (answer : HandshakeTake) → Now s turns packet k message
+    → handshake_take s.handshake message ≡ answer → TookOn s turns packet (by_handshake (record s { link = k }) answer)
+by_handshake_take s turns packet k message (Goes h) now is =
+    inr (inl (record { link = k; left = now.left; up = now.up; stays = now.stays; message = message; hears = now.hears; handshake = h; takes = is; is = refl }))
+by_handshake_take s turns packet k message (GoesOpen h) now is =
+    inr (inl (record { link = k; left = now.left; up = now.up; stays = now.stays; message = message; hears = now.hears; handshake = h; takes = is; is = refl }))
+by_handshake_take s turns packet k message (Faults cause) now is = tt
 
 took_if : (s : ServerState) (turns : List Turn) (packet : List ℕ) (b : Bool) (x y : ServerTake) → (b ≡ true → TookOn s turns packet x) → (b ≡ false → TookOn s turns packet y)
     → TookOn s turns packet (if b then x else y)
@@ -101,13 +101,13 @@ by_info : (s : ServerState) (turns : List Turn) (packet : List ℕ) (k : LinkSta
     → Now s turns packet k message → s.session ≡ Some session → message.subtype ≡ Info → message.body ≡ DringData range.seq ident range.start range.end range.state
     → TookOn s turns packet (takes_info (record s { link = k }) session ident range)
 by_info s turns packet k session message ident range now is kind body =
-    took_if s turns packet (is_other s.shake.draft.ident_peer ident) (Resets (the_cause.Ident s.shake.draft.ident_peer ident)) _ (λ test. tt)
+    took_if s turns packet (is_other s.handshake.draft.ident_peer ident) (Resets (the_cause.Ident s.handshake.draft.ident_peer ident)) _ (λ test. tt)
     (λ known.
     took_if s turns packet (is_other session.seq range.seq) (Resets (the_cause.Seq session.seq range.seq)) _ (λ test. tt)
     (λ next.
     took_if s turns packet (is_other (place_of s session) range.start) (Resets (the_cause.Slot (place_of s session) range.start)) _ (λ test. tt)
     (λ begins.
-    took_if s turns packet (nat_le s.shake.draft.peer_slots range.end) (Resets (the_cause.RangeEnd range.end)) (GoesOn (asked (record s { link = k }) session range) false) (λ test. tt)
+    took_if s turns packet (nat_le s.handshake.draft.peer_slots range.end) (Resets (the_cause.RangeEnd range.end)) (GoesOn (asked (record s { link = k }) session range) false) (λ test. tt)
     (λ ends. inr (inr (record {
       link = k;
       left = now.left;
@@ -123,7 +123,7 @@ by_info s turns packet k session message ident range now is kind body =
       body_is = body;
       next = is_the session.seq range.seq next;
       begins = is_the (place_of s session) range.start begins;
-      ends = omega (arith, leb-false s.shake.draft.peer_slots range.end ends);
+      ends = omega (arith, leb-false s.handshake.draft.peer_slots range.end ends);
       is = refl;
       opens_is = refl;
     }))))))
@@ -133,7 +133,7 @@ by_session : (s : ServerState) (turns : List Turn) (packet : List ℕ) (k : Link
     → TookOn s turns packet (in_session (record s { link = k }) session message subtype body)
 by_session s turns packet k session message Info (DringData seq ident start end state) now is kind body =
     by_info s turns packet k session message ident (record { seq = seq; start = start; end = end; state = state }) now is kind body
-by_session s turns packet k session message _ _ now is kind body = by_shake s turns packet k message (shake_take s.shake message) now refl
+by_session s turns packet k session message _ _ now is kind body = by_handshake_take s turns packet k message (handshake_take s.handshake message) now refl
 
 by_sid : (s : ServerState) (turns : List Turn) (packet : List ℕ) (fault : Option Cause) (rest : ServerTake) → TookOn s turns packet rest → TookOn s turns packet (sid_first fault rest)
 by_sid s turns packet None rest took = took
@@ -141,9 +141,9 @@ by_sid s turns packet (Some cause) rest took = tt
 
 by_message : (s : ServerState) (turns : List Turn) (packet : List ℕ) (k : LinkState) (open_one : Option ServerSession) (message : Message) → Now s turns packet k message
     → s.session ≡ open_one → TookOn s turns packet (hears_message (record s { link = k }) open_one message)
-by_message s turns packet k None message now is = by_shake s turns packet k message (shake_take s.shake message) now refl
+by_message s turns packet k None message now is = by_handshake_take s turns packet k message (handshake_take s.handshake message) now refl
 by_message s turns packet k (Some session) message now is =
-    by_sid s turns packet (sid_fault s.shake.sid message.sid) (in_session (record s { link = k }) session message message.subtype message.body)
+    by_sid s turns packet (sid_fault s.handshake.sid message.sid) (in_session (record s { link = k }) session message message.subtype message.body)
     (by_session s turns packet k session message message.subtype message.body now is refl refl)
 
 by_bytes : (s : ServerState) (turns : List Turn) (packet : List ℕ) (k : LinkState) (bytes : List ℕ) (d : Result Message TagFault) → k.to_send ≡ s.link.to_send → is_up s.link ≡ true → is_up k ≡ true
@@ -154,13 +154,13 @@ by_bytes s turns packet k bytes (Ok message) left up stays messages decodes =
 by_bytes s turns packet k bytes (Err fault) left up stays messages decodes = tt
 
 -- a link that was up rises no more
-pub still : (b : Bool) (c : Bool) (h : Handshake) → c ≡ true → (if b && not c then shake_up h else h) ≡ h
+pub still : (b : Bool) (c : Bool) (h : Handshake) → c ≡ true → (if b && not c then handshake_up h else h) ≡ h
 still true true h is = refl
 still true false h is = absurd (cc)
 still false c h is = refl
 
 by_whole : (s : ServerState) (k : LinkState) (turns : List Turn) (packet : List ℕ) (whole : Option (List ℕ)) (answer : ServerTake) → k.to_send ≡ s.link.to_send
-    → HearsOn s.link k turns packet → k.whole ≡ whole → HearsWhole (record s { link = k; shake = shake_risen s.link k s.shake }) whole answer → TookOn s turns packet answer
+    → HearsOn s.link k turns packet → k.whole ≡ whole → HearsWhole (record s { link = k; handshake = handshake_risen s.link k s.handshake }) whole answer → TookOn s turns packet answer
 by_whole s k turns packet None answer left hears none is =
     subst (λ (x : ServerTake). TookOn s turns packet x) (sym is) (inl (record {
       link = k;
@@ -172,9 +172,9 @@ by_whole s k turns packet None answer left hears none is =
     }))
 by_whole s k turns packet (Some bytes) answer left hears some is =
     let up : is_up s.link ≡ true = was_up (is_up s.link) k.whole bytes hears.quiet some in
-    let same : shake_risen s.link k s.shake ≡ s.shake = still (is_up k) (is_up s.link) s.shake up in
+    let same : handshake_risen s.link k s.handshake ≡ s.handshake = still (is_up k) (is_up s.link) s.handshake up in
     subst (λ (x : ServerTake). TookOn s turns packet x) (sym is.2)
-    (subst (λ (h : Handshake). TookOn s turns packet (reads (record s { link = cleared k; shake = h }) is.0)) (sym same)
+    (subst (λ (h : Handshake). TookOn s turns packet (reads (record s { link = cleared k; handshake = h }) is.0)) (sym same)
     (by_bytes s turns packet (cleared k) bytes is.0 left up (hears.up up) (hears.messages ∙ ap (λ (w : Option (List ℕ)). with_whole w (heard turns)) some) is.1))
 
 by_link : (s : ServerState) (turns : List Turn) (packet : List ℕ) (link : LinkTake) (t : ServerState) (opens : Bool) → Follows s.link turns → s.link.whole ≡ None

@@ -6,7 +6,7 @@ use Rattle.cookie_copy.specs.declared.fault.CopyFault.{CopyFault}
 use Rattle.ldc_link.specs.declared.phase.Role.TheVariants.{Responder}
 use Rattle.ldc_link.specs.LinkState.{LinkState}
 use Rattle.ldc_link.specs.Putting.{owes}
-use Rattle.ldc_queue.specs.Talk.{Turn}
+use Rattle.ldc_queue.specs.Transcript.{Turn}
 use Rattle.vdisk_msg.specs.Check.{first_defect, has_size, holds_cookies, is_allowed, is_within, moves_data}
 use Rattle.vdisk_msg.specs.declared.desc.DescFault.{DescFault}
 use Rattle.vdisk_msg.specs.declared.desc.DescFault.TheVariants.{Cookies, Operation, Range, Size}
@@ -21,10 +21,11 @@ use Rattle.disk_model.specs.ServerState.{Ends, Flushes, Gathers, Gives, Progress
 use Rattle.disk_model.specs.ServerStep.{ServerMoves, ServerStores, with_progress}
 use Rattle.disk_model.specs.ServerWork as server_work
 use Rattle.disk_model.specs.ServerWork.{MovesIn, Reach, StoresIn, desc_of, first_progress, gathers_next, or_ends, reads_next}
-use Rattle.lane_laws.proofs.EndUttering.{is_open_up, up_empty}
+use Rattle.lane_laws.proofs.Awake.{is_open_up, up_empty}
 use Rattle.lane_laws.proofs.RulesFree.{ServerFree, ServesFree, server_free}
 use Rattle.lane_laws.specs.Counted.{RangeStands, ServerCounted, ServerHolds, ServerOrder, UnitFits, UnitIn}
 use Rattle.lane_laws.specs.LaneRests.{ServerRests}
+use Rattle.lane_laws.specs.ChannelEnds.{server_core}
 
 -- WHAT IS OWED of a descriptor: it begins
 units_from : (units : ℕ) → units - 0 ≡ units
@@ -187,7 +188,7 @@ unit_of w work is fits = subst UnitFits is fits
 -- a server whose session is open and whose link owes nothing holds nothing
 pub holds_none : (v t : ServerState) (turns : List Turn) → ServerRests v turns → is_some v.session ≡ true → owes v.link ≡ false → t.link ≡ v.link → ServerHolds t turns
 holds_none v t turns rests now free same =
-    let empty : v.link.to_send ≡ [] = up_empty v.link (is_open_up Responder v.link v.shake (is_some v.session) turns rests now) free in
+    let empty : v.link.to_send ≡ [] = up_empty v.link (is_open_up Responder (server_core v) turns rests now) free in
     λ some. absurd (omega (arith, some, ap (λ (k : LinkState). length k.to_send) same, ap length empty))
 
 piece_counting : (shape : Shape) (v : ServerState) (turns : List Turn) (d : Option ServerCounts) (session : ServerSession) (work : Work) (next : Progress) (f : List Piece → List Piece)
@@ -198,7 +199,7 @@ piece_counting shape v turns d session work next f rests free is goes counted =
     record {
       slots = counted.slots;
       blocks = counted.blocks;
-      shake = counted.shake;
+      handshake = counted.handshake;
       holds = holds_none v (with_progress v work next) turns rests now free.free refl;
       order = order_owed shape.slots v.session d turns f counted.order;
       unit = goes.unit;

@@ -1,5 +1,5 @@
 -- What the proofs of both ends share.
-use Rattle.std.proofs.Common.{◌≡◌, ℕ, ◌≤◌, Option, Some, List, [], ◌∷◌, length, refl, subst, arith, length-drop, ◌⊎◌, inl, inr}
+use Rattle.std.proofs.Common.{◌≡◌, ℕ, ◌≤◌, Option, Some, List, [], ◌∷◌, length, refl, subst, arith, length-drop, ◌⊎◌, inl, inr, None, ◌+◌, ◌-◌}
 use Rattle.ldc_link.specs.declared.phase.LinkPhase.{LinkPhase}
 use Rattle.ldc_link.specs.declared.phase.LinkPhase.TheVariants as phase
 use Rattle.ldc_link.specs.LinkState.{LinkState}
@@ -7,15 +7,14 @@ use Rattle.ldc_link.specs.Putting.{left_behind_put, part_owed, with_link}
 use Rattle.ldc_packet.specs.declared.packet.Packet.{Packet}
 use Rattle.vio_handshake.specs.declared.handshake.Handshake.{Handshake}
 use Rattle.disk_model.specs.ClientState.{ClientSession}
-use Rattle.disk_model.specs.EndPuts.{ComesUp, EndsOwn, EndsShake, Goes, PutKind, shake_behind}
+use Rattle.disk_model.specs.EndPuts.{ComesUp, EndsOwn, EndsHandshake, Goes, PutKind, handshake_behind}
 use Rattle.vio_tag.specs.declared.message.Message.{Message}
-use Rattle.lane_laws.proofs.Budgets.{budget_less}
 use Rattle.lane_laws.proofs.Short.{sent_short, up_short}
-use Rattle.lane_laws.specs.Budget.{budget_in}
-use Rattle.lane_laws.specs.Conversation.{SameTalk}
+use Rattle.lane_laws.specs.Budget.{infos_left}
+use Rattle.lane_laws.specs.LinkMoves.{SameTranscript}
 use Rattle.lane_laws.specs.Sound.{CountsInOrder, InOrder, IsShort, OwedIsShort, OwesShort}
 
-pub same_link : (k : LinkState) → SameTalk k k
+pub same_link : (k : LinkState) → SameTranscript k k
 same_link k = record { phase = refl; put_next = refl; take_next = refl; half = refl }
 
 -- the counts of a session that is open
@@ -26,10 +25,10 @@ in_order pending open_one session is counts = subst (CountsInOrder pending) is c
 pub owed_short : (owed : Option Message) (message : Message) → owed ≡ Some message → OwedIsShort owed → IsShort message.body
 owed_short owed message is short = subst OwedIsShort is short
 
--- a budget that is lower where the link holds nothing, or isn't up
-pub lower_by : (k : LinkState) (n m : ℕ) → (k.to_send ≡ [] → n ≤ m) → (k.to_send ≡ []) ⊎ ((x : ℕ) → budget_in k.phase x ≡ 0) → budget_in k.phase n ≤ budget_in k.phase m
-lower_by k n m less (inl empty) = budget_less k.phase n m (less empty)
-lower_by k n m less (inr none) = omega (arith, none n, none m)
+-- never more INFO than the ring has slots
+pub infos_few : (slots pending : ℕ) (session : Option ClientSession) → CountsInOrder pending session → infos_left slots session ≤ slots
+infos_few slots pending None counts = omega arith
+infos_few slots pending (Some s) counts = omega (arith, counts.acked)
 
 pub nothing : (xs : List ℕ) → length xs ≡ 0 → xs ≡ []
 nothing [] none = refl
@@ -41,11 +40,11 @@ some_left k [] one m is = absurd (cc)
 some_left k (x ∷ xs) one m is = omega arith
 
 -- after a packet that was put
-pub behind_short : (kind : PutKind) (h : Handshake) → OwesShort h → OwesShort (shake_behind kind h)
+pub behind_short : (kind : PutKind) (h : Handshake) → OwesShort h → OwesShort (handshake_behind kind h)
 behind_short Goes h short = short
 behind_short ComesUp h short = up_short h short
 behind_short EndsOwn h short = short
-behind_short EndsShake h short = sent_short h short
+behind_short EndsHandshake h short = sent_short h short
 
 pub put_within : (ph : LinkPhase) (xs : List ℕ) → length xs ≤ 256 → length (left_behind_put ph xs) ≤ 256
 put_within phase.Established xs within = omega (arith, length-drop 56 xs, within)

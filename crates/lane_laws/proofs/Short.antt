@@ -25,8 +25,8 @@ use Rattle.vio_handshake.specs.declared.handshake.Phase.{Phase}
 use Rattle.vio_handshake.specs.declared.handshake.Phase.TheVariants.{Attributes, OwnRing, OwnReady, PeerReady, PeerReadyTaken, PeerRing, PeerRingTaken, Version}
 use Rattle.vio_handshake.specs.declared.session.Offer.{Offer}
 use Rattle.vio_handshake.specs.Messages.{ack, info, nack, own_ring}
-use Rattle.vio_handshake.specs.Rules.{Faults, Goes, GoesOpen, ShakeTake, agrees_minor, answered, asked, attributes_answered, attributes_asked, behind_ring, fault_or, is_declined, knows, owes, own_named, peer_named, put_in, ready_answered, refuses_version, ring_answered, ring_asked, row, shake_hear, shake_sent, shake_take, sid_fault, version_answered, version_asked}
-use Rattle.vio_handshake.specs.State.{begun, joined_shake, shake_up}
+use Rattle.vio_handshake.specs.Rules.{Faults, Goes, GoesOpen, HandshakeTake, agrees_minor, answered, asked, attributes_answered, attributes_asked, behind_ring, fault_or, is_declined, knows, owes, own_named, peer_named, put_in, ready_answered, refuses_version, ring_answered, ring_asked, row, handshake_hear, handshake_sent, handshake_take, sid_fault, version_answered, version_asked}
+use Rattle.vio_handshake.specs.State.{begun, joined_handshake, handshake_up}
 use Rattle.lane_laws.specs.Sound.{IsShort, OwesShort}
 
 -- what bytes decode to is short, or of no kind that a disk's handshake owes
@@ -87,27 +87,27 @@ disk_long attr = refl
 net_long : (attr : NetAttr) → length (net_attr_bytes attr) ≡ 48
 net_long attr = refl
 
-said_long : (both : Bool) (a : Offer) → a.both_rings ≡ both → length (said_attributes a) ≡ 48
+said_long : (both : Bool) (a : Offer) (minor : ℕ) → a.both_rings ≡ both → length (said_attributes a minor) ≡ 48
 unfolding said_attributes
-said_long true a is = rw (is) (net_long (port_attributes a))
-said_long false a is = rw (is) (disk_long client_attributes)
+said_long true a minor is = rw (is) (net_long (port_attributes a minor))
+said_long false a minor is = rw (is) (disk_long client_attributes)
 
 answered_long : (both : Bool) (b : Offer) (minor : ℕ) (bytes : List ℕ) → b.both_rings ≡ both → length (answered_attributes b minor bytes) ≡ 48
 unfolding answered_attributes
-answered_long true b minor bytes is = rw (is) (net_long (port_attributes b))
+answered_long true b minor bytes is = rw (is) (net_long (port_attributes b minor))
 answered_long false b minor bytes is = rw (is) (disk_long (server_attributes b minor (disk_attr_of bytes)))
 
-said_short : (a : Offer) → length (said_attributes a) ≤ 48
-said_short a = omega (arith, said_long a.both_rings a refl)
+said_short : (a : Offer) (minor : ℕ) → length (said_attributes a minor) ≤ 48
+said_short a minor = omega (arith, said_long a.both_rings a minor refl)
 
 answered_short : (b : Offer) (minor : ℕ) (bytes : List ℕ) → length (answered_attributes b minor bytes) ≤ 48
 answered_short b minor bytes = omega (arith, answered_long b.both_rings b minor bytes refl)
 
-begun_short : (role : Role) (h : Handshake) → OwesShort h → OwesShort (begun role (joined_shake h))
+begun_short : (role : Role) (h : Handshake) → OwesShort h → OwesShort (begun role (joined_handshake h))
 begun_short Initiator h short = record { offered = short.offered; owed = tt }
 begun_short Responder h short = record { offered = short.offered; owed = tt }
 
-pub up_short : (h : Handshake) → OwesShort h → OwesShort (shake_up h)
+pub up_short : (h : Handshake) → OwesShort h → OwesShort (handshake_up h)
 up_short h short = begun_short h.role h short
 
 put_short : (role : Role) (phase : Phase) (s : Handshake) → OwesShort s → OwesShort (put_in role phase s)
@@ -118,25 +118,25 @@ put_short Responder PeerReadyTaken s short = record { offered = short.offered; o
 put_short Initiator phase s short = record { offered = short.offered; owed = tt }
 put_short Responder phase s short = record { offered = short.offered; owed = tt }
 
-pub sent_short : (s : Handshake) → OwesShort s → OwesShort (shake_sent s)
+pub sent_short : (s : Handshake) → OwesShort s → OwesShort (handshake_sent s)
 sent_short s short = put_short s.role s.phase s short
 
-abbrev pub TakesShort : ShakeTake → Type 0
+abbrev pub TakesShort : HandshakeTake → Type 0
 TakesShort (Goes s) = OwesShort s
 TakesShort (GoesOpen s) = OwesShort s
 TakesShort (Faults cause) = ⊤
 
-answered_owes : (subtype : Subtype) (judged : ShakeTake) → TakesShort judged → TakesShort (answered subtype judged)
+answered_owes : (subtype : Subtype) (judged : HandshakeTake) → TakesShort judged → TakesShort (answered subtype judged)
 answered_owes Info judged short = tt
 answered_owes Ack judged short = short
 answered_owes Nack judged short = tt
 
-asked_owes : (subtype : Subtype) (judged : ShakeTake) → TakesShort judged → TakesShort (asked subtype judged)
+asked_owes : (subtype : Subtype) (judged : HandshakeTake) → TakesShort judged → TakesShort (asked subtype judged)
 asked_owes Info judged short = short
 asked_owes Ack judged short = tt
 asked_owes Nack judged short = tt
 
-cond_take : (test : Bool) (x y : ShakeTake) → TakesShort x → TakesShort y → TakesShort (if test then x else y)
+cond_take : (test : Bool) (x y : HandshakeTake) → TakesShort x → TakesShort y → TakesShort (if test then x else y)
 cond_take true x y short other = short
 cond_take false x y short other = other
 
@@ -146,8 +146,8 @@ cond_owes false x y short other = other
 
 version_answered_owes : (s : Handshake) (sid major minor : ℕ) → OwesShort s → TakesShort (version_answered s sid major minor)
 version_answered_owes s sid major minor short =
-    cond_take (major == 1 && nat_le minor s.offer.minor) (Goes (owes Attributes (info sid (Attr (said_attributes s.offer))) (agrees_minor minor s))) (Faults Refused)
-    (record { offered = short.offered; owed = said_short s.offer }) tt
+    cond_take (major == 1 && nat_le minor s.offer.minor) (Goes (owes Attributes (info sid (Attr (said_attributes s.offer minor))) (agrees_minor minor s))) (Faults Refused)
+    (record { offered = short.offered; owed = said_short s.offer minor }) tt
 
 version_asked_owes : (s : Handshake) (sid major minor class : ℕ) → OwesShort s → OwesShort (version_asked s sid major minor class)
 version_asked_owes s sid major minor class short =
@@ -164,7 +164,7 @@ attributes_answered_owes s sid bytes short =
 
 attributes_asked_owes : (s : Handshake) (sid : ℕ) (bytes : List ℕ) → OwesShort s → length bytes ≤ 48 → OwesShort (attributes_asked s sid bytes)
 attributes_asked_owes s sid bytes short long =
-    cond_owes (accepts_said s.offer bytes) (owes PeerRing (ack sid (Attr (answered_attributes s.offer s.draft.minor bytes))) s) (owes Attributes (nack sid (Attr bytes)) s)
+    cond_owes (accepts_said s.offer s.draft.minor bytes) (owes PeerRing (ack sid (Attr (answered_attributes s.offer s.draft.minor bytes))) s) (owes Attributes (nack sid (Attr bytes)) s)
     (record { offered = short.offered; owed = answered_short s.offer s.draft.minor bytes }) (record { offered = short.offered; owed = long })
 
 ring_answered_owes : (role : Role) (s : Handshake) (sid ident : ℕ) → OwesShort s → OwesShort (ring_answered role s sid ident)
@@ -212,18 +212,18 @@ row_owes Responder PeerReady s subtype sid Rdx short comes =
 row_owes Initiator phase s subtype sid body short comes = tt
 row_owes Responder phase s subtype sid body short comes = tt
 
-declined_or : (subtype : Subtype) (body : MsgBody) (s : Handshake) (sid : ℕ) (rest : ShakeTake) → OwesShort s → TakesShort rest
+declined_or : (subtype : Subtype) (body : MsgBody) (s : Handshake) (sid : ℕ) (rest : HandshakeTake) → OwesShort s → TakesShort rest
     → TakesShort (if is_declined subtype body then (Goes (record s { owed = Some (nack sid body) })) else rest)
 declined_or Info (DringUnreg ident) s sid rest short other = record { offered = short.offered; owed = tt }
 declined_or Info (Plain envelope) s sid rest short other = record { offered = short.offered; owed = tt }
 declined_or _ _ s sid rest short other = other
 
-fault_short : (fault : Option Cause) (rest : ShakeTake) → TakesShort rest → TakesShort (fault_or fault rest)
+fault_short : (fault : Option Cause) (rest : HandshakeTake) → TakesShort rest → TakesShort (fault_or fault rest)
 fault_short None rest short = short
 fault_short (Some cause) rest short = tt
 
-pub take_short : (s : Handshake) (message : Message) → OwesShort s → ComesShort message.body → TakesShort (shake_take s message)
+pub take_short : (s : Handshake) (message : Message) → OwesShort s → ComesShort message.body → TakesShort (handshake_take s message)
 take_short s message short comes =
-    fault_short (sid_fault s.sid message.sid) (shake_hear s message.subtype message.sid message.body)
+    fault_short (sid_fault s.sid message.sid) (handshake_hear s message.subtype message.sid message.body)
     (declined_or message.subtype message.body s message.sid (row s.role s.phase s message.subtype message.sid message.body) short
     (row_owes s.role s.phase s message.subtype message.sid message.body short comes))

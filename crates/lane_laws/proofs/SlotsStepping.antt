@@ -12,7 +12,7 @@ use Rattle.disk_model.specs.RingLog.{Accepted as IsAccepted, Done as IsDone, Slo
 use Rattle.disk_model.specs.WorkLaws.{IfServer}
 use Rattle.disk_model.specs.WorkLog.{ClientCounts, ServerCounts, WorkLog, change_client, change_server, length_in, one_in}
 use Rattle.disk_model.specs.ClientRule as client_rules
-use Rattle.disk_model.specs.DiskEvent.{Accepted, Asks, Desc, DiskEvent, Done, Finished, Full, Misplaced, Moved, Off, OnWire, Published, Refused, Rests, Started, Stopped, Stored, Turns, Worked, Works}
+use Rattle.disk_model.specs.DiskEvent.{Accepted, Asks, Desc, DiskEvent, Done, Finished, Full, Misplaced, Moved, Off, OnWire, Published, Refused, Calms, Started, Stopped, Stored, Switches, Worked, Works}
 use Rattle.disk_model.specs.LaneState.{LaneState}
 use Rattle.disk_model.specs.LaneStep.{LaneStep, WorkStep}
 use Rattle.disk_model.specs.Sayings.{half_heard, half_said}
@@ -183,7 +183,7 @@ wire_slots s l (Reset B cause packet lost) t step facts slots =
     keep_server l.shape.slots l.work (after l (OnWire (Reset B cause packet lost))).work l.wire.wire (after l (OnWire (Reset B cause packet lost))).wire.wire l.ring l.work.client refl (λ finished descs at. at_begun l.wire.wire l.work.server finished descs at) slots
 wire_slots s l (Took A packet false) t step facts slots =
     let adds : ClientCounts → ClientCounts =
-    λ (c : ClientCounts). record c { acked = c.acked + length_in l.shape.slots (range_ended 2 (half_heard l.talk.client) packet) } in
+    λ (c : ClientCounts). record c { acked = c.acked + length_in l.shape.slots (range_ended 2 (half_heard l.transcript.client) packet) } in
     keep_client l.shape.slots (after l (OnWire (Took A packet false))).work (after l (OnWire (Took A packet false))).wire.wire l.ring adds l.work.client (λ k. refl) (λ k. refl)
     (λ k is. (omega arith, facts.announced (adds k) (ap (change_client adds) is)))
     (λ k finished descs is at most. facts.acked (adds k) finished descs (ap (change_client adds) is) facts.table.0 at)
@@ -194,8 +194,8 @@ wire_slots s l (Sent A packet true) t step facts slots = opened_slots s l packet
 wire_slots s l (Sent A packet false) t step facts slots =
     let adds : ClientCounts → ClientCounts =
     λ (c : ClientCounts). record c {
-      announced = c.announced + length_in l.shape.slots (range_ended 1 (half_said l.talk.client) packet);
-      infos = c.infos + one_in (range_ended 1 (half_said l.talk.client) packet);
+      announced = c.announced + length_in l.shape.slots (range_ended 1 (half_said l.transcript.client) packet);
+      infos = c.infos + one_in (range_ended 1 (half_said l.transcript.client) packet);
     } in
     keep_client l.shape.slots (after l (OnWire (Sent A packet false))).work (after l (OnWire (Sent A packet false))).wire.wire l.ring adds l.work.client (λ k. refl) (λ k. refl)
     (λ k is. (omega arith, facts.announced (adds k) (ap (change_client adds) is)))
@@ -362,8 +362,8 @@ event_slots s l (Asks (Accepted id request)) t step facts slots = keep_server l.
 event_slots s l (Asks (Full request)) t step facts slots = slots
 event_slots s l (Asks (Refused why request)) t step facts slots = slots
 event_slots s l (Works event) t step facts slots = work_slots s l event t step facts slots
-event_slots s l (Turns Stopped) t step facts slots =
-    keep_server l.shape.slots l.work (after l (Turns Stopped)).work l.wire.wire (after l (Turns Stopped)).wire.wire l.ring l.work.client refl (λ finished descs at. at_closed l.wire.wire finished descs) slots
-event_slots s l (Turns Started) t step facts slots = keep_server l.shape.slots l.work (after l (Turns Started)).work l.wire.wire l.wire.wire l.ring l.work.client refl (λ finished descs at. at) slots
-event_slots s l (Turns Off) t step facts slots = slots
-event_slots s l (Rests event) t step facts slots = slots
+event_slots s l (Switches Stopped) t step facts slots =
+    keep_server l.shape.slots l.work (after l (Switches Stopped)).work l.wire.wire (after l (Switches Stopped)).wire.wire l.ring l.work.client refl (λ finished descs at. at_closed l.wire.wire finished descs) slots
+event_slots s l (Switches Started) t step facts slots = keep_server l.shape.slots l.work (after l (Switches Started)).work l.wire.wire l.wire.wire l.ring l.work.client refl (λ finished descs at. at) slots
+event_slots s l (Switches Off) t step facts slots = slots
+event_slots s l (Calms event) t step facts slots = slots

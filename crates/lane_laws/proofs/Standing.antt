@@ -9,7 +9,7 @@ use Rattle.lane_laws.proofs.LaneCounting.{Knows}
 use Rattle.lane_laws.proofs.Requesting.{first_done}
 use Rattle.lane_laws.proofs.RingWork.{Known}
 use Rattle.lane_laws.specs.SlotsInOrder.{SlotsInOrder}
-use Rattle.lane_laws.specs.Standing.{LaneStands}
+use Rattle.lane_laws.specs.Standing.{LaneInvariant}
 use Rattle.lane_laws.proofs.LiveCounts.{KIs, counts_while}
 
 -- THE COUNTS: what is finished, and what was ever published
@@ -31,5 +31,5 @@ pub record Before (s : LaneState) (l : DiskLog) : Type 0 where
   pub near : NearStands s l
   pub alive : (d : ServerCounts) → l.wire.wire.end_b ≡ Up → l.work.server ≡ Some d → l.wire.wire.end_a ≡ Up
 
-pub ever_count : (s : LaneState) (l : DiskLog) → LaneStands s l → ever_published_count s.client ≡ s.client.ever_published - l.work.done
+pub ever_count : (s : LaneState) (l : DiskLog) → LaneInvariant s l → ever_published_count s.client ≡ s.client.ever_published - l.work.done
 ever_count s l stands = let first = first_done s.client l.work stands.requests in ap (λ (n : ℕ). s.client.ever_published - n) (sym first)

@@ -9,24 +9,23 @@ use Rattle.disk_model.specs.DiskLog.{DiskLog, after, nothing_yet}
 use Rattle.disk_model.specs.RequestLaws.{AdmissionAt, OnceAt, TurnsAt}
 use Rattle.disk_model.specs.WorkLog.{WorkLog}
 use Rattle.disk_model.specs.ClientState.{ClientState}
-use Rattle.disk_model.specs.DiskEvent.{Accepted, Admitted, Asks, Calm, CalmReset, CalmRestart, CalmStart, CalmStop, CalmTick, Desc, DiskEvent, Done, Finished, Full, Misplaced, Moved, Off, OnWire, Published, Refused, Rests, Started, Stopped, Stored, Switched, Turns, Worked, Works}
+use Rattle.disk_model.specs.DiskEvent.{Accepted, Admitted, Asks, Calm, CalmReset, CalmRestart, CalmStart, CalmStop, CalmTick, Desc, DiskEvent, Done, Finished, Full, Misplaced, Moved, Off, OnWire, Published, Refused, Calms, Started, Stopped, Stored, Switched, Switches, Worked, Works}
 use Rattle.disk_model.specs.LaneState.{IsShape, LaneState, Shape, fresh}
 use Rattle.disk_model.specs.LaneStep.{LaneStep, RestStep, ServerWorks, TurnStep, WorkStep}
 use Rattle.disk_model.specs.Seeing.{seen}
-use Rattle.lane_laws.proofs.HeardFront.{fresh_talks}
-use Rattle.lane_laws.proofs.LaneStepping.{LaneTalks, talks_step}
+use Rattle.lane_laws.proofs.LaneStepping.{LaneTranscripts, transcripts_step, fresh_transcripts}
 use Rattle.lane_laws.proofs.Requesting.{accepted_stand, completed_next, kept_stand, published_kept, same_stand}
 use Rattle.lane_laws.proofs.StandingSteps.{Behind, on_wire}
-use Rattle.lane_laws.specs.Standing.{LaneStands, MayOfRequests, RequestsStand}
+use Rattle.lane_laws.specs.Standing.{LaneInvariant, MayOfRequests, RequestsStand}
 
 -- what is pending is counted by the log too
 pub pending_is : (c : ClientState) (w : WorkLog) → RequestsStand c w → length c.pending ≡ length w.issued - w.done
 pending_is c w stand = ap length stand.pending ∙ length-drop w.done w.issued
 
 -- the lane with another client, and nothing else
-stands_by : (s : LaneState) (l : DiskLog) (event : DiskEvent) (t : LaneState) (x : DiskLog) → LaneStands s l → x.shape ≡ l.shape → x.wire ≡ l.wire → x.work.stopped ≡ l.work.stopped
+stands_by : (s : LaneState) (l : DiskLog) (event : DiskEvent) (t : LaneState) (x : DiskLog) → LaneInvariant s l → x.shape ≡ l.shape → x.wire ≡ l.wire → x.work.stopped ≡ l.work.stopped
     → t.shape ≡ s.shape → t.wire ≡ s.wire → t.stopped ≡ s.stopped → t.client.blocks ≡ s.client.blocks → t.client.slots ≡ s.client.slots → RequestsStand t.client x.work
-    → LaneStands t x
+    → LaneInvariant t x
 stands_by s l event t x stands shape_is wire_is stopped_is shape wire stopped blocks slots requests = record {
   shape = shape ∙ stands.shape ∙ sym shape_is;
   wire = wire ∙ stands.wire ∙ sym wire_is;
@@ -37,13 +36,13 @@ stands_by s l event t x stands shape_is wire_is stopped_is shape wire stopped bl
 }
 
 -- REQUESTS
-blocks_is : (s : LaneState) (l : DiskLog) → LaneStands s l → s.client.blocks ≡ l.shape.blocks
+blocks_is : (s : LaneState) (l : DiskLog) → LaneInvariant s l → s.client.blocks ≡ l.shape.blocks
 blocks_is s l stands = stands.blocks ∙ ap (λ (y : Shape). y.blocks) stands.shape
 
-slots_is : (s : LaneState) (l : DiskLog) → LaneStands s l → s.client.slots ≡ l.shape.slots
+slots_is : (s : LaneState) (l : DiskLog) → LaneInvariant s l → s.client.slots ≡ l.shape.slots
 slots_is s l stands = stands.slots ∙ ap (λ (y : Shape). y.slots) stands.shape
 
-asks : (s : LaneState) (l : DiskLog) (event : Admitted) (t : LaneState) → LaneStands s l → LaneStep s (Asks event) t → Behind s l (Asks event) t
+asks : (s : LaneState) (l : DiskLog) (event : Admitted) (t : LaneState) → LaneInvariant s l → LaneStep s (Asks event) t → Behind s l (Asks event) t
 asks s l (Refused why request) t stands step = record {
   may = record { admission = ap (λ (n : ℕ). defect n request) (sym (blocks_is s l stands)) ∙ step.0.0; once = tt; turns = tt };
   stands = stands_by s l (Asks (Refused why request)) t (after l (Asks (Refused why request))) stands refl refl refl
@@ -79,9 +78,9 @@ asks s l (Accepted id request) t stands step = record {
 }
 
 -- THE WORK
-server_works : (s : LaneState) (l : DiskLog) (gave : List ℕ) (event : Worked) (t : LaneState) → LaneStands s l → ServerWorks s gave event t
+server_works : (s : LaneState) (l : DiskLog) (gave : List ℕ) (event : Worked) (t : LaneState) → LaneInvariant s l → ServerWorks s gave event t
     → (after l (Works event)).work.issued ≡ l.work.issued → (after l (Works event)).work.done ≡ l.work.done → (after l (Works event)).work.stopped ≡ l.work.stopped
-    → LaneStands t (after l (Works event))
+    → LaneInvariant t (after l (Works event))
 server_works s l gave event t stands step issued done stopped =
     let same : t.client ≡ s.client = ap (λ (x : LaneState). x.client) step.is in
     stands_by s l (Works event) t (after l (Works event)) stands refl refl stopped
@@ -89,7 +88,7 @@ server_works s l gave event t stands step issued done stopped =
     (ap (λ (c : ClientState). c.blocks) same) (ap (λ (c : ClientState). c.slots) same)
     (subst (λ (c : ClientState). RequestsStand c (after l (Works event)).work) (sym same) (same_stand s.client l.work (after l (Works event)).work issued done stands.requests))
 
-works : (s : LaneState) (l : DiskLog) (event : Worked) (t : LaneState) → LaneStands s l → WorkStep s event t → Behind s l (Works event) t
+works : (s : LaneState) (l : DiskLog) (event : Worked) (t : LaneState) → LaneInvariant s l → WorkStep s event t → Behind s l (Works event) t
 works s l (Published id) t stands step =
     let kept = published_kept s.client (seen A s.shape.entries s.wire.wire) s.memory id t.client t.memory step.step in
     record {
@@ -128,8 +127,8 @@ works s l (Finished slot status) t stands step = record {
 works s l Misplaced t stands step = absurd step
 
 -- STOPS, and what changes nothing
-same_lane : (s : LaneState) (l : DiskLog) (event : DiskEvent) (t : LaneState) → LaneStands s l → t ≡ s → (after l event).wire ≡ l.wire → (after l event).work ≡ l.work
-    → LaneStands t (after l event)
+same_lane : (s : LaneState) (l : DiskLog) (event : DiskEvent) (t : LaneState) → LaneInvariant s l → t ≡ s → (after l event).wire ≡ l.wire → (after l event).work ≡ l.work
+    → LaneInvariant t (after l event)
 same_lane s l event t stands is wire work =
     let same : t.client ≡ s.client = ap (λ (x : LaneState). x.client) is in
     stands_by s l event t (after l event) stands refl wire (ap (λ (w : WorkLog). w.stopped) work)
@@ -137,7 +136,7 @@ same_lane s l event t stands is wire work =
     (ap (λ (c : ClientState). c.blocks) same) (ap (λ (c : ClientState). c.slots) same)
     (subst (λ (c : ClientState). RequestsStand c (after l event).work) (sym same) (subst (λ (w : WorkLog). RequestsStand s.client w) (sym work) stands.requests))
 
-turns : (s : LaneState) (l : DiskLog) (event : Switched) (t : LaneState) → LaneStands s l → TurnStep s event t → Behind s l (Turns event) t
+turns : (s : LaneState) (l : DiskLog) (event : Switched) (t : LaneState) → LaneInvariant s l → TurnStep s event t → Behind s l (Switches event) t
 turns s l Stopped t stands step =
     let same : t.client ≡ s.client = ap (λ (x : LaneState). x.client) step.1 in
     record {
@@ -148,7 +147,7 @@ turns s l Stopped t stands step =
         stopped = ap (λ (x : LaneState). x.stopped) step.1;
         blocks = ap (λ (c : ClientState). c.blocks) same ∙ stands.blocks ∙ ap (λ (x : LaneState). x.shape.blocks) (sym step.1);
         slots = ap (λ (c : ClientState). c.slots) same ∙ stands.slots ∙ ap (λ (x : LaneState). x.shape.slots) (sym step.1);
-        requests = subst (λ (c : ClientState). RequestsStand c (after l (Turns Stopped)).work) (sym same) (same_stand s.client l.work (after l (Turns Stopped)).work refl refl stands.requests);
+        requests = subst (λ (c : ClientState). RequestsStand c (after l (Switches Stopped)).work) (sym same) (same_stand s.client l.work (after l (Switches Stopped)).work refl refl stands.requests);
       };
     }
 turns s l Started t stands step =
@@ -161,39 +160,39 @@ turns s l Started t stands step =
         stopped = ap (λ (x : LaneState). x.stopped) step.1;
         blocks = ap (λ (c : ClientState). c.blocks) same ∙ stands.blocks ∙ ap (λ (x : LaneState). x.shape.blocks) (sym step.1);
         slots = ap (λ (c : ClientState). c.slots) same ∙ stands.slots ∙ ap (λ (x : LaneState). x.shape.slots) (sym step.1);
-        requests = subst (λ (c : ClientState). RequestsStand c (after l (Turns Started)).work) (sym same) (same_stand s.client l.work (after l (Turns Started)).work refl refl stands.requests);
+        requests = subst (λ (c : ClientState). RequestsStand c (after l (Switches Started)).work) (sym same) (same_stand s.client l.work (after l (Switches Started)).work refl refl stands.requests);
       };
     }
 turns s l Off t stands step = record {
   may = record { admission = tt; once = tt; turns = sym stands.stopped ∙ step.0 };
-  stands = same_lane s l (Turns Off) t stands step.1 refl refl;
+  stands = same_lane s l (Switches Off) t stands step.1 refl refl;
 }
 
-rests : (s : LaneState) (l : DiskLog) (event : Calm) (t : LaneState) → LaneStands s l → RestStep s event t → Behind s l (Rests event) t
-rests s l CalmTick t stands step = record { may = record { admission = tt; once = tt; turns = tt }; stands = same_lane s l (Rests CalmTick) t stands step.1 refl refl }
+rests : (s : LaneState) (l : DiskLog) (event : Calm) (t : LaneState) → LaneInvariant s l → RestStep s event t → Behind s l (Calms event) t
+rests s l CalmTick t stands step = record { may = record { admission = tt; once = tt; turns = tt }; stands = same_lane s l (Calms CalmTick) t stands step.1 refl refl }
 rests s l CalmStop t stands step =
-    record { may = record { admission = tt; once = tt; turns = sym stands.stopped ∙ step.0 }; stands = same_lane s l (Rests CalmStop) t stands step.1 refl refl }
+    record { may = record { admission = tt; once = tt; turns = sym stands.stopped ∙ step.0 }; stands = same_lane s l (Calms CalmStop) t stands step.1 refl refl }
 rests s l CalmStart t stands step =
-    record { may = record { admission = tt; once = tt; turns = sym stands.stopped ∙ step.0 }; stands = same_lane s l (Rests CalmStart) t stands step.1 refl refl }
+    record { may = record { admission = tt; once = tt; turns = sym stands.stopped ∙ step.0 }; stands = same_lane s l (Calms CalmStart) t stands step.1 refl refl }
 rests s l (CalmReset A) t stands step = absurd step
 rests s l (CalmReset B) t stands step =
-    record { may = record { admission = tt; once = tt; turns = sym stands.stopped ∙ step.0 }; stands = same_lane s l (Rests (CalmReset B)) t stands step.1 refl refl }
+    record { may = record { admission = tt; once = tt; turns = sym stands.stopped ∙ step.0 }; stands = same_lane s l (Calms (CalmReset B)) t stands step.1 refl refl }
 rests s l CalmRestart t stands step =
-    record { may = record { admission = tt; once = tt; turns = sym stands.stopped ∙ step.0 }; stands = same_lane s l (Rests CalmRestart) t stands step.1 refl refl }
+    record { may = record { admission = tt; once = tt; turns = sym stands.stopped ∙ step.0 }; stands = same_lane s l (Calms CalmRestart) t stands step.1 refl refl }
 
-pub stands_step : (s : LaneState) (l : DiskLog) (event : DiskEvent) (t : LaneState) → LaneTalks s l.talk → LaneStands s l → LaneStep s event t → Behind s l event t
-stands_step s l (OnWire event) t talks stands step = on_wire s l event t talks.client stands step
-stands_step s l (Asks event) t talks stands step = asks s l event t stands step
-stands_step s l (Works event) t talks stands step = works s l event t stands step
-stands_step s l (Turns event) t talks stands step = turns s l event t stands step
-stands_step s l (Rests event) t talks stands step = rests s l event t stands step
+pub stands_step : (s : LaneState) (l : DiskLog) (event : DiskEvent) (t : LaneState) → LaneTranscripts s l.transcript → LaneInvariant s l → LaneStep s event t → Behind s l event t
+stands_step s l (OnWire event) t transcripts stands step = on_wire s l event t transcripts.client stands step
+stands_step s l (Asks event) t transcripts stands step = asks s l event t stands step
+stands_step s l (Works event) t transcripts stands step = works s l event t stands step
+stands_step s l (Switches event) t transcripts stands step = turns s l event t stands step
+stands_step s l (Calms event) t transcripts stands step = rests s l event t stands step
 
 -- ALONG EVERY RUN
 record Both (s : LaneState) (l : DiskLog) : Type 0 where
-  talks : LaneTalks s l.talk
-  stands : LaneStands s l
+  transcripts : LaneTranscripts s l.transcript
+  stands : LaneInvariant s l
 
-pub fresh_stands : (shape : Shape) → LaneStands (fresh shape) (nothing_yet shape)
+pub fresh_stands : (shape : Shape) → LaneInvariant (fresh shape) (nothing_yet shape)
 fresh_stands shape = record {
   shape = refl;
   wire = refl;
@@ -205,13 +204,13 @@ fresh_stands shape = record {
 
 both_step : (s : LaneState) (l : DiskLog) (event : DiskEvent) (t : LaneState) → Both s l → LaneStep s event t → MayOfRequests l event × Both t (after l event)
 both_step s l event t both step =
-    let behind = stands_step s l event t both.talks both.stands step in
-    (behind.may, record { talks = talks_step s event t l.talk both.talks step; stands = behind.stands })
+    let behind = stands_step s l event t both.transcripts both.stands step in
+    (behind.may, record { transcripts = transcripts_step s event t l.transcript both.transcripts step; stands = behind.stands })
 
 pub requests_lawful : (shape : Shape) (events : List DiskEvent) (s : LaneState) → IsShape shape → Run LaneStep (fresh shape) events s → Lawful MayOfRequests after (nothing_yet shape) events
 requests_lawful shape events s sound run =
     (run_lawful LaneStep MayOfRequests after Both both_step (fresh shape) s (nothing_yet shape) events
-    (record { talks = fresh_talks shape sound; stands = fresh_stands shape }) run).0
+    (record { transcripts = fresh_transcripts shape sound; stands = fresh_stands shape }) run).0
 
 -- a law that follows from another, event by event
 pub lawful_by : (May Other : DiskLog → DiskEvent → Type 0) → ((l : DiskLog) (e : DiskEvent) → May l e → Other l e) → (l : DiskLog) (events : List DiskEvent) → Lawful May after l events

@@ -3,7 +3,7 @@ use Rattle.std.proofs.Common.{◌≡◌, ℕ, Option, List, refl, sym, ap, ◌�
 use Rattle.ldc_queue.specs.declared.end.End.{End}
 use Rattle.ldc_queue.specs.declared.end.End.TheVariants.{A, B}
 use Rattle.vio_tag.specs.declared.cause.Cause.{Cause}
-use Rattle.disk_model.specs.TalkLog.{TalkLog}
+use Rattle.disk_model.specs.TranscriptLog.{TranscriptLog}
 use Rattle.disk_model.specs.WireEvent.{Blocked, ByRestart, ByScript, ByStep, ByTick, Declines, Giver, Idle, Injected, Joined, Lost, Poked, Reset, Sent, Took, WireEvent, giver}
 use Rattle.disk_model.specs.WireLog.{WireLog, wire_moved}
 use Rattle.disk_model.specs.DiskLog.{DiskLog, after}
@@ -18,12 +18,12 @@ use Rattle.lane_laws.proofs.Requesting.{KeepsRequests, held_kept, joined_kept, k
 use Rattle.lane_laws.proofs.Ruling.{client_may}
 use Rattle.disk_model.specs.ClientRule.{client_rule}
 use Rattle.lane_laws.specs.Sound.{ClientSound}
-use Rattle.lane_laws.specs.Standing.{LaneStands, MayOfRequests}
+use Rattle.lane_laws.specs.Standing.{LaneInvariant, MayOfRequests}
 
 -- a state and a log after an event
 pub record Behind (s : LaneState) (l : DiskLog) (event : DiskEvent) (t : LaneState) : Type 0 where
   pub may : MayOfRequests l event
-  pub stands : LaneStands t (after l event)
+  pub stands : LaneInvariant t (after l event)
 
 -- what the wire's events leave of the log of requests
 pub record LogKeeps (w x : WorkLog) : Type 0 where
@@ -31,16 +31,16 @@ pub record LogKeeps (w x : WorkLog) : Type 0 where
   pub done : x.done ≡ w.done
   pub stopped : x.stopped ≡ w.stopped
 
-pub wired_keeps : (slots : ℕ) (talk : TalkLog) (w : WorkLog) (event : WireEvent) → LogKeeps w (work_wired slots talk w event)
-wired_keeps slots talk w (Joined A lost) = record { issued = refl; done = refl; stopped = refl }
-wired_keeps slots talk w (Joined B lost) = record { issued = refl; done = refl; stopped = refl }
-wired_keeps slots talk w (Reset A cause packet lost) = record { issued = refl; done = refl; stopped = refl }
-wired_keeps slots talk w (Reset B cause packet lost) = record { issued = refl; done = refl; stopped = refl }
-wired_keeps slots talk w (Took A packet opens) = record { issued = refl; done = refl; stopped = refl }
-wired_keeps slots talk w (Took B packet opens) = record { issued = refl; done = refl; stopped = refl }
-wired_keeps slots talk w (Sent A packet opens) = record { issued = refl; done = refl; stopped = refl }
-wired_keeps slots talk w (Sent B packet opens) = record { issued = refl; done = refl; stopped = refl }
-wired_keeps slots talk w _ = record { issued = refl; done = refl; stopped = refl }
+pub wired_keeps : (slots : ℕ) (transcript : TranscriptLog) (w : WorkLog) (event : WireEvent) → LogKeeps w (work_wired slots transcript w event)
+wired_keeps slots transcript w (Joined A lost) = record { issued = refl; done = refl; stopped = refl }
+wired_keeps slots transcript w (Joined B lost) = record { issued = refl; done = refl; stopped = refl }
+wired_keeps slots transcript w (Reset A cause packet lost) = record { issued = refl; done = refl; stopped = refl }
+wired_keeps slots transcript w (Reset B cause packet lost) = record { issued = refl; done = refl; stopped = refl }
+wired_keeps slots transcript w (Took A packet opens) = record { issued = refl; done = refl; stopped = refl }
+wired_keeps slots transcript w (Took B packet opens) = record { issued = refl; done = refl; stopped = refl }
+wired_keeps slots transcript w (Sent A packet opens) = record { issued = refl; done = refl; stopped = refl }
+wired_keeps slots transcript w (Sent B packet opens) = record { issued = refl; done = refl; stopped = refl }
+wired_keeps slots transcript w _ = record { issued = refl; done = refl; stopped = refl }
 
 -- WHAT A STEP ON THE WIRE does to the lane beside its memory and its ends
 pub record OnlyWire (s : LaneState) (event : WireEvent) (t : LaneState) : Type 0 where
@@ -178,10 +178,10 @@ wire_turn s w (Injected e packet) t stopped step = tt
 wire_turn s w (Poked e at bytes) t stopped step = tt
 wire_turn s w (Declines d) t stopped step = tt
 
-pub on_wire : (s : LaneState) (l : DiskLog) (event : WireEvent) (t : LaneState) → ClientSound s.client → LaneStands s l → WireStep s event t → Behind s l (OnWire event) t
+pub on_wire : (s : LaneState) (l : DiskLog) (event : WireEvent) (t : LaneState) → ClientSound s.client → LaneInvariant s l → WireStep s event t → Behind s l (OnWire event) t
 on_wire s l event t sound stands step =
     let only = wire_only s event t sound step in
-    let keeps = wired_keeps l.shape.slots l.talk l.work event in
+    let keeps = wired_keeps l.shape.slots l.transcript l.work event in
     record {
       may = record { admission = tt; once = tt; turns = wire_turn s l.work event t stands.stopped step };
       stands = record {
@@ -190,6 +190,6 @@ on_wire s l event t sound stands step =
         stopped = only.stopped ∙ stands.stopped ∙ sym keeps.stopped;
         blocks = only.kept.blocks ∙ stands.blocks ∙ ap (λ (x : Shape). x.blocks) (sym only.shape);
         slots = only.kept.slots ∙ stands.slots ∙ ap (λ (x : Shape). x.slots) (sym only.shape);
-        requests = same_stand t.client l.work (work_wired l.shape.slots l.talk l.work event) keeps.issued keeps.done (kept_stand s.client t.client l.work stands.requests only.kept);
+        requests = same_stand t.client l.work (work_wired l.shape.slots l.transcript l.work event) keeps.issued keeps.done (kept_stand s.client t.client l.work stands.requests only.kept);
       };
     }

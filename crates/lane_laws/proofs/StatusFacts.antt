@@ -10,12 +10,12 @@ use Rattle.ldc_link.specs.LinkState.{is_up}
 use Rattle.ldc_queue.specs.declared.end.ChannelState.TheVariants.{Up}
 use Rattle.ldc_queue.specs.declared.end.End.TheVariants.{A, B}
 use Rattle.ldc_queue.specs.OneStream.{IsFront}
-use Rattle.ldc_queue.specs.Talk.{Heard as Heard_, Said, Turn}
+use Rattle.ldc_queue.specs.Transcript.{Heard as Heard_, Said, Turn}
 use Rattle.vio_handshake.proofs.Places.{AllSaid, AttributesAnswered, AttributesSaid, Deal, PeerReadyAnswered, PeerReadySaid, PeerRingAnswered, PeerRingSaid, Place, ReadyAnswered, ReadySaid, RingAnswered, RingSaid, VersionAnswered, VersionSaid}
 use Rattle.vio_handshake.specs.declared.handshake.Phase.TheVariants.{Open}
 use Rattle.vio_handshake.specs.Rules.{opens_by_put}
 use Rattle.disk_model.specs.Sayings.{half_heard, half_said, heard, said}
-use Rattle.disk_model.specs.TalkLog.{TalkLog}
+use Rattle.disk_model.specs.TranscriptLog.{TranscriptLog}
 use Rattle.disk_model.specs.WireEvent.{Sent, Took}
 use Rattle.disk_model.specs.WireLog.{WireLog}
 use Rattle.disk_model.specs.Agreement.{ClientAgrees}
@@ -27,14 +27,15 @@ use Rattle.disk_model.specs.ClientPutting.{client_kind}
 use Rattle.disk_model.specs.ClientRule.{client_rule}
 use Rattle.disk_model.specs.ClientState.{ClientSession, ClientState}
 use Rattle.disk_model.specs.DiskEvent.{DiskEvent, OnWire}
-use Rattle.disk_model.specs.EndPuts.{ComesUp, EndsOwn, EndsShake, Goes, PutKind, put_opens}
+use Rattle.disk_model.specs.EndPuts.{ComesUp, EndsOwn, EndsHandshake, Goes, PutKind, put_opens}
 use Rattle.disk_model.specs.LaneState.{IsShape, LaneState, Shape, fresh}
 use Rattle.disk_model.specs.LaneStep.{LaneStep}
 use Rattle.disk_model.specs.Seeing.{seen}
 use Rattle.disk_model.specs.ServerState.{ServerState}
-use Rattle.lane_laws.proofs.Agreeing.{client_some, server_open, talk_is}
+use Rattle.lane_laws.proofs.Agreeing.{client_some, server_open}
+use Rattle.lane_laws.proofs.LaneCores.{transcript_is}
 use Rattle.lane_laws.proofs.ClientPlacing.{ClientAt}
-use Rattle.lane_laws.proofs.ClientResting.{client_blocked_rests}
+use Rattle.lane_laws.proofs.Speaking.{client_blocked_rests}
 use Rattle.lane_laws.proofs.HeardFront.{heard_messages}
 use Rattle.lane_laws.proofs.LaneCounting.{Knows, few_slots, run_knows}
 use Rattle.lane_laws.proofs.LanePlacing.{LanePlaced}
@@ -48,30 +49,31 @@ use Rattle.lane_laws.proofs.RingWork.{Known, ids_in, turn_in}
 use Rattle.lane_laws.proofs.Ruling.{client_may}
 use Rattle.lane_laws.proofs.ServerCounting.{opens_new}
 use Rattle.lane_laws.proofs.ServerEndCounting.{server_puts_counting}
-use Rattle.lane_laws.proofs.EndUttering.{is_open_up}
+use Rattle.lane_laws.proofs.Awake.{is_open_up}
 use Rattle.lane_laws.proofs.ServerPlacing.{ServerPlaced}
 use Rattle.lane_laws.proofs.ServerTaken.{server_took_what}
 use Rattle.lane_laws.proofs.SlotsAlong.{run_slots}
 use Rattle.lane_laws.proofs.SlotsOrdered.{finished_more}
 use Rattle.lane_laws.proofs.TableRuns.{table_lawful}
 use Rattle.lane_laws.specs.LaneRests.{ClientRests, ClientUtters}
-use Rattle.lane_laws.specs.LaneTalks.{talk_behind}
+use Rattle.lane_laws.specs.LaneTranscripts.{transcript_behind}
 use Rattle.lane_laws.specs.RingAgreed.{OneRing}
 use Rattle.lane_laws.specs.RingSlots.{IdStands}
 use Rattle.lane_laws.specs.SlotsInOrder.{SlotsIn, SlotsInOrder, SlotsOf}
 use Rattle.lane_laws.specs.TableStands.{TableAt}
 use Rattle.lane_laws.proofs.StatusSteps.{NoneDone, front_named, hears_fifth, says_fifth}
 use Rattle.lane_laws.specs.Statuses.{IsNamed}
+use Rattle.lane_laws.specs.ChannelEnds.{client_core, server_core}
 
 -- WHAT IS KNOWN before an event and after it
 pub record Around (shape : Shape) (s : LaneState) (l : DiskLog) (event : DiskEvent) (t : LaneState) : Type 0 where
   pub known : Known s l
   pub knows : Knows s l
-  pub placed : LanePlaced shape s l.talk
+  pub placed : LanePlaced shape s l.transcript
   pub table : TableAt l event
   pub next : Knows t (after l event)
-  pub next_placed : LanePlaced shape t (after l event).talk
-  pub front : t.wire.wire.end_b ≡ Up → IsFront (heard (after l event).talk.server) (said (after l event).talk.client)
+  pub next_placed : LanePlaced shape t (after l event).transcript
+  pub front : t.wire.wire.end_b ≡ Up → IsFront (heard (after l event).transcript.server) (said (after l event).transcript.client)
   pub slots : SlotsInOrder (after l event)
 
 pub around : (shape : Shape) (events : List DiskEvent) (s : LaneState) (event : DiskEvent) (t : LaneState) → IsShape shape → Run LaneStep (fresh shape) events s → LaneStep s event t
@@ -85,15 +87,15 @@ around shape events s event t sound run step clean =
     let clean_more : (log_of after (nothing_yet shape) more).wire.forged ≡ false = ap (λ (x : DiskLog). x.wire.forged) behind ∙ clean in
     let next : Knows t (log_of after (nothing_yet shape) more) = run_knows shape more t sound then_run in
     let clean_t : t.wire.forged ≡ false = ap (λ (w : WireLog). w.forged) next.all.stands.wire ∙ clean_more in
-    let talk : talk_behind more ≡ (after l event).talk = sym (talk_is (nothing_yet shape) more) ∙ ap (λ (x : DiskLog). x.talk) behind in
+    let transcript : transcript_behind more ≡ (after l event).transcript = sym (transcript_is (nothing_yet shape) more) ∙ ap (λ (x : DiskLog). x.transcript) behind in
     record {
       known = run_known shape events s sound run clean_before;
       knows = run_knows shape events s sound run;
       placed = run_placed shape events s sound run clean_before;
       table = (lawful_split TableAt after (nothing_yet shape) events (event ∷ []) (table_lawful shape more t sound then_run)).1.0;
       next = subst (Knows t) behind next;
-      next_placed = subst (λ (x : DiskLog). LanePlaced shape t x.talk) behind (run_placed shape more t sound then_run clean_more);
-      front = λ up. subst (λ (x : TalkLog). IsFront (heard x.server) (said x.client)) talk (heard_messages shape more t B sound then_run clean_t up);
+      next_placed = subst (λ (x : DiskLog). LanePlaced shape t x.transcript) behind (run_placed shape more t sound then_run clean_more);
+      front = λ up. subst (λ (x : TranscriptLog). IsFront (heard x.server) (said x.client)) transcript (heard_messages shape more t B sound then_run clean_t up);
       slots = subst SlotsInOrder behind (run_slots shape more t sound then_run clean_more);
     }
 
@@ -120,11 +122,11 @@ not_open : (b : Bool) → b ≡ false → b ≡ true → ⊥
 not_open b closed is = let never : false ≡ true = sym closed ∙ is in absurd (cc never)
 
 -- A SESSION OF THE CLIENT opens where it had none
-kind_opens : (kind : PutKind) (c : ClientState) → c.shake.phase ≡ Open → put_opens kind c.shake ≡ false
+kind_opens : (kind : PutKind) (c : ClientState) → c.handshake.phase ≡ Open → put_opens kind c.handshake ≡ false
 kind_opens Goes c is = refl
 kind_opens ComesUp c is = refl
 kind_opens EndsOwn c is = refl
-kind_opens EndsShake c is = ap (opens_by_put c.shake.role) is ∙ by_role c.shake.role
+kind_opens EndsHandshake c is = ap (opens_by_put c.handshake.role) is ∙ by_role c.handshake.role
   where
     by_role : (r : Role) → opens_by_put r Open ≡ false
     by_role Initiator = refl
@@ -140,10 +142,10 @@ sends_new shape s l packet t now step =
     let at = seen A s.shape.entries s.wire.wire in
     let sends = step.step in
     let held = sends.held in
-    let rests : ClientRests held l.talk.client = client_blocked_rests s.client at held l.talk.client sends.holds now.knows.rests.client in
+    let rests : ClientRests held l.transcript.client = client_blocked_rests s.client at held l.transcript.client now.knows.all.transcripts.client sends.holds now.knows.rests.client in
     let same : is_some held.session ≡ is_some s.client.session = held_open s.client at (client_rule s.client at) held (client_may s.client at) sends.holds in
     none_if s.client.session (λ open_one.
-    let closed : put_opens (client_kind held) held.shake ≡ false = kind_opens (client_kind held) held (rests.opened (same ∙ open_one)) in
+    let closed : put_opens (client_kind held) held.handshake ≡ false = kind_opens (client_kind held) held (rests.opened (same ∙ open_one)) in
     let never : true ≡ false = sends.opens_is ∙ closed in absurd (cc never))
 
 few_said : (shape : Shape) (sid : ℕ) (c : ClientState) (turns : List Turn) → ClientUtters c turns → ClientAt shape sid c turns → c.session ≡ None → length (said turns) ≤ 4
@@ -161,14 +163,14 @@ few_said shape sid c turns utters placed none = by_up (is_up c.link) refl
         )
 
 pub names_session : (shape : Shape) (s : LaneState) (l : DiskLog) (packet : List ℕ) (t : LaneState) → Around shape s l (OnWire (Sent A packet true)) t → LaneStep s (OnWire (Sent A packet true)) t
-    → IsNamed (opening_sid (half_said l.talk.client) packet) (said (Said packet ∷ l.talk.client))
+    → IsNamed (opening_sid (half_said l.transcript.client) packet) (said (Said packet ∷ l.transcript.client))
 names_session shape s l packet t now step =
     let up : s.wire.wire.end_a ≡ Up = ap (λ (w : WireLog). w.wire.end_a) now.knows.all.stands.wire ∙ now.table.0 in
     let up_t : t.wire.wire.end_a ≡ Up = ap (λ (x : LaneState). x.wire.wire.end_a) step.is ∙ up in
-    let few = few_said shape now.placed.sid s.client l.talk.client now.knows.utters.client (now.placed.client up) (sends_new shape s l packet t now step) in
+    let few = few_said shape now.placed.sid s.client l.transcript.client now.knows.utters.client (now.placed.client up) (sends_new shape s l packet t now step) in
     let open_one : is_some t.client.session ≡ true = client_some t.client.session _ _ _ refl now.next.counted.client.agrees in
-    let at = (now.next_placed.client up_t).up (is_open_up Initiator t.client.link t.client.shake (is_some t.client.session) (Said packet ∷ l.talk.client) now.next.rests.client open_one) in
-    says_fifth packet l.talk.client few
+    let at = (now.next_placed.client up_t).up (is_open_up Initiator (client_core t.client) (Said packet ∷ l.transcript.client) now.next.rests.client open_one) in
+    says_fifth packet l.transcript.client few
     (subst (λ (xs : List (List ℕ)). 5 ≤ length xs) (sym at.said_is) (five_at (deal shape now.next_placed.sid 0) at.place at.mine (at.opens open_one)))
 
 -- and no server whose end is up works
@@ -198,17 +200,17 @@ few_heard shape sid v turns placed none = by_up (is_up v.link) refl
         )
 
 pub hears_session : (shape : Shape) (s : LaneState) (l : DiskLog) (packet : List ℕ) (t : LaneState) → Around shape s l (OnWire (Took B packet true)) t → LaneStep s (OnWire (Took B packet true)) t
-    → IsNamed (opening_sid (half_heard l.talk.server) packet) (said l.talk.client)
+    → IsNamed (opening_sid (half_heard l.transcript.server) packet) (said l.transcript.client)
 hears_session shape s l packet t now step =
     let up : s.wire.wire.end_b ≡ Up = ap (λ (w : WireLog). w.wire.end_b) now.knows.all.stands.wire ∙ now.table.0 in
     let up_t : t.wire.wire.end_b ≡ Up = ap (λ (x : LaneState). x.wire.wire.end_b) step.1.is ∙ up in
-    let took = server_took_what s.server l.talk.server packet t.server true now.knows.all.talks.follows_b now.knows.rests.server.whole step.1.step.1.1 in
-    let few = few_heard shape now.placed.sid s.server l.talk.server (now.placed.server up) (opens_new s.server t.server l.talk.server packet now.knows.rests.server took) in
+    let took = server_took_what s.server l.transcript.server packet t.server true now.knows.all.transcripts.follows_b now.knows.rests.server.whole step.1.step.1.1 in
+    let few = few_heard shape now.placed.sid s.server l.transcript.server (now.placed.server up) (opens_new s.server t.server l.transcript.server packet now.knows.rests.server took) in
     let open_one : is_some t.server.session ≡ true = server_open t.server.session t.server.work _ _ refl now.next.counted.server.agrees in
-    let at = (now.next_placed.server up_t).up (is_open_up Responder t.server.link t.server.shake (is_some t.server.session) (Heard_ packet ∷ l.talk.server) now.next.rests.server open_one) in
-    let named = hears_fifth packet l.talk.server few
+    let at = (now.next_placed.server up_t).up (is_open_up Responder (server_core t.server) (Heard_ packet ∷ l.transcript.server) now.next.rests.server open_one) in
+    let named = hears_fifth packet l.transcript.server few
     (subst (λ (xs : List (List ℕ)). 5 ≤ length xs) (sym at.heard_is) (five_at (deal shape now.next_placed.sid 0) at.place at.theirs (at.opens open_one))) in
-    front_named (opening_sid (half_heard l.talk.server) packet) (heard (Heard_ packet ∷ l.talk.server)) (said l.talk.client) (now.front up_t) named
+    front_named (opening_sid (half_heard l.transcript.server) packet) (heard (Heard_ packet ∷ l.transcript.server)) (said l.transcript.client) (now.front up_t) named
 
 -- where the client's session is open no slot is DONE yet
 none_done : (s : LaneState) (l : DiskLog) (k : ClientCounts) (finished descs : ℕ) → Known s l → l.work.client ≡ Some k
@@ -236,6 +238,6 @@ none_given shape s l packet t now k is = none_in s l packet l.work.client now.kn
 -- and none opens by a packet that the server puts
 pub sends_not : (shape : Shape) (s : LaneState) (l : DiskLog) (packet : List ℕ) (t : LaneState) → Around shape s l (OnWire (Sent B packet true)) t → LaneStep s (OnWire (Sent B packet true)) t → ⊥
 sends_not shape s l packet t now step =
-    let both = server_puts_counting l.shape s.server (seen B s.shape.entries s.wire.wire) packet true t.server l.talk.server l.work.server (few_slots s l now.knows) now.knows.all.talks.follows_b
+    let both = server_puts_counting l.shape s.server (seen B s.shape.entries s.wire.wire) packet true t.server l.transcript.server l.work.server (few_slots s l now.knows) now.knows.all.transcripts.follows_b
     step.1.step.1.0 now.knows.rests.server now.knows.utters.server now.knows.counted.server in
     let never : true ≡ false = both.1 in absurd (cc never)

@@ -5,14 +5,14 @@ use Rattle.std.specs.Prelude.{replicate, slice_get}
 use Rattle.runs.specs.Lawful.{Lawful, log_append, log_of, run_lawful}
 use Rattle.runs.specs.Run.{Run, run_push}
 use Rattle.ldc_queue.specs.declared.end.End.TheVariants.{A, B}
-use Rattle.ldc_queue.specs.Talk.{Said}
+use Rattle.ldc_queue.specs.Transcript.{Said}
 use Rattle.disk_model.specs.Sayings.{half_heard, said}
 use Rattle.disk_model.specs.WireEvent.{Blocked, Declines, Idle, Injected, Joined, Lost, Poked, Reset, Sent, Took, WireEvent}
 use Rattle.disk_model.specs.DiskLog.{DiskLog, after, nothing_yet}
 use Rattle.disk_model.specs.RingLog.{Done as IsDone, Free, SlotLog, finished_at, id_at}
 use Rattle.disk_model.specs.WorkLaws.{IfClient, InClient, Unforged, WorkUnforgedAt, last_of}
 use Rattle.disk_model.specs.WorkLog.{ClientCounts, Opened, ServerCounts, change_server, opening_sid, rest_of}
-use Rattle.disk_model.specs.DiskEvent.{Accepted, Asks, Desc, DiskEvent, Done, Finished, Full, Misplaced, Moved, Off, OnWire, Published, Refused, Rests, Started, Stopped, Stored, Turns, Worked, Works}
+use Rattle.disk_model.specs.DiskEvent.{Accepted, Asks, Desc, DiskEvent, Done, Finished, Full, Misplaced, Moved, Off, OnWire, Published, Refused, Calms, Started, Stopped, Stored, Switches, Worked, Works}
 use Rattle.disk_model.specs.LaneState.{IsShape, LaneState, Shape, fresh}
 use Rattle.disk_model.specs.LaneStep.{LaneStep, WorkStep}
 use Rattle.disk_model.specs.Seeing.{seen}
@@ -29,10 +29,10 @@ use Rattle.lane_laws.proofs.WorkRuns.{Serves, fresh_serves, serves_step}
 use Rattle.lane_laws.specs.Statuses.{IsLast, IsNamed, KeepsStatus, LastIn, StatusesStand}
 
 -- A SESSION OPENS
-opened_last : (l : DiskLog) (packet : List ℕ) (o : Option ClientCounts) → IfClient o (λ (k : ClientCounts). IsNamed k.sid (said l.talk.client))
-    → IsNamed (opening_sid (half_heard l.talk.server) packet) (said l.talk.client) → LastIn (after l (OnWire (Took B packet true))).work.server o (after l (OnWire (Took B packet true))).work.opened
+opened_last : (l : DiskLog) (packet : List ℕ) (o : Option ClientCounts) → IfClient o (λ (k : ClientCounts). IsNamed k.sid (said l.transcript.client))
+    → IsNamed (opening_sid (half_heard l.transcript.server) packet) (said l.transcript.client) → LastIn (after l (OnWire (Took B packet true))).work.server o (after l (OnWire (Took B packet true))).work.opened
 opened_last l packet None named hears = tt
-opened_last l packet (Some k) named hears = (one_name (opening_sid (half_heard l.talk.server) packet) k.sid (said l.talk.client) hears named, refl)
+opened_last l packet (Some k) named hears = (one_name (opening_sid (half_heard l.transcript.server) packet) k.sid (said l.transcript.client) hears named, refl)
 
 none_if : (ring : List SlotLog) (opened : List Opened) (o : Option ClientCounts) → ((k : ClientCounts) → o ≡ Some k → (slot id status : ℕ) → slice_get ring slot ≡ Some (IsDone id status) → ⊥)
     → IfClient o (KeepsStatus ring opened)
@@ -61,7 +61,7 @@ sent_status : (opens : Bool) (shape : Shape) (s : LaneState) (l : DiskLog) (pack
 sent_status false shape s l packet t now step stand = record {
   done = keeps_changed _ l.work.client l.ring l.work.opened (λ k. refl) (λ k. refl) stand.done;
   last = λ up. last_client _ l.work.server l.work.client l.work.opened (λ k. refl) (stand.last up);
-  named = named_changed _ l.work.client (said (Said packet ∷ l.talk.client)) (λ k. refl) (named_more l.work.client packet l.talk.client stand.named);
+  named = named_changed _ l.work.client (said (Said packet ∷ l.transcript.client)) (λ k. refl) (named_more l.work.client packet l.transcript.client stand.named);
 }
 sent_status true shape s l packet t now step stand = record {
   done = none_keeps (replicate l.shape.slots Free) l.work.opened (after l (OnWire (Sent A packet true))).work.client (cleared_none l.shape.slots);
@@ -79,7 +79,7 @@ wire_status shape s l (Reset B cause packet lost) t now step stand = record { do
 wire_status shape s l (Took A packet false) t now step stand = record {
   done = keeps_changed _ l.work.client l.ring l.work.opened (λ k. refl) (λ k. refl) stand.done;
   last = λ up. last_client _ l.work.server l.work.client l.work.opened (λ k. refl) (stand.last up);
-  named = named_changed _ l.work.client (said l.talk.client) (λ k. refl) stand.named;
+  named = named_changed _ l.work.client (said l.transcript.client) (λ k. refl) stand.named;
 }
 wire_status shape s l (Took A packet true) t now step stand = let never : true ≡ false = step.step.2 in absurd (cc never)
 wire_status shape s l (Took B packet opens) t now step stand = took_status opens shape s l packet t now step stand
@@ -131,7 +131,7 @@ work_status : (s : LaneState) (l : DiskLog) (event : Worked) (t : LaneState) →
 work_status s l (Published id) t known step stand = record {
   done = published_keeps l.shape.slots l.work.client id l.ring l.work.opened stand.done;
   last = λ up. last_client _ l.work.server l.work.client l.work.opened (λ k. refl) (stand.last up);
-  named = named_changed _ l.work.client (said l.talk.client) (λ k. refl) stand.named;
+  named = named_changed _ l.work.client (said l.transcript.client) (λ k. refl) stand.named;
 }
 work_status s l (Done id operation status bytes) t known step stand =
     record { done = freed_keeps l.shape.slots l.work l.work.client l.ring l.work.opened stand.done; last = stand.last; named = stand.named }
@@ -160,10 +160,10 @@ event_status shape s l (Asks (Accepted id request)) t now step stand = record { 
 event_status shape s l (Asks (Full request)) t now step stand = record { done = stand.done; last = stand.last; named = stand.named }
 event_status shape s l (Asks (Refused why request)) t now step stand = record { done = stand.done; last = stand.last; named = stand.named }
 event_status shape s l (Works event) t now step stand = work_status s l event t now.known step stand
-event_status shape s l (Turns Stopped) t now step stand = record { done = stand.done; last = λ up. tt; named = stand.named }
-event_status shape s l (Turns Started) t now step stand = record { done = stand.done; last = stand.last; named = stand.named }
-event_status shape s l (Turns Off) t now step stand = record { done = stand.done; last = stand.last; named = stand.named }
-event_status shape s l (Rests event) t now step stand = record { done = stand.done; last = stand.last; named = stand.named }
+event_status shape s l (Switches Stopped) t now step stand = record { done = stand.done; last = λ up. tt; named = stand.named }
+event_status shape s l (Switches Started) t now step stand = record { done = stand.done; last = stand.last; named = stand.named }
+event_status shape s l (Switches Off) t now step stand = record { done = stand.done; last = stand.last; named = stand.named }
+event_status shape s l (Calms event) t now step stand = record { done = stand.done; last = stand.last; named = stand.named }
 
 -- ALONG EVERY RUN
 record AlongWork (shape : Shape) (s : LaneState) (l : DiskLog) : Type 0 where
@@ -199,8 +199,8 @@ unforged_at : (shape : Shape) (events : List DiskEvent) (s : LaneState) (event :
 unforged_at shape events s (Works event) t sound run serves stand step = λ clean. worked_unforged shape events s event t sound run serves (stand clean) clean step
 unforged_at shape events s (OnWire event) t sound run serves stand step = λ clean. tt
 unforged_at shape events s (Asks event) t sound run serves stand step = λ clean. tt
-unforged_at shape events s (Turns event) t sound run serves stand step = λ clean. tt
-unforged_at shape events s (Rests event) t sound run serves stand step = λ clean. tt
+unforged_at shape events s (Switches event) t sound run serves stand step = λ clean. tt
+unforged_at shape events s (Calms event) t sound run serves stand step = λ clean. tt
 
 along_step : (shape : Shape) → IsShape shape → (s : LaneState) (l : DiskLog) (event : DiskEvent) (t : LaneState) → AlongWork shape s l → LaneStep s event t
     → WorkUnforgedAt l event × AlongWork shape t (after l event)

@@ -4,7 +4,7 @@ use Rattle.std.specs.Prelude.{⊤, ◌&&◌, ◌==◌, if◌then◌else◌, slic
 use Rattle.std.proofs.lemmas.Bool.{eq-eqb}
 use Rattle.ldc_queue.specs.Fragments.{Fragment, fragment_at, is_part}
 use Rattle.ldc_queue.specs.OneStream.{IsFront}
-use Rattle.ldc_queue.specs.Talk.{Heard as Heard_, Said, Turn}
+use Rattle.ldc_queue.specs.Transcript.{Heard as Heard_, Said, Turn}
 use Rattle.disk_model.specs.Sayings.{half_heard, half_said, heard, said, whole_by, whole_past}
 use Rattle.disk_model.specs.Messages.{sid_of, whole_with}
 use Rattle.disk_model.specs.RingLog.{Done, Free, Ready, SlotLog, fetched_at, freed_at, published_at}

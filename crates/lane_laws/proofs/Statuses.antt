@@ -10,7 +10,7 @@ use Rattle.disk_model.specs.WireEvent.{Blocked, Declines, Idle, Injected, Joined
 use Rattle.disk_model.specs.DiskLog.{DiskLog, after, nothing_yet}
 use Rattle.disk_model.specs.RingLog.{Done as IsDone, Free, Ready, SlotLog, Zeros, cleared_if, fetched_at, finished_at, freed_at, published_at}
 use Rattle.disk_model.specs.WorkLog.{ClientCounts, Opened, ServerCounts, WorkLog, finished_in, opened_more}
-use Rattle.disk_model.specs.DiskEvent.{Accepted, Asks, Desc, DiskEvent, Done, Finished, Full, Misplaced, Moved, Off, OnWire, Published, Refused, Rests, Started, Stopped, Stored, Turns, Works}
+use Rattle.disk_model.specs.DiskEvent.{Accepted, Asks, Desc, DiskEvent, Done, Finished, Full, Misplaced, Moved, Off, OnWire, Published, Refused, Calms, Started, Stopped, Stored, Switches, Works}
 use Rattle.disk_model.specs.LaneState.{IsShape, LaneState, Shape, fresh}
 use Rattle.disk_model.specs.LaneStep.{LaneStep, WorkStep, reach}
 use Rattle.disk_model.specs.Seeing.{seen}
@@ -119,10 +119,10 @@ event_zero s l (Works (Finished slot status)) t before contents step zeros =
     let none = ends_zero s l slot status t before contents step in
     record { ring = finished_zero l.shape.slots l.work l.work.server slot status l.ring none zeros.ring; opened = finished_opened status l.work.opened none zeros.opened }
 event_zero s l (Works Misplaced) t before contents step zeros = record { ring = zeros.ring; opened = zeros.opened }
-event_zero s l (Turns Stopped) t before contents step zeros = record { ring = zeros.ring; opened = zeros.opened }
-event_zero s l (Turns Started) t before contents step zeros = record { ring = zeros.ring; opened = zeros.opened }
-event_zero s l (Turns Off) t before contents step zeros = record { ring = zeros.ring; opened = zeros.opened }
-event_zero s l (Rests event) t before contents step zeros = record { ring = zeros.ring; opened = zeros.opened }
+event_zero s l (Switches Stopped) t before contents step zeros = record { ring = zeros.ring; opened = zeros.opened }
+event_zero s l (Switches Started) t before contents step zeros = record { ring = zeros.ring; opened = zeros.opened }
+event_zero s l (Switches Off) t before contents step zeros = record { ring = zeros.ring; opened = zeros.opened }
+event_zero s l (Calms event) t before contents step zeros = record { ring = zeros.ring; opened = zeros.opened }
 
 -- ALONG A RUN
 record AlongZero (shape : Shape) (s : LaneState) (l : DiskLog) : Type 0 where

@@ -14,7 +14,7 @@ use Rattle.ldc_link.specs.LinkState.{LinkState, is_established, is_up}
 use Rattle.ldc_link.specs.Taking.{Heard, LinkTake, TakesBytes, Unheard, count, goes_to, in_mode, may_come, phase_behind_rdx, phase_behind_rtr, phase_behind_rts, phase_behind_vers, takes_body, takes_decoded, takes_part, with_part}
 use Rattle.vio_tag.specs.declared.cause.Cause.{Cause}
 use Rattle.vio_tag.specs.declared.cause.Cause.TheVariants as cause
-use Rattle.lane_laws.specs.Conversation.{IsAsking}
+use Rattle.lane_laws.specs.LinkMoves.{IsAsking}
 
 abbrev Down : LinkTake → Type 0
 Down (Heard m) = is_up m ≡ false

@@ -9,7 +9,7 @@ use Rattle.disk_model.specs.WireEvent.{Blocked, ByStep, Declines, Giver, Idle, I
 use Rattle.disk_model.specs.ClientRule as client_rules
 use Rattle.disk_model.specs.ClientState.{ClientState}
 use Rattle.disk_model.specs.ClientStep.{ClientFails}
-use Rattle.disk_model.specs.DiskEvent.{Asks, Desc, DiskEvent, Done, Finished, Misplaced, Moved, Off, OnWire, Published, Rests, Started, Stopped, Stored, Turns, Worked, Works}
+use Rattle.disk_model.specs.DiskEvent.{Asks, Desc, DiskEvent, Done, Finished, Misplaced, Moved, Off, OnWire, Published, Calms, Started, Stopped, Stored, Switches, Worked, Works}
 use Rattle.disk_model.specs.LaneState.{IsShape, LaneState, Shape, fresh}
 use Rattle.disk_model.specs.LaneStep.{EndOnWire, LaneStep, ResetBy, reach}
 use Rattle.disk_model.specs.ServerRule as server_rules
@@ -86,7 +86,7 @@ work_falls shape events s e (Stored operation block count failed) t sound run st
 work_falls shape events s e (Finished slot status) t sound run step = steps_fall shape events s (Works (Finished slot status)) t sound run step tt
 work_falls shape events s e Misplaced t sound run step = absurd step
 
-off_calm : (e : End) → IsStep e (Turns Off) → IsCalm e (Turns Off)
+off_calm : (e : End) → IsStep e (Switches Off) → IsCalm e (Switches Off)
 off_calm A own = absurd own
 off_calm B own = tt
 
@@ -94,12 +94,12 @@ pub step_falls : (shape : Shape) (events : List DiskEvent) (s : LaneState) (e : 
     → LaneStep s event t → IsStep e event → (IsCalm e event × (remaining t ≤ remaining s)) ⊎ (remaining t < remaining s)
 step_falls shape events s e (OnWire event) t sound run clean step own = wire_falls shape events s e event t sound run clean step own
 step_falls shape events s e (Works event) t sound run clean step own = inr (work_falls shape events s e event t sound run step)
-step_falls shape events s e (Turns Off) t sound run clean step own = inl (off_calm e own, same_remains s t step.1)
-step_falls shape events s A (Turns Stopped) t sound run clean step own = absurd own
-step_falls shape events s B (Turns Stopped) t sound run clean step own = absurd own
-step_falls shape events s A (Turns Started) t sound run clean step own = absurd own
-step_falls shape events s B (Turns Started) t sound run clean step own = absurd own
+step_falls shape events s e (Switches Off) t sound run clean step own = inl (off_calm e own, same_remains s t step.1)
+step_falls shape events s A (Switches Stopped) t sound run clean step own = absurd own
+step_falls shape events s B (Switches Stopped) t sound run clean step own = absurd own
+step_falls shape events s A (Switches Started) t sound run clean step own = absurd own
+step_falls shape events s B (Switches Started) t sound run clean step own = absurd own
 step_falls shape events s A (Asks event) t sound run clean step own = absurd own
 step_falls shape events s B (Asks event) t sound run clean step own = absurd own
-step_falls shape events s A (Rests event) t sound run clean step own = absurd own
-step_falls shape events s B (Rests event) t sound run clean step own = absurd own
+step_falls shape events s A (Calms event) t sound run clean step own = absurd own
+step_falls shape events s B (Calms event) t sound run clean step own = absurd own

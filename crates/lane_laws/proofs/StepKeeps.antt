@@ -7,7 +7,7 @@ use Rattle.ldc_queue.specs.declared.end.End.TheVariants.{A, B}
 use Rattle.ldc_queue.specs.Wire.{state_of}
 use Rattle.disk_model.specs.WireEvent.{Blocked, Declines, Giver, Idle, Injected, Joined, Lost, Poked, Reset, Sent, Took, WireEvent}
 use Rattle.disk_model.specs.WireLog.{WireLog, lossy_behind, wire_moved}
-use Rattle.disk_model.specs.DiskEvent.{Asks, Desc, DiskEvent, Done, Finished, Misplaced, Moved, Off, OnWire, Published, Rests, Started, Stopped, Stored, Turns, Worked, Works}
+use Rattle.disk_model.specs.DiskEvent.{Asks, Desc, DiskEvent, Done, Finished, Misplaced, Moved, Off, OnWire, Published, Calms, Started, Stopped, Stored, Switches, Worked, Works}
 use Rattle.disk_model.specs.LaneState.{LaneState}
 use Rattle.disk_model.specs.LaneStep.{EndOnWire, LaneStep, ResetBy}
 use Rattle.lane_laws.specs.CalmEnds.{IsStep, IsWireStep, StepKeeps}
@@ -76,12 +76,12 @@ work_keeps s Misplaced t step = absurd step
 pub step_keeps : (s : LaneState) (e : End) (event : DiskEvent) (t : LaneState) → LaneStep s event t → IsStep e event → StepKeeps s t
 step_keeps s e (OnWire event) t step own = wire_keeps s e event t step own
 step_keeps s e (Works event) t step own = work_keeps s event t step
-step_keeps s e (Turns Off) t step own = same_lane s t (ap (λ (x : LaneState). x.wire) step.1) (ap (λ (x : LaneState). x.stopped) step.1)
-step_keeps s A (Turns Stopped) t step own = absurd own
-step_keeps s B (Turns Stopped) t step own = absurd own
-step_keeps s A (Turns Started) t step own = absurd own
-step_keeps s B (Turns Started) t step own = absurd own
+step_keeps s e (Switches Off) t step own = same_lane s t (ap (λ (x : LaneState). x.wire) step.1) (ap (λ (x : LaneState). x.stopped) step.1)
+step_keeps s A (Switches Stopped) t step own = absurd own
+step_keeps s B (Switches Stopped) t step own = absurd own
+step_keeps s A (Switches Started) t step own = absurd own
+step_keeps s B (Switches Started) t step own = absurd own
 step_keeps s A (Asks event) t step own = absurd own
 step_keeps s B (Asks event) t step own = absurd own
-step_keeps s A (Rests event) t step own = absurd own
-step_keeps s B (Rests event) t step own = absurd own
+step_keeps s A (Calms event) t step own = absurd own
+step_keeps s B (Calms event) t step own = absurd own

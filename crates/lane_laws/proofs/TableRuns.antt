@@ -17,14 +17,13 @@ use Rattle.disk_model.specs.DiskLog.{DiskLog, after, nothing_yet}
 use Rattle.disk_model.specs.May.{sizes_in}
 use Rattle.disk_model.specs.ClientRule as client_rules
 use Rattle.disk_model.specs.ClientStep.{ClientFails}
-use Rattle.disk_model.specs.DiskEvent.{Asks, DiskEvent, Off, OnWire, Rests, Started, Stopped, Switched, Turns, Works}
+use Rattle.disk_model.specs.DiskEvent.{Asks, DiskEvent, Off, OnWire, Calms, Started, Stopped, Switched, Switches, Works}
 use Rattle.disk_model.specs.LaneState.{IsShape, LaneState, Shape, fresh, pages_of}
 use Rattle.disk_model.specs.LaneStep.{EndOnWire, LaneStep, ResetBy, WireStep, sizes_of}
 use Rattle.disk_model.specs.Seeing.{Seen, seen}
 use Rattle.disk_model.specs.ServerRule as server_rules
 use Rattle.disk_model.specs.ServerStep.{ServerFails}
 use Rattle.disk_model.specs.ServerWork.{Reach}
-use Rattle.lane_laws.proofs.Beginning.{queue_shorter}
 use Rattle.lane_laws.proofs.CarriedRuns.{AllStand, all_step, fresh_all}
 use Rattle.lane_laws.proofs.ClientHolding.{holds_up}
 use Rattle.lane_laws.proofs.Ruling.{client_may, server_may}
@@ -32,8 +31,9 @@ use Rattle.lane_laws.proofs.ServerSpeaking.{server_holds_up}
 use Rattle.lane_laws.proofs.StandingRuns.{lawful_by}
 use Rattle.lane_laws.specs.MemoryStands.{MemoryStands, memory_long}
 use Rattle.lane_laws.specs.RuleFacts.{ClientMay, ServerMay}
-use Rattle.lane_laws.specs.Standing.{LaneStands}
+use Rattle.lane_laws.specs.Standing.{LaneInvariant}
 use Rattle.lane_laws.specs.TableStands.{AnswersAt, MayOfTable, RoomStands, TableAt}
+use Rattle.ldc_queue.specs.declared.end.ChannelState.TheVariants.{Down, Up, Resetting}
 
 abbrev at_client : LaneState → Seen
 at_client s = seen A s.shape.entries s.wire.wire
@@ -76,7 +76,7 @@ client_carries s client_rules.Puts memory cause packet may fails = absurd fails
 client_carries s (client_rules.Says message) memory cause packet may fails = absurd fails
 client_carries s (client_rules.Announces session) memory cause packet may fails = absurd fails
 client_carries s (client_rules.Publishes session request) memory cause packet may fails = absurd fails
-client_carries s client_rules.Rests memory cause packet may fails = absurd fails
+client_carries s client_rules.Idles memory cause packet may fails = absurd fails
 
 server_carries : (s : LaneState) (rule : server_rules.ServerRule) (r : Reach) (cause : Cause) (packet : Option (List ℕ)) (new : List ℕ) → ServerMay s.server (at_server s) rule
     → ServerFails rule s.server r cause packet new → CarriedAt packet B s
@@ -86,7 +86,7 @@ server_carries s (server_rules.Serves session work) r cause packet new may fails
 server_carries s server_rules.Joins r cause packet new may fails = absurd fails
 server_carries s server_rules.Puts r cause packet new may fails = absurd fails
 server_carries s (server_rules.Says message) r cause packet new may fails = absurd fails
-server_carries s server_rules.Rests r cause packet new may fails = absurd fails
+server_carries s server_rules.Idles r cause packet new may fails = absurd fails
 
 -- THE TABLE, by the end that makes the step
 client_table : (s : LaneState) (event : WireEvent) (t : LaneState) → RoomStands (sizes_of s) s.wire → giver_steps event → EndOnWire A s event t → WireTableAt (sizes_of s) s.wire event
@@ -100,7 +100,7 @@ client_table s (Blocked A) t room by step = (
   holds_up s.client (at_client s) (client_rules.client_rule s.client (at_client s)) t.client (client_may s.client (at_client s)) step.step.0,
   full (length s.wire.wire.to_b) s.shape.entries room.to_b step.step.1,
 )
-client_table s (Idle A) t room by step = client_known s client_rules.Rests step.step.0
+client_table s (Idle A) t room by step = client_known s client_rules.Idles step.step.0
 client_table s (Reset A cause packet lost) t room by step =
     subst (λ (g : Giver). MayReset g packet A s.wire.wire) (sym by)
     (client_carries s (client_rules.client_rule s.client (at_client s)) s.memory cause packet (client_may s.client (at_client s)) step.step.0)
@@ -126,7 +126,7 @@ server_table s (Blocked B) t room by step = (
   server_holds_up s.server (at_server s) (server_rules.server_rule s.server (at_server s)) t.server (server_may s.server (at_server s)) step.1.step.1.0,
   full (length s.wire.wire.to_a) s.shape.entries room.to_a step.1.step.1.1,
 )
-server_table s (Idle B) t room by step = server_known s server_rules.Rests step.1.step.1.0
+server_table s (Idle B) t room by step = server_known s server_rules.Idles step.1.step.1.0
 server_table s (Reset B cause packet lost) t room by step =
     subst (λ (g : Giver). MayReset g packet B s.wire.wire) (sym by)
     (server_carries s (server_rules.server_rule s.server (at_server s)) _ cause packet t.memory (server_may s.server (at_server s)) step.1.step.1.0)
@@ -191,6 +191,11 @@ drop_shorter waiting entries most = omega (arith, length-drop 1 waiting, most)
 more_room : (waiting : List (List ℕ)) (packet : List ℕ) (entries : ℕ) → length waiting + 1 < entries → length (waiting ++ packet ∷ []) + 1 ≤ entries
 more_room waiting packet entries most = omega (arith, length-append waiting (packet ∷ []), most)
 
+queue_shorter : (e : ChannelState) (waiting : List (List ℕ)) → length (queue_behind e waiting) ≤ length waiting
+queue_shorter Up waiting = omega arith
+queue_shorter Down waiting = omega arith
+queue_shorter Resetting waiting = omega arith
+
 behind_room : (e : ChannelState) (waiting : List (List ℕ)) (entries : ℕ) → length waiting + 1 ≤ entries → length (queue_behind e waiting) + 1 ≤ entries
 behind_room e waiting entries most = omega (arith, queue_shorter e waiting, most)
 
@@ -213,11 +218,11 @@ room_moved n w (Blocked e) at room = room
 room_moved n w (Declines d) at room = room
 
 -- ALONG EVERY RUN
-record WireStands (s : LaneState) (l : DiskLog) : Type 0 where
-  all : AllStand s l
-  room : RoomStands (sizes_in l) l.wire
+pub record QueuesStand (s : LaneState) (l : DiskLog) : Type 0 where
+  pub all : AllStand s l
+  pub room : RoomStands (sizes_in l) l.wire
 
-sizes_same : (s : LaneState) (l : DiskLog) → LaneStands s l → MemoryStands s → sizes_of s ≡ sizes_in l
+sizes_same : (s : LaneState) (l : DiskLog) → LaneInvariant s l → MemoryStands s → sizes_of s ≡ sizes_in l
 sizes_same s l stands memory =
     let long : length s.memory ≡ 8192 * pages_of s.shape = memory.long ∙ ap memory_long stands.slots in
     ap (λ (m : ℕ). make_sizes s.shape.entries m) long ∙ ap (λ (x : Shape). make_sizes x.entries (8192 * pages_of x)) stands.shape
@@ -229,7 +234,7 @@ at_log P s l sizes wire holds = subst (λ (n : Sizes). P n l.wire) sizes (subst 
 at_state : (P : Sizes → WireLog → Type 0) (s : LaneState) (l : DiskLog) → sizes_of s ≡ sizes_in l → s.wire ≡ l.wire → P (sizes_in l) l.wire → P (sizes_of s) s.wire
 at_state P s l sizes wire holds = subst (λ (n : Sizes). P n s.wire) (sym sizes) (subst (P (sizes_in l)) (sym wire) holds)
 
-wire_step : (s : LaneState) (l : DiskLog) (event : WireEvent) (t : LaneState) → WireStands s l → WireStep s event t → MayOfTable l (OnWire event) × RoomStands (sizes_in l) (wire_moved l.wire event)
+wire_step : (s : LaneState) (l : DiskLog) (event : WireEvent) (t : LaneState) → QueuesStand s l → WireStep s event t → MayOfTable l (OnWire event) × RoomStands (sizes_in l) (wire_moved l.wire event)
 wire_step s l event t stands step =
     let sizes = sizes_same s l stands.all.stands stands.all.memory in
     let room = at_state RoomStands s l sizes stands.all.stands.wire stands.room in
@@ -237,27 +242,29 @@ wire_step s l event t stands step =
     let said : WireAnswersAt (sizes_in l) l.wire event = at_log (λ (n : Sizes) (w : WireLog). WireAnswersAt n w event) s l sizes stands.all.stands.wire (answers s event t step) in
     (record { table = known; answers = said }, room_moved (sizes_in l) l.wire event known stands.room)
 
-turn_room : (l : DiskLog) (event : Switched) → RoomStands (sizes_in l) l.wire → RoomStands (sizes_in l) (after l (Turns event)).wire
+turn_room : (l : DiskLog) (event : Switched) → RoomStands (sizes_in l) l.wire → RoomStands (sizes_in l) (after l (Switches event)).wire
 turn_room l Stopped room = record { to_a = omega (arith, room.to_a); to_b = omega (arith, room.to_b) }
 turn_room l Started room = room
 turn_room l Off room = room
 
-room_step : (s : LaneState) (l : DiskLog) (event : DiskEvent) (t : LaneState) → WireStands s l → LaneStep s event t → MayOfTable l event × RoomStands (sizes_in l) (after l event).wire
+room_step : (s : LaneState) (l : DiskLog) (event : DiskEvent) (t : LaneState) → QueuesStand s l → LaneStep s event t → MayOfTable l event × RoomStands (sizes_in l) (after l event).wire
 room_step s l (OnWire event) t stands step = wire_step s l event t stands step
 room_step s l (Asks event) t stands step = (record { table = tt; answers = tt }, stands.room)
 room_step s l (Works event) t stands step = (record { table = tt; answers = tt }, stands.room)
-room_step s l (Turns event) t stands step = (record { table = tt; answers = tt }, turn_room l event stands.room)
-room_step s l (Rests event) t stands step = (record { table = tt; answers = tt }, stands.room)
+room_step s l (Switches event) t stands step = (record { table = tt; answers = tt }, turn_room l event stands.room)
+room_step s l (Calms event) t stands step = (record { table = tt; answers = tt }, stands.room)
 
-stands_more : (s : LaneState) (l : DiskLog) (event : DiskEvent) (t : LaneState) → WireStands s l → LaneStep s event t → MayOfTable l event × WireStands t (after l event)
-stands_more s l event t stands step =
+pub queues_step : (s : LaneState) (l : DiskLog) (event : DiskEvent) (t : LaneState) → QueuesStand s l → LaneStep s event t → MayOfTable l event × QueuesStand t (after l event)
+queues_step s l event t stands step =
     let room = room_step s l event t stands step in
     (room.0, record { all = (all_step s l event t stands.all step).1; room = room.1 })
 
+pub fresh_queues : (shape : Shape) → IsShape shape → QueuesStand (fresh shape) (nothing_yet shape)
+fresh_queues shape sound = record { all = fresh_all shape sound; room = record { to_a = omega (arith, sound.some_entries); to_b = omega (arith, sound.some_entries) } }
+
 both_lawful : (shape : Shape) (events : List DiskEvent) (s : LaneState) → IsShape shape → Run LaneStep (fresh shape) events s → Lawful MayOfTable after (nothing_yet shape) events
 both_lawful shape events s sound run =
-    (run_lawful LaneStep MayOfTable after WireStands stands_more (fresh shape) s (nothing_yet shape) events
-    (record { all = fresh_all shape sound; room = record { to_a = omega (arith, sound.some_entries); to_b = omega (arith, sound.some_entries) } }) run).0
+    (run_lawful LaneStep MayOfTable after QueuesStand queues_step (fresh shape) s (nothing_yet shape) events (fresh_queues shape sound) run).0
 
 pub table_lawful : (shape : Shape) (events : List DiskEvent) (s : LaneState) → IsShape shape → Run LaneStep (fresh shape) events s → Lawful TableAt after (nothing_yet shape) events
 table_lawful shape events s sound run = lawful_by MayOfTable TableAt (λ l e may. may.table) (nothing_yet shape) events (both_lawful shape events s sound run)

@@ -5,7 +5,7 @@ use Rattle.vdisk_msg.specs.declared.request.Fill.{Fill}
 use Rattle.vdisk_msg.specs.declared.request.Request.{Request}
 use Rattle.vdisk_msg.specs.declared.request.Request.TheVariants.{Read, Write}
 use Rattle.vdisk_msg.specs.Requests.{repeated}
-use Rattle.lane_laws.specs.Blocks.{Puts, after_requests, block_at}
+use Rattle.lane_laws.specs.Blocks.{WritesBlock, after_requests, block_at}
 use Rattle.lane_laws.specs.Near.{FrontShows}
 use Rattle.lane_laws.specs.NearContent.{IsAmong, NearContent, PendingPuts, Shows}
 
@@ -41,7 +41,7 @@ in_work = record {
   others = others;
 }
   where
-    stored : (b : ℕ) → IsAmong (Some both_blocks) 1 b → Puts both_blocks b (block_at b half_stored)
+    stored : (b : ℕ) → IsAmong (Some both_blocks) 1 b → WritesBlock both_blocks b (block_at b half_stored)
     stored zero among = ((omega arith, omega arith), refl)
     stored (suc b) among = absurd (omega (arith, among.1))
 

@@ -10,7 +10,7 @@ use Rattle.disk_model.specs.WireLog.{WireLog}
 use Rattle.disk_model.specs.Agreement.{IdleAgrees}
 use Rattle.disk_model.specs.DiskLog.{after, nothing_yet}
 use Rattle.disk_model.specs.QuietLaws.{TwoIdleAt}
-use Rattle.disk_model.specs.DiskEvent.{Asks, DiskEvent, OnWire, Rests, Turns, Works}
+use Rattle.disk_model.specs.DiskEvent.{Asks, DiskEvent, OnWire, Calms, Switches, Works}
 use Rattle.disk_model.specs.LaneState.{IsShape, LaneState, Shape, fresh}
 use Rattle.disk_model.specs.LaneStep.{EndOnWire, LaneStep, WireStep}
 use Rattle.lane_laws.proofs.IdleRuns.{idle_agrees}
@@ -45,8 +45,8 @@ two_idle_at : (shape : Shape) (events : List DiskEvent) (s : LaneState) (event :
 two_idle_at shape events s (OnWire event) t sound run step = wire_at shape events s event t sound run step
 two_idle_at shape events s (Asks event) t sound run step = tt
 two_idle_at shape events s (Works event) t sound run step = tt
-two_idle_at shape events s (Turns event) t sound run step = tt
-two_idle_at shape events s (Rests event) t sound run step = tt
+two_idle_at shape events s (Switches event) t sound run step = tt
+two_idle_at shape events s (Calms event) t sound run step = tt
 
 -- ALONG EVERY RUN
 pub two_idle_lawful : (shape : Shape) (events : List DiskEvent) (s : LaneState) → IsShape shape → Run LaneStep (fresh shape) events s → Lawful TwoIdleAt after (nothing_yet shape) events

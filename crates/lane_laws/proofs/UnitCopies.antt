@@ -37,12 +37,12 @@ operation_in : (id : ℕ) (request : Request) (slot slots : ℕ) → (stated id 
 unfolding descriptor_of
 operation_in id request slot slots = refl
 
-pub record Says (work : Work) (request : Request) : Type 0 where
+pub record WorkSays (work : Work) (request : Request) : Type 0 where
   pub size : (desc_of work).size ≡ size_of request
   pub offset : (desc_of work).offset ≡ block_of request
   pub operation : (desc_of work).operation ≡ operation_of request
 
-pub says : (r : RingOf) (slot id : ℕ) (work : Work) → Sizes r slot → (holds : HoldsIssued r slot id 2 0 work.bytes) → Says work holds.request
+pub says : (r : RingOf) (slot id : ℕ) (work : Work) → Sizes r slot → (holds : HoldsIssued r slot id 2 0 work.bytes) → WorkSays work holds.request
 says r slot id work sizes holds =
     let read = reads_back r slot id 2 0 work.bytes sizes (omega arith) holds in
     record {

@@ -20,7 +20,7 @@ use Rattle.lane_laws.proofs.RingWork.{turn_in}
 use Rattle.lane_laws.proofs.SlotsStepping.{StepFacts}
 use Rattle.lane_laws.proofs.StandingSteps.{wire_only, wired_keeps}
 use Rattle.lane_laws.specs.RingAgreed.{OneRing}
-use Rattle.lane_laws.specs.Standing.{LaneStands, SessionStands}
+use Rattle.lane_laws.specs.Standing.{LaneInvariant, SessionStands}
 use Rattle.lane_laws.proofs.EverStanding.{ever_left}
 use Rattle.lane_laws.proofs.Leaving.{client_opened}
 use Rattle.lane_laws.proofs.LiveCounts.{KIs, counts_while, kis_client, kis_none, kis_server, not_live, not_up, peer_not_live, zero_where}
@@ -123,13 +123,13 @@ opens_k s l packet t before facts =
     (λ c is. (turn_in s l c before.known is).based) before.near.k
 
 -- WHAT WAS EVER PUBLISHED
-near_quiet : (s : LaneState) (l : DiskLog) (event : WireEvent) (t : LaneState) → Before s l → StepFacts s l (OnWire event) t → LaneStands t (after l (OnWire event)) → OpensNot event → WireStep s event t
+near_quiet : (s : LaneState) (l : DiskLog) (event : WireEvent) (t : LaneState) → Before s l → StepFacts s l (OnWire event) t → LaneInvariant t (after l (OnWire event)) → OpensNot event → WireStep s event t
     → (near_on_wire s event).m ≤ s.client.ever_published - l.work.done → NearStands t (after l (OnWire event))
 near_quiet s l event t before facts behind not step m_few =
     let m = after l (OnWire event) in
     let quiet = wire_quiet s l event t before.knows not step in
     let only = wire_only s event t before.known.sound step in
-    let done = (wired_keeps l.shape.slots l.talk l.work event).done in
+    let done = (wired_keeps l.shape.slots l.transcript l.work event).done in
     let ever = quiet.client.ever in
     let m_is : t.near.m ≡ (near_on_wire s event).m = ap (λ (n : NearCounts). n.m) quiet.near in
     record {
@@ -140,7 +140,7 @@ near_quiet s l event t before facts behind not step m_few =
           (subst (λ (n : ℕ). SessionStands n t.client.session) done behind.requests.session) before.near.ever);
     }
 
-near_opens : (s : LaneState) (l : DiskLog) (packet : List ℕ) (t : LaneState) → Before s l → StepFacts s l (OnWire (Sent A packet true)) t → LaneStands t (after l (OnWire (Sent A packet true)))
+near_opens : (s : LaneState) (l : DiskLog) (packet : List ℕ) (t : LaneState) → Before s l → StepFacts s l (OnWire (Sent A packet true)) t → LaneInvariant t (after l (OnWire (Sent A packet true)))
     → WireStep s (Sent A packet true) t → NearStands t (after l (OnWire (Sent A packet true)))
 near_opens s l packet t before facts behind step =
     let m = after l (OnWire (Sent A packet true)) in
@@ -166,7 +166,7 @@ near_opens s l packet t before facts behind step =
       };
     }
 
-pub near_wire : (s : LaneState) (l : DiskLog) (event : WireEvent) (t : LaneState) → Before s l → StepFacts s l (OnWire event) t → LaneStands t (after l (OnWire event)) → WireStep s event t
+pub near_wire : (s : LaneState) (l : DiskLog) (event : WireEvent) (t : LaneState) → Before s l → StepFacts s l (OnWire event) t → LaneInvariant t (after l (OnWire event)) → WireStep s event t
     → NearStands t (after l (OnWire event))
 near_wire s l (Sent A packet true) t before facts behind step = near_opens s l packet t before facts behind step
 near_wire s l (Sent A packet false) t before facts behind step = near_quiet s l (Sent A packet false) t before facts behind refl step before.near.m

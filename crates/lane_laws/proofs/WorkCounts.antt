@@ -13,7 +13,7 @@ use Rattle.disk_model.specs.WorkLaws.{IfServer}
 use Rattle.disk_model.specs.WorkLog.{ClientCounts, ServerCounts, change_server}
 use Rattle.disk_model.specs.ClientRule as client_rules
 use Rattle.disk_model.specs.ClientState.{ClientSession, ClientState}
-use Rattle.disk_model.specs.DiskEvent.{Accepted, Admitted, Asks, Calm, CalmReset, CalmRestart, CalmStart, CalmStop, CalmTick, Desc, DiskEvent, Done, Finished, Full, Misplaced, Moved, Off, Published, Refused, Rests, Started, Stopped, Stored, Switched, Turns, Worked, Works}
+use Rattle.disk_model.specs.DiskEvent.{Accepted, Admitted, Asks, Calm, CalmReset, CalmRestart, CalmStart, CalmStop, CalmTick, Desc, DiskEvent, Done, Finished, Full, Misplaced, Moved, Off, Published, Refused, Calms, Started, Stopped, Stored, Switched, Switches, Worked, Works}
 use Rattle.disk_model.specs.LaneState.{LaneState, NearCounts, risen}
 use Rattle.disk_model.specs.LaneStep.{LaneStep, RestStep, TurnStep, WorkStep}
 use Rattle.disk_model.specs.Seeing.{seen}
@@ -247,7 +247,7 @@ near_asked s l (Accepted id request) t before step =
       };
     }
 
-pub near_turned : (s : LaneState) (l : DiskLog) (event : Switched) (t : LaneState) → Before s l → TurnStep s event t → NearStands t (after l (Turns event))
+pub near_turned : (s : LaneState) (l : DiskLog) (event : Switched) (t : LaneState) → Before s l → TurnStep s event t → NearStands t (after l (Switches event))
 near_turned s l Stopped t before step =
     let client : t.client ≡ s.client = ap (λ (x : LaneState). x.client) step.1 in
     let k : t.near.k ≡ 0 = ap (λ (x : LaneState). x.near.k) step.1 in
@@ -266,7 +266,7 @@ near_turned s l Started t before step =
       m = omega (arith, few, m, ever);
       ever = subst (EverStands l.work.done) (sym client) before.near.ever;
     }
-near_turned s l Off t before step = same_near s t l (after l (Turns Off)) before step.1 refl refl refl refl
+near_turned s l Off t before step = same_near s t l (after l (Switches Off)) before step.1 refl refl refl refl
 
 pub calm : (s : LaneState) (event : Calm) (t : LaneState) → RestStep s event t → t ≡ s
 calm s CalmTick t step = step.1
@@ -276,5 +276,5 @@ calm s (CalmReset A) t step = absurd step
 calm s (CalmReset B) t step = step.1
 calm s CalmRestart t step = step.1
 
-pub near_calm : (s : LaneState) (l : DiskLog) (event : Calm) (t : LaneState) → Before s l → RestStep s event t → NearStands t (after l (Rests event))
-near_calm s l event t before step = same_near s t l (after l (Rests event)) before (calm s event t step) refl refl refl refl
+pub near_calm : (s : LaneState) (l : DiskLog) (event : Calm) (t : LaneState) → Before s l → RestStep s event t → NearStands t (after l (Calms event))
+near_calm s l event t before step = same_near s t l (after l (Calms event)) before (calm s event t step) refl refl refl refl

@@ -1,7 +1,7 @@
 -- A server's work is what its progress says, along its steps; and a lane's table grants each page as it began.
 use Rattle.std.proofs.Common.{◌≡◌, ℕ, Bool, Option, Some, None, List, sym, ap, ◌∙◌, subst, inl, inr}
 use Rattle.std.specs.Prelude.{⊤}
-use Rattle.ldc_queue.specs.Talk.{Turn}
+use Rattle.ldc_queue.specs.Transcript.{Turn}
 use Rattle.disk_model.specs.ClientState.{ClientState}
 use Rattle.disk_model.specs.DiskEvent.{Desc, Done, Finished, Misplaced, Moved, Published, Stored, Worked, Works}
 use Rattle.disk_model.specs.Seeing.{Seen}
@@ -57,7 +57,7 @@ same_held s server.Joins held is = absurd (cc)
 same_held s (server.Fetches session) held is = absurd (cc)
 same_held s (server.Serves session work) held is = absurd (cc)
 same_held s (server.Takes packet) held is = absurd (cc)
-same_held s server.Rests held is = absurd (cc)
+same_held s server.Idles held is = absurd (cc)
 
 server_pieces : (s : ServerState) (at : Seen) (reach : Reach) (gave : List ℕ) (event : Worked) (t : ServerState) (new : List ℕ) (turns : List Turn)
     → ServerStep s at reach gave (Works event) t new → ServerWorks s turns → ServerWorks t turns
@@ -77,7 +77,7 @@ server_pieces s at reach gave Misplaced t new turns step is = absurd step
 
 took_work : (s : ServerState) (turns : List Turn) (packet : List ℕ) (t : ServerState) (opens : Bool) → ServerTook s turns packet t opens → t.work ≡ s.work
 took_work s turns packet t opens (inl part) = ap (λ (x : ServerState). x.work) part.is
-took_work s turns packet t opens (inr (inl shakes)) = ap (λ (x : ServerState). x.work) shakes.is
+took_work s turns packet t opens (inr (inl handshakes)) = ap (λ (x : ServerState). x.work) handshakes.is
 took_work s turns packet t opens (inr (inr asks)) = ap (λ (x : ServerState). x.work) asks.is
 
 pub server_keeps_works : ServerKeeps ServerWorks

@@ -2,13 +2,13 @@
 use Rattle.std.proofs.Common.{◌≡◌, ◌≢◌, ℕ, zero, suc, ◌-◌, ◌%◌, ◌<◌, ◌≤◌, Option, Some, None, List, [], ◌∷◌, length, sym, ap, ◌∙◌, subst, arith, length-drop}
 use Rattle.std.specs.Prelude.{is_some, slice_get}
 use Rattle.std.proofs.lemmas.Bool.Decides.{nat_tests}
-use Rattle.ldc_queue.specs.Talk.{Turn}
+use Rattle.ldc_queue.specs.Transcript.{Turn}
 use Rattle.vdisk_msg.specs.declared.request.Request.{Request}
 use Rattle.disk_model.specs.DiskLog.{DiskLog}
 use Rattle.disk_model.specs.WorkLaws.{InClient, InServer, MayComplete, MayFetch, MayPublish, WorkNumbersAt}
 use Rattle.disk_model.specs.WorkLog.{ClientCounts, ServerCounts}
 use Rattle.disk_model.specs.ClientStep.{ClientCompletes, ClientPublishes}
-use Rattle.disk_model.specs.DiskEvent.{Asks, Desc, DiskEvent, Done, Finished, Misplaced, Moved, OnWire, Published, Rests, Stored, Turns, Worked, Works}
+use Rattle.disk_model.specs.DiskEvent.{Asks, Desc, DiskEvent, Done, Finished, Misplaced, Moved, OnWire, Published, Calms, Stored, Switches, Worked, Works}
 use Rattle.disk_model.specs.LaneState.{IsShape, LaneState}
 use Rattle.disk_model.specs.LaneStep.{LaneStep, WorkStep, reach}
 use Rattle.disk_model.specs.Seeing.{Seen, seen}
@@ -26,7 +26,7 @@ use Rattle.lane_laws.proofs.RulesFree.{ServerFree, ServesFree, server_free}
 use Rattle.lane_laws.proofs.Sharing.{in_order}
 use Rattle.lane_laws.specs.RuleFacts.{ClientMay}
 use Rattle.lane_laws.specs.Sound.{InOrder}
-use Rattle.lane_laws.proofs.LinkResets.{other_number}
+use Rattle.channel_laws.proofs.LinkResets.{other_number}
 use Rattle.lane_laws.proofs.Counting.{OfClient, OfServer, of_client, of_server, slot_of_count}
 
 -- what is known of a lane whose log has a sound shape
@@ -60,7 +60,7 @@ publishes s t l at id grounded step =
     let of : OfClient step.session l.work.done l.work.client =
     of_client s.client.session step.session l.work.done l.work.client open_one grounded.knows.counted.client.agrees in
     let order : InOrder (length s.client.pending) step.session =
-    in_order (length s.client.pending) s.client.session step.session open_one grounded.knows.all.talks.client.counts in
+    in_order (length s.client.pending) s.client.session step.session open_one grounded.knows.all.transcripts.client.counts in
     let within = is_within s.client.pending (step.session.published - step.session.completed) step.request may.2 in
     in_client l.work.client of.counts (MayPublish l id) of.is (record {
       next = omega (arith, step.id_is, of.agree.base, of.agree.published);
@@ -81,9 +81,9 @@ completes s t l at id operation status bytes grounded step =
     })
 
 -- a descriptor that is fetched
-pub server_ring : (s : LaneState) (l : DiskLog) (session : ServerSession) → Grounded s l → s.server.session ≡ Some session → s.server.shake.draft.peer_slots ≡ l.shape.slots
+pub server_ring : (s : LaneState) (l : DiskLog) (session : ServerSession) → Grounded s l → s.server.session ≡ Some session → s.server.handshake.draft.peer_slots ≡ l.shape.slots
 server_ring s l session grounded is =
-    own_slots l.shape s.server l.talk.server l.work.server grounded.knows.rests.server (ap is_some is) grounded.knows.counted.server
+    own_slots l.shape s.server l.transcript.server l.work.server grounded.knows.rests.server (ap is_some is) grounded.knows.counted.server
 
 pub order_of : (slots : ℕ) (o : Option ServerSession) (session : ServerSession) (d : Option ServerCounts) (c : ServerCounts) (turns : List Turn) → o ≡ Some session → d ≡ Some c
     → ServerOrder slots o d turns → InServerOrder slots session c turns
@@ -92,7 +92,7 @@ order_of slots o session d c turns is has order =
 
 pub record Serving (s : LaneState) (l : DiskLog) (session : ServerSession) : Type 0 where
   pub of : OfServer session s.server.work l.work.server
-  pub order : InServerOrder l.shape.slots session of.counts l.talk.server
+  pub order : InServerOrder l.shape.slots session of.counts l.transcript.server
   pub finished : of.counts.finished ≤ of.counts.asked
   pub unfinished : of.counts.finished ≢ of.counts.asked
 
@@ -104,8 +104,8 @@ pub serving : (s : LaneState) (l : DiskLog) (session : ServerSession) → Ground
 serving s l session grounded free =
     let of : OfServer session s.server.work l.work.server =
     of_server s.server.session session s.server.work l.work.server free.session_is grounded.knows.counted.server.agrees in
-    let order : InServerOrder l.shape.slots session of.counts l.talk.server =
-    order_of l.shape.slots s.server.session session l.work.server of.counts l.talk.server free.session_is of.is grounded.knows.counted.server.order in
+    let order : InServerOrder l.shape.slots session of.counts l.transcript.server =
+    order_of l.shape.slots s.server.session session l.work.server of.counts l.transcript.server free.session_is of.is grounded.knows.counted.server.order in
     record {
       of = of;
       order = order;
@@ -114,7 +114,7 @@ serving s l session grounded free =
     }
 
 pub slot_in_log : (s : LaneState) (l : DiskLog) (session : ServerSession) (count number : ℕ) → Grounded s l → s.server.session ≡ Some session → count ≡ wrapped number
-    → count % s.server.shake.draft.peer_slots ≡ number % l.shape.slots
+    → count % s.server.handshake.draft.peer_slots ≡ number % l.shape.slots
 slot_in_log s l session count number grounded is wraps =
     ap (λ (n : ℕ). count % n) (server_ring s l session grounded is)
     ∙ slot_of_count l.shape.slots count number grounded.sound.slots grounded.sound.some_slots grounded.sound.most_slots wraps
@@ -147,5 +147,5 @@ pub numbers_at : (s : LaneState) (l : DiskLog) (event : DiskEvent) (t : LaneStat
 numbers_at s l (Works event) t grounded step = work_numbers s l event t grounded step
 numbers_at s l (OnWire event) t grounded step = tt
 numbers_at s l (Asks event) t grounded step = tt
-numbers_at s l (Turns event) t grounded step = tt
-numbers_at s l (Rests event) t grounded step = tt
+numbers_at s l (Switches event) t grounded step = tt
+numbers_at s l (Calms event) t grounded step = tt

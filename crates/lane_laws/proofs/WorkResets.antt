@@ -16,7 +16,7 @@ use Rattle.disk_model.specs.DiskLog.{DiskLog}
 use Rattle.disk_model.specs.WorkLaws.{ClientFailed, InRange, InServer, OwnReset, ResetOf, WorkResetAt}
 use Rattle.disk_model.specs.ClientRule as client
 use Rattle.disk_model.specs.ClientStep.{ClientFails}
-use Rattle.disk_model.specs.DiskEvent.{Asks, DiskEvent, OnWire, Rests, Turns, Works}
+use Rattle.disk_model.specs.DiskEvent.{Asks, DiskEvent, OnWire, Calms, Switches, Works}
 use Rattle.disk_model.specs.LaneState.{LaneState}
 use Rattle.disk_model.specs.LaneStep.{EndOnWire, LaneStep, WireStep, reach}
 use Rattle.disk_model.specs.ServerRule as server
@@ -29,7 +29,7 @@ use Rattle.lane_laws.specs.RuleFacts.{ClientMay}
 use Rattle.lane_laws.proofs.Counting.{OfClient, of_client}
 use Rattle.lane_laws.proofs.EndResets.{LiesIn}
 use Rattle.lane_laws.proofs.LaneResets.{by_giver}
-use Rattle.lane_laws.proofs.LinkResets.{LiesInPacket}
+use Rattle.channel_laws.specs.Resetting.{LiesInPacket}
 use Rattle.lane_laws.proofs.WorkNumbers.{Grounded, Serving, at_client, at_server, in_client, in_server, serving}
 
 -- what lies in a packet
@@ -151,7 +151,7 @@ reset_in e s l (the_cause.Copy fault) packet lost t grounded lies step = end_res
 
 wire_resets : (s : LaneState) (l : DiskLog) (event : WireEvent) (t : LaneState) → Grounded s l → WireStep s event t → WorkResetAt l (OnWire event)
 wire_resets s l (Reset e cause packet lost) t grounded step =
-    reset_in e s l cause packet lost t grounded (by_giver e s l.talk cause packet lost t (grounded.knows.all.talks, grounded.knows.rests) step).carried step
+    reset_in e s l cause packet lost t grounded (by_giver e s l.transcript cause packet lost t (grounded.knows.all.transcripts, grounded.knows.rests) step).carried step
 wire_resets s l (Joined e lost) t grounded step = tt
 wire_resets s l (Took e packet opens) t grounded step = tt
 wire_resets s l (Sent e packet opens) t grounded step = tt
@@ -166,5 +166,5 @@ pub own_resets_at : (s : LaneState) (l : DiskLog) (event : DiskEvent) (t : LaneS
 own_resets_at s l (OnWire event) t grounded step = wire_resets s l event t grounded step
 own_resets_at s l (Asks event) t grounded step = tt
 own_resets_at s l (Works event) t grounded step = tt
-own_resets_at s l (Turns event) t grounded step = tt
-own_resets_at s l (Rests event) t grounded step = tt
+own_resets_at s l (Switches event) t grounded step = tt
+own_resets_at s l (Calms event) t grounded step = tt

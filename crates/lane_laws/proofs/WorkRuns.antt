@@ -3,7 +3,8 @@ use Rattle.std.proofs.Common.{List, refl, ◌∙◌}
 use Rattle.std.specs.Prelude.{⊤}
 use Rattle.runs.specs.Lawful.{Lawful, log_of, run_lawful}
 use Rattle.runs.specs.Run.{Run}
-use Rattle.disk_model.specs.DiskLog.{DiskLog, after, after_talk, nothing_yet}
+use Rattle.disk_model.specs.TranscriptLog.{nothing_said}
+use Rattle.disk_model.specs.DiskLog.{DiskLog, after, after_transcript, nothing_yet}
 use Rattle.disk_model.specs.QuietLaws.{IdleAt}
 use Rattle.disk_model.specs.WorkLaws.{PiecesAt, RangesAt, WorkNumbersAt, WorkResetAt}
 use Rattle.disk_model.specs.DiskEvent.{DiskEvent}
@@ -11,8 +12,8 @@ use Rattle.disk_model.specs.LaneState.{IsShape, LaneState, Shape, fresh}
 use Rattle.disk_model.specs.LaneStep.{LaneStep}
 use Rattle.lane_laws.proofs.CarriedRuns.{fresh_all}
 use Rattle.lane_laws.proofs.LaneCounting.{fresh_counted, knows_step}
-use Rattle.lane_laws.proofs.LaneResting.{fresh_rests}
-use Rattle.lane_laws.proofs.LaneUttering.{fresh_utters}
+use Rattle.lane_laws.proofs.Speaking.{fresh_rests}
+use Rattle.lane_laws.proofs.Speaking.{lane_utters}
 use Rattle.lane_laws.proofs.RingPages.{same_pages}
 use Rattle.lane_laws.proofs.IdleLaw.{idle_at}
 use Rattle.lane_laws.proofs.Lifting.{Both, Known, both_step}
@@ -24,7 +25,7 @@ use Rattle.lane_laws.proofs.WorkResets.{own_resets_at}
 
 pub fresh_grounded : (shape : Shape) → IsShape shape → Grounded (fresh shape) (nothing_yet shape)
 fresh_grounded shape sound = record {
-  knows = record { all = fresh_all shape sound; rests = fresh_rests shape; utters = fresh_utters shape; counted = fresh_counted shape };
+  knows = record { all = fresh_all shape sound; rests = fresh_rests shape sound; utters = lane_utters (fresh shape) nothing_said (fresh_rests shape sound); counted = fresh_counted shape };
   sound = sound;
 }
 
@@ -54,13 +55,13 @@ idle_lawful = grounded_lawful IdleAt idle_at
 
 -- with what its server works on, and its table
 abbrev pub Serves : LaneState → DiskLog → Type 0
-Serves s l = Working s l × Both AnyClient ServerWorks s l.talk
+Serves s l = Working s l × Both AnyClient ServerWorks s l.transcript
 
 pub serves_step : (s : LaneState) (l : DiskLog) (event : DiskEvent) (t : LaneState) → Serves s l → LaneStep s event t → Serves t (after l event)
 serves_step s l event t (working, both) step =
     let knows = working.grounded.knows in
-    let known : Known s l.talk = record { talks = knows.all.talks; rests = knows.rests; utters = knows.utters } in
-    let next : Both AnyClient ServerWorks t (after_talk l.talk event) = both_step AnyClient ServerWorks s event t l.talk any_client_keeps server_keeps_works known both step in (
+    let known : Known s l.transcript = record { transcripts = knows.all.transcripts; rests = knows.rests; utters = knows.utters } in
+    let next : Both AnyClient ServerWorks t (after_transcript l.transcript event) = both_step AnyClient ServerWorks s event t l.transcript any_client_keeps server_keeps_works known both step in (
       record {
         grounded = record { knows = (knows_step s l event t knows step).1; sound = working.grounded.sound };
         work = next.server;

@@ -29,13 +29,13 @@ use Rattle.lane_laws.specs.LaneView.{place_of, view_of}
 use Rattle.lane_laws.proofs.BehindRing.{ring_end}
 use Rattle.lane_laws.proofs.PlacedViews.{Working}
 use Rattle.lane_laws.proofs.Standing.{Before}
-use Rattle.lane_laws.proofs.UnitCopies.{Says, says, unit_answered, unit_gathered, unit_given}
+use Rattle.lane_laws.proofs.UnitCopies.{WorkSays, says, unit_answered, unit_gathered, unit_given}
 
 pub record UnitFacts (s : LaneState) (l : DiskLog) (work : Work) (on : Working s l work) : Type 0 where
   pub below : on.at.of.counts.finished % l.shape.slots < l.shape.slots
   pub cookies : data_cookies work
       ≡ take (cookie_count (size_of on.request)) (buffer_cookies (buffer_place l.shape.slots (on.at.of.counts.finished % l.shape.slots)) (size_of on.request))
-  pub says : Says work on.request
+  pub says : WorkSays work on.request
   pub both : (seen B s.shape.entries s.wire.wire).both ≡ true
   pub place : 32768 * (on.at.of.counts.finished % l.shape.slots) ≡ place_of s.client.slots on.live.session s.near.k
   pub long : length s.memory ≡ memory_long l.shape.slots
@@ -59,7 +59,7 @@ unit_facts s l work before on =
       below = below;
       cookies = fetched_cookies (ring_in l) slot on.id work.bytes sizes on.holds
           ∙ ap (λ (r : Request). take (cookie_count (size_of r)) (buffer_cookies (buffer_place l.shape.slots slot) (size_of r))) on.of_holds;
-      says = subst (Says work) on.of_holds (says (ring_in l) slot on.id work sizes on.holds);
+      says = subst (WorkSays work) on.of_holds (says (ring_in l) slot on.id work sizes on.holds);
       both = both_are s.wire.wire.end_a s.wire.wire.end_b up_a up_b;
       place = ap (λ (n : ℕ). 32768 * (n % l.shape.slots)) (sym on.number) ∙ ap (λ (n : ℕ). 32768 * ((on.live.session.completed + s.near.k) % n)) (sym slots);
       long = memory_is s l known;

@@ -21,7 +21,7 @@ Reaches (Write block count fill) b = (block ≤ b) × (b < block + count)
 Reaches Flush b = ⊥
 
 -- and these are the bytes that it writes there
-abbrev pub Puts : Request → ℕ → List ℕ → Type 0
-Puts (Read block count) b bytes = ⊥
-Puts (Write block count fill) b bytes = Reaches (Write block count fill) b × (bytes ≡ block_at (b - block) (written fill count))
-Puts Flush b bytes = ⊥
+abbrev pub WritesBlock : Request → ℕ → List ℕ → Type 0
+WritesBlock (Read block count) b bytes = ⊥
+WritesBlock (Write block count fill) b bytes = Reaches (Write block count fill) b × (bytes ≡ block_at (b - block) (written fill count))
+WritesBlock Flush b bytes = ⊥

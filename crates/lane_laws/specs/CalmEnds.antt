@@ -8,14 +8,14 @@ use Rattle.disk_model.specs.WireEvent.{Blocked, ByStep, Idle, Joined, Reset, Sen
 use Rattle.disk_model.specs.DiskLog.{DiskLog}
 use Rattle.disk_model.specs.QuietLaws.{EndIsIdle}
 use Rattle.disk_model.specs.ClientState.{is_finished}
-use Rattle.disk_model.specs.DiskEvent.{Desc, DiskEvent, Done, Finished, Moved, Off, OnWire, Published, Stored, Turns, Worked, Works}
+use Rattle.disk_model.specs.DiskEvent.{Desc, DiskEvent, Done, Finished, Moved, Off, OnWire, Published, Stored, Switches, Worked, Works}
 use Rattle.disk_model.specs.LaneState.{LaneState}
 
 -- A STEP IS CALM where its end idles or finds no room for its packet, or its server is stopped
 abbrev pub IsCalm : End → DiskEvent → Type 0
 IsCalm e (OnWire (Idle d)) = d ≡ e
 IsCalm e (OnWire (Blocked d)) = d ≡ e
-IsCalm B (Turns Off) = ⊤
+IsCalm B (Switches Off) = ⊤
 IsCalm e _ = ⊥
 
 -- A STEP OF AN END, whatever comes of it; a reset that a script, a restart or a tick asks for is none
@@ -40,7 +40,7 @@ IsWorkStep e _ = ⊥
 abbrev pub IsStep : End → DiskEvent → Type 0
 IsStep e (OnWire event) = IsWireStep e event
 IsStep e (Works event) = IsWorkStep e event
-IsStep B (Turns Off) = ⊤
+IsStep B (Switches Off) = ⊤
 IsStep e _ = ⊥
 
 -- what a step keeps: nobody meddles by it, nothing is lost by it, and the server runs as before

@@ -2,7 +2,7 @@
 -- of the link being the one that is owed or the end's own.
 use Rattle.std.specs.Prelude.{◌≡◌, ℕ, ◌+◌, ◌%◌, ◌<◌, ◌≤◌, ◌⊎◌, ◌&&◌, ◌==◌, Bool, true, false, is_some, List, [], ◌∷◌, ◌++◌, length, Option, Some, None, ⊤}
 use Rattle.ldc_link.specs.declared.phase.Role.TheVariants.{Initiator, Responder}
-use Rattle.ldc_queue.specs.Talk.{Turn}
+use Rattle.ldc_queue.specs.Transcript.{Turn}
 use Rattle.vdisk_msg.specs.Pieces.{unit_count}
 use Rattle.vio_bytes.specs.Place.{number_at}
 use Rattle.vio_tag.specs.declared.message.Message.{Message}
@@ -21,7 +21,7 @@ use Rattle.disk_model.specs.ServerRule.{answer}
 use Rattle.disk_model.specs.ServerState.{Gathers, Gives, Progress, Reads, ServerSession, ServerState, SlotRange, Work, Writes}
 use Rattle.disk_model.specs.ServerWork.{desc_of}
 use Rattle.lane_laws.specs.Budget.{one_range}
-use Rattle.lane_laws.specs.ShakeFits.{Fits}
+use Rattle.lane_laws.specs.HandshakeFits.{Fits}
 
 -- SUMS over messages: the slots of their ranges, INFO 1 or ACK 2, how many ranges, and how many agreements to RDX
 abbrev pub range_sum : ℕ → ℕ → List (List ℕ) → ℕ
@@ -51,7 +51,7 @@ pub record HoldsOwed (owed : Option Message) (bytes : List ℕ) : Type 0 where
 
 -- THE CLIENT: what was put of a message and what is left of it are the message that is owed, or the INFO that announces
 pub record ClientHolds (c : ClientState) (turns : List Turn) : Type 0 where
-  pub owed : is_announcing c.session ≡ false → 1 ≤ length c.link.to_send → HoldsOwed c.shake.owed (half_said turns ++ c.link.to_send)
+  pub owed : is_announcing c.session ≡ false → 1 ≤ length c.link.to_send → HoldsOwed c.handshake.owed (half_said turns ++ c.link.to_send)
   pub own : (session : ClientSession) → c.session ≡ Some session → session.announcing ≡ true → half_said turns ++ c.link.to_send ≡ canonical (announcement c session)
 
 abbrev pub announced_of : Option ClientSession → ℕ
@@ -69,7 +69,7 @@ acked_of (Some session) = session.acked
 -- its session counts what was said and heard, as the log does, and is open once it agreed to RDX
 pub record ClientCounted (shape : Shape) (c : ClientState) (turns : List Turn) (done : ℕ) (k : Option ClientCounts) : Type 0 where
   pub slots : c.slots ≡ shape.slots
-  pub shake : Fits Initiator (client_offer shape.blocks shape.slots) c.shake
+  pub handshake : Fits Initiator (client_offer shape.blocks shape.slots) c.handshake
   pub holds : ClientHolds c turns
   pub announced : announced_of c.session ≡ range_sum shape.slots 1 (said turns)
   pub infos : infos_of c.session ≡ range_count 1 (said turns)
@@ -81,14 +81,14 @@ pub record ClientCounted (shape : Shape) (c : ClientState) (turns : List Turn) (
 pub record HoldsAnswer (v : ServerState) (bytes : List ℕ) : Type 0 where
   pub session : ServerSession
   pub range : SlotRange
-  pub nothing_owed : v.shake.owed ≡ None
+  pub nothing_owed : v.handshake.owed ≡ None
   pub session_is : v.session ≡ Some session
   pub range_is : session.range ≡ Some range
   pub finished : session.finished ≡ session.asked
   pub bytes_are : bytes ≡ canonical (answer v range)
 
 abbrev pub HoldsEither : ServerState → List ℕ → Type 0
-HoldsEither v bytes = HoldsOwed v.shake.owed bytes ⊎ HoldsAnswer v bytes
+HoldsEither v bytes = HoldsOwed v.handshake.owed bytes ⊎ HoldsAnswer v bytes
 
 abbrev pub ServerHolds : ServerState → List Turn → Type 0
 ServerHolds v turns = 1 ≤ length v.link.to_send → HoldsEither v (half_said turns ++ v.link.to_send)
@@ -134,7 +134,7 @@ UnitFits (Some work) = UnitIn (unit_count (desc_of work).size) work.progress
 pub record ServerCounted (shape : Shape) (v : ServerState) (turns : List Turn) (d : Option ServerCounts) : Type 0 where
   pub slots : v.slots ≡ shape.slots
   pub blocks : v.blocks ≡ shape.blocks
-  pub shake : Fits Responder (server_offer shape.blocks shape.slots) v.shake
+  pub handshake : Fits Responder (server_offer shape.blocks shape.slots) v.handshake
   pub holds : ServerHolds v turns
   pub order : ServerOrder shape.slots v.session d turns
   pub unit : UnitFits v.work
@@ -143,5 +143,5 @@ pub record ServerCounted (shape : Shape) (v : ServerState) (turns : List Turn) (
 
 -- BOTH ENDS of a lane, and its log
 pub record LaneCounted (s : LaneState) (l : DiskLog) : Type 0 where
-  pub client : ClientCounted l.shape s.client l.talk.client l.work.done l.work.client
-  pub server : ServerCounted l.shape s.server l.talk.server l.work.server
+  pub client : ClientCounted l.shape s.client l.transcript.client l.work.done l.work.client
+  pub server : ServerCounted l.shape s.server l.transcript.server l.work.server

@@ -7,7 +7,7 @@ use Rattle.disk_model.specs.DiskLog.{DiskLog}
 use Rattle.disk_model.specs.DiskEvent.{DiskEvent}
 use Rattle.disk_model.specs.LaneState.{LaneState, Shape, fresh}
 use Rattle.disk_model.specs.LaneStep.{LaneStep}
-use Rattle.lane_laws.specs.Blocks.{Puts, Reaches, after_requests, block_at}
+use Rattle.lane_laws.specs.Blocks.{WritesBlock, Reaches, after_requests, block_at}
 use Rattle.lane_laws.specs.ImageStep.{ImageStep}
 
 pub record Imaged : Type 0 where
@@ -29,7 +29,7 @@ pub record LastAmong (requests : List Request) (b : ℕ) (bytes : List ℕ) : Ty
   pub id : ℕ
   pub request : Request
   pub there : slice_get requests id ≡ Some request
-  pub puts : Puts request b bytes
+  pub puts : WritesBlock request b bytes
   pub last : (other : ℕ) (behind : Request) → id < other → slice_get requests other ≡ Some behind → Reaches behind b → ⊥
 
 pub record NoneAmong (first : List ℕ) (requests : List Request) (b : ℕ) (bytes : List ℕ) : Type 0 where
@@ -46,7 +46,7 @@ pub record LaterWrite (l : DiskLog) (b : ℕ) (bytes : List ℕ) : Type 0 where
   pub behind : l.work.done < id
   pub disturbed : id < l.work.disturbed_below
   pub accepted : slice_get l.work.issued id ≡ Some request
-  pub puts : Puts request b bytes
+  pub puts : WritesBlock request b bytes
 
 -- WHAT A COMPLETION SHOWS: of a read, block by block, the last earlier write, or one that was disturbed with it
 abbrev pub ShowsLast : List ℕ → DiskLog → Request → List ℕ → Type 0
@@ -68,7 +68,7 @@ pub record PendingWrite (l : DiskLog) (b : ℕ) (bytes : List ℕ) : Type 0 wher
   pub request : Request
   pub pending : l.work.done ≤ id
   pub accepted : slice_get l.work.issued id ≡ Some request
-  pub puts : Puts request b bytes
+  pub puts : WritesBlock request b bytes
 
 abbrev pub HoldsDone : ℕ → List ℕ → DiskLog → List ℕ → Type 0
 HoldsDone blocks first l image = (b : ℕ) → b < blocks → (block_at b image ≡ block_at b (done_content first l)) ⊎ PendingWrite l b (block_at b image)

@@ -5,4 +5,4 @@ use Rattle.disk_model.specs.DiskEvent.{DiskEvent}
 use Rattle.disk_model.specs.WireAt.{WireHeardAt}
 
 abbrev pub HeardAt : DiskLog → DiskEvent → Type 0
-HeardAt l event = OfWire (WireHeardAt l.talk) event
+HeardAt l event = OfWire (WireHeardAt l.transcript) event

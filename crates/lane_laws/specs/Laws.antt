@@ -7,15 +7,15 @@ use Rattle.disk_model.specs.WireAt.{WireGapAt, WireLostAt, WireSaidAt, WireUnfor
 
 -- what resets an end says why
 abbrev pub ResetAt : DiskLog → DiskEvent → Type 0
-ResetAt l event = OfWire (WireResetAt l.talk) event
+ResetAt l event = OfWire (WireResetAt l.transcript) event
 
 -- a gap names the number that was to come and the one that came
 abbrev pub GapAt : DiskLog → DiskEvent → Type 0
-GapAt l event = OfWire (WireGapAt l.talk) event
+GapAt l event = OfWire (WireGapAt l.transcript) event
 
 -- what is said is cut and numbered as the log has it
 abbrev pub SaidAt : DiskLog → DiskEvent → Type 0
-SaidAt l event = OfWire (WireSaidAt l.talk) event
+SaidAt l event = OfWire (WireSaidAt l.transcript) event
 
 -- where nobody forged, an end resets itself for a gap alone, and only once a packet was lost
 abbrev pub UnforgedAt : DiskLog → DiskEvent → Type 0

@@ -3,7 +3,7 @@
 use Rattle.std.specs.Prelude.{◌≡◌, ℕ, ◌+◌, ◌<◌, ◌≤◌, ◌⊎◌, List, take, Option, Some, None, slice_get}
 use Rattle.vdisk_msg.specs.declared.request.Request.{Request}
 use Rattle.vdisk_msg.specs.declared.request.Request.TheVariants.{Read, Write, Flush}
-use Rattle.lane_laws.specs.Blocks.{Puts, after_requests, block_at}
+use Rattle.lane_laws.specs.Blocks.{WritesBlock, after_requests, block_at}
 
 -- a pending write at a place from `since` on and below m puts these bytes into the block
 pub record PendingPuts (pending : List Request) (since m b : ℕ) (bytes : List ℕ) : Type 0 where
@@ -12,7 +12,7 @@ pub record PendingPuts (pending : List Request) (since m b : ℕ) (bytes : List 
   pub from : since ≤ place
   pub below : place < m
   pub there : slice_get pending place ≡ Some request
-  pub puts : Puts request b bytes
+  pub puts : WritesBlock request b bytes
 
 -- The bytes of a block are those after the first n pending requests, or those of a later write that was disturbed.
 abbrev pub Shows : List ℕ → List Request → ℕ → ℕ → ℕ → List ℕ → Type 0
@@ -27,7 +27,7 @@ IsAmong None u b = ⊥
 
 -- the image has the bytes of what the request writes
 abbrev pub PutsIn : Option Request → ℕ → List ℕ → Type 0
-PutsIn (Some request) b bytes = Puts request b bytes
+PutsIn (Some request) b bytes = WritesBlock request b bytes
 PutsIn None b bytes = ⊥
 
 -- A block that was stored has the write's bytes; each other block of the disk shows the content after the first k, or a later write that was

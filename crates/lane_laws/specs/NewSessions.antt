@@ -2,7 +2,7 @@
 use Rattle.std.specs.Prelude.{◌≡◌, ◌⊎◌, true, List, [], ◌∷◌, ⊤}
 use Rattle.ldc_queue.specs.declared.end.End.{End}
 use Rattle.ldc_queue.specs.declared.end.End.TheVariants.{A, B}
-use Rattle.disk_model.specs.DiskEvent.{Desc, DiskEvent, Done, Finished, Moved, OnWire, Published, Stopped, Stored, Turns, Worked}
+use Rattle.disk_model.specs.DiskEvent.{Desc, DiskEvent, Done, Finished, Moved, OnWire, Published, Stopped, Stored, Switches, Worked}
 use Rattle.disk_model.specs.DiskLog.{DiskLog}
 use Rattle.disk_model.specs.WireAt.{IsUp}
 use Rattle.disk_model.specs.WireEvent.{Reset, Sent, Took}
@@ -10,7 +10,7 @@ use Rattle.disk_model.specs.WireEvent.{Reset, Sent, Took}
 -- a reset of either end, where it is up, and a stop of the server, end the sessions of both ends
 abbrev pub EndsSessions : DiskLog → DiskEvent → Type 0
 EndsSessions l (OnWire (Reset e cause packet lost)) = IsUp e l.wire.wire
-EndsSessions l (Turns Stopped) = ⊤
+EndsSessions l (Switches Stopped) = ⊤
 EndsSessions l _ = ⊥
 
 -- the session of the end opens

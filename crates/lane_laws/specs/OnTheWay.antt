@@ -4,7 +4,7 @@
 use Rattle.std.specs.Prelude.{◌≡◌, ℕ, ◌+◌, ◌%◌, ◌<◌, Bool, false, List, [], ◌∷◌, ◌++◌, drop, filter, length, Option, Some, None, ⊤}
 use Rattle.ldc_queue.specs.declared.end.ChannelState.TheVariants.{Up}
 use Rattle.ldc_queue.specs.Numbered.{numbered}
-use Rattle.ldc_queue.specs.Talk.{numbered_heard, numbered_said}
+use Rattle.ldc_queue.specs.Transcript.{numbered_heard, numbered_said}
 use Rattle.disk_model.specs.DiskLog.{DiskLog}
 use Rattle.disk_model.specs.LaneState.{LaneState}
 use Rattle.disk_model.specs.Messages.{end_of, is_range, seq_of, start_of}
@@ -49,8 +49,8 @@ pub record WaitsOrLost (put taken waiting : List (List ℕ)) (lossy : Bool) : Ty
 
 pub record OnTheWay (s : LaneState) (l : DiskLog) (k : ClientCounts) : Type 0 where
   pub server_up : l.wire.wire.end_b ≡ Up
-  pub infos : NameAll l.shape.slots (asked_by l.work.server) k.announced (ranges_behind 1 (said l.talk.client) (heard l.talk.server))
-  pub seqs : SeqsFrom (expected_by s.server.session) (ranges_behind 1 (said l.talk.client) (heard l.talk.server))
-  pub acks : NameAll l.shape.slots k.acked (answered_by l.work.server) (ranges_behind 2 (said l.talk.server) (heard l.talk.client))
-  pub to_server : WaitsOrLost (numbered_said l.talk.client) (numbered_heard l.talk.server) (numbered l.wire.wire.to_b) l.wire.lossy
-  pub to_client : WaitsOrLost (numbered_said l.talk.server) (numbered_heard l.talk.client) (numbered l.wire.wire.to_a) l.wire.lossy
+  pub infos : NameAll l.shape.slots (asked_by l.work.server) k.announced (ranges_behind 1 (said l.transcript.client) (heard l.transcript.server))
+  pub seqs : SeqsFrom (expected_by s.server.session) (ranges_behind 1 (said l.transcript.client) (heard l.transcript.server))
+  pub acks : NameAll l.shape.slots k.acked (answered_by l.work.server) (ranges_behind 2 (said l.transcript.server) (heard l.transcript.client))
+  pub to_server : WaitsOrLost (numbered_said l.transcript.client) (numbered_heard l.transcript.server) (numbered l.wire.wire.to_b) l.wire.lossy
+  pub to_client : WaitsOrLost (numbered_said l.transcript.server) (numbered_heard l.transcript.client) (numbered l.wire.wire.to_a) l.wire.lossy

@@ -82,7 +82,7 @@ held_left true (byte ∷ bytes) owed = (parts (length (byte ∷ bytes)) - 1) + p
 held_left false (byte ∷ bytes) owed = parts (length (byte ∷ bytes))
 
 abbrev pub client_packets : ClientState → ℕ
-client_packets c = client_puts c.link.phase (later c.shake.role c.shake.phase) + held_left (is_announcing c.session) c.link.to_send c.shake.owed
+client_packets c = client_puts c.link.phase (later c.handshake.role c.handshake.phase) + held_left (is_announcing c.session) c.link.to_send c.handshake.owed
 
 -- at a server it holds the message that is owed, or the answer to a range
 abbrev pub answers_held : List ℕ → Option Message → ℕ → ℕ
@@ -91,7 +91,7 @@ answers_held (byte ∷ bytes) None range = parts (length (byte ∷ bytes))
 answers_held (byte ∷ bytes) (Some message) range = parts (length (byte ∷ bytes)) + range
 
 abbrev pub server_packets : ServerState → ℕ
-server_packets v = server_puts v.link.phase (later v.shake.role v.shake.phase) + answers_held v.link.to_send v.shake.owed (range_left v.session)
+server_packets v = server_puts v.link.phase (later v.handshake.role v.handshake.phase) + answers_held v.link.to_send v.handshake.owed (range_left v.session)
 
 -- REQUESTS at the client, of which so many are pending: those that aren't published, aren't announced, and aren't done
 abbrev pub total : ℕ → Option ClientSession → ℕ

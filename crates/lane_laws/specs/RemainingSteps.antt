@@ -16,8 +16,8 @@ use Rattle.lane_laws.specs.Remaining.{asked_in, client_packets, requests_left, s
 
 -- a client's session is open only where its handshake is through and its link is up
 abbrev pub OpensLast : Phase → LinkPhase → Option ClientSession → Type 0
-OpensLast shake link None = ⊤
-OpensLast shake link (Some session) = (shake ≡ Open) × (link ≡ Established)
+OpensLast handshake link None = ⊤
+OpensLast handshake link (Some session) = (handshake ≡ Open) × (link ≡ Established)
 
 -- a server's counts fit into 8 bytes
 abbrev pub CountsFit : Option ServerSession → Type 0
@@ -26,7 +26,7 @@ CountsFit (Some session) = (session.asked < 18446744073709551616) × (session.fi
 
 -- what always holds of a lane, also where somebody forges, by which each step that takes nothing lowers what remains
 pub record StepsStand (s : LaneState) : Type 0 where
-  pub opens : OpensLast s.client.shake.phase s.client.link.phase s.client.session
+  pub opens : OpensLast s.client.handshake.phase s.client.link.phase s.client.session
   pub fit : CountsFit s.server.session
 
 -- THE STEPS of an end that take nothing: it joins, puts a packet, publishes or completes a request, fetches a descriptor, does a piece of

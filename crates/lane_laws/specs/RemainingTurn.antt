@@ -28,9 +28,9 @@ OwedInTurn phase (Some message) = (message.subtype ≢ Nack) × (parts (length (
 
 -- the state before the packet and after it: one ring, no message left over, and what is owed
 pub record ClientInTurn (c t : ClientState) : Type 0 where
-  pub one_ring : c.shake.offer.both_rings ≡ false
+  pub one_ring : c.handshake.offer.both_rings ≡ false
   pub whole : c.link.whole ≡ None
-  pub owed : OwedInTurn t.shake.phase t.shake.owed
+  pub owed : OwedInTurn t.handshake.phase t.handshake.owed
 
 -- the same of a server; and where its session opens it had none and no work, and where it is asked for more, that is so much at most
 abbrev pub NotRefusing : LinkPhase → Type 0
@@ -38,11 +38,11 @@ NotRefusing (OwesVersNack major) = ⊥
 NotRefusing _ = ⊤
 
 pub record ServerInTurn (most : ℕ) (opens : Bool) (packet : List ℕ) (v u : ServerState) : Type 0 where
-  pub role : v.shake.role ≡ Responder
-  pub one_ring : v.shake.offer.both_rings ≡ false
+  pub role : v.handshake.role ≡ Responder
+  pub one_ring : v.handshake.offer.both_rings ≡ false
   pub whole : v.link.whole ≡ None
   pub fits : CountsFit v.session
-  pub owed : OwedInTurn u.shake.phase u.shake.owed
+  pub owed : OwedInTurn u.handshake.phase u.handshake.owed
   pub link : (m : LinkState) → TakesBytes v.link packet (Heard m) → NotRefusing m.phase
   pub opened : opens ≡ true → (v.session ≡ None) × (v.work ≡ None)
   pub asks : range_left u.session ≡ 1 → (asked_in v.session < asked_in u.session) × (asked_in u.session ≤ most)

@@ -23,7 +23,7 @@ ring_in l = record { blocks = l.shape.blocks; slots = l.shape.slots; issued = l.
 pub record OneRing (s : LaneState) (w : WorkLog) (d : ServerCounts) : Type 0 where
   pub client : ClientCounts
   pub open_is : w.client ≡ Some client
-  pub slots : s.server.shake.draft.peer_slots ≡ s.client.slots
+  pub slots : s.server.handshake.draft.peer_slots ≡ s.client.slots
   pub cookies : slots_cookies s.server ≡ own_cookies s.client.slots
   pub done : w.done ≤ client.base + d.finished
   pub acked : client.acked ≤ d.answered

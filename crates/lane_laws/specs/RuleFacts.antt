@@ -14,24 +14,24 @@ ClientMay s at client.Joins = at.state ≢ Up
 ClientMay s at (client.Completes session) = (at.state ≡ Up) × (s.session ≡ Some session) × (session.completed < session.acked)
 ClientMay s at (client.Takes packet) = (at.state ≡ Up) × (at.first ≡ Some packet)
 ClientMay s at client.Puts = at.state ≡ Up
-ClientMay s at (client.Says message) = (at.state ≡ Up) × (owes s.link ≡ false) × (s.shake.owed ≡ Some message)
+ClientMay s at (client.Says message) = (at.state ≡ Up) × (owes s.link ≡ false) × (s.handshake.owed ≡ Some message)
 ClientMay s at (client.Announces session) =
-    (at.state ≡ Up) × (owes s.link ≡ false) × (s.shake.owed ≡ None) × (s.session ≡ Some session) × (session.announced < session.published)
+    (at.state ≡ Up) × (owes s.link ≡ false) × (s.handshake.owed ≡ None) × (s.session ≡ Some session) × (session.announced < session.published)
 ClientMay s at (client.Publishes session request) =
     (at.state ≡ Up) × (s.session ≡ Some session) × (slice_get s.pending (session.published - session.completed) ≡ Some request)
-ClientMay s at client.Rests = at.state ≡ Up
+ClientMay s at client.Idles = at.state ≡ Up
 
 -- the message is of the handshake, or the answer to a range
-pub record Answers (s : ServerState) (message : Message) : Type 0 where
+pub record AnswersMessage (s : ServerState) (message : Message) : Type 0 where
   pub session : ServerSession
   pub range : SlotRange
-  pub nothing_owed : s.shake.owed ≡ None
+  pub nothing_owed : s.handshake.owed ≡ None
   pub session_is : s.session ≡ Some session
   pub range_is : session.range ≡ Some range
   pub message_is : message ≡ server.answer s range
 
 abbrev pub ServerSays : ServerState → Message → Type 0
-ServerSays s message = (s.shake.owed ≡ Some message) ⊎ Answers s message
+ServerSays s message = (s.handshake.owed ≡ Some message) ⊎ AnswersMessage s message
 
 abbrev pub ServerMay : ServerState → Seen → server.ServerRule → Type 0
 ServerMay s at server.Joins = at.state ≢ Up
@@ -41,4 +41,4 @@ ServerMay s at (server.Says message) =
 ServerMay s at (server.Fetches session) = (at.state ≡ Up) × (s.session ≡ Some session)
 ServerMay s at (server.Serves session work) = (at.state ≡ Up) × (s.session ≡ Some session) × (s.work ≡ Some work)
 ServerMay s at (server.Takes packet) = (at.state ≡ Up) × (at.first ≡ Some packet)
-ServerMay s at server.Rests = at.state ≡ Up
+ServerMay s at server.Idles = at.state ≡ Up

@@ -32,8 +32,8 @@ pub record SlotsOf (slots done base announced published finished descs : ℕ) (r
   pub each : (j : ℕ) (is : SlotLog) → done ≤ base + j → base + j < done + slots → slice_get ring (j % slots) ≡ Some is
       → SlotOf base announced published finished descs j is
 
--- The counts are those of the server's open session; where it has none, it has done nothing yet of the client's. Of a session that is over
--- they are as they were.
+-- The counts are those of the server's open session. Where the client's end is up and the server has none, it has done nothing yet of the
+-- client's.
 pub record ServerAt (w : Wire) (server : Option ServerCounts) (finished descs : ℕ) : Type 0 where
   pub works : w.end_b ≡ Up → IfServer server (λ d. (finished ≡ d.finished) × (descs ≡ d.descs))
   pub rests : w.end_a ≡ Up → (w.end_b ≡ Up → server ≡ None) → (finished ≡ 0) × (descs ≡ 0)

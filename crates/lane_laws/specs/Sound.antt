@@ -8,7 +8,7 @@ use Rattle.vio_tag.specs.declared.message.MsgBody.TheVariants.{Ver, Attr, DringR
 use Rattle.disk_model.specs.ClientPutting.{is_announcing}
 use Rattle.disk_model.specs.ClientState.{ClientSession, ClientState}
 use Rattle.disk_model.specs.ServerState.{ServerState}
-use Rattle.lane_laws.specs.Conversation.{IsAsking}
+use Rattle.lane_laws.specs.LinkMoves.{IsAsking}
 
 -- a message of at most 256 bytes, as a handshake of a disk owes it
 abbrev pub IsShort : MsgBody → Type 0
@@ -44,7 +44,7 @@ CountsInOrder pending (Some s) = InOrder pending s
 pub record ClientSound (c : ClientState) : Type 0 where
   pub role : c.link.role ≡ Initiator
   pub asking : IsAsking c.link.phase
-  pub short : OwesShort c.shake
+  pub short : OwesShort c.handshake
   pub held : length c.link.to_send ≤ 256
   -- an INFO that isn't wholly put is what the link holds
   pub own : is_announcing c.session ≡ true → 1 ≤ length c.link.to_send
@@ -54,5 +54,5 @@ pub record ClientSound (c : ClientState) : Type 0 where
 
 pub record ServerSound (s : ServerState) : Type 0 where
   pub role : s.link.role ≡ Responder
-  pub short : OwesShort s.shake
+  pub short : OwesShort s.handshake
   pub held : length s.link.to_send ≤ 256

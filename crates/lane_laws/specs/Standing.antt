@@ -19,7 +19,7 @@ pub record RequestsStand (c : ClientState) (w : WorkLog) : Type 0 where
   pub done : w.done ≤ length w.issued
   pub session : SessionStands w.done c.session
 
-pub record LaneStands (s : LaneState) (l : DiskLog) : Type 0 where
+pub record LaneInvariant (s : LaneState) (l : DiskLog) : Type 0 where
   pub shape : s.shape ≡ l.shape
   pub wire : s.wire ≡ l.wire
   pub stopped : s.stopped ≡ l.work.stopped

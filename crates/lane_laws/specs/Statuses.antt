@@ -29,4 +29,4 @@ pub record IsNamed (sid : ℕ) (messages : List (List ℕ)) : Type 0 where
 pub record StatusesStand (l : DiskLog) : Type 0 where
   pub done : IfClient l.work.client (KeepsStatus l.ring l.work.opened)
   pub last : l.wire.wire.end_b ≡ Up → LastIn l.work.server l.work.client l.work.opened
-  pub named : IfClient l.work.client (λ (k : ClientCounts). IsNamed k.sid (said l.talk.client))
+  pub named : IfClient l.work.client (λ (k : ClientCounts). IsNamed k.sid (said l.transcript.client))

@@ -10,10 +10,10 @@ ghost use Rattle.ldc_queue.specs.declared.end.End.TheVariants.{A};
 ghost use Rattle.ldc_queue.specs.declared.end.End.{End};
 ghost use Rattle.ldc_queue.specs.declared.end.End.TheVariants.{A, B};
 ghost use Rattle.ldc_queue.specs.OneStream.{IsFront};
-ghost use Rattle.ldc_queue.specs.Talk.{numbered_heard, numbered_said};
+ghost use Rattle.ldc_queue.specs.Transcript.{numbered_heard, numbered_said};
 ghost use Rattle.ldc_queue.specs.Wire.{peer_of};
 ghost use Rattle.disk_model.specs.Sayings.{heard, said};
-ghost use Rattle.disk_model.specs.TalkLog.{talk_of};
+ghost use Rattle.disk_model.specs.TranscriptLog.{transcript_of};
 ghost use Rattle.disk_model.specs.WireAt.{IsUp};
 ghost use Rattle.disk_model.specs.WireEvent.{ByTick, Sent, Reset, Took, giver};
 ghost use Rattle.vio_tag.specs.declared.cause.Cause.{Cause};
@@ -31,9 +31,9 @@ ghost use Rattle.lane_laws.specs.CompletedIds.{done_ids, CountsFrom};
 ghost use Rattle.lane_laws.specs.CompletesSlot.{CompletesSlot};
 ghost use Rattle.lane_laws.specs.CountsInTurn.{CountsInTurn};
 ghost use Rattle.lane_laws.specs.RingAgreed.{AlwaysAgree, RingStands};
-ghost use Rattle.lane_laws.specs.Grounds.{OpenRests};
+ghost use Rattle.channel_laws.specs.Grounds.{OpenRests};
 ghost use Rattle.lane_laws.specs.HeardStands.{HeardAt};
-ghost use Rattle.lane_laws.specs.LaneTalks.{talk_behind};
+ghost use Rattle.lane_laws.specs.LaneTranscripts.{transcript_behind};
 ghost use Rattle.lane_laws.specs.SlotsInOrder.{RingInOrder};
 ghost use Rattle.lane_laws.specs.SlotsWritten.{SlotFreed, SlotPublished, SlotsCleared};
 ghost use Rattle.lane_laws.specs.Remaining.{remaining};
@@ -42,7 +42,7 @@ ghost use Rattle.lane_laws.specs.OneSession.{AreOneSession};
 ghost use Rattle.lane_laws.specs.TickBegins.{TickBegins};
 ghost use Rattle.lane_laws.specs.Sound.{CountsInOrder};
 ghost use Rattle.lane_laws.specs.TableStands.{AnswersAt, TableAt};
-ghost use Rattle.lane_laws.specs.Utterances.{SaysEach};
+ghost use Rattle.channel_laws.specs.Utterances.{SaysEach};
 
 /// On a lane that nobody forged, what an end that is up has heard is a front of what the other end has said, each
 /// since it last began: packet by packet of those with numbers, and message by message. So it is whatever was lost,
@@ -51,12 +51,12 @@ pub fn heard_is_a_front_of_said_on_a_lane()
     ensures packets { (shape : Shape) (events : List DiskEvent) (s : LaneState) (e : End)
         → IsShape shape → Run LaneStep (fresh shape) events s
         → s.wire.forged ≡ false → IsUp e s.wire.wire
-        → IsFront (numbered_heard (talk_of e (talk_behind events)))
-        (numbered_said (talk_of (peer_of e) (talk_behind events))) }
+        → IsFront (numbered_heard (transcript_of e (transcript_behind events)))
+        (numbered_said (transcript_of (peer_of e) (transcript_behind events))) }
     ensures messages { (shape : Shape) (events : List DiskEvent) (s : LaneState) (e : End)
         → IsShape shape → Run LaneStep (fresh shape) events s
         → s.wire.forged ≡ false → IsUp e s.wire.wire
-        → IsFront (heard (talk_of e (talk_behind events))) (said (talk_of (peer_of e) (talk_behind events))) }
+        → IsFront (heard (transcript_of e (transcript_behind events))) (said (transcript_of (peer_of e) (transcript_behind events))) }
 {}
 
 /// Along every run of a lane, also where somebody forges packets and memory: a request is refused for its defect,
@@ -123,10 +123,10 @@ pub fn ticks_are_calm_where_all_is_done()
 pub fn ends_of_a_lane_stand()
     ensures client_link { (shape : Shape) (events : List DiskEvent) (s : LaneState)
         → IsShape shape → Run LaneStep (fresh shape) events s
-        → Follows s.client.link (talk_behind events).client }
+        → Follows s.client.link (transcript_behind events).client }
     ensures server_link { (shape : Shape) (events : List DiskEvent) (s : LaneState)
         → IsShape shape → Run LaneStep (fresh shape) events s
-        → Follows s.server.link (talk_behind events).server }
+        → Follows s.server.link (transcript_behind events).server }
     ensures counts { (shape : Shape) (events : List DiskEvent) (s : LaneState)
         → IsShape shape → Run LaneStep (fresh shape) events s
         → CountsInOrder (length s.client.pending) s.client.session }
@@ -208,11 +208,11 @@ pub fn open_sessions_rest_on_what_was_heard()
     ensures client { (shape : Shape) (events : List DiskEvent) (s : LaneState)
         → IsShape shape → Run LaneStep (fresh shape) events s
         → is_some s.client.session ≡ true
-        → OpenRests Initiator s.client.shake (heard (talk_behind events).client) }
+        → OpenRests Initiator s.client.handshake (heard (transcript_behind events).client) }
     ensures server { (shape : Shape) (events : List DiskEvent) (s : LaneState)
         → IsShape shape → Run LaneStep (fresh shape) events s
         → is_some s.server.session ≡ true
-        → OpenRests Responder s.server.shake (heard (talk_behind events).server) }
+        → OpenRests Responder s.server.handshake (heard (transcript_behind events).server) }
 {}
 
 /// Along every run of a lane, also where somebody forges packets and memory: each message that an end said since it
@@ -221,10 +221,10 @@ pub fn open_sessions_rest_on_what_was_heard()
 pub fn ends_say_what_their_handshakes_hold()
     ensures client { (shape : Shape) (events : List DiskEvent) (s : LaneState)
         → IsShape shape → Run LaneStep (fresh shape) events s
-        → SaysEach Initiator s.client.shake.phase s.client.shake.offer s.client.shake.draft (said (talk_behind events).client) }
+        → SaysEach Initiator s.client.handshake.phase s.client.handshake.offer s.client.handshake.draft (said (transcript_behind events).client) }
     ensures server { (shape : Shape) (events : List DiskEvent) (s : LaneState)
         → IsShape shape → Run LaneStep (fresh shape) events s
-        → SaysEach Responder s.server.shake.phase s.server.shake.offer s.server.shake.draft (said (talk_behind events).server) }
+        → SaysEach Responder s.server.handshake.phase s.server.handshake.offer s.server.handshake.draft (said (transcript_behind events).server) }
 {}
 
 /// On a lane that nobody forged, each message that an end that is up has heard since it last began is as the other
@@ -233,11 +233,11 @@ pub fn what_is_heard_is_as_the_other_end_has_it()
     ensures client { (shape : Shape) (events : List DiskEvent) (s : LaneState)
         → IsShape shape → Run LaneStep (fresh shape) events s
         → s.wire.forged ≡ false → IsUp A s.wire.wire
-        → SaysEach Responder s.server.shake.phase s.server.shake.offer s.server.shake.draft (heard (talk_behind events).client) }
+        → SaysEach Responder s.server.handshake.phase s.server.handshake.offer s.server.handshake.draft (heard (transcript_behind events).client) }
     ensures server { (shape : Shape) (events : List DiskEvent) (s : LaneState)
         → IsShape shape → Run LaneStep (fresh shape) events s
         → s.wire.forged ≡ false → IsUp B s.wire.wire
-        → SaysEach Initiator s.client.shake.phase s.client.shake.offer s.client.shake.draft (heard (talk_behind events).server) }
+        → SaysEach Initiator s.client.handshake.phase s.client.handshake.offer s.client.handshake.draft (heard (transcript_behind events).server) }
 {}
 
 /// On a lane that nobody forged, whatever was lost, reset, stopped or restarted on the way there: where both sessions
@@ -252,10 +252,10 @@ pub fn open_sessions_are_one()
     ensures one { (shape : Shape) (events : List DiskEvent) (s : LaneState)
         → IsShape shape → Run LaneStep (fresh shape) events s
         → s.wire.forged ≡ false → is_some s.client.session ≡ true → is_some s.server.session ≡ true
-        → AreOneSession s.client.shake s.server.shake }
+        → AreOneSession s.client.handshake s.server.handshake }
     ensures offer { (shape : Shape) (events : List DiskEvent) (s : LaneState)
         → IsShape shape → Run LaneStep (fresh shape) events s
-        → s.client.shake.offer ≡ client_offer s.client.blocks s.client.slots }
+        → s.client.handshake.offer ≡ client_offer s.client.blocks s.client.slots }
 {}
 
 /// What the log of a run counts of the two sessions is what the ends count, also where somebody forges packets and
@@ -311,12 +311,11 @@ pub fn the_ring_is_as_its_log_says()
 {}
 
 /// The slots of the ring in order, on a lane that nobody forged, where the client's session is open: around the ring
-/// from the first request that isn't done, those that the server finished are DONE with their statuses; at most one is
+/// from the first request that isn't done, those that the server finished are DONE, each with some status; at most one is
 /// ACCEPTED; the announced ones that it hasn't fetched are READY; so are the published ones that aren't announced; all
 /// others are FREE. Each has the bytes of its request's descriptor. What is acknowledged is finished, and what is
 /// fetched or asked for was announced. The counts are those of the server's session where it has one. Where it has none
-/// and the client's end is up, nothing is finished or fetched; and of a session that is over they are as they were.
-/// Where the client's end is up, so is the server's, and what is on the way agrees with its place. The INFO that it
+/// and the client's end is up, nothing is finished or fetched. Where the client's end is up, so is the server's, and what is on the way agrees with its place. The INFO that it
 /// hasn't heard begin there, with the seq that it expects. One after the other they name all up to the last that is
 /// announced. The ACK that the client hasn't heard name all from the last that is acknowledged to the last that is
 /// answered. Each packet of them waits for its end, or was lost.

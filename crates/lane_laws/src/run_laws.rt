@@ -9,7 +9,7 @@ ghost use Rattle.disk_model.specs.WireAt.{IsOwnReset};
 ghost use Rattle.ldc_queue.specs.Wire.{peer_of};
 ghost use Rattle.disk_model.specs.WireEvent.{ByStep, Idle, Reset, giver};
 ghost use Rattle.disk_model.specs.Agreement.{AgreesWithLog};
-ghost use Rattle.disk_model.specs.DiskLog.{after, nothing_yet};
+ghost use Rattle.disk_model.specs.DiskLog.{DiskLog, after, nothing_yet};
 ghost use Rattle.disk_model.specs.May.{IsLawful};
 ghost use Rattle.disk_model.specs.QuietLaws.{IdleAt, TwoIdleAt};
 ghost use Rattle.disk_model.specs.WorkLaws.{OpeningsAt, PiecesAt, RangesAt, WorkNumbersAt, WorkResetAt};
@@ -18,6 +18,7 @@ ghost use Rattle.disk_model.specs.DiskEvent.{DiskEvent, OnWire, Worked, Works};
 ghost use Rattle.disk_model.specs.LaneState.{fresh, IsShape, LaneState, Shape};
 ghost use Rattle.disk_model.specs.LaneStep.{LaneStep};
 ghost use Rattle.lane_laws.specs.Remaining.{remaining};
+ghost use Rattle.lane_laws.specs.SameEnds.{SameClient, SameServer};
 ghost use Rattle.lane_laws.specs.CalmEnds.{AreStill, HaveFinished, IsCalm, IsStep, StepKeeps};
 ghost use Rattle.lane_laws.specs.Laws.{GapAt, LostAt, ResetAt, SaidAt, UnforgedAt};
 ghost use Rattle.lane_laws.specs.NewSessions.{EndsSessions, OpensAmong, WorkOf};
@@ -111,9 +112,9 @@ pub fn what_is_done_is_the_next_piece()
 {}
 
 /// Along every run of a lane, also where somebody forges packets and memory: an INFO that a client says has the next
-/// number, begins at the slot after the range before it, and names published requests alone; an acknowledgement that a
-/// client hears, and goes on with, names announced requests alone; and one that a server says finished descriptors
-/// alone.
+/// number, begins at the slot after the range before it, and names all requests that were published since; an
+/// acknowledgement that a client hears, and goes on with, names announced requests alone; and one that a server says
+/// begins at the slot after the one before it and names all descriptors that were asked for since, the last finished.
 pub fn ranges_name_what_was_done()
     ensures { (shape : Shape) (events : List DiskEvent) (s : LaneState)
         → IsShape shape → Run LaneStep (fresh shape) events s
@@ -155,15 +156,24 @@ pub fn sessions_open_in_order()
 {}
 
 /// At each moment of a lane, also where somebody forges packets and memory, its state and its log agree: the shape, the
-/// wire and whether the server is stopped are the same; each link counts what its end said and heard, and holds what
-/// came of a message; the client's last sid is how often its link came up; what is pending was accepted and isn't done;
-/// the sessions' counts are those of the log, and so is what a descriptor in work owes yet; and an end whose idle step
-/// was the last event has nothing to do yet. Where nobody forged, the near counts and the slots of the ring are those of
-/// the log too.
+/// wire and whether the server is stopped are the same. Each link counts what its end said and heard since it last
+/// began, and holds what came of a message; its phase is the one to which that led, and so is the end's handshake, whole.
+/// What an end has still to send is what it owes without the parts that it put, where it put one or was blocked with
+/// that, and else nothing; so a client announces exactly where it was blocked with that. The client's last sid is how
+/// often its link came up; what is pending was accepted and isn't done; the sessions' counts are those of the log. So
+/// are the server's next number and the range that it has in work, and what a descriptor in work owes yet. An end whose
+/// idle step was the last event has nothing to do yet. Where nobody forged, the near counts and the slots of the ring
+/// are those of the log too.
 pub fn a_lane_agrees_with_its_log()
     ensures { (shape : Shape) (events : List DiskEvent) (s : LaneState)
         → IsShape shape → Run LaneStep (fresh shape) events s
         → AgreesWithLog s (log_of after (nothing_yet shape) events) }
+{}
+
+/// Two lanes that agree with one log have the same ends: the same links, the same handshakes and the same sessions, whole.
+pub fn one_log_has_one_state()
+    ensures clients { (s t : LaneState) (l : DiskLog) → AgreesWithLog s l → AgreesWithLog t l → SameClient s.client t.client }
+    ensures servers { (s t : LaneState) (l : DiskLog) → AgreesWithLog s l → AgreesWithLog t l → SameServer s.server t.server }
 {}
 
 /// Along every run of a lane, where nobody forged until then and no packet was lost since the queues were last emptied:

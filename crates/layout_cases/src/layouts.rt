@@ -17,6 +17,11 @@ pub fn answer(alloc: Global, command: &str, words: &str) -> Option<String> {
         "disk_attr" => disk(alloc, &array(alloc, words)?),
         "net_attr" => net(alloc, &array(alloc, words)?),
         "descriptor" => descriptor(alloc, &array(alloc, words)?),
+        "net_descriptor" => net_descriptor(alloc, &array(alloc, words)?),
+        "holds_frame" => shown(
+            alloc,
+            vnet_msg::holds_frame(&vnet_msg::decode(&array(alloc, words)?)),
+        ),
         "cookie" => cookie(alloc, &array(alloc, words)?),
         _ => None,
     }
@@ -72,6 +77,14 @@ fn descriptor(alloc: Global, bytes: &[u8; 128]) -> Option<String> {
     let desc = vdisk_msg::decode(bytes);
     let mut out = filled(0xa5);
     vdisk_msg::encode(&desc, &mut out);
+    shown_with(alloc, desc, &out)
+}
+
+// A net descriptor, and the buffer of bytes a5 that it was written to.
+fn net_descriptor(alloc: Global, bytes: &[u8; 64]) -> Option<String> {
+    let desc = vnet_msg::decode(bytes);
+    let mut out = filled(0xa5);
+    vnet_msg::encode(&desc, &mut out);
     shown_with(alloc, desc, &out)
 }
 

@@ -12,7 +12,7 @@ use Rattle.ldc_packet.specs.Form.{HasForm}
 use Rattle.ldc_queue.specs.Fragments.{Fragment, fragment_at, fragments_in, is_part}
 use Rattle.ldc_queue.specs.Messages.{AllMayCome, MayCome, half_in, half_with}
 use Rattle.ldc_queue.specs.Numbered.{is_numbered, numbered}
-use Rattle.ldc_queue.specs.Talk.{Heard as Heard_, Turn, numbered_heard}
+use Rattle.ldc_queue.specs.Transcript.{Heard as Heard_, Turn, numbered_heard}
 use Rattle.ldc_link.specs.Conversing.{IsData, fragment_of}
 use Rattle.ldc_link.specs.Following.{Follows}
 use Rattle.ldc_link.specs.LinkState.{LinkState, cleared, offered}

@@ -14,7 +14,7 @@ use Rattle.ldc_packet.specs.Spelling.{seqid_at}
 use Rattle.ldc_queue.specs.Fragments.{Fragment, fragment_at, fragments_in, is_part, joins}
 use Rattle.ldc_queue.specs.Messages.{half_in, half_with}
 use Rattle.ldc_queue.specs.Numbered.{CountUp, is_numbered, kept, numbered}
-use Rattle.ldc_queue.specs.Talk.{Heard as Heard_, Turn, numbered_heard}
+use Rattle.ldc_queue.specs.Transcript.{Heard as Heard_, Turn, numbered_heard}
 use Rattle.ldc_queue.proofs.Messages.{fragments_in-append, half_in-append}
 use Rattle.vio_tag.specs.declared.cause.Cause.{Cause}
 use Rattle.ldc_link.specs.declared.phase.LinkPhase.{LinkPhase}

@@ -7,7 +7,7 @@ use Rattle.ldc_packet.specs.Form.{HasWidths, IsWellFormed}
 use Rattle.ldc_packet.specs.Spelling.{SpellsPacket, canonical}
 use Rattle.ldc_packet.proofs.Canonical.{canonical_spells}
 use Rattle.ldc_queue.specs.Numbered.{CountUp, is_numbered, numbered}
-use Rattle.ldc_queue.specs.Talk.{Said, Turn, numbered_said}
+use Rattle.ldc_queue.specs.Transcript.{Said, Turn, numbered_said}
 use Rattle.ldc_link.specs.declared.phase.LinkPhase.{LinkPhase}
 use Rattle.ldc_link.specs.declared.phase.LinkPhase.TheVariants as phase
 use Rattle.ldc_link.specs.Calls.{Puts}

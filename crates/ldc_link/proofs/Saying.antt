@@ -10,7 +10,7 @@ use Rattle.ldc_queue.specs.Fragments.{AreFlagged, AreParts, FragmentsOf, joined}
 use Rattle.ldc_queue.proofs.Cuts.{fragments_of_ends}
 use Rattle.ldc_link.specs.declared.phase.LinkPhase.{LinkPhase}
 use Rattle.ldc_link.specs.declared.phase.LinkPhase.TheVariants as phase
-use Rattle.ldc_link.specs.Conversing.{AreData, AreFull, AreNumbered, Says, carried}
+use Rattle.ldc_link.specs.Conversing.{AreData, AreFull, AreNumbered, PutsAll, carried}
 use Rattle.ldc_link.specs.LinkState.{LinkState, is_established, is_up, next_number, offered}
 use Rattle.ldc_link.specs.Putting.{begun_behind_put, behind_put, first_part, has_more, left_behind_put, link_puts, number_behind_put, owed_in, part_bytes, part_owed, phase_behind_put, with_link}
 use Rattle.ldc_link.proofs.Parts.{padded, part_owed_more, zeros_padded}
@@ -43,7 +43,7 @@ unfolding pair_of
 same_pair one other is = ap (pair_of one) is
 
 -- nothing follows where nothing is left
-silent : (k : LinkState) (ps : List Packet) (t : LinkState) → Says (behind_part k) ps t → drop 56 k.to_send ≡ [] → ps ≡ []
+silent : (k : LinkState) (ps : List Packet) (t : LinkState) → PutsAll (behind_part k) ps t → drop 56 k.to_send ≡ [] → ps ≡ []
 unfolding behind_part
 silent k [] t says left = refl
 silent k (p ∷ ps) t says left =
@@ -106,7 +106,7 @@ further_part k (p ∷ ps) more rest =
       full = (long, rest.full);
     }
 
-says_parts : (k : LinkState) (ps : List Packet) (t : LinkState) → is_up k ≡ true → 0 < length k.to_send → Says k ps t → t.to_send ≡ []
+says_parts : (k : LinkState) (ps : List Packet) (t : LinkState) → is_up k ≡ true → 0 < length k.to_send → PutsAll k ps t → t.to_send ≡ []
     → AreItsParts (not k.begun) k.to_send k.put_next ps
 unfolding behind_part
 says_parts k [] t up some says done = absurd (omega (arith, ap (λ (s : LinkState). length s.to_send) says, ap length done))
@@ -114,7 +114,7 @@ says_parts k (p ∷ ps) t up some says done =
     let pair = same_pair (first_part k, behind_part k) (p, says.0) (sym (puts_part k up some) ∙ says.1) in
     let packet : first_part k ≡ p = ap (λ (x : Packet × LinkState). x.0) pair in
     let behind : says.0 ≡ behind_part k = sym (ap (λ (x : Packet × LinkState). x.1) pair) in
-    let rest : Says (behind_part k) ps t = subst (λ (s : LinkState). Says s ps t) behind says.2 in
+    let rest : PutsAll (behind_part k) ps t = subst (λ (s : LinkState). PutsAll s ps t) behind says.2 in
     subst (λ (q : Packet). AreItsParts (not k.begun) k.to_send k.put_next (q ∷ ps)) packet
     (elim (cases_lt 56 (length k.to_send)) [
       | inl more ↦
@@ -127,7 +127,7 @@ says_parts k (p ∷ ps) t up some says done =
     ])
 
 pub all_said : (n : ℕ) (k : LinkState) → is_up k ≡ true → 0 < length k.to_send → length k.to_send ≤ n
-    → (ps : List Packet) × (t : LinkState) × Says k ps t × (t.to_send ≡ [])
+    → (ps : List Packet) × (t : LinkState) × PutsAll k ps t × (t.to_send ≡ [])
 unfolding behind_part
 all_said zero k up some within = absurd (omega arith)
 all_said (suc n) k up some within =
@@ -139,7 +139,7 @@ all_said (suc n) k up some within =
     ]
 
 pub said_are_parts : (k : LinkState) (message : List ℕ) (ps : List Packet) (t : LinkState) → is_up k ≡ true → 1 ≤ length message → length message ≤ 256
-    → Says (offered message k) ps t → t.to_send ≡ [] → AreData ps × AreNumbered k.put_next ps × FragmentsOf message (carried ps) × AreFull (carried ps)
+    → PutsAll (offered message k) ps t → t.to_send ≡ [] → AreData ps × AreNumbered k.put_next ps × FragmentsOf message (carried ps) × AreFull (carried ps)
 said_are_parts k message ps t up some most says done =
     let parts = says_parts (offered message k) ps t up some says done in (
       parts.carries,

@@ -45,9 +45,9 @@ Hears k (packet ∷ packets) messages t =
     (m : LinkState) × (others : List (List ℕ)) × (link_take k packet ≡ Heard m) × (messages ≡ seen m.whole others) × Hears (cleared m) packets others t
 
 -- the link puts the packets, and is `t` then
-abbrev pub Says : LinkState → List Packet → LinkState → Type 0
-Says k [] t = t ≡ k
-Says k (packet ∷ packets) t = (m : LinkState) × (link_puts k ≡ Some (packet, m)) × Says m packets t
+abbrev pub PutsAll : LinkState → List Packet → LinkState → Type 0
+PutsAll k [] t = t ≡ k
+PutsAll k (packet ∷ packets) t = (m : LinkState) × (link_puts k ≡ Some (packet, m)) × PutsAll m packets t
 
 -- all parts but the last have 56 bytes
 abbrev pub AreFull : List Fragment → Type 0

@@ -1,7 +1,7 @@
 -- A link's numbers and its half message are those of what its end said and heard since it joined.
 use Rattle.std.specs.Prelude.{◌≡◌, ◌+◌, ◌≤◌, ◌%◌, List, length, ⊤}
 use Rattle.ldc_queue.specs.Messages.{half_heard}
-use Rattle.ldc_queue.specs.Talk.{Turn, numbered_heard, numbered_said}
+use Rattle.ldc_queue.specs.Transcript.{Turn, numbered_heard, numbered_said}
 use Rattle.ldc_link.specs.declared.phase.LinkPhase.{LinkPhase}
 use Rattle.ldc_link.specs.declared.phase.LinkPhase.TheVariants as phase
 use Rattle.ldc_link.specs.LinkState.{LinkState}

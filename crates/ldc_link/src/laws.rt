@@ -5,10 +5,10 @@ ghost use Rattle.ldc_packet.specs.declared.packet.Packet.{Packet};
 ghost use Rattle.ldc_queue.specs.Fragments.{fragments_in, FragmentsOf};
 ghost use Rattle.ldc_queue.specs.Messages.{AllMayCome, AreCutFrom};
 ghost use Rattle.ldc_queue.specs.Numbered.{numbered, CountUp};
-ghost use Rattle.ldc_queue.specs.Talk.{numbered_heard, numbered_said, Turn};
-ghost use Rattle.ldc_queue.specs.Talk as turn;
+ghost use Rattle.ldc_queue.specs.Transcript.{numbered_heard, numbered_said, Turn};
+ghost use Rattle.ldc_queue.specs.Transcript as turn;
 ghost use Rattle.ldc_link.specs.Calls.{Puts};
-ghost use Rattle.ldc_link.specs.Conversing.{carried, AreData, AreFull, AreNumbered, Hears, Says};
+ghost use Rattle.ldc_link.specs.Conversing.{carried, AreData, AreFull, AreNumbered, Hears, PutsAll};
 ghost use Rattle.ldc_link.specs.Following.{Follows};
 ghost use Rattle.ldc_link.specs.LinkState.{cleared, is_up, joined_link, offered, LinkState};
 ghost use Rattle.ldc_link.specs.Taking.{Heard, TakesBytes};
@@ -26,10 +26,10 @@ pub fn messages_are_heard_by_their_fragments()
 /// whole.
 pub fn messages_are_said_as_their_fragments()
     ensures fragments { (k : LinkState) (message : List ℕ) (packets : List Packet) (t : LinkState) → is_up k ≡ true
-        → 1 ≤ length message → length message ≤ 256 → Says (offered message k) packets t → t.to_send ≡ []
+        → 1 ≤ length message → length message ≤ 256 → PutsAll (offered message k) packets t → t.to_send ≡ []
         → AreData packets × AreNumbered k.put_next packets × FragmentsOf message (carried packets) × AreFull (carried packets) }
     ensures whole { (k : LinkState) (message : List ℕ) → is_up k ≡ true → 1 ≤ length message
-        → (packets : List Packet) × (t : LinkState) × Says (offered message k) packets t × (t.to_send ≡ []) }
+        → (packets : List Packet) × (t : LinkState) × PutsAll (offered message k) packets t × (t.to_send ≡ []) }
 {}
 
 /// A link follows what its end said and heard since it joined: so what it puts and what it takes counts up from 1.

@@ -8,8 +8,8 @@ use Rattle.ldc_queue.specs.declared.end.End.TheVariants.{A, B}
 use Rattle.ldc_queue.specs.Numbered.{CountUp, is_numbered, kept, numbered}
 use Rattle.ldc_queue.specs.OneStream.{IsFront, OneStream, OneWay, live}
 use Rattle.ldc_queue.specs.QueueEvent.{Close, Forge, Join, Lose, Put, QueueEvent, Take}
-use Rattle.ldc_queue.specs.QueueLog.{AllMayStand, IsFirst, MayStand, QueueLog, after, log_of, lost_behind, lost_past, nothing_yet, talk_of}
-use Rattle.ldc_queue.specs.Talk.{numbered_heard, numbered_said}
+use Rattle.ldc_queue.specs.QueueLog.{AllMayStand, IsFirst, MayStand, QueueLog, after, log_of, lost_behind, lost_past, nothing_yet, transcript_of}
+use Rattle.ldc_queue.specs.Transcript.{numbered_heard, numbered_said}
 use Rattle.ldc_queue.specs.Wire.{peer_behind, peer_of, queue_behind, state_of, upset}
 
 -- the numbers of two places less than 2^32 apart differ
@@ -144,36 +144,36 @@ loses said heard waiting packet lost first way =
 -- each event that may stand keeps both directions
 pub stream_step : (l : QueueLog) (event : QueueEvent) → MayStand l event → OneStream l → OneStream (after l event)
 stream_step l (Join A) may s = record {
-  to_a = joined_hears l.wire.end_a l.wire.end_b (numbered_said l.talk_b) (numbered_heard l.talk_a) l.wire.to_a l.lost_a s.to_a;
-  to_b = joined_says l.wire.end_a l.wire.end_b (numbered_said l.talk_a) (numbered_heard l.talk_b) l.wire.to_b l.lost_b s.to_b;
+  to_a = joined_hears l.wire.end_a l.wire.end_b (numbered_said l.transcript_b) (numbered_heard l.transcript_a) l.wire.to_a l.lost_a s.to_a;
+  to_b = joined_says l.wire.end_a l.wire.end_b (numbered_said l.transcript_a) (numbered_heard l.transcript_b) l.wire.to_b l.lost_b s.to_b;
 }
 stream_step l (Join B) may s = record {
-  to_a = joined_says l.wire.end_b l.wire.end_a (numbered_said l.talk_b) (numbered_heard l.talk_a) l.wire.to_a l.lost_a s.to_a;
-  to_b = joined_hears l.wire.end_b l.wire.end_a (numbered_said l.talk_a) (numbered_heard l.talk_b) l.wire.to_b l.lost_b s.to_b;
+  to_a = joined_says l.wire.end_b l.wire.end_a (numbered_said l.transcript_b) (numbered_heard l.transcript_a) l.wire.to_a l.lost_a s.to_a;
+  to_b = joined_hears l.wire.end_b l.wire.end_a (numbered_said l.transcript_a) (numbered_heard l.transcript_b) l.wire.to_b l.lost_b s.to_b;
 }
 stream_step l (Close A) may s = record {
-  to_a = closed_hears l.wire.end_b (numbered_said l.talk_b);
-  to_b = closed_says l.wire.end_b (numbered_heard l.talk_b);
+  to_a = closed_hears l.wire.end_b (numbered_said l.transcript_b);
+  to_b = closed_says l.wire.end_b (numbered_heard l.transcript_b);
 }
 stream_step l (Close B) may s = record {
-  to_a = closed_says l.wire.end_a (numbered_heard l.talk_a);
-  to_b = closed_hears l.wire.end_a (numbered_said l.talk_a);
+  to_a = closed_says l.wire.end_a (numbered_heard l.transcript_a);
+  to_b = closed_hears l.wire.end_a (numbered_said l.transcript_a);
 }
 stream_step l (Put A packet) may s = record {
   to_a = s.to_a;
-  to_b = says l.wire.end_a (numbered_said l.talk_a) _ l.wire.to_b packet l.lost_b may.0 s.to_b may.1;
+  to_b = says l.wire.end_a (numbered_said l.transcript_a) _ l.wire.to_b packet l.lost_b may.0 s.to_b may.1;
 }
 stream_step l (Put B packet) may s = record {
-  to_a = says l.wire.end_b (numbered_said l.talk_b) _ l.wire.to_a packet l.lost_a may.0 s.to_a may.1;
+  to_a = says l.wire.end_b (numbered_said l.transcript_b) _ l.wire.to_a packet l.lost_a may.0 s.to_a may.1;
   to_b = s.to_b;
 }
 stream_step l (Take A packet) may s = record {
-  to_a = hears l.wire.end_a _ (numbered_heard l.talk_a) l.wire.to_a packet l.lost_a may.0 may.1 s.to_a may.2 may.3;
+  to_a = hears l.wire.end_a _ (numbered_heard l.transcript_a) l.wire.to_a packet l.lost_a may.0 may.1 s.to_a may.2 may.3;
   to_b = s.to_b;
 }
 stream_step l (Take B packet) may s = record {
   to_a = s.to_a;
-  to_b = hears l.wire.end_b _ (numbered_heard l.talk_b) l.wire.to_b packet l.lost_b may.0 may.1 s.to_b may.2 may.3;
+  to_b = hears l.wire.end_b _ (numbered_heard l.transcript_b) l.wire.to_b packet l.lost_b may.0 may.1 s.to_b may.2 may.3;
 }
 stream_step l (Lose A packet) may s = record { to_a = loses _ _ l.wire.to_a packet l.lost_a may s.to_a; to_b = s.to_b }
 stream_step l (Lose B packet) may s = record { to_a = s.to_a; to_b = loses _ _ l.wire.to_b packet l.lost_b may s.to_b }
@@ -201,6 +201,6 @@ way_front Down peer said heard waiting lost up way = absurd (cc)
 way_front Resetting peer said heard waiting lost up way = absurd (cc)
 
 pub heard_front : (l : QueueLog) (e : End) → OneStream l → state_of e l.wire ≡ Up
-    → IsFront (numbered_heard (talk_of e l)) (numbered_said (talk_of (peer_of e) l))
-heard_front l A s up = way_front l.wire.end_a l.wire.end_b (numbered_said l.talk_b) (numbered_heard l.talk_a) (numbered l.wire.to_a) l.lost_a up s.to_a
-heard_front l B s up = way_front l.wire.end_b l.wire.end_a (numbered_said l.talk_a) (numbered_heard l.talk_b) (numbered l.wire.to_b) l.lost_b up s.to_b
+    → IsFront (numbered_heard (transcript_of e l)) (numbered_said (transcript_of (peer_of e) l))
+heard_front l A s up = way_front l.wire.end_a l.wire.end_b (numbered_said l.transcript_b) (numbered_heard l.transcript_a) (numbered l.wire.to_a) l.lost_a up s.to_a
+heard_front l B s up = way_front l.wire.end_b l.wire.end_a (numbered_said l.transcript_a) (numbered_heard l.transcript_b) (numbered l.wire.to_b) l.lost_b up s.to_b

@@ -5,6 +5,6 @@ pub mod Numbered
 pub mod OneStream
 pub mod QueueEvent
 pub mod QueueLog
-pub mod Talk
+pub mod Transcript
 pub mod Waiting
 pub mod Wire

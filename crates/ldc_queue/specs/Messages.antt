@@ -1,7 +1,7 @@
 -- The messages that parts make: one is whole with the part that has STOP.
 use Rattle.std.specs.Prelude.{◌≡◌, ℕ, ◌+◌, ◌≤◌, Bool, true, false, List, [], ◌∷◌, ◌++◌, length, ⊤}
 use Rattle.ldc_queue.specs.Fragments.{AreParts, Fragment, FragmentsOf, fragments_in, joined}
-use Rattle.ldc_queue.specs.Talk.{Turn, numbered_heard, numbered_said}
+use Rattle.ldc_queue.specs.Transcript.{Turn, numbered_heard, numbered_said}
 
 abbrev pub whole_with : Bool → List ℕ → List (List ℕ) → List (List ℕ)
 whole_with true message messages = message ∷ messages

@@ -4,7 +4,7 @@ use Rattle.ldc_queue.specs.declared.end.ChannelState.{ChannelState}
 use Rattle.ldc_queue.specs.declared.end.ChannelState.TheVariants.{Down, Up, Resetting}
 use Rattle.ldc_queue.specs.Numbered.{CountUp, numbered}
 use Rattle.ldc_queue.specs.QueueLog.{QueueLog}
-use Rattle.ldc_queue.specs.Talk.{numbered_heard, numbered_said}
+use Rattle.ldc_queue.specs.Transcript.{numbered_heard, numbered_said}
 
 -- ys begin with xs
 abbrev pub IsFront : {X : Type 0} → List X → List X → Type 0
@@ -25,5 +25,5 @@ pub record OneWay (said heard waiting : List (List ℕ)) (lost : ℕ) : Type 0 w
   pub numbers : CountUp 1 said
 
 pub record OneStream (l : QueueLog) : Type 0 where
-  pub to_a : OneWay (live l.wire.end_b (numbered_said l.talk_b)) (live l.wire.end_a (numbered_heard l.talk_a)) (numbered l.wire.to_a) l.lost_a
-  pub to_b : OneWay (live l.wire.end_a (numbered_said l.talk_a)) (live l.wire.end_b (numbered_heard l.talk_b)) (numbered l.wire.to_b) l.lost_b
+  pub to_a : OneWay (live l.wire.end_b (numbered_said l.transcript_b)) (live l.wire.end_a (numbered_heard l.transcript_a)) (numbered l.wire.to_a) l.lost_a
+  pub to_b : OneWay (live l.wire.end_a (numbered_said l.transcript_a)) (live l.wire.end_b (numbered_heard l.transcript_b)) (numbered l.wire.to_b) l.lost_b

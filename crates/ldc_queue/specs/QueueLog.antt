@@ -6,28 +6,28 @@ use Rattle.ldc_queue.specs.declared.end.End.{End}
 use Rattle.ldc_queue.specs.declared.end.End.TheVariants.{A, B}
 use Rattle.ldc_queue.specs.Numbered.{CountUp, is_numbered, numbered}
 use Rattle.ldc_queue.specs.QueueEvent.{Close, Forge, Join, Lose, Put, QueueEvent, Take}
-use Rattle.ldc_queue.specs.Talk.{Heard, Said, Turn, numbered_heard, numbered_said}
+use Rattle.ldc_queue.specs.Transcript.{Heard, Said, Turn, numbered_heard, numbered_said}
 use Rattle.ldc_queue.specs.Wire.{Wire, closed, configured, fresh_wire, put_for, state_of, taken_for, waiting_for}
 
 pub record QueueLog : Type 0 where
   pub wire : Wire
   -- since each end was last configured or closed, newest first
-  pub talk_a : List Turn
-  pub talk_b : List Turn
+  pub transcript_a : List Turn
+  pub transcript_b : List Turn
   -- how many numbered packets for each end were lost since the last that it took, or since its queue was emptied
   pub lost_a : ℕ
   pub lost_b : ℕ
 
-abbrev pub talk_of : End → QueueLog → List Turn
-talk_of A l = l.talk_a
-talk_of B l = l.talk_b
+abbrev pub transcript_of : End → QueueLog → List Turn
+transcript_of A l = l.transcript_a
+transcript_of B l = l.transcript_b
 
 abbrev pub lost_for : End → QueueLog → ℕ
 lost_for A l = l.lost_a
 lost_for B l = l.lost_b
 
 abbrev pub nothing_yet : QueueLog
-nothing_yet = record { wire = fresh_wire; talk_a = []; talk_b = []; lost_a = 0; lost_b = 0 }
+nothing_yet = record { wire = fresh_wire; transcript_a = []; transcript_b = []; lost_a = 0; lost_b = 0 }
 
 -- a count of lost packets after configuring an end that was in the state, and after taking a packet
 abbrev pub lost_behind : ChannelState → ℕ → ℕ
@@ -43,30 +43,30 @@ lost_past (packet ∷ packets) lost = 0
 abbrev pub after : QueueLog → QueueEvent → QueueLog
 after l (Join A) = record {
   wire = configured A l.wire;
-  talk_a = [];
-  talk_b = l.talk_b;
+  transcript_a = [];
+  transcript_b = l.transcript_b;
   lost_a = lost_behind l.wire.end_a l.lost_a;
   lost_b = lost_behind l.wire.end_a l.lost_b;
 }
 after l (Join B) = record {
   wire = configured B l.wire;
-  talk_a = l.talk_a;
-  talk_b = [];
+  transcript_a = l.transcript_a;
+  transcript_b = [];
   lost_a = lost_behind l.wire.end_b l.lost_a;
   lost_b = lost_behind l.wire.end_b l.lost_b;
 }
-after l (Close A) = record { wire = closed A l.wire; talk_a = []; talk_b = l.talk_b; lost_a = 0; lost_b = 0 }
-after l (Close B) = record { wire = closed B l.wire; talk_a = l.talk_a; talk_b = []; lost_a = 0; lost_b = 0 }
-after l (Put A packet) = record l { wire = put_for B packet l.wire; talk_a = Said packet ∷ l.talk_a }
-after l (Put B packet) = record l { wire = put_for A packet l.wire; talk_b = Said packet ∷ l.talk_b }
+after l (Close A) = record { wire = closed A l.wire; transcript_a = []; transcript_b = l.transcript_b; lost_a = 0; lost_b = 0 }
+after l (Close B) = record { wire = closed B l.wire; transcript_a = l.transcript_a; transcript_b = []; lost_a = 0; lost_b = 0 }
+after l (Put A packet) = record l { wire = put_for B packet l.wire; transcript_a = Said packet ∷ l.transcript_a }
+after l (Put B packet) = record l { wire = put_for A packet l.wire; transcript_b = Said packet ∷ l.transcript_b }
 after l (Take A packet) = record l {
   wire = taken_for A l.wire;
-  talk_a = Heard packet ∷ l.talk_a;
+  transcript_a = Heard packet ∷ l.transcript_a;
   lost_a = lost_past (numbered (packet ∷ [])) l.lost_a;
 }
 after l (Take B packet) = record l {
   wire = taken_for B l.wire;
-  talk_b = Heard packet ∷ l.talk_b;
+  transcript_b = Heard packet ∷ l.transcript_b;
   lost_b = lost_past (numbered (packet ∷ [])) l.lost_b;
 }
 after l (Lose A packet) = record l { wire = taken_for A l.wire; lost_a = l.lost_a + length (numbered (packet ∷ [])) }
@@ -84,10 +84,10 @@ abbrev pub MayStand : QueueLog → QueueEvent → Type 0
 MayStand l (Join e) = ⊤
 MayStand l (Close e) = ⊤
 MayStand l (Put e packet) =
-    (state_of e l.wire ≡ Up) × CountUp (length (numbered_said (talk_of e l)) + 1) (numbered (packet ∷ []))
+    (state_of e l.wire ≡ Up) × CountUp (length (numbered_said (transcript_of e l)) + 1) (numbered (packet ∷ []))
 MayStand l (Take e packet) =
     (state_of e l.wire ≡ Up) × IsFirst packet (waiting_for e l.wire)
-    × CountUp (length (numbered_heard (talk_of e l)) + 1) (numbered (packet ∷ []))
+    × CountUp (length (numbered_heard (transcript_of e l)) + 1) (numbered (packet ∷ []))
     × (is_numbered packet ≡ true → lost_for e l < 4294967296)
 MayStand l (Lose e packet) = IsFirst packet (waiting_for e l.wire)
 MayStand l (Forge e packet) = ⊥

@@ -5,8 +5,8 @@ ghost use Rattle.ldc_queue.specs.Fragments.{Fragment};
 ghost use Rattle.ldc_queue.specs.Messages.{half_in, messages_heard, messages_said, whole_in, AllMayCome, AreCutFrom};
 ghost use Rattle.ldc_queue.specs.OneStream.{IsFront, OneStream};
 ghost use Rattle.ldc_queue.specs.QueueEvent.{QueueEvent};
-ghost use Rattle.ldc_queue.specs.QueueLog.{after, log_of, nothing_yet, talk_of, AllMayStand, MayStand, QueueLog};
-ghost use Rattle.ldc_queue.specs.Talk.{numbered_heard, numbered_said};
+ghost use Rattle.ldc_queue.specs.QueueLog.{after, log_of, nothing_yet, transcript_of, AllMayStand, MayStand, QueueLog};
+ghost use Rattle.ldc_queue.specs.Transcript.{numbered_heard, numbered_said};
 ghost use Rattle.ldc_queue.specs.Wire.{peer_of, state_of};
 ghost use Rattle.ldc_queue.specs.declared.end.ChannelState.TheVariants.{Up};
 ghost use Rattle.ldc_queue.specs.declared.end.End.{End};
@@ -19,9 +19,9 @@ pub fn heard_is_a_front_of_said()
     ensures holds { (events : List QueueEvent) → AllMayStand nothing_yet events → OneStream (log_of nothing_yet events) }
 
     ensures packets { (l : QueueLog) (e : End) → OneStream l → state_of e l.wire ≡ Up
-        → IsFront (numbered_heard (talk_of e l)) (numbered_said (talk_of (peer_of e) l)) }
+        → IsFront (numbered_heard (transcript_of e l)) (numbered_said (transcript_of (peer_of e) l)) }
     ensures messages { (l : QueueLog) (e : End) → OneStream l → state_of e l.wire ≡ Up
-        → IsFront (messages_heard (talk_of e l)) (messages_said (talk_of (peer_of e) l)) }
+        → IsFront (messages_heard (transcript_of e l)) (messages_said (transcript_of (peer_of e) l)) }
 {}
 
 /// Parts are those of messages, one after the other, and the first ones of a further message, exactly where each

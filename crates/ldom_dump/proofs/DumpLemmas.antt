@@ -6,17 +6,17 @@ use Rattle.std.proofs.lemmas.List.{flat_map_more, length-map, map-append}
 use Rattle.std.proofs.lemmas.List.Sums.{sum_by-append}
 use Rattle.domain_script.specs.ScriptLines.{LinesTaken, TakesLine}
 use Rattle.domain_script.proofs.ScriptLemmas.{taken_more, taken_none}
-use Rattle.ldom_journal.specs.declared.status.Status.{Status}
-use Rattle.ldom_journal.specs.declared.status.Status.TheVariants as the_status
+use Rattle.ldom_report.specs.declared.status.Status.{Status}
+use Rattle.ldom_report.specs.declared.status.Status.TheVariants as the_status
 use Rattle.gathered_text.specs.Gathered.{Gathers, WroteFront}
-use Rattle.ldom_journal.specs.Failing.{Fails}
-use Rattle.ldom_journal.specs.LinesEnd.{counted_lines}
+use Rattle.ldom_report.specs.Failing.{Fails}
+use Rattle.ldom_report.specs.LinesEnd.{counted_lines}
 use Rattle.gathered_text.proofs.GatheredText.{appends_last, gathers_all, gathers_more, gathers_then, wrote_front_last}
 use Rattle.ldom_dump.specs.Decoded.{AreOfLines, Decoded, IsOfLine, decoded_lines, decoded_text, is_fault, is_ok, is_packet}
 use Rattle.ldom_dump.specs.DumpReport.{Dumps, Written, dump_text, end_line}
 use Rattle.ldom_dump.specs.Going.{DumpsLines, Finishes, GathersUnlessSinkFault, PutsPacket, TellsCarried, TellsMessage}
-use Rattle.ldom_journal.specs.Stops.{IsReaders}
-use Rattle.ldom_dump.specs.Reading.{ReadsBytes, StopsAt}
+use Rattle.ldom_report.specs.Stops.{IsReaders}
+use Rattle.ldom_dump.specs.Reading.{ReadsBytes, DumpStopsAt}
 
 -- the message that a packet carries was told
 pub tells_carried : (of : Option (List ℕ)) (bytes old new : List ℕ) → of ≡ Some bytes → TellsMessage bytes old new → TellsCarried of old new
@@ -116,14 +116,14 @@ unless_sink_fault the_status.NoMemory old new gathered text readers g = g
 
 -- no further line is read
 pub lines_stop : (start rest now old new : Option (List ℕ)) (held : List ℕ) (why : Status) (gathered : List ℕ) (count lines packets faults : ℕ)
-    → LinesSoFar start rest old new gathered count packets faults → IsReaders why → StopsAt why rest held now count → lines ≡ counted_lines why count → DumpsLines start now why old new gathered lines packets faults
+    → LinesSoFar start rest old new gathered count packets faults → IsReaders why → DumpStopsAt why rest held now count → lines ≡ counted_lines why count → DumpsLines start now why old new gathered lines packets faults
 lines_stop start rest now old new held why gathered count lines packets faults so_far readers stop is = record {
   all = so_far.all;
   left = rest;
   taken = so_far.taken;
   are = so_far.are;
   held = held;
-  stop = subst (λ (n : ℕ). StopsAt why rest held now n) so_far.counts stop;
+  stop = subst (λ (n : ℕ). DumpStopsAt why rest held now n) so_far.counts stop;
   lines_are = λ other. is ∙ ap (λ (n : ℕ). counted_lines why n) so_far.counts;
   packets_are = so_far.packets_are;
   faults_are = so_far.faults_are;

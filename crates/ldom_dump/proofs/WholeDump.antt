@@ -6,12 +6,12 @@ use Rattle.std.proofs.lemmas.List.{length-map}
 use Rattle.hex.proofs.HexLemmas.{decode_of-ok}
 use Rattle.domain_script.specs.declared.event.LineFault.{LineFault}
 use Rattle.domain_script.specs.ScriptLines.{BeginsWithLonger, TakesLine, TakesLines, script_lines, with_front}
-use Rattle.ldom_journal.specs.declared.status.LimitKind.TheVariants.{Lines, Bytes, Entries}
-use Rattle.ldom_journal.specs.declared.status.Status.{Status}
-use Rattle.ldom_journal.specs.declared.status.Status.TheVariants as the_status
+use Rattle.ldom_report.specs.declared.status.LimitKind.TheVariants.{Lines, Bytes, Entries}
+use Rattle.ldom_report.specs.declared.status.Status.{Status}
+use Rattle.ldom_report.specs.declared.status.Status.TheVariants as the_status
 use Rattle.ldom_dump.specs.Decoded.{Decoded}
 use Rattle.ldom_dump.specs.DumpReport.{Dumps, Written}
-use Rattle.ldom_dump.specs.Reading.{IsNoDigits, StopsAt}
+use Rattle.ldom_dump.specs.Reading.{IsNoDigits, DumpStopsAt}
 use Rattle.ldom_dump.specs.Whole.{AreDigits, IsDigits, IsWhole}
 
 are_behind : (xs ys : List (List ℕ)) → AreDigits (xs ++ ys) → AreDigits ys
@@ -59,7 +59,7 @@ none_more (Some rest) bytes texts taken all some few =
     omega (arith, ap (λ (l : List (List ℕ)). length l) taken.0, length-append texts (script_lines rest), lines_some rest some)
 
 -- each other reason to end has its cause
-ended : (why status : Status) (old new rest now : Option (List ℕ)) (held : List ℕ) (all : List Decoded) (bytes : List ℕ) → TakesLines (Some bytes) rest (map (λ decoded. decoded.line) all) → StopsAt why rest held now (length all) → Written why status old new all → IsWhole bytes
+ended : (why status : Status) (old new rest now : Option (List ℕ)) (held : List ℕ) (all : List Decoded) (bytes : List ℕ) → TakesLines (Some bytes) rest (map (λ decoded. decoded.line) all) → DumpStopsAt why rest held now (length all) → Written why status old new all → IsWhole bytes
     → status ≢ the_status.SourceFault → status ≢ the_status.SinkFault → (status ≡ the_status.Done) ⊎ (status ≡ the_status.NoMemory)
 ended the_status.Done status old new rest now held all bytes taken stop written whole source sink = elim written [ inl wrote ↦ inl wrote.0 | inr failed ↦ absurd (sink failed.0) ]
 ended the_status.NoMemory status old new rest now held all bytes taken stop written whole source sink = elim written [ inl wrote ↦ inr wrote.0 | inr failed ↦ absurd (sink failed.0) ]

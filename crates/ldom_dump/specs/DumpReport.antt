@@ -3,16 +3,16 @@ use Rattle.std.specs.Prelude.{◌≡◌, ℕ, ◌⊎◌, List, ◌++◌, length,
 use Rattle.std.specs.Io.KnownBytes.{Appends}
 use Rattle.std.specs.List.{count_by}
 use Rattle.domain_script.specs.ScriptLines.{LinesTaken}
-use Rattle.ldom_journal.specs.declared.status.Status.{Status}
-use Rattle.ldom_journal.specs.declared.status.Status.TheVariants.{SinkFault, SourceFault}
+use Rattle.ldom_report.specs.declared.status.Status.{Status}
+use Rattle.ldom_report.specs.declared.status.Status.TheVariants.{SinkFault, SourceFault}
 use Rattle.gathered_text.specs.Gathered.{WroteFront}
-use Rattle.ldom_journal.specs.Failing.{Fails}
-use Rattle.ldom_journal.specs.LinesEnd.{counted_lines}
-use Rattle.ldom_journal.specs.Report.{cause_text}
-use Rattle.ldom_journal.specs.Status.{status_number}
+use Rattle.ldom_report.specs.Failing.{Fails}
+use Rattle.ldom_report.specs.LinesEnd.{counted_lines}
+use Rattle.ldom_report.specs.Report.{cause_text}
+use Rattle.ldom_report.specs.Status.{status_number}
 use Rattle.ldom_dump.specs.Decoded.{AreOfLines, Decoded, decoded_lines, is_fault, is_packet}
 use Rattle.ldom_dump.specs.Fields.{field_text}
-use Rattle.ldom_dump.specs.Reading.{StopsAt}
+use Rattle.ldom_dump.specs.Reading.{DumpStopsAt}
 
 -- how many lines were taken up, how many of them are packets, and how many aren't
 abbrev pub counts_text : ℕ → ℕ → ℕ → List ℕ
@@ -45,5 +45,5 @@ pub record Dumps (start now : Option (List ℕ)) (status : Status) (old new : Op
   -- why reading ended: for a fault of the source exactly where that failed
   pub why : Status
   pub told : Fails (why ≡ SourceFault) before after
-  pub stop : StopsAt why left held now (length all)
+  pub stop : DumpStopsAt why left held now (length all)
   pub written : Written why status old new all

@@ -10,14 +10,14 @@ use Rattle.vio_tag.specs.declared.message.TagFault.{TagFault}
 use Rattle.std.specs.Prelude.{Result}
 use Rattle.ldc_packet.specs.Decoding.{Unpacks}
 use Rattle.vio_tag.specs.Decoding.{Decodes}
-use Rattle.ldom_journal.specs.declared.status.Status.{Status}
-use Rattle.ldom_journal.specs.declared.status.Status.TheVariants.{SinkFault}
+use Rattle.ldom_report.specs.declared.status.Status.{Status}
+use Rattle.ldom_report.specs.declared.status.Status.TheVariants.{SinkFault}
 use Rattle.gathered_text.specs.Gathered.{Gathers, WroteFront}
-use Rattle.ldom_journal.specs.LinesEnd.{counted_lines}
+use Rattle.ldom_report.specs.LinesEnd.{counted_lines}
 use Rattle.ldom_dump.specs.Decoded.{AreOfLines, Carries, CarriesIn, Decoded, decoded_lines, is_fault, is_ok, is_packet}
 use Rattle.ldom_dump.specs.MessageText.{carried_line, message_line}
 use Rattle.ldom_dump.specs.PacketText.{packet_line}
-use Rattle.ldom_dump.specs.Reading.{StopsAt}
+use Rattle.ldom_dump.specs.Reading.{DumpStopsAt}
 
 -- the line of the message that these bytes spell was put after a text, or that of their fault
 pub record TellsMessage (bytes old new : List ℕ) : Type 0 where
@@ -58,7 +58,7 @@ pub record DumpsLines (start now : Option (List ℕ)) (why : Status) (old new : 
   pub taken : LinesTaken start left (map (λ decoded. decoded.line) all)
   pub are : AreOfLines all
   pub held : List ℕ
-  pub stop : StopsAt why left held now (length all)
+  pub stop : DumpStopsAt why left held now (length all)
   pub lines_are : why ≢ SinkFault → lines ≡ counted_lines why (length all)
   pub packets_are : packets ≡ count_by is_packet all
   pub faults_are : faults ≡ count_by is_fault all

@@ -5,9 +5,9 @@ use Rattle.domain_script.specs.declared.event.LineFault.{LineFault}
 use Rattle.domain_script.specs.declared.event.LineFault.TheVariants.{Hex}
 use Rattle.domain_script.specs.Pieces.{DecidesNothing}
 use Rattle.domain_script.specs.ScriptLines.{TakesLine}
-use Rattle.ldom_journal.specs.declared.status.Status.{Status}
-use Rattle.ldom_journal.specs.declared.status.Status.TheVariants as status
-use Rattle.ldom_journal.specs.LinesEnd.{IsPast}
+use Rattle.ldom_report.specs.declared.status.Status.{Status}
+use Rattle.ldom_report.specs.declared.status.Status.TheVariants as status
+use Rattle.ldom_report.specs.LinesEnd.{IsPast}
 use Rattle.ldom_dump.specs.Decoded.{SpellsBytes}
 use Rattle.domain_script.specs.Limits.{most_line_bytes, most_lines}
 
@@ -28,14 +28,14 @@ pub record IsNoDigits (rest left : Option (List ℕ)) (fault : LineFault) : Type
 
 -- Why no further line is decoded after so many: `rest` is to come after them, and then `held` and what the source has
 -- left. Where the source failed, no line is whole in what is held, and no limit is met; where the sink did, one more line was read.
-abbrev pub StopsAt : Status → Option (List ℕ) → List ℕ → Option (List ℕ) → ℕ → Type 0
-StopsAt (status.Script at fault) rest held now count = (at ≡ count + 1) × (at ≤ most_lines) × IsNoDigits rest (prepend_known held now) fault
-StopsAt (status.Limit at kind) rest held now count = (at ≡ count + 1) × IsPast kind rest count × Keeps rest (prepend_known held now)
-StopsAt status.Done rest held now count = IsAtEnd rest × Keeps rest (prepend_known held now)
-StopsAt status.SourceFault rest held now count = DecidesNothing count held × Keeps rest (prepend_known held now)
-StopsAt status.SinkFault rest held now count = (line : List ℕ) × TakesLine rest (prepend_known held now) line
-StopsAt status.NoMemory rest held now count = Keeps rest (prepend_known held now)
-StopsAt status.StoreFault rest held now count = ⊥
-StopsAt (status.ImageSize need have) rest held now count = ⊥
-StopsAt status.HostFault rest held now count = ⊥
-StopsAt status.Usage rest held now count = ⊥
+abbrev pub DumpStopsAt : Status → Option (List ℕ) → List ℕ → Option (List ℕ) → ℕ → Type 0
+DumpStopsAt (status.Script at fault) rest held now count = (at ≡ count + 1) × (at ≤ most_lines) × IsNoDigits rest (prepend_known held now) fault
+DumpStopsAt (status.Limit at kind) rest held now count = (at ≡ count + 1) × IsPast kind rest count × Keeps rest (prepend_known held now)
+DumpStopsAt status.Done rest held now count = IsAtEnd rest × Keeps rest (prepend_known held now)
+DumpStopsAt status.SourceFault rest held now count = DecidesNothing count held × Keeps rest (prepend_known held now)
+DumpStopsAt status.SinkFault rest held now count = (line : List ℕ) × TakesLine rest (prepend_known held now) line
+DumpStopsAt status.NoMemory rest held now count = Keeps rest (prepend_known held now)
+DumpStopsAt status.StoreFault rest held now count = ⊥
+DumpStopsAt (status.ImageSize need have) rest held now count = ⊥
+DumpStopsAt status.HostFault rest held now count = ⊥
+DumpStopsAt status.Usage rest held now count = ⊥

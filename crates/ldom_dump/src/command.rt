@@ -7,7 +7,7 @@ ghost use Rattle.ldom_dump.specs.Whole.{IsWhole};
 use crate::end_line::finish;
 use crate::lines::dump_all;
 use gathered_text::Text;
-use ldom_journal::Status;
+use ldom_report::Status;
 use std::alloc::Global;
 use vio_io::{Sink, Source};
 

@@ -1,16 +1,17 @@
 // A line of hexadecimal digits.
 ghost use Rattle.std.specs.Prelude.{◌≡◌, ◌+◌, ◌≤◌, ℕ, List, IfErr, IfNone, IfOk, IfSome};
-ghost use Rattle.domain_script.specs.declared.lines.LinesStop.TheVariants.{Going};
-ghost use Rattle.domain_script.specs.LinesState.{to_come};
-ghost use Rattle.ldom_journal.specs.LinesEnd.{counted_lines};
+ghost use Rattle.script_reader.specs.declared.lines.LinesStop.TheVariants.{Going};
+ghost use Rattle.script_reader.specs.LinesState.{to_come};
+ghost use Rattle.ldom_report.specs.LinesEnd.{counted_lines};
 ghost use Rattle.ldom_dump.specs.Decoded.{SpellsBytes};
-ghost use Rattle.ldom_journal.specs.Failing.{Fails};
-ghost use Rattle.ldom_journal.specs.Stops.{stop_status};
-ghost use Rattle.ldom_dump.specs.Reading.{ReadsBytes, StopsAt};
+ghost use Rattle.ldom_report.specs.Failing.{Fails};
+ghost use Rattle.ldom_report.specs.Stops.{stop_status};
+ghost use Rattle.ldom_dump.specs.Reading.{ReadsBytes, DumpStopsAt};
 ghost use Rattle.domain_script.specs.Limits.{most_lines};
 
-use domain_script::{Lines, decode_lower};
-use ldom_journal::{LineFault, Stop, next_line};
+use domain_script::decode_lower;
+use ldom_report::{LineFault, Stop, next_line};
+use script_reader::Lines;
 use vio_io::Source;
 
 /// The bytes of a packet.
@@ -39,7 +40,7 @@ pub fn read_bytes<S: Source>(lines: &mut Lines, source: &mut S) -> Result<[u8; 6
     ensures next { IfOk result (λ _. (lines.new.number ≡ lines.old.number + 1) × (lines.new.number ≤ most_lines)
         × (lines.new.stop ≡ Going)) }
 
-    ensures stop { IfErr result (λ stop. StopsAt (stop_status stop lines.new.number)
+    ensures stop { IfErr result (λ stop. DumpStopsAt (stop_status stop lines.new.number)
         (to_come lines.old (S.left source.old)) lines.new.held (S.left source.new) lines.old.number) }
     ensures lines { IfErr result (λ stop. lines.new.number ≡ counted_lines (stop_status stop lines.new.number)
         lines.old.number) }

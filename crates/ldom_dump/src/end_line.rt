@@ -9,7 +9,7 @@ ghost use Rattle.ldom_dump.specs.Going.{Finishes};
 use crate::fields::push_field;
 use crate::lines::Ended;
 use gathered_text::{TEXT_ROOM, Text};
-use ldom_journal::{Status, push_cause};
+use ldom_report::{Status, push_cause};
 use vio_io::{Failed, Sink};
 
 /// More bytes than the line has.

@@ -12,4 +12,4 @@ mod message_text;
 mod packet_text;
 
 pub use command::dump;
-pub use ldom_journal::{LimitKind, LineFault, Status};
+pub use ldom_report::{LimitKind, LineFault, Status};

@@ -1,9 +1,9 @@
 // The lines of a dump, one after another.
 ghost use Rattle.std.specs.Prelude.{◌≡◌, ◌+◌, ◌≤◌, [], length, IfOk, OnErr, OnOk};
 ghost use Rattle.vio_io.specs.Causes.{Rose};
-ghost use Rattle.domain_script.specs.declared.lines.LinesStop.TheVariants.{Going};
-ghost use Rattle.domain_script.specs.LinesState.{to_come};
-ghost use Rattle.ldom_journal.specs.Failing.{Fails};
+ghost use Rattle.script_reader.specs.declared.lines.LinesStop.TheVariants.{Going};
+ghost use Rattle.script_reader.specs.LinesState.{to_come};
+ghost use Rattle.ldom_report.specs.Failing.{Fails};
 ghost use Rattle.gathered_text.specs.Gathered.{Gathers, WroteFront};
 ghost use Rattle.ldc_packet.specs.Form.{IsWellFormed};
 ghost use Rattle.ldom_dump.specs.Decoded.{carried_bytes};
@@ -12,10 +12,10 @@ ghost use Rattle.ldom_dump.specs.Going.{DumpsLines, PutsPacket, TellsCarried, Te
 use crate::digits::read_bytes;
 use crate::message_text::{push_message, push_message_fault};
 use crate::packet_text::{carried_bytes, push_fault, push_packet};
-use domain_script::Lines;
 use gathered_text::{TEXT_ROOM, Text};
 use ldc_packet::Packet;
-use ldom_journal::Status;
+use ldom_report::Status;
+use script_reader::Lines;
 use std::alloc::Global;
 use vio_bytes::NoMemory;
 use vio_io::{Failed, Sink, Source};

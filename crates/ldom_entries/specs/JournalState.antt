@@ -9,6 +9,6 @@ pub record JournalState : Type 0 where
   pub room : ℕ
 
 -- an entry was put last, into room that was there
-pub record Puts (s : JournalState) (entry : Entry) (t : JournalState) : Type 0 where
+pub record PutsEntry (s : JournalState) (entry : Entry) (t : JournalState) : Type 0 where
   pub entries : t.entries ≡ s.entries ++ entry ∷ []
   pub room : t.room + 1 ≡ s.room

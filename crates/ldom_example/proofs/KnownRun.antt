@@ -19,9 +19,9 @@ use Rattle.domain_script.proofs.ComputedEvents.{events_spelled}
 use Rattle.infallible_io.specs.States.{InfallibleDiskState}
 use Rattle.kept_requests.specs.BlockWord.{blocks_text, repeats, word_length}
 use Rattle.ldom_entries.specs.declared.entry.Entry.{Entry}
-use Rattle.ldom_journal.specs.declared.status.LimitKind.{LimitKind}
-use Rattle.ldom_journal.specs.declared.status.Status.{Status}
-use Rattle.ldom_journal.specs.declared.status.Status.TheVariants as status
+use Rattle.ldom_report.specs.declared.status.LimitKind.{LimitKind}
+use Rattle.ldom_report.specs.declared.status.Status.{Status}
+use Rattle.ldom_report.specs.declared.status.Status.TheVariants as status
 use Rattle.script_laws.specs.Clean.{IsCleanScript, IsFull}
 use Rattle.script_laws.specs.PlainRun.{plain_content, plain_ids, plain_text}
 use Rattle.script_laws.specs.Quiet.{IsQuietScript}

@@ -1,4 +1,3 @@
-mod LineParts
-pub mod ReportLines
-pub mod StopLemmas
-mod WholeLines
+pub mod Counting
+pub mod Decoding
+pub mod FrontRead

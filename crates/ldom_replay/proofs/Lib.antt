@@ -2,3 +2,4 @@ mod Beginning
 mod BlockCounts
 mod Commands
 mod Holding
+mod Sampled

@@ -1,7 +1,7 @@
 ghost use Rattle.std.specs.Prelude.{map, string_bytes};
 ghost use Rattle.ldom_replay.specs.Asking.{IsCommand};
 
-use ldom_journal::Mode;
+use ldom_report::Mode;
 use ldom_words::{Asked, read_words};
 use std::alloc::Global;
 
@@ -10,6 +10,9 @@ use std::alloc::Global;
 pub enum Command<'a> {
     /// A script is run over the image of this name, and the report shows what this mode shows.
     Script { mode: Mode, image: &'a str },
+
+    /// The sample script of this number, below 2^31, is run over zeros, and the report is its end line alone.
+    Sample { number: u32 },
 
     /// Packets are dumped.
     Dump,
@@ -28,6 +31,7 @@ pub fn command_of<'a>(alloc: Global, words: &'a [String]) -> Option<Command<'a>>
             mode: Mode::Trace,
             image,
         }),
+        Some(Asked::Sample { number }) => Some(Command::Sample { number }),
         Some(Asked::Dump) => Some(Command::Dump),
         None => None,
     }

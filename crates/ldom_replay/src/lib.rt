@@ -7,9 +7,10 @@ mod blocks;
 mod command;
 mod reading;
 mod run;
+mod sample;
 mod top_call;
 
-pub use ldom_journal::{LimitKind, Status};
+pub use ldom_report::{LimitKind, Status};
 pub use ldom_world::{Lanes, World};
 pub use script_laws::{
     a_quiet_script_runs_plainly, bytes_outside_of_writes_stay, completions_succeed_or_fail,

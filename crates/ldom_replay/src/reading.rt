@@ -1,19 +1,20 @@
 // What a run has read of its script.
 ghost use Rattle.std.specs.Prelude.{◌≡◌, ◌+◌, ◌<◌, ◌≤◌, [], length, IfErr, IfOk, OnOk};
-ghost use Rattle.domain_script.specs.declared.lines.LinesStop.TheVariants.{Going};
-ghost use Rattle.domain_script.specs.LinesState.{to_come};
+ghost use Rattle.script_reader.specs.declared.lines.LinesStop.TheVariants.{Going};
+ghost use Rattle.script_reader.specs.LinesState.{to_come};
 ghost use Rattle.domain_script.specs.ScriptEvents.{no_names};
 ghost use Rattle.domain_script.specs.Spells.{IsDeclared};
-ghost use Rattle.ldom_journal.specs.LinesEnd.{counted_lines, most_entries};
-ghost use Rattle.ldom_journal.specs.Stops.{stop_lines, stop_status};
-ghost use Rattle.ldom_journal.specs.Failing.{Fails};
+ghost use Rattle.ldom_report.specs.LinesEnd.{counted_lines, most_entries};
+ghost use Rattle.ldom_report.specs.Stops.{stop_lines, stop_status};
+ghost use Rattle.ldom_report.specs.Failing.{Fails};
 ghost use Rattle.script_laws.specs.Reading.{ReadsEvent, StopsAt};
 ghost use Rattle.domain_script.specs.Limits.{most_lines};
 
 use crate::run::Run;
-use domain_script::{Event, Lines, Names, parse_into};
-use ldom_journal::{Journal, MOST_ENTRIES, Status, Stop, next_line};
+use domain_script::{Event, Names, parse_into};
+use ldom_report::{Journal, MOST_ENTRIES, Status, Stop, next_line};
 use ldom_world::Lanes;
+use script_reader::Lines;
 use std::alloc::Global;
 use vio_bytes::NoMemory;
 use vio_io::{Source, Store};

@@ -3,12 +3,12 @@ ghost use Rattle.std.specs.Prelude.{◌≡◌, ◌≢◌, ℕ, ◌*◌, ◌≤�
 ghost use Rattle.std.specs.Prelude.{IfOk, IfSome, IsSome, IsTrue, OnOk};
 ghost use Rattle.vio_io.specs.Given.{Gave};
 ghost use Rattle.domain_script.specs.Declarations.{AreDisks};
-ghost use Rattle.domain_script.specs.declared.lines.LinesStop.TheVariants.{Going};
-ghost use Rattle.domain_script.specs.LinesState.{to_come};
+ghost use Rattle.script_reader.specs.declared.lines.LinesStop.TheVariants.{Going};
+ghost use Rattle.script_reader.specs.LinesState.{to_come};
 ghost use Rattle.domain_script.specs.Spells.{IsDeclared};
-ghost use Rattle.ldom_journal.specs.Report.{accepted_count};
-ghost use Rattle.ldom_journal.specs.Stops.{stop_lines, stop_status};
-ghost use Rattle.ldom_journal.specs.Failing.{Fails};
+ghost use Rattle.ldom_report.specs.Report.{accepted_count};
+ghost use Rattle.ldom_report.specs.Stops.{stop_lines, stop_status};
+ghost use Rattle.ldom_report.specs.Failing.{Fails};
 ghost use Rattle.script_laws.specs.Going.{RunsAll, RunsLines};
 ghost use Rattle.script_laws.specs.Attached.{AreOpening};
 ghost use Rattle.script_laws.specs.Opening.{Opened, Opens, OpensAndStops};
@@ -23,7 +23,7 @@ ghost use Rattle.domain_script.specs.Limits.{most_lines};
 use crate::blocks::blocks_declared;
 use crate::reading::Reader;
 use domain_script::{Event, Names};
-use ldom_journal::{Journal, Status, Stop};
+use ldom_report::{Journal, Status, Stop};
 use ldom_world::{Lanes, World};
 use std::alloc::Global;
 use vdisk_msg::BLOCK;
@@ -115,6 +115,27 @@ pub struct Run<D: Store> {
     pub lanes: Option<Lanes>,
 }
 
+impl<D: Store> Run<D> {
+    /// The run of a script of which, for want of memory, no line was read.
+    pub fn without_memory(alloc: Global) -> Self
+        ensures status { result.status ≡ Status.NoMemory }
+        ensures lines { result.lines ≡ 0 }
+        ensures names { result.names ≡ no_names }
+        ensures journal { result.journal.entries ≡ [] }
+        ensures image { result.image ≡ None }
+        ensures lanes { result.lanes ≡ None }
+    {
+        Run {
+            status: Status::NoMemory,
+            lines: 0,
+            names: Names::new(),
+            journal: Journal::new(alloc),
+            image: None,
+            lanes: None,
+        }
+    }
+}
+
 /// Runs the script over the image of this name. The run has an image exactly where the host gave one.
 pub fn run_script<H: Host, S: Source>(
     alloc: Global,
@@ -133,16 +154,7 @@ pub fn run_script<H: Host, S: Source>(
 {
     let mut reader = match Reader::new(alloc) {
         Ok(reader) => reader,
-        Err(NoMemory) => {
-            return Run {
-                status: Status::NoMemory,
-                lines: 0,
-                names: Names::new(),
-                journal: Journal::new(alloc),
-                image: None,
-                lanes: None,
-            };
-        }
+        Err(NoMemory) => return Run::without_memory(alloc),
     };
     match read_opening(&mut reader, source) {
         Ok(event) => attach(alloc, name, host, source, reader, Some(event)),

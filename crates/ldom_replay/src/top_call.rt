@@ -8,27 +8,29 @@ ghost use Rattle.domain_script.specs.declared.event.DiskDecl.{DiskDecl};
 ghost use Rattle.domain_script.specs.declared.event.Event.{Event};
 ghost use Rattle.disk_law.specs.Issued.{CompletesOnceInOrder};
 ghost use Rattle.gathered_text.specs.Gathered.{WroteFront};
-ghost use Rattle.ldom_journal.specs.HasWords.{HasWords};
-ghost use Rattle.ldom_journal.specs.Report.{report, usage_line};
+ghost use Rattle.ldom_report.specs.HasWords.{HasWords};
+ghost use Rattle.ldom_report.specs.Report.{report, usage_line};
 ghost use Rattle.ldom_dump.specs.DumpReport.{Dumps};
 ghost use Rattle.ldom_dump.specs.Whole.{IsWhole};
 ghost use Rattle.script_laws.specs.Counts.{FaultsTold, NoneFailed, counts};
 ghost use Rattle.script_laws.specs.Clean.{EndsClean, IsCleanScript, NeverFails, StandsStill};
 ghost use Rattle.script_laws.specs.Failures.{SucceedOrFail, failed_count};
-ghost use Rattle.ldom_journal.specs.DiskEvents.{history};
+ghost use Rattle.ldom_report.specs.DiskEvents.{history};
 ghost use Rattle.script_laws.specs.Outcomes.{Reports, RunsScript};
 ghost use Rattle.script_laws.specs.Quiet.{IsQuietScript};
 ghost use Rattle.script_laws.specs.Stored.{flush_count, stored_count};
 ghost use Rattle.script_laws.specs.Whole.{RunsPlainly};
 ghost use Rattle.world_parts.specs.Declared.{as_image, bytes_needed};
-ghost use Rattle.ldom_words.specs.Words.{AsksDump, AsksRun};
-ghost use Rattle.ldom_replay.specs.Asking.{AsksFor, AsksNoRun};
+ghost use Rattle.ldom_words.specs.Words.{AsksDump, AsksRun, AsksSample};
+ghost use Rattle.ldom_replay.specs.Asking.{AsksFor, AsksNoRun, AsksNoScript};
+ghost use Rattle.ldom_replay.specs.Sampled.{RunsSample};
 
 use crate::command::{Command, command_of};
 use crate::run::{Run, run_script};
+use crate::sample::run_sample;
 use domain_script::Names;
 use ldom_dump::dump;
-use ldom_journal::{Journal, Mode, Status, write_end, write_text};
+use ldom_report::{Journal, Mode, Status, write_end, write_text};
 use ldom_world::Lanes;
 use std::alloc::Global;
 use vio_io::{Failed, Host, Sink, Source, Store};
@@ -47,8 +49,9 @@ pub struct Outcome<D: Store> {
 
 /// Does what the words of a command line say, without the program's name: `run IMAGE` runs the script that the source
 /// gives over the image that the host has under this name, and writes the short report to the sink; `trace IMAGE` does
-/// the same, and its report shows each entry; `dump` writes the fields of the packets that it gives in hexadecimal
-/// digits. Other words are answered by the usage line.
+/// the same, and its report shows each entry; `sample N` runs the sample script of N over `-`, and its report is the
+/// end line alone; `dump` writes the fields of the packets that it gives in hexadecimal digits. Other words are
+/// answered by the usage line.
 pub fn replay<H: Host, S: Source, K: Sink>(
     alloc: Global,
     words: &[String],
@@ -74,6 +77,20 @@ pub fn replay<H: Host, S: Source, K: Sink>(
         → result.status ≡ Status.Done
         → RunsPlainly H.Disk.content disk content events result.journal.entries result.image
         (K.written out.old) (K.written out.new) }
+
+    // The sample script of a number is run so over zeros, and its report is the end line alone. Each of its lines
+    // spells an event: it is run to its end, where no count rose and memory suffices, or to a line that begins with too
+    // many entries.
+    ensures samples { (number : ℕ) → AsksSample (map string_bytes words.now) number
+        → RunsSample number (as_image H.Disk.content H.Disk.faults H.Disk.calls H.Disk.flushes) H.Disk.size
+        (H.gives host.old (codes "-")) result.status result.journal.entries result.image result.lanes
+        (K.written out.old) (K.written out.new)
+        (counts (S.faults script.old) (H.faults host.old) (K.faults out.old))
+        (counts (S.faults script.new) (H.faults host.new) (K.faults out.new)) }
+    ensures samples_whole { (number : ℕ) → AsksSample (map string_bytes words.now) number
+        → StandsStill (H.faults host.old) (H.faults host.new) → StandsStill (K.faults out.old) (K.faults out.new)
+        → IfSome result.image (λ disk. H.Disk.faults disk ≡ 0)
+        → EndsClean result.status result.journal.entries }
 
     // For every disk: completions are in the order of issue, each request's at most once.
     ensures once { (disk : ℕ) → CompletesOnceInOrder (history disk result.journal.entries) }
@@ -119,10 +136,10 @@ pub fn replay<H: Host, S: Source, K: Sink>(
         → StandsStill (S.faults script.old) (S.faults script.new) → StandsStill (K.faults out.old) (K.faults out.new)
         → (result.status ≡ Status.Done) ⊎ (result.status ≡ Status.NoMemory) }
 
-    // Other words are no command, and leave the script unread.
+    // Other words are no command. These and a sample leave the source unread.
     ensures usage { AsksNoRun (map string_bytes words.now) → (AsksDump (map string_bytes words.now) → ⊥)
         → Reports Status.Usage result.status (K.written out.old) (K.written out.new) usage_line }
-    ensures unread { AsksNoRun (map string_bytes words.now) → (AsksDump (map string_bytes words.now) → ⊥)
+    ensures unread { AsksNoScript (map string_bytes words.now) → (AsksDump (map string_bytes words.now) → ⊥)
         → script.new ≡ script.old }
 
     // What isn't a run has no journal, no image and no lanes.
@@ -139,6 +156,9 @@ pub fn replay<H: Host, S: Source, K: Sink>(
     match command_of(alloc, words) {
         Some(Command::Script { mode, image }) => {
             report_run(mode, run_script(alloc, image, host, script), out)
+        }
+        Some(Command::Sample { number }) => {
+            report_run(Mode::EndOnly, run_sample(alloc, number, host), out)
         }
         Some(Command::Dump) => report_dump(alloc, script, out),
         None => report_usage(Journal::new(alloc), out),

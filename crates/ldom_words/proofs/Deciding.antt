@@ -1,35 +1,89 @@
 -- What the words ask for, decided before `clap` and after it.
-use Rattle.std.proofs.Common.{◌≡◌, ◌∙◌, refl, ℕ, Bool, true, false, List, [], ◌∷◌, map, codes, Option, Some, None, sym, ap, subst}
-use Rattle.std.specs.Prelude.{◌&&◌, if◌then◌else◌}
+use Rattle.std.proofs.Common.{◌≡◌, ◌∙◌, refl, ℕ, ◌<◌, ◌≤◌, eqb, Bool, true, false, List, [], ◌∷◌, length, map, codes, decimal, Option, Some, None, sym, ap, subst, arith, ⊎_elim}
+use Rattle.std.specs.Prelude.{◌&&◌, nat_lt, not, if◌then◌else◌, option_map}
 use Rattle.std.specs.List.{list_all}
 use Rattle.std.specs.Str.{bytes_eq}
+use Rattle.std.specs.Str.Parse.{AllDigits}
+use Rattle.std.proofs.lemmas.Bool.{and_from, and_parts, lt-ltb, ltb-true}
+use Rattle.std.proofs.lemmas.Bool.Decides.{eqb_tells}
+use Rattle.std.proofs.lemmas.Fmt.{decimal_is_IsNumeral}
 use Rattle.std.proofs.lemmas.List.Folds.{list_all-map}
 use Rattle.std.proofs.lemmas.Slice.Eq.{bytes_eq-Decides}
+use Rattle.std.proofs.lemmas.Str.Parse.{digit_from_value}
 use Rattle.clap.specs.Words.{subcommand_of, takes}
-use Rattle.ldom_words.specs.Asking.{DumpOf, RunOver, TraceOver, Wanted, program_app, wanted, wanted_in, wanted_over}
-use Rattle.ldom_words.specs.Words.{AsksRun, AsksTrace, all_plain, is_plain_word}
-use Rattle.ldom_words.proofs.Accepting.{OverImage, Runs, Traces, asks_for, name_of, reads_dump, reads_image, takes_dump, takes_image}
+use Rattle.domain_script.specs.Words.{SpellsNumber, is_number, number_of}
+use Rattle.domain_script.proofs.WordTests.{is_number_from, number_is, number_spelled}
+use Rattle.ldom_words.specs.Asking.{DumpOf, RunOver, SampleOf, TraceOver, Wanted, program_app, sample_number, wanted, wanted_in, wanted_with}
+use Rattle.ldom_words.specs.Words.{AsksRun, AsksSample, AsksTrace, all_plain, is_plain_word, sample_count}
+use Rattle.ldom_words.proofs.Accepting.{OfWord, Runs, Samples, Traces, asks_for, name_of, reads_dump, reads_word, takes_dump, takes_word}
 
--- over a plain image the command decides
-over_plain : (command image : List ℕ) → is_plain_word image ≡ true
-    → wanted (command ∷ image ∷ []) ≡ wanted_over command image
-over_plain command image plain = ap (λ (b : Bool). if b then wanted_over command image else None) plain
+-- before a plain word the command decides
+with_plain : (command word : List ℕ) → is_plain_word word ≡ true
+    → wanted (command ∷ word ∷ []) ≡ wanted_with command word
+with_plain command word plain = ap (λ (b : Bool). if b then wanted_with command word else None) plain
 
-over_others : (command image : List ℕ) → bytes_eq command (codes "run") ≡ false
-    → bytes_eq command (codes "trace") ≡ false → wanted_over command image ≡ None
-over_others command image is also =
-    ap (λ (b : Bool). if b then Some (RunOver image) else (if bytes_eq command (codes "trace") then Some (TraceOver image) else None)) is
-    ∙ ap (λ (b : Bool). if b then Some (TraceOver image) else None) also
+with_others : (command word : List ℕ) → bytes_eq command (codes "run") ≡ false
+    → bytes_eq command (codes "trace") ≡ false → bytes_eq command (codes "sample") ≡ false → wanted_with command word ≡ None
+with_others command word is also too =
+    ap (λ (b : Bool). if b then Some (RunOver word) else (if bytes_eq command (codes "trace") then Some (TraceOver word) else (if bytes_eq command (codes "sample") then option_map SampleOf (sample_number word) else None))) is
+    ∙ ap (λ (b : Bool). if b then Some (TraceOver word) else (if bytes_eq command (codes "sample") then option_map SampleOf (sample_number word) else None)) also
+    ∙ ap (λ (b : Bool). if b then option_map SampleOf (sample_number word) else None) too
 
--- the words of such a command are plain where its image is
-image_plain : (over : OverImage) (image : List ℕ) → is_plain_word image ≡ true
-    → all_plain (name_of over ∷ image ∷ []) ≡ true
-image_plain Runs image plain = ap (λ (b : Bool). b && true) plain
-image_plain Traces image plain = ap (λ (b : Bool). b && true) plain
+-- the words of such a command are plain where its own is
+word_plain : (command : OfWord) (word : List ℕ) → is_plain_word word ≡ true
+    → all_plain (name_of command ∷ word ∷ []) ≡ true
+word_plain Runs word plain = ap (λ (b : Bool). b && true) plain
+word_plain Traces word plain = ap (λ (b : Bool). b && true) plain
+word_plain Samples word plain = ap (λ (b : Bool). b && true) plain
 
--- what holds of words that ask for nothing, of a command with its image and of `dump` holds of all
+-- THE NUMBER of a sample is what its word spells
+pub sample_spelled : (word : List ℕ) (n : ℕ) → SpellsNumber word n → n < sample_count → sample_number word ≡ Some n
+sample_spelled word n spells below =
+    let value : number_of word ≡ n = number_is word n spells in
+    ap (λ (b : Bool). if b then Some (number_of word) else None)
+    (and_from _ _ (is_number_from word n spells) (lt-ltb (number_of word) sample_count (omega (arith, value, below))))
+    ∙ ap (λ (m : ℕ). Some m) value
+
+pub sample_below : (word : List ℕ) (b : Bool) → (is_number word && nat_lt (number_of word) sample_count) ≡ b → (n : ℕ)
+    → Some n ≡ (if b then Some (number_of word) else None) → (word ≡ decimal n) × (n < sample_count)
+sample_below word false tests n is = absurd (cc is)
+sample_below word true tests n is =
+    let parts = and_parts _ _ tests in
+    let value : n ≡ number_of word = cc is in
+    let below : number_of word < sample_count = ltb-true (number_of word) sample_count parts.1 in
+    ((number_spelled word parts.0).0 ∙ ap (λ (m : ℕ). decimal m) (sym value), omega (arith, below, value))
+
+-- and what is no such number asks for none
+pub sample_too_large : (word : List ℕ) (n : ℕ) → SpellsNumber word n → sample_count ≤ n → sample_number word ≡ None
+sample_too_large word n spells large = no_sample (is_number word && nat_lt (number_of word) sample_count) refl
+  where
+    no_sample : (b : Bool) → (is_number word && nat_lt (number_of word) sample_count) ≡ b → (if b then Some (number_of word) else None) ≡ None
+    no_sample true tests = absurd (omega (arith, large, number_is word n spells, ltb-true (number_of word) sample_count (and_parts _ _ tests).1))
+    no_sample false tests = refl
+
+pub sample_unspelled : (word : List ℕ) → ((n : ℕ) → SpellsNumber word n → ⊥) → sample_number word ≡ None
+sample_unspelled word none = no_sample (is_number word && nat_lt (number_of word) sample_count) refl
+  where
+    no_sample : (b : Bool) → (is_number word && nat_lt (number_of word) sample_count) ≡ b → (if b then Some (number_of word) else None) ≡ None
+    no_sample true tests = absurd (none (number_of word) (number_spelled word (and_parts _ _ tests).0))
+    no_sample false tests = refl
+
+-- a number's word is plain
+digit_no_dash : (b : ℕ) → 48 ≤ b → eqb b 45 ≡ false
+digit_no_dash b low = ⊎_elim (λ is. absurd (omega (arith, low, is.1))) (λ is. is.0) (eqb_tells b 45)
+
+digits_plain : (word : List ℕ) → 0 < length word → AllDigits 10 word → is_plain_word word ≡ true
+digits_plain [] some digits = absurd (omega (arith, some))
+digits_plain (d ∷ []) some digits = refl
+digits_plain (d ∷ e ∷ rest) some digits = ap (λ (b : Bool). not b) (digit_no_dash d (digit_from_value d digits.0).0)
+
+number_plain : (n : ℕ) → n < sample_count → is_plain_word (decimal n) ≡ true
+number_plain n below =
+    let numeral = (decimal_is_IsNumeral n (omega (arith, below))).0 in digits_plain (decimal n) numeral.0 numeral.1
+
+-- what holds of words that ask for nothing, of a command with its word and of `dump` holds of all
 by_words : (P : List (List ℕ) → Type 0) → ((words : List (List ℕ)) → wanted words ≡ None → P words)
-    → ((over : OverImage) (image : List ℕ) → is_plain_word image ≡ true → P (name_of over ∷ image ∷ []))
+    → ((command : OfWord) (word : List ℕ) → is_plain_word word ≡ true → P (name_of command ∷ word ∷ []))
     → P (codes "dump" ∷ []) → (words : List (List ℕ)) → P words
 by_words P nothing asks dump [] = nothing [] refl
 by_words P nothing asks dump (command ∷ []) = by_dump (bytes_eq command (codes "dump")) refl
@@ -37,34 +91,36 @@ by_words P nothing asks dump (command ∷ []) = by_dump (bytes_eq command (codes
     by_dump : (b : Bool) → bytes_eq command (codes "dump") ≡ b → P (command ∷ [])
     by_dump true is = subst (λ (word : List ℕ). P (word ∷ [])) (sym ((bytes_eq-Decides command (codes "dump")).0 is)) dump
     by_dump false is = nothing (command ∷ []) (ap (λ (b : Bool). if b then Some DumpOf else None) is)
-by_words P nothing asks dump (command ∷ image ∷ []) = by_plain (is_plain_word image) refl
+by_words P nothing asks dump (command ∷ word ∷ []) = by_plain (is_plain_word word) refl
   where
-    asked : (over : OverImage) → is_plain_word image ≡ true → bytes_eq command (name_of over) ≡ true
-        → P (command ∷ image ∷ [])
-    asked over plain is =
-        subst (λ (word : List ℕ). P (word ∷ image ∷ [])) (sym ((bytes_eq-Decides command (name_of over)).0 is)) (asks over image plain)
+    asked : (met : OfWord) → is_plain_word word ≡ true → bytes_eq command (name_of met) ≡ true
+        → P (command ∷ word ∷ [])
+    asked met plain is =
+        subst (λ (w : List ℕ). P (w ∷ word ∷ [])) (sym ((bytes_eq-Decides command (name_of met)).0 is)) (asks met word plain)
 
-    by_name : is_plain_word image ≡ true → (b c : Bool) → bytes_eq command (codes "run") ≡ b
-        → bytes_eq command (codes "trace") ≡ c → P (command ∷ image ∷ [])
-    by_name plain true c is also = asked Runs plain is
-    by_name plain false true is also = asked Traces plain also
-    by_name plain false false is also = nothing (command ∷ image ∷ []) (over_plain command image plain ∙ over_others command image is also)
+    by_name : is_plain_word word ≡ true → (b c d : Bool) → bytes_eq command (codes "run") ≡ b
+        → bytes_eq command (codes "trace") ≡ c → bytes_eq command (codes "sample") ≡ d → P (command ∷ word ∷ [])
+    by_name plain true c d is also too = asked Runs plain is
+    by_name plain false true d is also too = asked Traces plain also
+    by_name plain false false true is also too = asked Samples plain too
+    by_name plain false false false is also too = nothing (command ∷ word ∷ []) (with_plain command word plain ∙ with_others command word is also too)
 
-    by_plain : (b : Bool) → is_plain_word image ≡ b → P (command ∷ image ∷ [])
-    by_plain true plain = by_name plain (bytes_eq command (codes "run")) (bytes_eq command (codes "trace")) refl refl
-    by_plain false plain = nothing (command ∷ image ∷ []) (ap (λ (b : Bool). if b then wanted_over command image else None) plain)
-by_words P nothing asks dump (command ∷ image ∷ more ∷ words) = nothing (command ∷ image ∷ more ∷ words) refl
+    by_plain : (b : Bool) → is_plain_word word ≡ b → P (command ∷ word ∷ [])
+    by_plain true plain = by_name plain (bytes_eq command (codes "run")) (bytes_eq command (codes "trace")) (bytes_eq command (codes "sample")) refl refl refl
+    by_plain false plain = nothing (command ∷ word ∷ []) (ap (λ (b : Bool). if b then wanted_with command word else None) plain)
+by_words P nothing asks dump (command ∷ word ∷ more ∷ words) = nothing (command ∷ word ∷ more ∷ words) refl
 
-image_is : (over : OverImage) (image : List ℕ) → is_plain_word image ≡ true
-    → wanted (name_of over ∷ image ∷ []) ≡ Some (asks_for over image)
-image_is Runs image plain = over_plain (codes "run") image plain
-image_is Traces image plain = over_plain (codes "trace") image plain
+word_is : (command : OfWord) (word : List ℕ) → is_plain_word word ≡ true
+    → wanted (name_of command ∷ word ∷ []) ≡ asks_for command word
+word_is Runs word plain = with_plain (codes "run") word plain
+word_is Traces word plain = with_plain (codes "trace") word plain
+word_is Samples word plain = with_plain (codes "sample") word plain
 
 -- words that aren't plain ask for nothing
 pub unless_plain : (words : List (List ℕ)) → all_plain words ≡ false → wanted words ≡ None
 unless_plain words =
     by_words (λ (ws : List (List ℕ)). all_plain ws ≡ false → wanted ws ≡ None) (λ ws none _. none)
-    (λ over image plain off. absurd (cc (image_plain over image plain, off))) (λ off. absurd (cc off)) words
+    (λ command word plain off. absurd (cc (word_plain command word plain, off))) (λ off. absurd (cc off)) words
 
 -- so what was read and is the same by the definition is what the words ask for
 pub as_confirmed : (words : List (List ℕ)) (asked defined result : Option Wanted)
@@ -75,22 +131,27 @@ as_confirmed words asked defined result =
     (λ (ws : List (List ℕ)). asked ≡ wanted_in (subcommand_of program_app ws) → defined ≡ wanted ws
     → (asked ≡ defined → result ≡ defined) → (defined ≡ None → result ≡ None) → result ≡ wanted ws)
     (λ ws none read is same off. off (is ∙ none) ∙ sym none)
-    (λ over image plain read is same off. same (read ∙ reads_image over image plain ∙ sym (image_is over image plain) ∙ sym is) ∙ is)
+    (λ command word plain read is same off. same (read ∙ reads_word command word plain ∙ sym (word_is command word plain) ∙ sym is) ∙ is)
     (λ read is same off. same (read ∙ reads_dump ∙ sym is) ∙ is) words
 
 -- and takes such words
 pub as_taken : (words : List (List ℕ)) → (takes program_app words ≡ true → ⊥) → wanted words ≡ None
 as_taken words =
     by_words (λ (ws : List (List ℕ)). (takes program_app ws ≡ true → ⊥) → wanted ws ≡ None) (λ ws none _. none)
-    (λ over image plain off. absurd (off (takes_image over image plain))) (λ off. absurd (off takes_dump)) words
+    (λ command word plain off. absurd (off (takes_word command word plain))) (λ off. absurd (off takes_dump)) words
 
--- the words `run IMAGE` ask for a run, and `trace IMAGE` for its trace
-pub asks_run : (words : List (List ℕ)) (image : List ℕ) → AsksRun words image → wanted words ≡ Some (RunOver image)
-asks_run words image asks = ap wanted asks.are ∙ image_is Runs image asks.plain
+-- the words `run IMAGE` ask for a run, `trace IMAGE` for its trace, and `sample N` for the run of a sample
+pub asks_run : (words : List (List ℕ)) (word : List ℕ) → AsksRun words word → wanted words ≡ Some (RunOver word)
+asks_run words word asks = ap wanted asks.are ∙ word_is Runs word asks.plain
 
-pub asks_trace : (words : List (List ℕ)) (image : List ℕ) → AsksTrace words image
-    → wanted words ≡ Some (TraceOver image)
-asks_trace words image asks = ap wanted asks.are ∙ image_is Traces image asks.plain
+pub asks_trace : (words : List (List ℕ)) (word : List ℕ) → AsksTrace words word
+    → wanted words ≡ Some (TraceOver word)
+asks_trace words word asks = ap wanted asks.are ∙ word_is Traces word asks.plain
+
+pub asks_sample : (words : List (List ℕ)) (number : ℕ) → AsksSample words number → wanted words ≡ Some (SampleOf number)
+asks_sample words number asks =
+    ap wanted asks.are ∙ word_is Samples (decimal number) (number_plain number asks.below)
+    ∙ ap (λ (o : Option ℕ). option_map SampleOf o) (sample_spelled (decimal number) number (refl, omega (arith, asks.below)) asks.below)
 
 -- each word is plain, said of what has the words
 pub plain_as : {X : Type 0} (text : X → List ℕ) (xs : List X) (plain : Bool)
@@ -98,10 +159,10 @@ pub plain_as : {X : Type 0} (text : X → List ℕ) (xs : List X) (plain : Bool)
 plain_as text xs plain is = is ∙ sym (list_all-map is_plain_word text xs)
 
 -- words that ask for this run, or this trace, ask for no other
-pub one_run : (words : List (List ℕ)) (image name : List ℕ) → Some (RunOver image) ≡ wanted words → AsksRun words name
-    → name ≡ image
-one_run words image name is asks = cc (is, asks_run words name asks)
+pub one_run : (words : List (List ℕ)) (word name : List ℕ) → Some (RunOver word) ≡ wanted words → AsksRun words name
+    → name ≡ word
+one_run words word name is asks = cc (is, asks_run words name asks)
 
-pub one_trace : (words : List (List ℕ)) (image name : List ℕ) → Some (TraceOver image) ≡ wanted words
-    → AsksTrace words name → name ≡ image
-one_trace words image name is asks = cc (is, asks_trace words name asks)
+pub one_trace : (words : List (List ℕ)) (word name : List ℕ) → Some (TraceOver word) ≡ wanted words
+    → AsksTrace words name → name ≡ word
+one_trace words word name is asks = cc (is, asks_trace words name asks)

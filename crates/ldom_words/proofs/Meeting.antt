@@ -8,7 +8,7 @@ use Rattle.clap.specs.Simple.{subcommand_rows}
 use Rattle.clap.specs.declared.parser.matches.ArgMatches.{ArgMatches}
 use Rattle.clap.specs.declared.parser.matches.ArgMatches.TheViews.{out-ArgMatches, out-SubCommand}
 use Rattle.clap.specs.declared.parser.matches.SubCommand.{SubCommand}
-use Rattle.ldom_words.specs.Asking.{DumpOf, wanted_in, wanted_over}
+use Rattle.ldom_words.specs.Asking.{DumpOf, wanted_in, wanted_with}
 
 met_both : {Z : Type 0} (met : Option (Box SubCommand Z)) (name : Text) (rows : List Row)
     → option_map (λ b. (out-SubCommand (box_value b)).name.now) met ≡ Some name
@@ -23,14 +23,14 @@ met_as : (matches : ArgMatches) (name : Text) (rows : List Row) → subcommand_n
     → subcommand_rows_of matches ≡ Some (name, rows)
 met_as matches name rows named has = met_both (out-ArgMatches matches).subcommand name rows named has
 
--- unless it is `dump`, it is asked for over its image
-pub image_wanted : (matches : ArgMatches) (name : Text) (rows : List Row) (image : Option Text)
+-- unless it is `dump`, it is asked for with its word
+pub word_wanted : (matches : ArgMatches) (name : Text) (rows : List Row) (word : Option Text)
     → subcommand_name_of matches ≡ Some name
     → option_map (λ (p : Text × List Row). p.1) (subcommand_rows_of matches) ≡ Some rows
     → bytes_eq name (codes "dump") ≡ false
-    → image ≡ first_of (codes "image") rows
-    → option_and_then (wanted_over name) image ≡ wanted_in (subcommand_rows_of matches)
-image_wanted matches name rows image first second tests is =
-    ap (λ (i : Option Text). option_and_then (wanted_over name) i) is
+    → word ≡ first_of (codes "word") rows
+    → option_and_then (wanted_with name) word ≡ wanted_in (subcommand_rows_of matches)
+word_wanted matches name rows word first second tests is =
+    ap (λ (w : Option Text). option_and_then (wanted_with name) w) is
     ∙ sym (ap wanted_in (met_as matches name rows first second)
-    ∙ ap (λ (b : Bool). if b then Some DumpOf else option_and_then (wanted_over name) (first_of (codes "image") rows)) tests)
+    ∙ ap (λ (b : Bool). if b then Some DumpOf else option_and_then (wanted_with name) (first_of (codes "word") rows)) tests)

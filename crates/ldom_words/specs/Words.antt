@@ -1,5 +1,5 @@
 -- The words of a command line.
-use Rattle.std.specs.Prelude.{◌≡◌, ℕ, ◌==◌, ◌&&◌, Bool, true, false, not, List, [], ◌∷◌, codes, IsTrue}
+use Rattle.std.specs.Prelude.{◌≡◌, ℕ, ◌<◌, decimal, ◌==◌, ◌&&◌, Bool, true, false, not, List, [], ◌∷◌, codes, IsTrue}
 use Rattle.std.specs.List.{list_all}
 use Rattle.std.specs.Str.{bytes_eq}
 
@@ -26,6 +26,15 @@ pub record AsksRun (words : List (List ℕ)) (image : List ℕ) : Type 0 where
 pub record AsksTrace (words : List (List ℕ)) (image : List ℕ) : Type 0 where
   pub are : words ≡ codes "trace" ∷ image ∷ []
   pub plain : IsTrue (is_plain_word image)
+
+-- so many samples there are: their numbers are below this
+abbrev pub sample_count : ℕ
+sample_count = 2147483648
+
+-- the words `sample N`
+pub record AsksSample (words : List (List ℕ)) (number : ℕ) : Type 0 where
+  pub are : words ≡ codes "sample" ∷ decimal number ∷ []
+  pub below : number < sample_count
 
 -- the word `dump`
 abbrev pub AsksDump : List (List ℕ) → Type 0

@@ -1,9 +1,9 @@
 // The words as `clap` reads them.
 ghost use Rattle.std.specs.Prelude.{◌≡◌, true, map, option_map, string_bytes, IfOk, IfErr};
 ghost use Rattle.clap.specs.Words.{app_of, subcommand_of, subcommand_rows_of, takes};
-ghost use Rattle.ldom_words.specs.Asking.{program_app, wanted_in, wanted_of, with_image_app};
+ghost use Rattle.ldom_words.specs.Asking.{program_app, wanted_in, wanted_of, with_word_app};
 
-use crate::words::{Asked, over_image};
+use crate::words::{Asked, asked_with};
 use clap::error::ErrorKind;
 use clap::{Arg, ArgMatches, Command};
 use std::alloc::{AllocError, Global};
@@ -39,26 +39,27 @@ fn refusal_of(kind: ErrorKind) -> Refusal
     }
 }
 
-// The program's commands: `run IMAGE`, `trace IMAGE` and `dump`.
+// The program's commands: `run IMAGE`, `trace IMAGE`, `sample N` and `dump`.
 fn program<'a>(alloc: Global) -> Result<Command<'a>, AllocError>
     ensures { IfOk result (λ program. app_of program ≡ program_app) }
 {
     let program = Command::new(alloc, "ldom").no_binary_name(true);
-    let program = with_command_over_image(alloc, program, "run")?;
-    let program = with_command_over_image(alloc, program, "trace")?;
+    let program = with_command_of_word(alloc, program, "run")?;
+    let program = with_command_of_word(alloc, program, "trace")?;
+    let program = with_command_of_word(alloc, program, "sample")?;
     program.subcommand(Command::new(alloc, "dump"))
 }
 
-// The program with one command more, over an image.
-fn with_command_over_image<'a>(
+// The program with one command more, which has one word after it.
+fn with_command_of_word<'a>(
     alloc: Global,
     program: Command<'a>,
     name: &'a str,
 ) -> Result<Command<'a>, AllocError>
-    ensures { IfOk result (λ more. app_of more ≡ with_image_app (app_of program.entry) name.entry.now) }
+    ensures { IfOk result (λ more. app_of more ≡ with_word_app (app_of program.entry) name.entry.now) }
 {
-    let image = Arg::new(alloc, "image").required(true);
-    let command = Command::new(alloc, name).arg(image)?;
+    let word = Arg::new(alloc, "word").required(true);
+    let command = Command::new(alloc, name).arg(word)?;
     program.subcommand(command)
 }
 
@@ -70,6 +71,6 @@ fn asked_of<'a>(matches: &ArgMatches<'a>) -> Option<Asked<'a>>
     if name == "dump" {
         return Some(Asked::Dump);
     }
-    let image = own.get_str("image")?;
-    over_image(name, image)
+    let word = own.get_str("word")?;
+    asked_with(name, word)
 }

@@ -1,10 +1,14 @@
 ghost use Rattle.std.specs.Prelude.{◌≡◌, None, map, option_map, string_bytes};
 ghost use Rattle.std.specs.List.{list_all};
 ghost use Rattle.ldom_words.specs.Words.{all_plain, begins_with_help, is_plain_word};
-ghost use Rattle.ldom_words.specs.Asking.{wanted, wanted_of, wanted_over};
+ghost use Rattle.ldom_words.specs.Asking.{sample_number, wanted, wanted_of, wanted_with};
 
 use crate::clap_words::{Refusal, parse};
+use domain_script::number;
 use std::alloc::Global;
+
+/// So many sample scripts there are.
+const SAMPLES: u64 = 2_147_483_648;
 
 /// What a command line asks for.
 #[derive(Clone, Copy, Debug, PartialEq, Eq)]
@@ -14,6 +18,9 @@ pub enum Asked<'a> {
 
     /// `trace IMAGE`: the same run, of which each entry is shown.
     Trace { image: &'a str },
+
+    /// `sample N`: the sample script of this number, below 2^31, is run.
+    Sample { number: u32 },
 
     /// `dump`: packets are dumped.
     Dump,
@@ -43,6 +50,8 @@ fn confirmed<'a>(asked: Option<Asked<'a>>, defined: Option<Asked<'a>>) -> Option
         (Some(Asked::Run { image }), Some(Asked::Run { image: named })) if image == named => asked,
         (Some(Asked::Trace { image }), Some(Asked::Trace { image: named })) if image == named =>
             asked,
+        (Some(Asked::Sample { number }), Some(Asked::Sample { number: named }))
+            if number == named => asked,
         (Some(Asked::Dump), Some(Asked::Dump)) => asked,
         _ => None,
     }
@@ -54,25 +63,34 @@ fn defined<'a>(words: &'a [String]) -> Option<Asked<'a>>
 {
     match words {
         [command] if command.as_str() == "dump" => Some(Asked::Dump),
-        [command, image] if is_plain(image.as_str()) => over_image(
-            command.as_str(),
-            image.as_str(),
-        ),
+        [command, word] if is_plain(word.as_str()) => asked_with(command.as_str(), word.as_str()),
         _ => None,
     }
 }
 
-// What a command asks for over an image.
-pub(crate) fn over_image<'a>(command: &str, image: &'a str) -> Option<Asked<'a>>
-    ensures { option_map wanted_of result ≡ wanted_over command.now image.now }
+// What a command asks for with one word after it: an image's name, or a number.
+pub(crate) fn asked_with<'a>(command: &str, word: &'a str) -> Option<Asked<'a>>
+    ensures { option_map wanted_of result ≡ wanted_with command.now word.now }
 {
     if command == "run" {
-        return Some(Asked::Run { image });
+        return Some(Asked::Run { image: word });
     }
     if command == "trace" {
-        return Some(Asked::Trace { image });
+        return Some(Asked::Trace { image: word });
+    }
+    if command == "sample" {
+        let number = sample_number(word)?;
+        return Some(Asked::Sample { number });
     }
     None
+}
+
+// The number of a sample that a word spells.
+fn sample_number(word: &str) -> Option<u32>
+    ensures { result ≡ sample_number word.now }
+{
+    let n = number(word.as_bytes())?;
+    if n < SAMPLES { Some(n as u32) } else { None }
 }
 
 // Whether no word is empty, none but `-` alone begins with `-`, and the first isn't `help`.

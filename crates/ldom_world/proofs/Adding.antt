@@ -2,7 +2,7 @@
 use Rattle.std.proofs.Common.{◌≡◌, Option, Some, List, [], ◌∷◌, ◌++◌, refl, sym, ap, ap₂, ◌∙◌, append_assoc, append-nil}
 use Rattle.world_laws.specs.Settle.{SettleEntry}
 use Rattle.world_laws.specs.Lines.{Line}
-use Rattle.ldom_journal.specs.LaneEvents.{world_event}
+use Rattle.world_parts.specs.WorldEvents.{world_event}
 use Rattle.ldom_entries.specs.declared.entry.Entry.{Entry}
 use Rattle.world_laws.proofs.Places.{map_both}
 use Rattle.world_parts.specs.Parts.{Adds}

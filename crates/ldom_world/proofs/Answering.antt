@@ -4,7 +4,7 @@ use Rattle.std.proofs.lemmas.Bool.{eq-eqb}
 use Rattle.std.specs.Prelude.{◌==◌, ◌&&◌}
 use Rattle.disk_lane.specs.Events.{lost_event, reset_event, restart_event, start_event, stop_event, tick_event}
 use Rattle.disk_law.specs.ListState.{ImageState}
-use Rattle.disk_model.specs.DiskEvent.{Asks, CalmReset, CalmRestart, CalmStart, CalmStop, CalmTick, OnWire, Rests}
+use Rattle.disk_model.specs.DiskEvent.{Asks, CalmReset, CalmRestart, CalmStart, CalmStop, CalmTick, OnWire, Calms}
 use Rattle.disk_model.specs.DiskEvent as disk
 use Rattle.disk_model.specs.LaneState.{LaneState}
 use Rattle.disk_model.specs.LaneStep.{LaneStep}
@@ -16,7 +16,8 @@ use Rattle.disk_model.specs.WireEvent as wire
 use Rattle.world_laws.specs.Settle.{OfLane, SettleEntry}
 use Rattle.world_laws.specs.Lines.{AnswersCall, AnswersRequest, Asked, Calls, Loses, Resets, Restarts, Starts, Stops, Ticks}
 use Rattle.ldc_queue.specs.declared.end.End.TheVariants.{B}
-use Rattle.ldom_journal.specs.LaneEvents.{end_of, if_so, is_end, is_same, world_event}
+use Rattle.ldom_report.specs.LaneEvents.{end_of}
+use Rattle.world_parts.specs.WorldEvents.{if_so, is_end, is_same, world_event}
 use Rattle.ldom_entries.specs.Decoded.{end_at}
 use Rattle.ldom_entries.specs.declared.entry.Entry.{Entry}
 use Rattle.ldom_entries.specs.declared.entry.Entry.TheVariants as entry
@@ -71,7 +72,7 @@ module _ (k : ℕ) (s t : LaneState) (x : Entry) where
     answers = refl;
     moves = λ (i : ImageState). (subst (λ (b : Bool). LaneStep s (reset_event (end_of side) b) t) no_is step, refl);
     says = ap (λ (z : Entry). world_event (Calls k (Resets (end_of side))) z) is
-        ∙ own_said (is_end k (end_of side) (end_at k side)) (OfLane k (Rests (CalmReset (end_of side))))
+        ∙ own_said (is_end k (end_of side) (end_at k side)) (OfLane k (Calms (CalmReset (end_of side))))
         (own_end k side);
   }
 
@@ -94,7 +95,7 @@ module _ (k : ℕ) (s t : LaneState) (x : Entry) where
     answers = tt;
     moves = λ (i : ImageState). (subst (λ (b : Bool). LaneStep s (restart_event b) t) no_is step, refl);
     says = ap (λ (z : Entry). world_event (Calls k Restarts) z) is
-        ∙ own_said (is_end k B (end_at k Server)) (OfLane k (Rests CalmRestart)) (own_end k Server);
+        ∙ own_said (is_end k B (end_at k Server)) (OfLane k (Calms CalmRestart)) (own_end k Server);
   }
 
   -- A STOP
@@ -114,7 +115,7 @@ module _ (k : ℕ) (s t : LaneState) (x : Entry) where
     answers = tt;
     moves = λ (i : ImageState). (subst (λ (b : Bool). LaneStep s (stop_event b) t) no_is step, refl);
     says = ap (λ (z : Entry). world_event (Calls k Stops) z) is
-        ∙ own_said (k == k) (OfLane k (Rests CalmStop)) (eq-eqb k k refl);
+        ∙ own_said (k == k) (OfLane k (Calms CalmStop)) (eq-eqb k k refl);
   }
 
   -- A START
@@ -134,7 +135,7 @@ module _ (k : ℕ) (s t : LaneState) (x : Entry) where
     answers = tt;
     moves = λ (i : ImageState). (subst (λ (b : Bool). LaneStep s (start_event b) t) no_is step, refl);
     says = ap (λ (z : Entry). world_event (Calls k Starts) z) is
-        ∙ own_said (k == k) (OfLane k (Rests CalmStart)) (eq-eqb k k refl);
+        ∙ own_said (k == k) (OfLane k (Calms CalmStart)) (eq-eqb k k refl);
   }
 
   -- A PACKET LOST
@@ -184,7 +185,7 @@ module _ (k : ℕ) (s t : LaneState) (x : Entry) where
     answers = tt;
     moves = λ (i : ImageState). (subst (λ (b : Bool). LaneStep s (tick_event b) t) no_is step, refl);
     says = ap (λ (z : Entry). world_event (Calls k Ticks) z) is
-        ∙ own_said (k == k) (OfLane k (Rests CalmTick)) (eq-eqb k k refl);
+        ∙ own_said (k == k) (OfLane k (Calms CalmTick)) (eq-eqb k k refl);
   }
 
   -- A REQUEST

@@ -2,7 +2,7 @@
 use Rattle.std.proofs.Common.{◌≡◌, ℕ, ◌≤◌, Bool, true, false, List, [], ◌∷◌, length, Option, Some, None, slice_get, ◌==◌, if◌then◌else◌, drop, refl, sym, ap, subst, arith}
 use Rattle.std.proofs.lemmas.List.{length-take}
 use Rattle.disk_law.specs.ListState.{ImageState}
-use Rattle.disk_lane.specs.Events.{CallsOf, FlushesOf, KeepsStoreOf, ResetsOwn, served_event}
+use Rattle.disk_lane.specs.Events.{ResetsOwn, StoreAfterOf, served_event}
 use Rattle.disk_model.proofs.OwnSteps.{server_resets_own}
 use Rattle.disk_model.specs.ClientStep.{completed_slot}
 use Rattle.disk_model.specs.LaneState.{LaneState}
@@ -24,6 +24,7 @@ use Rattle.vdisk_client.specs.declared.answers.ClientOut.TheVariants as client_o
 use Rattle.vdisk_msg.specs.Requested.{buffer_of, buffer_place}
 use Rattle.vdisk_msg.specs.Requests.{given_count}
 use Rattle.vdisk_msg.specs.declared.request.Request.{Request}
+use Rattle.vio_io.specs.declared.store.Store.{Ghosts}
 use Rattle.descriptor_work.specs.Calling as server
 use Rattle.descriptor_work.specs.declared.answers.ServerOut.{ServerOut}
 use Rattle.descriptor_work.specs.declared.answers.ServerOut.TheVariants as server_out
@@ -100,12 +101,12 @@ module _ (s t : LaneState) where
 
   -- what the store counts, as the image does
   same_faults : (failed : Bool) (old new : ℕ) → server.FaultsAfter failed old new → FaultsAfter failed old new
-  same_faults true old new after = after.1
+  same_faults true old new after = after
   same_faults false old new after = after
 
-  module _ {D : Type 0} (content : D → Option (List ℕ)) (faults calls flushes : D → ℕ) (old new : D) where
+  module _ {D : Type 0} (g : Ghosts D) (old new : D) where
     abbrev image : D → ImageState
-    image d = as_image content faults calls flushes d
+    image d = as_image g.content g.faults g.calls g.flushes d
 
     same_image : new ≡ old → image new ≡ image old
     same_image same = ap image same
@@ -114,24 +115,22 @@ module _ (s t : LaneState) where
     ServerMoves answer =
         LaneMoves s (image old) (served_event answer) t (image new)
 
-    server_moves : (answer : Option ServerOut) → Served s (content old) (served_event answer) t (content new)
-        → KeepsStoreOf answer old new
-        → CallsOf answer (calls old) (calls new) (faults old) (faults new)
-        → FlushesOf answer (flushes old) (flushes new) → ServerMoves answer
-    server_moves None served keeps counts flushed = (served.step, same_image keeps)
-    server_moves (Some (server_out.Stored operation block count failed)) served keeps counts flushed = (
+    server_moves : (answer : Option ServerOut) → Served s (g.content old) (served_event answer) t (g.content new)
+        → StoreAfterOf g answer old new → ServerMoves answer
+    server_moves None served stays = (served.step, same_image stays)
+    server_moves (Some (server_out.Stored operation block count failed)) served called = (
       served,
       record {
-        calls = counts.calls_are;
-        flushes = flushed;
-        faults = same_faults failed (faults old) (faults new) counts.faults_are;
+        calls = called.calls;
+        flushes = called.flushes;
+        faults = same_faults failed (g.faults old) (g.faults new) called.faults;
       },
     )
-    server_moves (Some (server_out.Reset cause packet)) served keeps counts flushed =
-        (reset_by served.gave cause packet served.step, same_image keeps)
-    server_moves (Some answer) served keeps counts flushed = ((served.gave, served.step), same_image keeps)
+    server_moves (Some (server_out.Reset cause packet)) served stays =
+        (reset_by served.gave cause packet served.step, same_image stays)
+    server_moves (Some answer) served stays = ((served.gave, served.step), same_image stays)
 
-    server_end : (answer : Option ServerOut) → Served s (content old) (served_event answer) t (content new)
+    server_end : (answer : Option ServerOut) → Served s (g.content old) (served_event answer) t (g.content new)
         → IsStep B (served_event answer)
     server_end None served = tt
     server_end (Some (server_out.Desc slot bytes)) served = tt
@@ -143,14 +142,12 @@ module _ (s t : LaneState) where
     server_end (Some answer) served = refl
 
     pub server_steps : (in_settle : Bool) (k : ℕ) (answer : Option ServerOut) (before after : JournalState) (calm : Bool)
-        → Served s (content old) (served_event answer) t (content new) → KeepsStoreOf answer old new
-        → CallsOf answer (calls old) (calls new) (faults old) (faults new)
-        → FlushesOf answer (flushes old) (flushes new)
+        → Served s (g.content old) (served_event answer) t (g.content new) → StoreAfterOf g answer old new
         → Leaves in_settle k (served_event answer) before calm after
         → LaneSteps in_settle k B s (image old) before calm after t (image new)
-    server_steps in_settle k answer before after calm served keeps counts flushed leaves = record {
+    server_steps in_settle k answer before after calm served stored leaves = record {
       event = served_event answer;
       of_end = server_end answer served;
-      moves = server_moves answer served keeps counts flushed;
+      moves = server_moves answer served stored;
       leaves = leaves;
     }

@@ -1,13 +1,13 @@
 -- What a step leaves in the journal, by its answer: the entry of its event, or none in a settle where it rests.
 use Rattle.std.proofs.Common.{◌≡◌, ℕ, Bool, true, false, ◌||◌, Some, List, [], ◌∷◌, refl, sym, ap, subst, ◌∙◌}
 use Rattle.std.specs.Prelude.{◌&&◌}
-use Rattle.disk_model.specs.DiskEvent.{Asks, DiskEvent, Off, OnWire, Turns}
+use Rattle.disk_model.specs.DiskEvent.{Asks, DiskEvent, Off, OnWire, Switches}
 use Rattle.disk_model.specs.WireEvent as wire
 use Rattle.world_laws.specs.Rounds.{is_calm}
 use Rattle.world_laws.specs.Settle.{OfLane, SettleEntry, entry_of}
 use Rattle.world_laws.specs.Lines.{Line}
-use Rattle.ldom_entries.specs.JournalState.{JournalState, Puts}
-use Rattle.ldom_journal.specs.LaneEvents.{world_event}
+use Rattle.ldom_entries.specs.JournalState.{JournalState, PutsEntry}
+use Rattle.world_parts.specs.WorldEvents.{world_event}
 use Rattle.ldom_entries.specs.declared.entry.Entry.{Entry}
 use Rattle.ldom_world.specs.OneLane.{Leaves, RecordedBut, Records}
 use Rattle.ldom_world.specs.Resting.{client_blocked, client_rests, left_out, server_blocked, server_rests}
@@ -20,7 +20,7 @@ use Rattle.descriptor_work.specs.declared.answers.ServerOut.{ServerOut}
 use Rattle.descriptor_work.specs.declared.answers.ServerOut.TheVariants as server_out
 
 -- AN ENTRY that was put, and tells the event in whatever line it is
-pub recorded : (k : ℕ) (event : DiskEvent) (x : Entry) (s t : JournalState) → Puts s x t
+pub recorded : (k : ℕ) (event : DiskEvent) (x : Entry) (s t : JournalState) → PutsEntry s x t
     → ((line : Line) → world_event line x ≡ Some (OfLane k event)) → Records k event s t
 recorded k event x s t puts says = record { entry = x; puts = puts; says = says }
 
@@ -31,7 +31,7 @@ left_of false k event = OfLane k event ∷ []
 
 pub entry_left : (k : ℕ) (event : DiskEvent) → entry_of k event ≡ left_of (left_out event) k event
 entry_left k (OnWire (wire.Idle e)) = refl
-entry_left k (Turns Off) = refl
+entry_left k (Switches Off) = refl
 entry_left k event = refl
 
 pub none_accepted : (event : DiskEvent) (n : ℕ) → left_out event ≡ true → next_behind event n ≡ n
@@ -114,11 +114,11 @@ module _ (in_settle : Bool) (k : ℕ) (answer : ServerOut) (s t : JournalState) 
 
 -- BY A STOPPED SERVER, of which a settle leaves nothing
 pub off_leaves_none : (in_settle : Bool) (k : ℕ) (s t : JournalState) → in_settle ≡ true → t ≡ s
-    → Leaves in_settle k (Turns Off) s true t
+    → Leaves in_settle k (Switches Off) s true t
 off_leaves_none true k s t is same = record { calm_is = refl; recorded = same }
 off_leaves_none false k s t is same = absurd (cc is)
 
-pub off_leaves_entry : (in_settle : Bool) (k : ℕ) (s t : JournalState) → in_settle ≡ false → Records k (Turns Off) s t
-    → Leaves in_settle k (Turns Off) s true t
+pub off_leaves_entry : (in_settle : Bool) (k : ℕ) (s t : JournalState) → in_settle ≡ false → Records k (Switches Off) s t
+    → Leaves in_settle k (Switches Off) s true t
 off_leaves_entry true k s t is put = absurd (cc is)
 off_leaves_entry false k s t is put = record { calm_is = refl; recorded = put }

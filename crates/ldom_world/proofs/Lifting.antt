@@ -8,13 +8,13 @@ use Rattle.disk_law.specs.ListState.{ImageState}
 use Rattle.disk_model.specs.DiskEvent.{DiskEvent}
 use Rattle.disk_model.specs.LaneState.{LaneState}
 use Rattle.ldc_queue.specs.declared.end.End.{End}
-use Rattle.world_laws.specs.Settle.{OfLane, SettleEntry, Settled, Unsettled}
+use Rattle.world_laws.specs.Settle.{OfLane, SettleEntry}
 use Rattle.world_laws.proofs.Along.{lane_step}
 use Rattle.world_laws.specs.Lines.{Line, Nothing}
 use Rattle.world_laws.specs.World.{LaneMoves, OneMoves, WorldState, WorldStep}
 use Rattle.ldom_entries.specs.JournalState.{JournalState}
-use Rattle.ldom_journal.specs.LaneEvents.{world_event}
-use Rattle.ldom_journal.specs.Report.{accepted_count, is_accepted}
+use Rattle.world_parts.specs.WorldEvents.{world_event}
+use Rattle.ldom_report.specs.Report.{accepted_count, is_accepted}
 use Rattle.ldom_entries.specs.declared.entry.Entry.{Entry}
 use Rattle.ldom_world.proofs.Adding.{none_adds, one_adds}
 use Rattle.ldom_world.proofs.Leaving.{entry_left, left_of, none_accepted}
@@ -42,8 +42,7 @@ many_same w v k event moves = ap (λ (l : List LaneState). length l) moves.lanes
 
 step_many : (w : WorldState) (x : SettleEntry) (v : WorldState) → WorldStep w x v → length v.lanes ≡ length w.lanes
 step_many w (OfLane k event) v moves = many_same w v k event moves
-step_many w Settled v same = ap (λ (x : WorldState). length x.lanes) same
-step_many w (Unsettled k) v same = ap (λ (x : WorldState). length x.lanes) same
+step_many w _ v same = ap (λ (x : WorldState). length x.lanes) same
 
 -- A RUN of a world keeps the number of lanes, and so does a line
 pub run_many : (w v : WorldState) (entries : List SettleEntry) → Run WorldStep w entries v

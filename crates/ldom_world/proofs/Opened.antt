@@ -7,7 +7,7 @@ use Rattle.world_laws.specs.Settle.{OfLane, SettleEntry}
 use Rattle.world_laws.specs.Lines.{AnswersCall, AnswersRequest, Asked, Call, Calls, Line, OneEntry, PartOf}
 use Rattle.world_laws.specs.World.{OneMoves, WorldState}
 use Rattle.ldom_entries.specs.declared.entry.Entry.{Entry}
-use Rattle.ldom_journal.specs.Report.{accepted_count}
+use Rattle.ldom_report.specs.Report.{accepted_count}
 use Rattle.ldom_world.proofs.Adding.{one_adds}
 use Rattle.ldom_world.proofs.Lifting.{agrees_after, one_moves, there_at}
 use Rattle.ldom_world.specs.OneLane.{LaneAnswers}

@@ -2,15 +2,16 @@
 use Rattle.std.proofs.Common.{◌≡◌, ℕ, ◌+◌, ◌<◌, Bool, true, false, Option, Some, List, [], ◌∷◌, ◌++◌, length, map, take, slice_get, slice_set, refl, sym, ap, ◌∙◌, subst, arith, append-nil}
 use Rattle.std.specs.Prelude.{◌&&◌, ◌||◌, ◌==◌, cond, if◌then◌else◌, not}
 use Rattle.runs.specs.Run.{Run}
-use Rattle.disk_model.specs.DiskEvent.{CalmTick, Rests}
+use Rattle.disk_model.specs.DiskEvent.{CalmTick, Calms}
 use Rattle.disk_model.specs.LaneState.{LaneState}
 use Rattle.domain_script.specs.declared.event.Lane.TheVariants.{Disk}
 use Rattle.world_laws.specs.Settle.{OfLane, SettleEntry, Unsettled}
 use Rattle.world_laws.specs.Ticks.{gets_tick, tick, waits_on}
 use Rattle.world_laws.specs.Lines.{AnswersCall, Calls, Line, OneEntry, Settles, Ticks}
 use Rattle.world_laws.specs.World.{OneMoves, WorldState, WorldStep}
-use Rattle.ldom_journal.specs.LaneEvents.{ChangesNothing, Meaning, NoRoomFor, Refuses, calm_event, if_so, meaning, meant, world_event}
-use Rattle.ldom_journal.specs.Report.{accepted_count, is_accepted}
+use Rattle.ldom_report.specs.LaneEvents.{ChangesNothing, Meaning, NoRoomFor, Refuses, meaning}
+use Rattle.world_parts.specs.WorldEvents.{calm_event, if_so, meant, world_event}
+use Rattle.ldom_report.specs.Report.{accepted_count, is_accepted}
 use Rattle.ldom_entries.specs.declared.entry.Entry.{Entry}
 use Rattle.ldom_entries.specs.declared.entry.Entry.TheVariants as entry
 use Rattle.ldom_entries.specs.declared.entry.Who.{Who}
@@ -20,7 +21,7 @@ use Rattle.world_laws.proofs.TicksOn.{lane_gets_none, lane_gets_tick}
 use Rattle.world_laws.specs.Names.{name_of}
 use Rattle.world_laws.specs.RoundMade.{all_true}
 use Rattle.world_laws.specs.TicksMade.{LaneTicked}
-use Rattle.world_parts.specs.Parts.{Adds, Fits, FitsSoFar, Says}
+use Rattle.world_parts.specs.Parts.{Adds, Fits, FitsSoFar, PartSays}
 use Rattle.ldom_world.proofs.Adding.{none_adds, one_adds}
 use Rattle.ldom_world.proofs.Lifting.{count_push}
 use Rattle.ldom_world.proofs.SettlingAdds.{names_go_by, ticks_go_by}
@@ -58,7 +59,7 @@ count_stays old new e none grew =
     omega (arith, count_push old new e grew, ap (λ (b : Bool). cond {A = ℕ} b 1 0) none)
 
 -- THE EVENT OF A TICK is said by the same entry in whatever line it is
-calm_no_tick : (b : Bool) (j k : ℕ) → if_so b (OfLane j (Rests CalmTick)) ≡ Some (OfLane k tick) → ⊥
+calm_no_tick : (b : Bool) (j k : ℕ) → if_so b (OfLane j (Calms CalmTick)) ≡ Some (OfLane k tick) → ⊥
 calm_no_tick true j k is = cc is
 calm_no_tick false j k is = cc is
 
@@ -73,8 +74,8 @@ tick_meant k (Refuses who why) is = absurd (cc is)
 tick_meant k (ChangesNothing who) is = absurd (tick_of_calm k who is)
 tick_meant k x is = is
 
-tick_said : (k : ℕ) (part : List Entry) → Says (Calls k Ticks) part (OfLane k tick ∷ [])
-    → Says Settles part (OfLane k tick ∷ [])
+tick_said : (k : ℕ) (part : List Entry) → PartSays (Calls k Ticks) part (OfLane k tick ∷ [])
+    → PartSays Settles part (OfLane k tick ∷ [])
 tick_said k [] says = absurd (cc says)
 tick_said k (e ∷ []) says =
     let one : world_event (Calls k Ticks) e ≡ Some (OfLane k tick) = cc says in
@@ -103,7 +104,7 @@ tick_grew k w v old new lane had there gets fits =
         part = fits.adds.part;
         grew = fits.adds.grew;
         says = tick_said k fits.adds.part
-            (subst (λ (l : List SettleEntry). Says (Calls k Ticks) fits.adds.part l) is fits.adds.says);
+            (subst (λ (l : List SettleEntry). PartSays (Calls k Ticks) fits.adds.part l) is fits.adds.says);
       };
       holds = subst (λ (l : List SettleEntry). LaneTicked k had true w l v) ticked.ticked.1 ticked;
     }

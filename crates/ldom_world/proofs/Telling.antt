@@ -6,8 +6,9 @@ use Rattle.disk_model.specs.DiskEvent as disk
 use Rattle.domain_script.specs.declared.event.Lane.TheVariants.{Disk}
 use Rattle.world_laws.specs.Settle.{OfLane, SettleEntry}
 use Rattle.world_laws.specs.Lines.{Line}
-use Rattle.ldom_journal.specs.LaneEvents.{AtClient, AtLane, AtServer, AtWire, ChangesNothing, LeavesOver, Meaning, NoRoomFor, Refuses, meaning, world_event}
-use Rattle.ldom_journal.specs.Report.{is_accepted}
+use Rattle.ldom_report.specs.LaneEvents.{AtClient, AtLane, AtServer, AtWire, ChangesNothing, LeavesOver, Meaning, NoRoomFor, Refuses, meaning}
+use Rattle.world_parts.specs.WorldEvents.{world_event}
+use Rattle.ldom_report.specs.Report.{is_accepted}
 use Rattle.ldom_entries.specs.declared.entry.Entry.{Entry}
 use Rattle.ldom_entries.specs.declared.entry.Entry.TheVariants as entry
 use Rattle.ldom_entries.specs.declared.entry.Who.TheVariants.{Lane as OfWhole}

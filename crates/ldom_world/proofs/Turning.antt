@@ -3,8 +3,8 @@
 use Rattle.std.proofs.Common.{◌≡◌, ℕ, zero, suc, ◌+◌, ◌-◌, ◌<◌, Result, Ok, Err, List, [], ◌∷◌, ◌++◌, length, replicate, refl, sym, ap, subst, ◌∙◌, arith, append_assoc, append-nil}
 use Rattle.std.specs.Prelude.{OnErr}
 use Rattle.runs.specs.Run.{run_append}
-use Rattle.world_laws.specs.Settle.{OfLane, SettleEntry, Settled, Unsettled}
-use Rattle.world_laws.specs.Lines.{AreSteps, Rounds, Steps, Turn, round_turns, turn, turns_of}
+use Rattle.world_laws.specs.Settle.{OfLane, SettleEntry}
+use Rattle.world_laws.specs.Lines.{AreSteps, Rounds, Steps, EndTurn, round_turns, turn, turns_of}
 use Rattle.world_laws.specs.World.{WorldState, WorldStep}
 use Rattle.ldc_queue.specs.declared.end.End.{End}
 use Rattle.ldc_queue.specs.declared.end.End.TheVariants.{A, B}
@@ -19,15 +19,14 @@ at_error (Ok x) P holds = tt
 at_error (Err e) P holds = holds
 
 -- TURNS, one after the other
-both_steps : (first second : List Turn) (one two : List SettleEntry) → AreSteps first one → AreSteps second two
+both_steps : (first second : List EndTurn) (one two : List SettleEntry) → AreSteps first one → AreSteps second two
     → AreSteps (first ++ second) (one ++ two)
 both_steps [] second [] two steps more = more
 both_steps [] second (x ∷ one) two steps more = absurd steps
 both_steps (next ∷ first) second [] two steps more = absurd steps
 both_steps (next ∷ first) second (OfLane k event ∷ one) two steps more =
     (steps.0, steps.1, both_steps first second one two steps.2 more)
-both_steps (next ∷ first) second (Settled ∷ one) two steps more = absurd steps
-both_steps (next ∷ first) second (Unsettled k ∷ one) two steps more = absurd steps
+both_steps (next ∷ first) second (x ∷ one) two steps more = absurd steps
 
 pub none_turned : (w v : WorldState) (old new : List Entry) → v ≡ w → new ≡ old → TurnsMade [] w old new v
 none_turned w v old new same none = record {
@@ -50,11 +49,11 @@ one_turned k e w v old new made = record {
 }
 
 -- so many turns are these, by an equation
-as_turns : (turns others : List Turn) (w v : WorldState) (old new : List Entry) → turns ≡ others
+as_turns : (turns others : List EndTurn) (w v : WorldState) (old new : List Entry) → turns ≡ others
     → TurnsMade turns w old new v → TurnsMade others w old new v
-as_turns turns others w v old new is made = subst (λ (l : List Turn). TurnsMade l w old new v) is made
+as_turns turns others w v old new is made = subst (λ (l : List EndTurn). TurnsMade l w old new v) is made
 
-module _ (first second : List Turn) (w m v : WorldState) (old mid new : List Entry) where
+module _ (first second : List EndTurn) (w m v : WorldState) (old mid new : List Entry) where
   both_turned : TurnsMade first w old mid m → TurnsMade second m mid new v → TurnsMade (first ++ second) w old new v
   both_turned one two = record {
     entries = one.entries ++ two.entries;
@@ -64,7 +63,7 @@ module _ (first second : List Turn) (w m v : WorldState) (old mid new : List Ent
   }
 
 -- FRONTS: nothing yet, a front of what follows, and less than what there is
-pub none_begun : (turns : List Turn) (w v : WorldState) (old new : List Entry) → v ≡ w → new ≡ old
+pub none_begun : (turns : List EndTurn) (w v : WorldState) (old new : List Entry) → v ≡ w → new ≡ old
     → TurnsBegun turns w old new v
 none_begun turns w v old new same none = record {
   made = [];
@@ -73,27 +72,27 @@ none_begun turns w v old new same none = record {
   turned = none_turned w v old new same none;
 }
 
-begun_behind : (first second : List Turn) (w m v : WorldState) (old mid new : List Entry) → TurnsMade first w old mid m
+begun_behind : (first second : List EndTurn) (w m v : WorldState) (old mid new : List Entry) → TurnsMade first w old mid m
     → TurnsBegun second m mid new v → TurnsBegun (first ++ second) w old new v
 begun_behind first second w m v old mid new one two = record {
   made = first ++ two.made;
   left = two.left;
-  turns_are = ap (λ (l : List Turn). first ++ l) two.turns_are ∙ sym (append_assoc first two.made two.left);
+  turns_are = ap (λ (l : List EndTurn). first ++ l) two.turns_are ∙ sym (append_assoc first two.made two.left);
   turned = both_turned first two.made w m v old mid new one two.turned;
 }
 
-begun_before : (first second : List Turn) (w v : WorldState) (old new : List Entry) → TurnsBegun first w old new v
+begun_before : (first second : List EndTurn) (w v : WorldState) (old new : List Entry) → TurnsBegun first w old new v
     → TurnsBegun (first ++ second) w old new v
 begun_before first second w v old new begun = record {
   made = begun.made;
   left = begun.left ++ second;
-  turns_are = ap (λ (l : List Turn). l ++ second) begun.turns_are ∙ append_assoc begun.made begun.left second;
+  turns_are = ap (λ (l : List EndTurn). l ++ second) begun.turns_are ∙ append_assoc begun.made begun.left second;
   turned = begun.turned;
 }
 
-as_begun : (turns others : List Turn) (w v : WorldState) (old new : List Entry) → turns ≡ others
+as_begun : (turns others : List EndTurn) (w v : WorldState) (old new : List Entry) → turns ≡ others
     → TurnsBegun turns w old new v → TurnsBegun others w old new v
-as_begun turns others w v old new is begun = subst (λ (l : List Turn). TurnsBegun l w old new v) is begun
+as_begun turns others w v old new is begun = subst (λ (l : List EndTurn). TurnsBegun l w old new v) is begun
 
 -- THE TWO STEPS of a lane
 pub both_ends : (k : ℕ) (w m v : WorldState) (old mid new : List Entry) → MakesStep k A w old mid m
@@ -115,7 +114,7 @@ round_both k zero more =
     ∙ ap (λ (i : ℕ). round_turns i more) (let is : k ≡ k + 0 = omega (arith) in is)
 round_both k (suc n) more =
     ap (λ (i : ℕ). round_turns k i) (let is : suc n + more ≡ suc (n + more) = omega (arith) in is)
-    ∙ ap (λ (l : List Turn). turn k A ∷ turn k B ∷ l)
+    ∙ ap (λ (l : List EndTurn). turn k A ∷ turn k B ∷ l)
     (round_both (k + 1) n more
     ∙ ap (λ (i : ℕ). round_turns (k + 1) n ++ round_turns i more)
     (let is : (k + 1) + n ≡ k + suc n = omega (arith) in is))
@@ -152,12 +151,12 @@ turns_both : (n more many : ℕ) → turns_of (n + more) many ≡ turns_of n man
 turns_both zero more many = ap (λ (i : ℕ). turns_of i many) (let is : 0 + more ≡ more = omega (arith) in is)
 turns_both (suc n) more many =
     ap (λ (i : ℕ). turns_of i many) (let is : suc n + more ≡ suc (n + more) = omega (arith) in is)
-    ∙ ap (λ (l : List Turn). round_turns 0 many ++ l) (turns_both n more many)
+    ∙ ap (λ (l : List EndTurn). round_turns 0 many ++ l) (turns_both n more many)
     ∙ sym (append_assoc (round_turns 0 many) (turns_of n many) (turns_of more many))
 
 turns_more : (n many : ℕ) → turns_of n many ++ round_turns 0 many ≡ turns_of (n + 1) many
 turns_more n many =
-    ap (λ (l : List Turn). turns_of n many ++ l) (sym (append-nil (round_turns 0 many))) ∙ sym (turns_both n 1 many)
+    ap (λ (l : List EndTurn). turns_of n many ++ l) (sym (append-nil (round_turns 0 many))) ∙ sym (turns_both n 1 many)
 
 rounds_so_far : (count : ℕ) (w v : WorldState) (old new : List Entry)
     → TurnsBegun (turns_of count (length w.lanes)) w old new v → FitsSoFar w (Rounds count) old new v
@@ -203,11 +202,11 @@ rounds_fit n count w v old new all turned =
     })
 
 -- STEPS of one end, one after the other
-same_both : (n more : ℕ) (next : Turn) → replicate (n + more) next ≡ replicate n next ++ replicate more next
+same_both : (n more : ℕ) (next : EndTurn) → replicate (n + more) next ≡ replicate n next ++ replicate more next
 same_both zero more next = ap (λ (i : ℕ). replicate i next) (let is : 0 + more ≡ more = omega (arith) in is)
 same_both (suc n) more next =
     ap (λ (i : ℕ). replicate i next) (let is : suc n + more ≡ suc (n + more) = omega (arith) in is)
-    ∙ ap (λ (l : List Turn). next ∷ l) (same_both n more next)
+    ∙ ap (λ (l : List EndTurn). next ∷ l) (same_both n more next)
 
 module _ (k : ℕ) (e : End) (n : ℕ) (w m v : WorldState) (first old new : List Entry) where
   pub one_more_step : TurnsMade (replicate n (turn k e)) w first old m → MakesStep k e m old new v
@@ -233,7 +232,7 @@ module _ (k : ℕ) (e : End) (n : ℕ) (w m v : WorldState) (first old new : Lis
             made = replicate n (turn k e) ++ [];
             left = replicate rest (turn k e);
             turns_are = sym (ap (λ (i : ℕ). replicate i (turn k e)) all) ∙ same_both n rest (turn k e)
-                ∙ ap (λ (l : List Turn). l ++ replicate rest (turn k e)) (sym (append-nil (replicate n (turn k e))));
+                ∙ ap (λ (l : List EndTurn). l ++ replicate rest (turn k e)) (sym (append-nil (replicate n (turn k e))));
             steps = turned.steps;
           };
           run = turned.run;

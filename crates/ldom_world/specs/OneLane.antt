@@ -9,8 +9,8 @@ use Rattle.world_laws.specs.Rounds.{is_calm}
 use Rattle.world_laws.specs.Settle.{OfLane}
 use Rattle.world_laws.specs.Lines.{Line}
 use Rattle.world_laws.specs.World.{LaneMoves, OneMoves, WorldState}
-use Rattle.ldom_entries.specs.JournalState.{JournalState, Puts}
-use Rattle.ldom_journal.specs.LaneEvents.{world_event}
+use Rattle.ldom_entries.specs.JournalState.{JournalState, PutsEntry}
+use Rattle.world_parts.specs.WorldEvents.{world_event}
 use Rattle.ldom_entries.specs.declared.entry.Entry.{Entry}
 use Rattle.ldom_world.specs.Resting.{left_out}
 
@@ -25,7 +25,7 @@ pub record LaneAnswers (line : Line) (k : ℕ) (Answers : DiskEvent → Type 0) 
 -- AN EVENT WAS RECORDED: an entry was put last that tells it, whatever line it is in
 pub record Records (k : ℕ) (event : DiskEvent) (s t : JournalState) : Type 0 where
   pub entry : Entry
-  pub puts : Puts s entry t
+  pub puts : PutsEntry s entry t
   pub says : (line : Line) → world_event line entry ≡ Some (OfLane k event)
 
 -- or nothing was, where it is left out

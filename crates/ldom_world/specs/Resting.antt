@@ -1,6 +1,6 @@
 -- Which answers of an end's step rest, and which find no room; and which events a settle leaves out.
 use Rattle.std.specs.Prelude.{Bool, true, false}
-use Rattle.disk_model.specs.DiskEvent.{DiskEvent, Off, OnWire, Turns}
+use Rattle.disk_model.specs.DiskEvent.{DiskEvent, Off, OnWire, Switches}
 use Rattle.disk_model.specs.WireEvent.{Idle}
 use Rattle.vdisk_client.specs.declared.answers.ClientOut.{ClientOut}
 use Rattle.vdisk_client.specs.declared.answers.ClientOut.TheVariants as client_out
@@ -10,7 +10,7 @@ use Rattle.descriptor_work.specs.declared.answers.ServerOut.TheVariants as serve
 -- an end idled, or its server is stopped: a settle leaves it out
 abbrev pub left_out : DiskEvent → Bool
 left_out (OnWire (Idle e)) = true
-left_out (Turns Off) = true
+left_out (Switches Off) = true
 left_out _ = false
 
 -- the client had nothing to do

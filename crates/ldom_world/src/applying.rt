@@ -1,8 +1,8 @@
 // What a line of a script says, done to a world.
 
 ghost use Rattle.std.specs.Prelude.{◌≡◌, length, OnErr, OnOk};
-ghost use Rattle.ldom_journal.specs.LaneEvents.{lane_number};
-ghost use Rattle.ldom_journal.specs.Report.{accepted_count};
+ghost use Rattle.ldom_report.specs.LaneEvents.{lane_number};
+ghost use Rattle.ldom_report.specs.Report.{accepted_count};
 ghost use Rattle.world_laws.specs.Issued.{issued_on};
 ghost use Rattle.world_parts.specs.Lines.{IsForDisks, line_of};
 ghost use Rattle.world_parts.specs.Parts.{Fits, FitsSoFar};
@@ -10,7 +10,7 @@ ghost use Rattle.world_parts.specs.Parts.{Fits, FitsSoFar};
 use crate::calls::LaneCall;
 use crate::world::World;
 use domain_script::{Event, Lane};
-use ldom_journal::Journal;
+use ldom_report::Journal;
 use vio_bytes::NoMemory;
 use vio_io::Store;
 

@@ -2,8 +2,8 @@
 
 ghost use Rattle.std.specs.Prelude.{◌≡◌, ◌<◌, length, None, OnErr, OnOk};
 ghost use Rattle.domain_script.specs.declared.event.Lane.TheVariants.{Disk};
-ghost use Rattle.ldom_journal.specs.LaneEvents.{end_of};
-ghost use Rattle.ldom_journal.specs.Report.{accepted_count};
+ghost use Rattle.ldom_report.specs.LaneEvents.{end_of};
+ghost use Rattle.ldom_report.specs.Report.{accepted_count};
 ghost use Rattle.ldom_entries.specs.declared.entry.Entry.TheVariants as the_entry;
 ghost use Rattle.ldom_entries.specs.declared.entry.Who.TheVariants as the_who;
 ghost use Rattle.ldom_world.specs.Called.{call_of};
@@ -17,7 +17,7 @@ use crate::world::World;
 use disk_lane::DiskLane;
 use domain_script::{EndName, Lane, Side};
 use ldom_entries::end_at;
-use ldom_journal::{Entry, Journal, Who};
+use ldom_report::{Entry, Journal, Who};
 use vio_bytes::NoMemory;
 use vio_io::Store;
 use vio_tag::Cause;

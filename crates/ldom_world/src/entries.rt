@@ -2,10 +2,10 @@
 
 ghost use Rattle.std.specs.Prelude.{◌≡◌, ◌≤◌, ◌<◌, ◌||◌, [], length, true};
 ghost use Rattle.disk_lane.specs.Events.{answered, served_event};
-ghost use Rattle.disk_model.specs.DiskEvent.{Off, Turns};
+ghost use Rattle.disk_model.specs.DiskEvent.{Off, Switches};
 ghost use Rattle.domain_script.specs.declared.event.Lane.TheVariants.{Disk};
 ghost use Rattle.domain_script.specs.declared.event.Side.TheVariants.{Client, Server};
-ghost use Rattle.ldom_journal.specs.LaneEvents.{end_of};
+ghost use Rattle.ldom_report.specs.LaneEvents.{end_of};
 ghost use Rattle.ldom_world.specs.Fitting.{HasRoomFor};
 ghost use Rattle.ldom_world.specs.OneLane.{Leaves, Records};
 ghost use Rattle.ldom_world.specs.Resting.{client_blocked, client_rests, server_blocked, server_rests};
@@ -15,9 +15,8 @@ ghost use Rattle.disk_lane.specs.Answering.{server_event};
 use disk_lane::{ClientOut, DiskLane, End, ServerOut};
 use domain_script::{EndName, Side};
 use ldom_entries::end_at;
-use ldom_journal::{Bytes, Journal};
+use ldom_report::{Bytes, Journal};
 use std::alloc::Global;
-use std::mem;
 
 /// The end of a channel that a side has.
 pub fn end_of(side: Side) -> End
@@ -122,7 +121,7 @@ fn record_client(
     }
 }
 
-/// These bytes in the room that was made for them, which is used up; without bytes it stays.
+/// These bytes, by the room that was made for them; without bytes it stays.
 fn filled(room: &mut Bytes, bytes: &[u8], alloc: Global) -> Bytes
     requires room { length bytes.now ≤ room.old.room }
     requires empty { room.old.items ≡ [] }
@@ -133,9 +132,8 @@ fn filled(room: &mut Bytes, bytes: &[u8], alloc: Global) -> Bytes
     if bytes.is_empty() {
         return Bytes::empty(alloc);
     }
-    let mut all = mem::replace(room, Bytes::empty(alloc));
-    all.fill(bytes);
-    all
+    room.fill(bytes);
+    room.take_out(alloc)
 }
 
 /// Puts what a server's step leaves in the journal, and tells whether the step was calm. The server runs and answered
@@ -162,7 +160,7 @@ pub fn leave_server(
 #[tactic(auto, using(crate::proofs::Leaving::off_leaves_none, crate::proofs::Leaving::off_leaves_entry))]
 fn leave_off(disk: u32, in_settle: bool, journal: &mut Journal)
     requires ready { 0 < journal.old.room }
-    ensures leaves { Leaves in_settle disk (Turns Off) journal.old true journal.new }
+    ensures leaves { Leaves in_settle disk (Switches Off) journal.old true journal.new }
 {
     if !in_settle {
         journal.push_off(server_of(disk));

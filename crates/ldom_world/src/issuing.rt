@@ -2,7 +2,7 @@
 
 ghost use Rattle.std.specs.Prelude.{◌≡◌, ◌<◌, ◌-◌, ◌^◌, length, OnErr, OnOk};
 ghost use Rattle.world_laws.specs.Lines.{AnswersRequest, Asked};
-ghost use Rattle.ldom_journal.specs.Report.{accepted_count};
+ghost use Rattle.ldom_report.specs.Report.{accepted_count};
 ghost use Rattle.ldom_world.specs.Called.{refused_entry};
 ghost use Rattle.ldom_world.specs.OneLane.{LaneAnswers};
 ghost use Rattle.world_laws.specs.Issued.{issued_on};
@@ -12,7 +12,7 @@ ghost use Rattle.world_parts.specs.Parts.{Fits, FitsSoFar};
 use crate::world::World;
 use disk_lane::{DiskLane, IssueFault};
 use domain_script::{Lane, Request};
-use ldom_journal::{Entry, Journal, KeptRequest, Who, Why};
+use ldom_report::{Entry, Journal, KeptRequest, Who, Why};
 use vio_bytes::NoMemory;
 use vio_io::Store;
 

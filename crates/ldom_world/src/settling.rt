@@ -5,7 +5,7 @@ ghost use Rattle.disk_model.specs.LaneState.{LaneState};
 ghost use Rattle.world_laws.specs.Settle.{most_rounds, pending_on};
 ghost use Rattle.world_laws.specs.Ticks.{gets_tick, waits_on};
 ghost use Rattle.world_laws.specs.Lines.{Settles};
-ghost use Rattle.ldom_journal.specs.Report.{accepted_count};
+ghost use Rattle.ldom_report.specs.Report.{accepted_count};
 ghost use Rattle.ldom_world.specs.SettleParts.{NamesAdd, NamesAddFront, NamesGoOn, RoundAdds, RoundAddsFront};
 ghost use Rattle.ldom_world.specs.SettleParts.{RoundBreaks, RoundGoesOn, TicksAdd, TicksAddFront, TicksGoOn};
 ghost use Rattle.ldom_world.specs.SettleParts.{TurnBreaks, TurnGoesOn};
@@ -18,7 +18,7 @@ use crate::lanes::MOST_DISKS;
 use crate::world::World;
 use disk_lane::DiskLane;
 use domain_script::{Lane, Side};
-use ldom_journal::{Entry, Journal, Who};
+use ldom_report::{Entry, Journal, Who};
 use vio_bytes::NoMemory;
 use vio_io::Store;
 

@@ -6,7 +6,7 @@ ghost use Rattle.world_parts.specs.Declared.{LiesWithin, as_image, bytes_needed,
 use crate::lanes::Lanes;
 use disk_lane::DiskLane;
 use domain_script::Names;
-use ldom_journal::Bytes;
+use ldom_report::Bytes;
 use std::alloc::Global;
 use std::marker::Model;
 use vio_bytes::NoMemory;

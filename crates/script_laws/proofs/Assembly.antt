@@ -7,23 +7,23 @@ use Rattle.vio_io.specs.declared.host.AttachFault.TheVariants.{Failed, Memory}
 use Rattle.disk_law.specs.ListState.{ImageState}
 use Rattle.domain_script.specs.declared.event.Event.{Event}
 use Rattle.domain_script.specs.declared.event.Event.TheVariants as line
-use Rattle.domain_script.specs.LinesState.{LinesState, to_come}
+use Rattle.script_reader.specs.LinesState.{LinesState, to_come}
 use Rattle.domain_script.specs.NamesState.{NamesState, noted}
 use Rattle.domain_script.specs.Spells.{Spells}
 use Rattle.domain_script.proofs.ScriptLemmas.{taken-append}
 use Rattle.domain_script.proofs.Spelling.{declared_first}
 use Rattle.ldom_entries.specs.declared.entry.Entry.{Entry}
-use Rattle.ldom_journal.specs.declared.status.Status.{Status}
-use Rattle.ldom_journal.specs.declared.status.Status.TheVariants as status
+use Rattle.ldom_report.specs.declared.status.Status.{Status}
+use Rattle.ldom_report.specs.declared.status.Status.TheVariants as status
 use Rattle.world_parts.specs.Endings.{EndsSo, JournalIs, ending}
 use Rattle.script_laws.specs.Going.{RunsAll, RunsLines}
-use Rattle.ldom_journal.specs.Stops.{IsReaders}
+use Rattle.ldom_report.specs.Stops.{IsReaders}
 use Rattle.script_laws.specs.Attached.{AreOpening, AttachesAt, ImageStands, is_opening}
 use Rattle.script_laws.specs.Opening.{Opened, Opens, OpensAndStops}
 use Rattle.world_parts.specs.Declared.{blocks_of}
-use Rattle.world_parts.specs.Lines.{LineStep, line_of}
+use Rattle.world_parts.specs.Lines.{EventStep, line_of}
 use Rattle.world_parts.specs.Parts.{Fits, FitsSoFar}
-use Rattle.ldom_journal.specs.LinesEnd.{counted_lines}
+use Rattle.ldom_report.specs.LinesEnd.{counted_lines}
 use Rattle.script_laws.specs.Reading.{StopsAt}
 use Rattle.script_laws.specs.Replayed.{FaultsAre, Replayed, Stopped, attach_status, ended_status, start_of}
 use Rattle.script_laws.specs.LanesStand.{LanesStand}
@@ -75,7 +75,7 @@ opening_entries : (events : List Event) → entries_in (opening_lines events) �
 opening_entries [] = refl
 opening_entries (event ∷ events) = opening_entries events
 
-opening_run : (s : WorldState) (events : List Event) → AreOpening events → Run LineStep s (opening_lines events) s
+opening_run : (s : WorldState) (events : List Event) → AreOpening events → Run EventStep s (opening_lines events) s
 opening_run s [] are = refl
 opening_run s (event ∷ events) are = (s, silent s event are.0, opening_run s events are.1)
 
@@ -182,9 +182,9 @@ module _ (start rest now : Option (List ℕ)) (event : Event) (names after : Nam
   abbrev parts : ScriptParts
   parts = behind_lines front runs.parts
 
-  front_run : Run LineStep s front m
+  front_run : Run EventStep s front m
   front_run =
-      run_push LineStep s s m (opening_lines opens.opening) (event, fits.adds.part) (opening_run s opens.opening opens.are)
+      run_push EventStep s s m (opening_lines opens.opening) (event, fits.adds.part) (opening_run s opens.opening opens.are)
       (line_step s event [] journal m fits)
 
   entries_are : entries_in front ≡ journal
@@ -201,7 +201,7 @@ module _ (start rest now : Option (List ℕ)) (event : Event) (names after : Nam
       omega (arith, ap (λ (l : List Entry). length l) entries_are) in
       record {
         middle = runs.fits.middle;
-        run = run_append LineStep s m runs.fits.middle front runs.parts.whole front_run runs.fits.run;
+        run = run_append EventStep s m runs.fits.middle front runs.parts.whole front_run runs.fits.run;
         last = runs.fits.last;
         begin_below = subst (λ (l : List (Event × List Entry)). BeginBelow 0 l) (sym (all_behind front runs.parts))
             (below_both 0 front (all_lines runs.parts) (first_below opens.opening event fits.adds.part)

@@ -9,7 +9,7 @@ use Rattle.world_laws.specs.Rounds.{Each}
 use Rattle.world_laws.specs.Settle.{SettleEntry}
 use Rattle.world_laws.specs.Sums.{IsUnforged}
 use Rattle.world_laws.proofs.Along.{lanes_run, lines_run, world_reached}
-use Rattle.world_laws.specs.Lines.{Line, LineStep, entries_of}
+use Rattle.world_laws.specs.Lines.{Line, LineStep, entries_of_lines}
 use Rattle.world_laws.specs.World.{AreShapes, WorldState, fresh_world}
 use Rattle.world_laws.proofs.ByLines.{unforged_behind}
 
@@ -22,9 +22,9 @@ pub clean_behind : (shapes : List Shape) (image : ImageState) (lines : List (Lin
     → AreShapes 0 shapes → length shapes ≤ 8 → Run LineStep (fresh_world shapes image) lines w → AreClean w.lanes
 clean_behind shapes image lines w are few run =
     let whole = lines_run (fresh_world shapes image) lines w run in
-    let many = (lanes_run shapes image (entries_of lines) w whole).many in
+    let many = (lanes_run shapes image (entries_of_lines lines) w whole).many in
     record {
-      reached = world_reached 0 shapes image (entries_of lines) w are whole;
+      reached = world_reached 0 shapes image (entries_of_lines lines) w are whole;
       unforged = unforged_behind shapes image lines w run;
       few = omega (arith, many, few);
     }

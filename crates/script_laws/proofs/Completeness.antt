@@ -12,14 +12,14 @@ use Rattle.domain_script.specs.Faults.{first_fault}
 use Rattle.domain_script.specs.NamesState.{NamesState}
 use Rattle.domain_script.specs.ScriptLines.{script_lines, with_front, TakesLine, BeginsWithLonger, TakesLines}
 use Rattle.ldom_entries.specs.declared.entry.Entry.{Entry}
-use Rattle.ldom_journal.specs.declared.status.LimitKind.{LimitKind}
-use Rattle.ldom_journal.specs.declared.status.LimitKind.TheVariants.{Lines, Bytes, Entries}
-use Rattle.ldom_journal.specs.declared.status.Status.{Status}
-use Rattle.ldom_journal.specs.declared.status.Status.TheVariants as status
+use Rattle.ldom_report.specs.declared.status.LimitKind.{LimitKind}
+use Rattle.ldom_report.specs.declared.status.LimitKind.TheVariants.{Lines, Bytes, Entries}
+use Rattle.ldom_report.specs.declared.status.Status.{Status}
+use Rattle.ldom_report.specs.declared.status.Status.TheVariants as status
 use Rattle.domain_script.specs.ScriptLines.{AreShort}
 use Rattle.script_laws.specs.Clean.{EndsClean, IsCleanScript, IsFull, NeverFails, StandsStill}
 use Rattle.script_laws.specs.Outcomes.{Reports}
-use Rattle.ldom_journal.specs.LinesEnd.{IsPast}
+use Rattle.ldom_report.specs.LinesEnd.{IsPast}
 use Rattle.script_laws.specs.Reading.{IsFaulty}
 use Rattle.script_laws.specs.Replayed.{Replayed}
 use Rattle.domain_script.specs.ScriptEvents.{AllSpell, no_names}

@@ -9,13 +9,13 @@ use Rattle.domain_script.specs.declared.event.Event.{Event}
 use Rattle.world_laws.specs.Settle.{SettleEntry}
 use Rattle.world_laws.specs.Lines as world
 use Rattle.world_laws.specs.World.{IsWorld, WorldState}
-use Rattle.ldom_journal.specs.LaneEvents.{world_event}
+use Rattle.world_parts.specs.WorldEvents.{world_event}
 use Rattle.ldom_entries.specs.declared.entry.Entry.{Entry}
 use Rattle.script_laws.specs.Told.{told, told_by}
 use Rattle.script_laws.proofs.DiskShapes.{are_shapes, holds_all}
 use Rattle.world_parts.specs.Declared.{bytes_needed, shapes_of}
-use Rattle.world_parts.specs.Lines.{LineStep, line_of}
-use Rattle.world_parts.specs.Parts.{Says}
+use Rattle.world_parts.specs.Lines.{EventStep, line_of}
+use Rattle.world_parts.specs.Parts.{PartSays}
 
 -- WHAT A PART SAYS is all that it tells
 mapped_kept : {X Y : Type 0} (f : X → Option Y) (xs : List X) (ys : List Y) → map f xs ≡ map Some ys
@@ -29,7 +29,7 @@ mapped_kept {X} {Y} f (x ∷ xs) (y ∷ ys) is =
 mapped_kept {X} {Y} f [] (y ∷ ys) is = absurd (cc is)
 mapped_kept {X} {Y} f (x ∷ xs) [] is = absurd (cc is)
 
-pub says_told : (line : Event × List Entry) (entries : List SettleEntry) → Says (line_of line.0) line.1 entries
+pub says_told : (line : Event × List Entry) (entries : List SettleEntry) → PartSays (line_of line.0) line.1 entries
     → told_by line ≡ entries
 says_told line entries says = mapped_kept (world_event (line_of line.0)) line.1 entries says
 
@@ -37,19 +37,19 @@ says_told line entries says = mapped_kept (world_event (line_of line.0)) line.1 
 abbrev pub as_told : Event × List Entry → world.Line × List SettleEntry
 as_told line = (line_of line.0, told_by line)
 
-pub line_told : (w : WorldState) (line : Event × List Entry) (v : WorldState) → LineStep w line v
+pub line_told : (w : WorldState) (line : Event × List Entry) (v : WorldState) → EventStep w line v
     → world.LineStep w (as_told line) v
 line_told w line v step =
     subst (λ (part : List SettleEntry). world.LineMoves w (line_of line.0) part v)
     (sym (says_told line step.entries step.says)) step.moves
 
-pub lines_told : (w : WorldState) (lines : List (Event × List Entry)) (v : WorldState) → Run LineStep w lines v
+pub lines_told : (w : WorldState) (lines : List (Event × List Entry)) (v : WorldState) → Run EventStep w lines v
     → Run world.LineStep w (map as_told lines) v
 lines_told w [] v run = run
 lines_told w (line ∷ lines) v run = (run.0, line_told w line run.0 run.1, lines_told run.0 lines v run.2)
 
 -- and all of them: their parts, one after the other
-pub told_is : (lines : List (Event × List Entry)) → told lines ≡ world.entries_of (map as_told lines)
+pub told_is : (lines : List (Event × List Entry)) → told lines ≡ world.entries_of_lines (map as_told lines)
 told_is [] = refl
 told_is (line ∷ lines) = ap (λ (l : List SettleEntry). told_by line ++ l) (told_is lines)
 

@@ -9,8 +9,8 @@ use Rattle.disk_model.specs.DiskEvent.{DiskEvent}
 use Rattle.domain_script.specs.declared.event.Event.{Event}
 use Rattle.domain_script.specs.declared.event.Event.TheVariants as line
 use Rattle.world_laws.specs.Along.{event_at, happened}
-use Rattle.world_laws.specs.Settle.{OfLane, SettleEntry, Settled, Unsettled}
-use Rattle.ldom_journal.specs.DiskEvents.{Defective, NoRoom, Refusal, Said, disk_event, history, refused, refused_for, request_asked, said_of}
+use Rattle.world_laws.specs.Settle.{OfLane, SettleEntry}
+use Rattle.ldom_report.specs.DiskEvents.{Defective, NoRoom, Refusal, Said, disk_event, history, refused, refused_for, request_asked, said_of}
 use Rattle.ldom_entries.specs.declared.entry.Entry.{Entry}
 use Rattle.world_laws.proofs.Filtered.{ComesOf, comes_of, filter_both, one_more}
 use Rattle.world_laws.specs.Requests.{request_event, requests_of}
@@ -18,20 +18,19 @@ use Rattle.script_laws.proofs.EntryKinds.{Kind, SaysNothing, kept, kind_of}
 use Rattle.script_laws.proofs.Tellings.{Telling, entries_told, means_of, seen_at}
 
 -- ONE ENTRY, and one event of a lane
-lane_sees : (b : Bool) (event : DiskEvent) (seen : plain.DiskEvent) → request_event event ≡ Some seen
+lane_sees : (b : Bool) (event : DiskEvent) (seen : plain.ListEvent) → request_event event ≡ Some seen
     → cons_option (if b then Some seen else None) [] ≡ requests_of (if b then event ∷ [] else [])
-lane_sees true event seen sees = ap (λ (o : Option plain.DiskEvent). cons_option o []) (sym sees)
+lane_sees true event seen sees = ap (λ (o : Option plain.ListEvent). cons_option o []) (sym sees)
 lane_sees false event seen sees = refl
 
 lane_silent : (b : Bool) (event : DiskEvent) → request_event event ≡ None
     → [] ≡ requests_of (if b then event ∷ [] else [])
-lane_silent true event none = ap (λ (o : Option plain.DiskEvent). cons_option o []) (sym none)
+lane_silent true event none = ap (λ (o : Option plain.ListEvent). cons_option o []) (sym none)
 lane_silent false event none = refl
 
 nothing_at : (x : ℕ) (m : SettleEntry) → SaysNothing m → [] ≡ requests_of (event_at x m)
 nothing_at x (OfLane k event) nothing = lane_silent (k == x) event nothing.0
-nothing_at x Settled nothing = refl
-nothing_at x (Unsettled k) nothing = refl
+nothing_at x _ nothing = refl
 
 entry_seen : (x : ℕ) (asked : Event) (e : Entry) (m : SettleEntry) → Kind asked e m
     → cons_option (disk_event x asked e) [] ≡ requests_of (event_at x m)
@@ -51,23 +50,23 @@ entry_seen x asked e m (inr (inr silent)) =
 pub all_seen : (x : ℕ) (tellings : List Telling) → seen_at x tellings ≡ requests_of (happened x (means_of tellings))
 all_seen x [] = refl
 all_seen x (t ∷ tellings) =
-    ap (λ (l : List plain.DiskEvent). cons_option (disk_event x t.asked t.entry) l) (all_seen x tellings)
+    ap (λ (l : List plain.ListEvent). cons_option (disk_event x t.asked t.entry) l) (all_seen x tellings)
     ∙ one_more (disk_event x t.asked t.entry) (requests_of (happened x (means_of tellings)))
-    ∙ ap (λ (l : List plain.DiskEvent). l ++ requests_of (happened x (means_of tellings)))
+    ∙ ap (λ (l : List plain.ListEvent). l ++ requests_of (happened x (means_of tellings)))
     (entry_seen x t.asked t.entry t.means (kind_of t.asked t.entry t.means t.is))
     ∙ sym (filter_both request_event (event_at x t.means) (happened x (means_of tellings)))
 
 -- WHATEVER ITS LINES ASKED it tells which requests were accepted and completed
-abbrev kept_of : Option plain.DiskEvent → Option plain.DiskEvent
+abbrev kept_of : Option plain.ListEvent → Option plain.ListEvent
 kept_of None = None
 kept_of (Some event) = kept event
 
-kept_first : (o : Option plain.DiskEvent) (es : List plain.DiskEvent)
+kept_first : (o : Option plain.ListEvent) (es : List plain.ListEvent)
     → filter_map kept (cons_option o es) ≡ cons_option (kept_of o) (filter_map kept es)
 kept_first None es = refl
 kept_first (Some event) es = refl
 
-kept_at : (b : Bool) (seen : plain.DiskEvent) → kept seen ≡ Some seen
+kept_at : (b : Bool) (seen : plain.ListEvent) → kept seen ≡ Some seen
     → (if b then Some seen else None) ≡ kept_of (if b then Some seen else None)
 kept_at true seen keeps = sym keeps
 kept_at false seen keeps = refl
@@ -98,13 +97,13 @@ pub history_kept : (x : ℕ) (tellings : List Telling)
     → history x (entries_told tellings) ≡ filter_map kept (seen_at x tellings)
 history_kept x [] = refl
 history_kept x (t ∷ tellings) =
-    ap (λ (l : List plain.DiskEvent). cons_option (disk_event x line.Blank t.entry) l) (history_kept x tellings)
-    ∙ ap (λ (o : Option plain.DiskEvent). cons_option o (filter_map kept (seen_at x tellings)))
+    ap (λ (l : List plain.ListEvent). cons_option (disk_event x line.Blank t.entry) l) (history_kept x tellings)
+    ∙ ap (λ (o : Option plain.ListEvent). cons_option o (filter_map kept (seen_at x tellings)))
     (entry_alone x t.asked t.entry t.means (kind_of t.asked t.entry t.means t.is))
     ∙ sym (kept_first (disk_event x t.asked t.entry) (seen_at x tellings))
 
 -- THE SAME requests
-pub issued_kept : (es : List plain.DiskEvent) → issued (filter_map kept es) ≡ issued es
+pub issued_kept : (es : List plain.ListEvent) → issued (filter_map kept es) ≡ issued es
 issued_kept [] = refl
 issued_kept (plain.Accepted id request ∷ es) = ap (λ (l : List Request). request ∷ l) (issued_kept es)
 issued_kept (plain.Full request ∷ es) = issued_kept es
@@ -112,7 +111,7 @@ issued_kept (plain.Refused why request ∷ es) = issued_kept es
 issued_kept (plain.Done id operation status bytes ∷ es) = issued_kept es
 issued_kept (plain.Rested ∷ es) = issued_kept es
 
-completed_kept : (es : List plain.DiskEvent) → completed (filter_map kept es) ≡ completed es
+completed_kept : (es : List plain.ListEvent) → completed (filter_map kept es) ≡ completed es
 completed_kept [] = refl
 completed_kept (plain.Accepted id request ∷ es) = completed_kept es
 completed_kept (plain.Full request ∷ es) = completed_kept es
@@ -120,14 +119,14 @@ completed_kept (plain.Refused why request ∷ es) = completed_kept es
 completed_kept (plain.Done id operation status bytes ∷ es) = ap (λ (l : List ℕ). id ∷ l) (completed_kept es)
 completed_kept (plain.Rested ∷ es) = completed_kept es
 
-kept_is : (one event : plain.DiskEvent) → kept one ≡ Some event → one ≡ event
+kept_is : (one event : plain.ListEvent) → kept one ≡ Some event → one ≡ event
 kept_is (plain.Accepted id request) event keeps = cc keeps
 kept_is (plain.Full request) event keeps = absurd (cc keeps)
 kept_is (plain.Refused why request) event keeps = absurd (cc keeps)
 kept_is (plain.Done id operation status bytes) event keeps = cc keeps
 kept_is plain.Rested event keeps = absurd (cc keeps)
 
-same_next : (front before : List plain.DiskEvent) (id operation : ℕ) → filter_map kept front ≡ before
+same_next : (front before : List plain.ListEvent) (id operation : ℕ) → filter_map kept front ≡ before
     → CompletesNext front id operation
     → CompletesNext before id operation
 same_next front before id operation so_far next =
@@ -142,13 +141,13 @@ same_next front before id operation so_far next =
     }
 
 -- and they complete once and in order where all do
-pub kept_once : (es : List plain.DiskEvent) → CompletesOnceInOrder es → CompletesOnceInOrder (filter_map kept es)
+pub kept_once : (es : List plain.ListEvent) → CompletesOnceInOrder es → CompletesOnceInOrder (filter_map kept es)
 kept_once es once = λ before behind id operation status bytes is.
-    let event : plain.DiskEvent = plain.Done id operation status bytes in
+    let event : plain.ListEvent = plain.Done id operation status bytes in
     let found : ComesOf kept es before event = comes_of kept es before event behind is in
     let same : found.one ≡ event = kept_is found.one event found.gives in
     let at : es ≡ found.front ++ event ∷ found.rest =
-    found.is ∙ ap (λ (y : plain.DiskEvent). found.front ++ y ∷ found.rest) same in
+    found.is ∙ ap (λ (y : plain.ListEvent). found.front ++ y ∷ found.rest) same in
     same_next found.front before id operation found.so_far (once found.front found.rest id operation status bytes at)
 
 -- NOTHING completes where nothing happened

@@ -153,8 +153,8 @@ module _ (disks : List DiskDecl) (image : ImageState) (are : AreDisks disks)
         well now;
   }
 
-  sound : v.image.faults ≡ 0 → s.failed ≡ false
-  sound none =
+  unfailed : v.image.faults ≡ 0 → s.failed ≡ false
+  unfailed none =
       each_there NeverFailed v.lanes x s (lanes_well (shapes_of 0 disks) image entries v leads.run none) there
 
   pub of_disk : OfDisk shape x image entries s v.image
@@ -163,7 +163,7 @@ module _ (disks : List DiskDecl) (image : ImageState) (are : AreDisks disks)
     finishes = λ before behind is. finishes disks image x shape are of_shape before (leads.finished before behind is);
     still = λ before behind is. (leads.finished before behind is).still x shape of_shape;
     failed = fails_by_events shape (happened x entries) s lane_run;
-    sound = sound;
+    unfailed = unfailed;
     reads = reads;
     holds = holds;
   }

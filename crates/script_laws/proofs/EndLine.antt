@@ -2,9 +2,9 @@
 use Rattle.std.proofs.Common.{◌≡◌, ℕ, ◌+◌, ◌-◌, List, [], ◌++◌, length, refl, ◌∙◌, ap, arith, append_assoc}
 use Rattle.std.specs.Prelude.{codes, decimal}
 use Rattle.std.proofs.lemmas.List.{append-nil}
-use Rattle.ldom_journal.specs.Report.{accepted_count, done_count, end_line, reset_count}
+use Rattle.ldom_report.specs.Report.{accepted_count, done_count, end_line, reset_count}
 use Rattle.ldom_entries.specs.declared.entry.Entry.{Entry}
-use Rattle.ldom_journal.specs.declared.status.Status.TheVariants as status
+use Rattle.ldom_report.specs.declared.status.Status.TheVariants as status
 use Rattle.script_laws.proofs.PlainGrows.{zero_text}
 use Rattle.script_laws.specs.PlainRun.{Plain, plain_end}
 

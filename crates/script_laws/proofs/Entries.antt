@@ -10,8 +10,7 @@ EachEntry P (entry ∷ part) = P entry × EachEntry P part
 -- an event of a lane
 abbrev pub IsOfLane : SettleEntry → Type 0
 IsOfLane (OfLane k event) = ⊤
-IsOfLane Settled = ⊥
-IsOfLane (Unsettled k) = ⊥
+IsOfLane _ = ⊥
 
 -- no disk is left over by it
 abbrev pub LeavesNone : SettleEntry → Type 0
@@ -41,8 +40,7 @@ module _ (P : SettleEntry → Type 0) where
 -- events of lanes leave no disk over
 lane_leaves : (entry : SettleEntry) → IsOfLane entry → LeavesNone entry
 lane_leaves (OfLane k event) is = tt
-lane_leaves Settled is = absurd is
-lane_leaves (Unsettled k) is = absurd is
+lane_leaves _ is = absurd is
 
 pub lanes_leave : (part : List SettleEntry) → EachEntry IsOfLane part → EachEntry LeavesNone part
 lanes_leave [] each = tt

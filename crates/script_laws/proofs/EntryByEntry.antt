@@ -3,7 +3,7 @@
 use Rattle.std.proofs.Common.{◌≡◌, ℕ, Bool, true, false, Option, Some, List, [], ◌∷◌, map, refl}
 use Rattle.vio_tag.specs.declared.cause.Cause.{Cause}
 use Rattle.disk_model.specs.WireEvent.{Declines, Reset}
-use Rattle.disk_model.specs.DiskEvent.{Asks, DiskEvent, Done, OnWire, Rests, Works}
+use Rattle.disk_model.specs.DiskEvent.{Asks, DiskEvent, Done, OnWire, Calms, Works}
 use Rattle.domain_script.specs.declared.event.DiskDecl.{DiskDecl}
 use Rattle.domain_script.specs.declared.event.Lane.{Lane}
 use Rattle.domain_script.specs.declared.event.Lane.TheVariants.{Disk}
@@ -11,13 +11,14 @@ use Rattle.domain_script.specs.declared.event.Side.{Side}
 use Rattle.domain_script.specs.declared.event.Side.TheVariants.{Client, Server}
 use Rattle.world_laws.specs.Settle.{OfLane, SettleEntry}
 use Rattle.world_laws.specs.Lines.{Line}
-use Rattle.ldom_journal.specs.LaneEvents.{AtClient, AtLane, AtServer, AtWire, ChangesNothing, Meaning, end_of, lane_number, meaning, world_event}
+use Rattle.ldom_report.specs.LaneEvents.{AtClient, AtLane, AtServer, AtWire, ChangesNothing, Meaning, end_of, lane_number, meaning}
+use Rattle.world_parts.specs.WorldEvents.{world_event}
 use Rattle.ldom_entries.specs.declared.entry.Entry.{Entry}
 use Rattle.ldom_entries.specs.declared.entry.Entry.TheVariants as entry
 use Rattle.ldom_entries.specs.declared.entry.Who.TheVariants.{Lane as OfWhole, End as OfEnd}
 use Rattle.ldom_entries.specs.declared.entry.Why.TheVariants.{Count, Range}
 use Rattle.script_laws.proofs.LaneReport.{SaysSame, says_append}
-use Rattle.world_parts.specs.Parts.{Says}
+use Rattle.world_parts.specs.Parts.{PartSays}
 use Rattle.world_parts.proofs.Meanings.{Holds, entry_has, number_of}
 
 -- an entry says the same as this one of a lane
@@ -55,7 +56,7 @@ quiet_same disk e (AtClient name event) nothing none = untold_same disk e (lane_
 quiet_same disk e (AtServer name event) nothing none = untold_same disk e (lane_number name.lane) event nothing none
 quiet_same disk e (AtLane k event) nothing none = untold_same disk e k event nothing none
 quiet_same disk e (ChangesNothing who) nothing none = (
-  λ calm. untold_same disk e (number_of who) (Rests calm) nothing refl,
+  λ calm. untold_same disk e (number_of who) (Calms calm) nothing refl,
   λ d. untold_same disk e (number_of who) (OnWire (Declines d)) nothing refl,
 )
 quiet_same disk e x nothing none = absurd (cc none)
@@ -96,14 +97,14 @@ rest_said : (one two : Option SettleEntry) (ones twos : List (Option SettleEntry
 rest_said one two ones twos is = cc is
 
 pub part_same : (disk : DiskDecl) (line : Line) (part : List Entry) (entries : List SettleEntry)
-    → Says line part entries → SaysSame disk part entries
+    → PartSays line part entries → SaysSame disk part entries
 part_same disk line [] [] says = (refl, refl)
 part_same disk line [] (x ∷ entries) says = absurd (cc says)
 part_same disk line (e ∷ part) [] says = absurd (cc says)
 part_same disk line (e ∷ part) (x ∷ entries) says =
     let first : world_event line e ≡ Some x =
     first_said (world_event line e) (Some x) (map (world_event line) part) (map Some entries) says in
-    let rest : Says line part entries =
+    let rest : PartSays line part entries =
     rest_said (world_event line e) (Some x) (map (world_event line) part) (map Some entries) says in
     says_append disk (e ∷ []) part (x ∷ []) entries (one_same disk line e x first)
     (part_same disk line part entries rest)

@@ -5,7 +5,7 @@ use Rattle.std.specs.Prelude.{⊤}
 use Rattle.vdisk_msg.specs.declared.request.Request.{Request}
 use Rattle.disk_law.specs.ListStep as plain
 use Rattle.disk_model.specs.DiskEvent.{Accepted, Asks, DiskEvent, Done, Full, Refused, Works}
-use Rattle.world_laws.specs.Settle.{OfLane, SettleEntry, Settled, Unsettled}
+use Rattle.world_laws.specs.Settle.{OfLane, SettleEntry}
 use Rattle.domain_script.specs.declared.event.Event.{Event}
 use Rattle.domain_script.specs.declared.event.Event.TheVariants as line
 use Rattle.domain_script.specs.declared.event.Lane.TheVariants.{Disk}
@@ -15,8 +15,9 @@ use Rattle.ldom_entries.specs.declared.entry.Entry.TheVariants as entry
 use Rattle.ldom_entries.specs.declared.entry.Who.{Who}
 use Rattle.ldom_entries.specs.declared.entry.Who.TheVariants.{Lane as OfWhole, End as OfEnd}
 use Rattle.ldom_entries.specs.declared.entry.Why.{Why}
-use Rattle.ldom_journal.specs.DiskEvents.{Defective, NoRoom, NotTaken, Nothing, OfDisk, Refusal, defect_of, refused, request_asked, said}
-use Rattle.ldom_journal.specs.LaneEvents.{AtClient, AtLane, AtServer, AtWire, ChangesNothing, LeavesNothing, LeavesOver, Meaning, NoRoomFor, Refuses, full_event, if_so, meaning, refused_event, world_event}
+use Rattle.ldom_report.specs.DiskEvents.{Defective, NoRoom, NotTaken, Nothing, OfDisk, Refusal, defect_of, refused, request_asked, said}
+use Rattle.ldom_report.specs.LaneEvents.{AtClient, AtLane, AtServer, AtWire, ChangesNothing, LeavesNothing, LeavesOver, Meaning, NoRoomFor, Refuses, meaning}
+use Rattle.world_parts.specs.WorldEvents.{full_event, if_so, refused_event, world_event}
 use Rattle.world_laws.specs.Failures.{is_failed_done}
 use Rattle.world_laws.specs.Statuses.{TellsStore}
 use Rattle.world_parts.specs.Lines.{line_of}
@@ -25,7 +26,7 @@ use Rattle.script_laws.specs.Failures.{SucceedsOrFails, has_failed}
 use Rattle.world_parts.proofs.Meanings.{Holds, entry_has}
 
 -- what a journal tells of a disk whatever its lines asked: which requests were accepted and completed
-abbrev pub kept : plain.DiskEvent → Option plain.DiskEvent
+abbrev pub kept : plain.ListEvent → Option plain.ListEvent
 kept (plain.Accepted id request) = Some (plain.Accepted id request)
 kept (plain.Full request) = None
 kept (plain.Refused why request) = None
@@ -41,7 +42,7 @@ IsWell _ = ⊤
 pub record AtDisk (entry : Entry) (means : SettleEntry) : Type 0 where
   pub disk : ℕ
   pub event : DiskEvent
-  pub seen : plain.DiskEvent
+  pub seen : plain.ListEvent
   pub means_is : means ≡ OfLane disk event
   pub said_is : said entry ≡ OfDisk disk seen
   pub sees : request_event event ≡ Some seen
@@ -64,8 +65,7 @@ pub record NotTakenUp (asked : Event) (entry : Entry) (means : SettleEntry) : Ty
 -- an entry that says nothing of requests
 abbrev pub SaysNothing : SettleEntry → Type 0
 SaysNothing (OfLane k event) = (request_event event ≡ None) × (is_failed_done event ≡ false)
-SaysNothing Settled = ⊤
-SaysNothing (Unsettled k) = ⊤
+SaysNothing _ = ⊤
 
 pub record IsSilent (entry : Entry) (means : SettleEntry) : Type 0 where
   pub said_is : said entry ≡ Nothing

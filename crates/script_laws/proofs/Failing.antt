@@ -1,11 +1,11 @@
 -- A disk's state says whether a call of its store failed, and so do its events.
 use Rattle.std.proofs.Common.{◌≡◌, ◌↔◌, false, List, [], ◌∷◌, refl, sym, ap, ◌∙◌}
 use Rattle.runs.specs.Run.{Run}
-use Rattle.disk_model.specs.DiskEvent.{Asks, DiskEvent, OnWire, Rests, Stored, Turns, Works}
+use Rattle.disk_model.specs.DiskEvent.{Asks, DiskEvent, OnWire, Calms, Stored, Switches, Works}
 use Rattle.disk_model.specs.LaneState.{LaneState, Shape, fresh}
 use Rattle.disk_model.specs.LaneStep.{LaneStep}
 use Rattle.lane_laws.proofs.LaneRuns.{failed_before, stored_well}
-use Rattle.script_laws.specs.Contents.{NoneFailed}
+use Rattle.script_laws.specs.Contents.{NoStoreFailed}
 use Rattle.world_laws.proofs.FailedStays.{failed_stays}
 use Rattle.world_laws.specs.Failures.{is_failed_store}
 
@@ -17,25 +17,25 @@ event_well s (Works (Stored operation block count failed)) t step well =
 event_well s (Works _) t step well = refl
 event_well s (OnWire event) t step well = refl
 event_well s (Asks event) t step well = refl
-event_well s (Turns event) t step well = refl
-event_well s (Rests event) t step well = refl
+event_well s (Switches event) t step well = refl
+event_well s (Calms event) t step well = refl
 
 -- A RUN that leads to a lane none of whose calls failed, and one that leads from it
 none_failed : (s : LaneState) (events : List DiskEvent) (t : LaneState) → Run LaneStep s events t → t.failed ≡ false
-    → (s.failed ≡ false) × NoneFailed events
+    → (s.failed ≡ false) × NoStoreFailed events
 none_failed s [] t run well = (ap (λ (l : LaneState). l.failed) run ∙ well, tt)
 none_failed s (event ∷ events) t run well =
     let later = none_failed run.0 events t run.2 well in
     (failed_before s event run.0 run.1 later.0, (event_well s event run.0 run.1 later.0, later.1))
 
 stays_well : (s : LaneState) (events : List DiskEvent) (t : LaneState) → Run LaneStep s events t → s.failed ≡ false
-    → NoneFailed events → t.failed ≡ false
+    → NoStoreFailed events → t.failed ≡ false
 stays_well s [] t run well none = sym (ap (λ (l : LaneState). l.failed) run) ∙ well
 stays_well s (event ∷ events) t run well none =
     stays_well run.0 events t run.2 (failed_stays s event run.0 run.1 none.0 well) none.1
 
 pub fails_by_events : (shape : Shape) (events : List DiskEvent) (s : LaneState) → Run LaneStep (fresh shape) events s
-    → (s.failed ≡ false) ↔ NoneFailed events
+    → (s.failed ≡ false) ↔ NoStoreFailed events
 fails_by_events shape events s run = (
   λ well. (none_failed (fresh shape) events s run well).1,
   λ none. stays_well (fresh shape) events s run refl none,

@@ -6,21 +6,21 @@ use Rattle.disk_model.specs.DiskLog.{after, nothing_yet}
 use Rattle.disk_model.specs.DiskEvent.{DiskEvent}
 use Rattle.disk_model.specs.LaneState.{IsShape, LaneState, Shape, fresh}
 use Rattle.disk_model.specs.LaneStep.{LaneStep}
-use Rattle.lane_laws.proofs.Agreeing.{talk_is}
+use Rattle.lane_laws.proofs.LaneCores.{transcript_is}
 use Rattle.lane_laws.proofs.HeardFront.{heard_messages, heard_packets}
-use Rattle.lane_laws.specs.LaneTalks.{talk_behind}
-use Rattle.disk_model.specs.TalkLog.{TalkLog}
+use Rattle.lane_laws.specs.LaneTranscripts.{transcript_behind}
+use Rattle.disk_model.specs.TranscriptLog.{TranscriptLog}
 use Rattle.disk_model.specs.WireAt.{IsUp}
 use Rattle.ldc_queue.specs.declared.end.End.{End}
 use Rattle.script_laws.specs.Lanes.{HearsAFront}
 
 pub hears_a_front : (shape : Shape) (events : List DiskEvent) (s : LaneState) (e : End) → IsShape shape
     → Run LaneStep (fresh shape) events s → s.wire.forged ≡ false → IsUp e s.wire.wire
-    → HearsAFront e (log_of after (nothing_yet shape) events).talk
+    → HearsAFront e (log_of after (nothing_yet shape) events).transcript
 hears_a_front shape events s e sound run clean up =
-    let talk : (log_of after (nothing_yet shape) events).talk ≡ talk_behind events =
-    talk_is (nothing_yet shape) events in
-    subst (λ (t : TalkLog). HearsAFront e t) (sym talk) (record {
+    let transcript : (log_of after (nothing_yet shape) events).transcript ≡ transcript_behind events =
+    transcript_is (nothing_yet shape) events in
+    subst (λ (t : TranscriptLog). HearsAFront e t) (sym transcript) (record {
       packets = heard_packets shape events s e sound run clean up;
       messages = heard_messages shape events s e sound run clean up;
     })

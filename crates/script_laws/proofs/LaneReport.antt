@@ -20,15 +20,15 @@ use Rattle.domain_script.specs.declared.event.Side.{Side}
 use Rattle.domain_script.specs.declared.event.Side.TheVariants.{Client, Server}
 use Rattle.world_laws.specs.Settle.{OfLane, SettleEntry, Settled, Unsettled}
 use Rattle.kept_requests.specs.Bytes.{filled}
-use Rattle.ldom_journal.specs.DiskEvents.{said, said_of_any, whole_history}
-use Rattle.ldom_journal.specs.EntryText.{entry_lines, line_text, report_entries}
-use Rattle.ldom_journal.specs.Report.{accepted_count, done_count, reset_count}
+use Rattle.ldom_report.specs.DiskEvents.{said, said_of_any, whole_history}
+use Rattle.ldom_report.specs.EntryText.{entry_lines, line_text, report_entries}
+use Rattle.ldom_report.specs.Report.{accepted_count, done_count, reset_count}
 use Rattle.ldom_entries.specs.declared.entry.Entry.{Entry}
 use Rattle.ldom_entries.specs.declared.entry.Entry.TheVariants as entry
 use Rattle.ldom_entries.specs.declared.entry.Who.TheVariants.{Lane as OfWhole}
 use Rattle.ldom_entries.specs.declared.entry.Why.{Why}
 use Rattle.ldom_entries.specs.declared.entry.Why.TheVariants.{Count, Range}
-use Rattle.ldom_journal.specs.declared.status.Mode.TheVariants as mode
+use Rattle.ldom_report.specs.declared.status.Mode.TheVariants as mode
 use Rattle.script_laws.specs.Completed.{completed_ids}
 use Rattle.world_laws.specs.Accepted.{accepted_in}
 
@@ -114,7 +114,7 @@ joined s t = record {
 
 ids_append : (one two : List Entry) → completed_ids (one ++ two) ≡ completed_ids one ++ completed_ids two
 ids_append one two =
-    ap (λ (es : List plain.DiskEvent). completed es) (filter_map-append (λ (x : Entry). said_of_any (said x)) one two)
+    ap (λ (es : List plain.ListEvent). completed es) (filter_map-append (λ (x : Entry). said_of_any (said x)) one two)
     ∙ completed-append (whole_history one) (whole_history two)
 
 parts_joined : (disk : DiskDecl) (one two : List Entry)
@@ -156,8 +156,7 @@ told_append disk xs ys others more first second =
 accepted_append : (one two : List SettleEntry) → accepted_in (one ++ two) ≡ accepted_in one + accepted_in two
 accepted_append [] two = omega (arith)
 accepted_append (OfLane k event ∷ one) two = let rest = accepted_append one two in omega (arith, rest)
-accepted_append (Settled ∷ one) two = accepted_append one two
-accepted_append (Unsettled k ∷ one) two = accepted_append one two
+accepted_append (x ∷ one) two = accepted_append one two
 
 pub says_append : (disk : DiskDecl) (one two : List Entry) (xs ys : List SettleEntry) → SaysSame disk one xs
     → SaysSame disk two ys

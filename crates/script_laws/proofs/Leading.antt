@@ -21,7 +21,7 @@ use Rattle.script_laws.proofs.Settling.{FinishedAt, clean_lines, finished_at, no
 use Rattle.script_laws.proofs.DeclaredWorlds.{as_told, lines_told, says_told, told_is}
 use Rattle.script_laws.specs.Told.{told, told_by}
 use Rattle.world_parts.specs.Declared.{shapes_of, world_of}
-use Rattle.world_parts.specs.Lines.{LineStep, line_of}
+use Rattle.world_parts.specs.Lines.{EventStep, line_of}
 use Rattle.world_parts.specs.Script.{FitsScript, LastStarts, ScriptParts, all_lines, with_last}
 use Rattle.world_laws.proofs.ByLines.{unforged_begun, unforged_behind}
 
@@ -45,7 +45,7 @@ told_more (first ∷ lines) line =
 module _ (disks : List DiskDecl) (image : ImageState) (are : AreDisks disks) (few : length disks ≤ 8) where
   -- WHOLE LINES
   whole_lead : (lines : List (world.Line × List SettleEntry)) (v : WorldState)
-      → Run world.LineStep (world_of disks image) lines v → Leads disks image (world.entries_of lines) v
+      → Run world.LineStep (world_of disks image) lines v → Leads disks image (world.entries_of_lines lines) v
   whole_lead lines v run = record {
     run = lines_run (world_of disks image) lines v run;
     unforged = unforged_behind (shapes_of 0 disks) image lines v run;
@@ -53,7 +53,7 @@ module _ (disks : List DiskDecl) (image : ImageState) (are : AreDisks disks) (fe
     finished = finished_at disks image are few lines v run;
   }
 
-  lines_lead : (lines : List (Event × List Entry)) (v : WorldState) → Run LineStep (world_of disks image) lines v
+  lines_lead : (lines : List (Event × List Entry)) (v : WorldState) → Run EventStep (world_of disks image) lines v
       → Leads disks image (told lines) v
   lines_lead lines v run =
       subst (λ (l : List SettleEntry). Leads disks image l v) (sym (told_is lines))
@@ -63,34 +63,34 @@ module _ (disks : List DiskDecl) (image : ImageState) (are : AreDisks disks) (fe
   module _ (lines : List (world.Line × List SettleEntry)) (w : WorldState)
       (run : Run world.LineStep (world_of disks image) lines w) (part : List SettleEntry) (of_lanes : AreOfLanes part)
       (before behind : List SettleEntry) where
-    cut_none : (x : ℕ) → InEither (world.entries_of lines) part before (Unsettled x) behind → ⊥
+    cut_none : (x : ℕ) → InEither (world.entries_of_lines lines) part before (Unsettled x) behind → ⊥
     cut_none x (inl at) = none_over disks image are few lines w run before x at.rest at.is
     cut_none x (inr at) = each_in IsOfLane part at.later (Unsettled x) behind at.is of_lanes
 
-    cut_finished : InEither (world.entries_of lines) part before Settled behind → FinishedAt disks image before
+    cut_finished : InEither (world.entries_of_lines lines) part before Settled behind → FinishedAt disks image before
     cut_finished (inl at) = finished_at disks image are few lines w run before at.rest at.is
     cut_finished (inr at) = absurd (each_in IsOfLane part at.later Settled behind at.is of_lanes)
 
   cut_lead : (lines : List (world.Line × List SettleEntry)) (w : WorldState) (line : world.Line)
       (part : List SettleEntry) (v : WorldState) → Run world.LineStep (world_of disks image) lines w
-      → world.LineBegins w line part v → Leads disks image (world.entries_of lines ++ part) v
+      → world.LineBegins w line part v → Leads disks image (world.entries_of_lines lines ++ part) v
   cut_lead lines w line part v run begun =
       let clean = clean_lines disks image are few lines w run in
       let of_lanes = begins_lanes line w.lanes part v.lanes clean begun.begins in
       record {
-        run = run_append WorldStep (world_of disks image) w v (world.entries_of lines) part
+        run = run_append WorldStep (world_of disks image) w v (world.entries_of_lines lines) part
             (lines_run (world_of disks image) lines w run) begun.run;
         unforged = unforged_begun (shapes_of 0 disks) image lines w line part v run begun;
         none_left = λ before x behind is.
             cut_none lines w run part of_lanes before behind x
-            (place_in (world.entries_of lines) part before (Unsettled x) behind is);
+            (place_in (world.entries_of_lines lines) part before (Unsettled x) behind is);
         finished = λ before behind is.
             cut_finished lines w run part of_lanes before behind
-            (place_in (world.entries_of lines) part before Settled behind is);
+            (place_in (world.entries_of_lines lines) part before Settled behind is);
       }
 
   -- ALL LINES, of which the last may have been cut off
-  module _ (whole : List (Event × List Entry)) (m : WorldState) (run : Run LineStep (world_of disks image) whole m) where
+  module _ (whole : List (Event × List Entry)) (m : WorldState) (run : Run EventStep (world_of disks image) whole m) where
     lead_on : (cut : Option (Event × List Entry)) (v : WorldState) → LastStarts m cut v
         → Leads disks image (told (with_last whole cut)) v
     lead_on None v last =
@@ -99,7 +99,7 @@ module _ (disks : List DiskDecl) (image : ImageState) (are : AreDisks disks) (fe
         let begun : world.LineBegins m (line_of line.0) (told_by line) v =
         subst (λ (l : List SettleEntry). world.LineBegins m (line_of line.0) l v)
         (sym (says_told line last.entries last.says)) last.begins in
-        let is : told (whole ++ line ∷ []) ≡ world.entries_of (map as_told whole) ++ told_by line =
+        let is : told (whole ++ line ∷ []) ≡ world.entries_of_lines (map as_told whole) ++ told_by line =
         told_more whole line ∙ ap (λ (l : List SettleEntry). l ++ told_by line) (told_is whole) in
         subst (λ (l : List SettleEntry). Leads disks image l v) (sym is)
         (cut_lead (map as_told whole) m (line_of line.0) (told_by line) v

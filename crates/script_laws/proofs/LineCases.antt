@@ -14,11 +14,11 @@ use Rattle.domain_script.specs.Spells.{IsDeclared}
 use Rattle.disk_model.specs.LaneState.{LaneState}
 use Rattle.world_laws.specs.Begun.{RoundFront, SettleFront}
 use Rattle.world_laws.specs.Settle.{begin}
-use Rattle.world_laws.specs.Lines.{AreFirstSteps, BeginsPart, Turn}
+use Rattle.world_laws.specs.Lines.{AreFirstSteps, BeginsPart, EndTurn}
 use Rattle.world_laws.specs.World.{WorldState}
-use Rattle.ldom_journal.specs.LaneEvents.{lane_number}
+use Rattle.ldom_report.specs.LaneEvents.{lane_number}
 use Rattle.script_laws.specs.Attached.{is_opening}
-use Rattle.world_parts.specs.Lines.{IsForDisks, LineStep, line_of}
+use Rattle.world_parts.specs.Lines.{IsForDisks, EventStep, line_of}
 
 -- the names after a line that is neither blank nor a declaration
 abbrev pub closed : NamesState → NamesState
@@ -41,14 +41,14 @@ by_line P blank declared other (line.Lose end) = other (line.Lose end) refl (λ 
 by_line P blank declared other (line.Tick ticked) = other (line.Tick ticked) refl (λ _. refl)
 
 -- a blank line or a declaration gives no entry
-pub silent : (s : WorldState) (e : Event) → IsTrue (is_opening e) → LineStep s (e, []) s
+pub silent : (s : WorldState) (e : Event) → IsTrue (is_opening e) → EventStep s (e, []) s
 silent s e =
-    by_line (λ (x : Event). IsTrue (is_opening x) → LineStep s (x, []) s)
+    by_line (λ (x : Event). IsTrue (is_opening x) → EventStep s (x, []) s)
     (λ _. record { entries = []; says = refl; moves = record { part_of = refl; run = refl } })
     (λ disk _. record { entries = []; says = refl; moves = record { part_of = refl; run = refl } })
     (λ x other names is. absurd (cc (other, is))) e
 
-no_steps : (turns : List Turn) → AreFirstSteps turns []
+no_steps : (turns : List EndTurn) → AreFirstSteps turns []
 no_steps turns = record { made = []; left = turns; turns_are = refl; steps = tt }
 
 no_round : (k : ℕ) (lanes : List LaneState) → RoundFront k lanes [] lanes

@@ -6,9 +6,9 @@ use Rattle.world_laws.proofs.Falling.{ends_settled, rounds_few}
 use Rattle.world_laws.proofs.Stuck.{part_never}
 use Rattle.world_laws.proofs.TicksOnce.{part_ticks}
 use Rattle.world_laws.specs.Begun.{SettleFront}
-use Rattle.world_laws.specs.Settle.{OfLane, SettleEntry, SettlePart, Settled, Settles, Unsettled}
+use Rattle.world_laws.specs.Settle.{OfLane, SettleEntry, SettlePart, Settled, Settles}
 use Rattle.world_laws.specs.Lines.{AnswersCall, AnswersRequest, AreFirstSteps, AreSteps, Asked, BeginsPart, Calls, Line}
-use Rattle.world_laws.specs.Lines.{Nothing, OneEntry, PartOf, Rounds, Steps, Turn, turn, turns_of}
+use Rattle.world_laws.specs.Lines.{Nothing, OneEntry, PartOf, Rounds, Steps, EndTurn, turn, turns_of}
 use Rattle.world_laws.specs.Lines as world
 use Rattle.script_laws.proofs.CleanLanes.{AreClean}
 use Rattle.script_laws.proofs.Entries.{EachEntry, IsOfLane, LeavesNone, each_as, each_both, each_in, lanes_leave}
@@ -18,13 +18,12 @@ use Rattle.script_laws.proofs.SettleTicks.{front_ticks}
 use Rattle.script_laws.specs.Settled.{EndsSettled, KeepsRules}
 
 -- STEPS, and what comes of a request or a call
-steps : (turns : List Turn) (part : List SettleEntry) → AreSteps turns part → AreOfLanes part
+steps : (turns : List EndTurn) (part : List SettleEntry) → AreSteps turns part → AreOfLanes part
 steps [] [] are = tt
 steps (next ∷ turns) (OfLane k event ∷ part) are = (tt, steps turns part are.2)
 steps [] (entry ∷ part) are = absurd are
 steps (next ∷ turns) [] are = absurd are
-steps (next ∷ turns) (Settled ∷ part) are = absurd are
-steps (next ∷ turns) (Unsettled k ∷ part) are = absurd are
+steps (next ∷ turns) (x ∷ part) are = absurd are
 
 one : (k : ℕ) (Answers : DiskEvent → Type 0) (part : List SettleEntry) → OneEntry k Answers part → AreOfLanes part
 one k Answers part is = each_as IsOfLane part (OfLane k is.event ∷ []) is.is (tt, tt)
@@ -61,12 +60,10 @@ settle_rules lanes part behind clean (inl settle) = record {
   ticks = λ x. part_ticks lanes part behind x settle;
   moves = λ x e. part_never lanes part behind x e settle;
 }
-settle_rules lanes part behind clean (inr at) =
-    let few = rounds_few lanes at.rounds at.now clean.reached clean.unforged clean.few at.run in
-    record {
-      ticks = λ x. front_ticks lanes part behind x at few;
-      moves = λ x e. front_never lanes part behind x e at few;
-    }
+settle_rules lanes part behind clean (inr at) = record {
+  ticks = λ x. front_ticks lanes part behind x at;
+  moves = λ x e. front_never lanes part behind x e at;
+}
 
 -- NO DISK IS LEFT OVER by a line
 last_leaves : (part : List SettleEntry) → SettledLast part → EachEntry LeavesNone part
@@ -98,7 +95,7 @@ settles_where line lanes part before later behind of_line is =
     settles_if lanes part before later behind is (part_is line lanes part behind of_line)
 
 -- A FRONT OF A LINE's part over clean lanes
-first_steps : (turns : List Turn) (part : List SettleEntry) → AreFirstSteps turns part → AreOfLanes part
+first_steps : (turns : List EndTurn) (part : List SettleEntry) → AreFirstSteps turns part → AreOfLanes part
 first_steps turns part first = steps first.made part first.steps
 
 front_of : (lanes : List LaneState) (part : List SettleEntry) (behind : List LaneState) → AreClean lanes

@@ -5,12 +5,12 @@ use Rattle.std.proofs.lemmas.List.Concat.{flat_map-append}
 use Rattle.domain_script.specs.declared.event.Event.{Event}
 use Rattle.domain_script.specs.declared.event.LineFault.{LineFault}
 use Rattle.ldom_entries.specs.declared.entry.Entry.{Entry}
-use Rattle.ldom_journal.specs.declared.status.LimitKind.{LimitKind}
-use Rattle.ldom_journal.specs.declared.status.Status.{Status}
-use Rattle.ldom_journal.specs.declared.status.Status.TheVariants as status
-use Rattle.ldom_journal.specs.Stops.{IsReaders}
+use Rattle.ldom_report.specs.declared.status.LimitKind.{LimitKind}
+use Rattle.ldom_report.specs.declared.status.Status.{Status}
+use Rattle.ldom_report.specs.declared.status.Status.TheVariants as status
+use Rattle.ldom_report.specs.Stops.{IsReaders}
 use Rattle.world_parts.specs.Endings.{EndsSo, ending}
-use Rattle.world_parts.specs.Lines.{LineStep}
+use Rattle.world_parts.specs.Lines.{EventStep}
 use Rattle.world_parts.specs.Script.{BeginBelow, FitsScript, LastStarts, ScriptParts, all_lines, entries_in, events_in, events_of, journal_of, with_last}
 use Rattle.world_laws.specs.World.{WorldState}
 use Rattle.runs.specs.Run.{Run}
@@ -50,7 +50,7 @@ journal_behind lines parts = ap entries_in (all_behind lines parts) ∙ entries_
 
 -- where none was cut off the whole lines are all
 pub record RanWhole (entries : ℕ) (s : WorldState) (parts : ScriptParts) (t : WorldState) : Type 0 where
-  pub run : Run LineStep s parts.whole t
+  pub run : Run EventStep s parts.whole t
   pub lines_are : all_lines parts ≡ parts.whole
 
 pub ran_whole : (entries : ℕ) (s : WorldState) (parts : ScriptParts) (t : WorldState) → parts.cut ≡ None
@@ -59,7 +59,7 @@ ran_whole entries s parts t none fits =
     let last : t ≡ fits.middle =
     subst (λ (cut : Option (Event × List Entry)). LastStarts fits.middle cut t) none fits.last in
     record {
-      run = subst (λ (x : WorldState). Run LineStep s parts.whole x) (sym last) fits.run;
+      run = subst (λ (x : WorldState). Run EventStep s parts.whole x) (sym last) fits.run;
       lines_are = ap (λ (cut : Option (Event × List Entry)). with_last parts.whole cut) none;
     }
 

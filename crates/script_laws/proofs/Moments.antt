@@ -12,7 +12,7 @@ use Rattle.lane_laws.proofs.CountsTurn.{counts_in_turn}
 use Rattle.lane_laws.proofs.NearOrder.{near_in_order}
 use Rattle.lane_laws.proofs.OneSession.{one_session}
 use Rattle.lane_laws.proofs.SlotsAlong.{run_order}
-use Rattle.lane_laws.proofs.UpRuns.{both_up}
+use Rattle.lane_laws.proofs.HeardFront.{both_up}
 use Rattle.world_laws.proofs.LawFacts.{clean_before, log_clean}
 use Rattle.world_laws.proofs.Moving.{happened_both}
 use Rattle.world_laws.specs.Along.{happened}

@@ -6,7 +6,7 @@ use Rattle.disk_model.specs.LaneState.{LaneState}
 use Rattle.domain_script.specs.NamesState.{NamesState}
 use Rattle.world_laws.specs.World.{WorldState}
 use Rattle.ldom_entries.specs.declared.entry.Entry.{Entry}
-use Rattle.ldom_journal.specs.declared.status.Status.{Status}
+use Rattle.ldom_report.specs.declared.status.Status.{Status}
 use Rattle.script_laws.specs.Outside.{IsOutsideDisks, KeepsOthers, KeepsTold}
 use Rattle.script_laws.specs.Replayed.{Replayed, start_of}
 use Rattle.script_laws.specs.Sized.{SizeIs}

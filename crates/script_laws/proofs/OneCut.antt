@@ -10,11 +10,11 @@ use Rattle.domain_script.specs.Declarations.{AreDisks}
 use Rattle.domain_script.specs.declared.event.DiskDecl.{DiskDecl}
 use Rattle.domain_script.specs.declared.event.Event.{Event}
 use Rattle.world_laws.proofs.Along.{lanes_run, lines_run}
-use Rattle.world_laws.specs.Settle.{OfLane, SettleEntry, Settled, Unsettled}
-use Rattle.world_laws.specs.Lines.{AreSteps, Asked, Calls, Line, Nothing, OneEntry, PartOf, Rounds, Steps, Turn, entries_of, turn, turns_of}
+use Rattle.world_laws.specs.Settle.{OfLane, SettleEntry, Settled}
+use Rattle.world_laws.specs.Lines.{AreSteps, Asked, Calls, Line, Nothing, OneEntry, PartOf, Rounds, Steps, EndTurn, entries_of_lines, turn, turns_of}
 use Rattle.world_laws.specs.Lines as world
 use Rattle.world_laws.specs.World.{WorldState}
-use Rattle.ldom_journal.specs.LaneEvents.{world_event}
+use Rattle.world_parts.specs.WorldEvents.{world_event}
 use Rattle.ldom_entries.specs.declared.entry.Entry.{Entry}
 use Rattle.script_laws.proofs.CleanLanes.{AreClean}
 use Rattle.script_laws.proofs.DeclaredWorlds.{as_told, lines_told}
@@ -24,8 +24,8 @@ use Rattle.script_laws.proofs.LineEntries.{clean_settles}
 use Rattle.script_laws.proofs.SettleEntries.{SettledLast, settled_last}
 use Rattle.script_laws.proofs.Settling.{clean_lines}
 use Rattle.world_parts.specs.Declared.{shapes_of, world_of}
-use Rattle.world_parts.specs.Lines.{LineStep, line_of}
-use Rattle.world_parts.specs.Parts.{Says}
+use Rattle.world_parts.specs.Lines.{EventStep, line_of}
+use Rattle.world_parts.specs.Parts.{PartSays}
 use Rattle.world_parts.specs.Script.{FitsScript, ScriptParts, all_lines, entries_in, events_in, events_of, journal_of, with_last}
 
 -- FRONTS OF A LIST that are as long, and fronts up to the first that meets a test
@@ -77,13 +77,12 @@ abbrev IsDelimited : Option ℕ → List SettleEntry → Type 0
 IsDelimited (Some n) part = length part ≡ n
 IsDelimited None part = SettledLast part
 
-as_turns : (turns : List Turn) (part : List SettleEntry) → AreSteps turns part → length part ≡ length turns
+as_turns : (turns : List EndTurn) (part : List SettleEntry) → AreSteps turns part → length part ≡ length turns
 as_turns [] [] are = refl
 as_turns (next ∷ turns) (OfLane k event ∷ part) are = let rest = as_turns turns part are.2 in omega (arith, rest)
 as_turns [] (entry ∷ part) are = absurd are
 as_turns (next ∷ turns) [] are = absurd are
-as_turns (next ∷ turns) (Settled ∷ part) are = absurd are
-as_turns (next ∷ turns) (Unsettled k ∷ part) are = absurd are
+as_turns (next ∷ turns) (x ∷ part) are = absurd are
 
 one_long : (k : ℕ) (Answers : DiskEvent → Type 0) (part : List SettleEntry) → OneEntry k Answers part → length part ≡ 1
 one_long k Answers part one = ap (λ (l : List SettleEntry). length l) one.is
@@ -105,8 +104,7 @@ is_answer _ = false
 
 of_lane_is_none : (m : SettleEntry) → IsOfLane m → is_answer (Some m) ≡ false
 of_lane_is_none (OfLane k event) is = refl
-of_lane_is_none Settled is = absurd is
-of_lane_is_none (Unsettled k) is = absurd is
+of_lane_is_none _ is = absurd is
 
 up_to_answer : (f : Entry → Option SettleEntry) (part : List Entry) (front : List SettleEntry)
     → map f part ≡ map Some (front ++ Settled ∷ []) → EachEntry IsOfLane front
@@ -122,14 +120,14 @@ up_to_answer f (x ∷ part) (m ∷ front) says of_lanes =
     let others : map f part ≡ map Some (front ++ Settled ∷ []) = cc says in
     inr (ap is_answer is ∙ of_lane_is_none m of_lanes.0, up_to_answer f part front others of_lanes.1)
 
-says_long : (line : Line) (part : List Entry) (entries : List SettleEntry) → Says line part entries
+says_long : (line : Line) (part : List Entry) (entries : List SettleEntry) → PartSays line part entries
     → length part ≡ length entries
 says_long line part entries says =
     sym (length-map part (world_event line)) ∙ ap (λ (l : List (Option SettleEntry)). length l) says
     ∙ length-map entries Some
 
 one_part : (size : Option ℕ) (line : Line) (one two : List SettleEntry) (p q j k : List Entry) → IsDelimited size one
-    → IsDelimited size two → Says line p one → Says line q two → p ++ j ≡ q ++ k → p ≡ q
+    → IsDelimited size two → PartSays line p one → PartSays line q two → p ++ j ≡ q ++ k → p ≡ q
 one_part (Some n) line one two p q j k first second says also is =
     same_front p q j k (says_long line p one says ∙ first ∙ sym second ∙ sym (says_long line q two also)) is
 one_part None line one two p q j k first second says also is =
@@ -163,12 +161,12 @@ module _ (disks : List DiskDecl) (image : ImageState) (are : AreDisks disks) (fe
   -- where some lines led
   pub record IsLed (w : WorldState) : Type 0 where
     before : List (Event × List Entry)
-    run : Run LineStep (world_of disks image) before w
+    run : Run EventStep (world_of disks image) before w
 
-  led_on : (w : WorldState) (line : Event × List Entry) (v : WorldState) → IsLed w → LineStep w line v → IsLed v
+  led_on : (w : WorldState) (line : Event × List Entry) (v : WorldState) → IsLed w → EventStep w line v → IsLed v
   led_on w line v at step = record {
     before = at.before ++ line ∷ [];
-    run = run_push LineStep (world_of disks image) w v at.before line at.run step;
+    run = run_push EventStep (world_of disks image) w v at.before line at.run step;
   }
 
   clean_there : (w : WorldState) → IsLed w → AreClean w.lanes
@@ -179,25 +177,25 @@ module _ (disks : List DiskDecl) (image : ImageState) (are : AreDisks disks) (fe
   many_there : (w : WorldState) → IsLed w → length w.lanes ≡ length disks
   many_there w at =
       let told : List (Line × List SettleEntry) = map as_told at.before in
-      (lanes_run (shapes_of 0 disks) image (entries_of told) w
+      (lanes_run (shapes_of 0 disks) image (entries_of_lines told) w
       (lines_run (world_of disks image) told w (lines_told (world_of disks image) at.before w at.run))).many
       ∙ many_shapes 0 disks
 
   there_delimited : (w : WorldState) (event : Event) (part : List Entry) (v : WorldState) → IsLed w
-      → (step : LineStep w (event, part) v) → IsDelimited (part_size (line_of event) (length disks)) step.entries
+      → (step : EventStep w (event, part) v) → IsDelimited (part_size (line_of event) (length disks)) step.entries
   there_delimited w event part v at step =
       subst (λ (n : ℕ). IsDelimited (part_size (line_of event) n) step.entries) (many_there w at)
       (delimited (line_of event) w.lanes step.entries v.lanes (clean_there w at) step.moves.part_of)
 
   same_part : (w u v x : WorldState) (event : Event) (p q j k : List Entry) → IsLed w → IsLed u
-      → LineStep w (event, p) v → LineStep u (event, q) x → p ++ j ≡ q ++ k → p ≡ q
+      → EventStep w (event, p) v → EventStep u (event, q) x → p ++ j ≡ q ++ k → p ≡ q
   same_part w u v x event p q j k led also one two is =
       one_part (part_size (line_of event) (length disks)) (line_of event) one.entries two.entries p q j k
       (there_delimited w event p v led one) (there_delimited u event q x also two) one.says two.says is
 
   -- a line first of both lists
   module _ (w u v x : WorldState) (line other : Event × List Entry) (lines others : List (Event × List Entry))
-      (led : IsLed w) (also : IsLed u) (one : LineStep w line v) (two : LineStep u other x)
+      (led : IsLed w) (also : IsLed u) (one : EventStep w line v) (two : EventStep u other x)
       (events : line.0 ∷ events_in lines ≡ other.0 ∷ events_in others)
       (entries : line.1 ++ entries_in lines ≡ other.1 ++ entries_in others) where
     same_event : line.0 ≡ other.0
@@ -206,7 +204,7 @@ module _ (disks : List DiskDecl) (image : ImageState) (are : AreDisks disks) (fe
     first_part : line.1 ≡ other.1
     first_part =
         same_part w u v x line.0 line.1 other.1 (entries_in lines) (entries_in others) led also one
-        (subst (λ (event : Event). LineStep u (event, other.1) x) (sym same_event) two) entries
+        (subst (λ (event : Event). EventStep u (event, other.1) x) (sym same_event) two) entries
 
     pub first_same : line ≡ other
     first_same =
@@ -221,7 +219,7 @@ module _ (disks : List DiskDecl) (image : ImageState) (are : AreDisks disks) (fe
         (entries ∙ ap (λ (l : List Entry). l ++ entries_in others) (sym first_part))
 
   same_lines : (w u m n : WorldState) (xs ys : List (Event × List Entry)) (c d : Option (Event × List Entry))
-      → IsLed w → IsLed u → Run LineStep w xs m → Run LineStep u ys n
+      → IsLed w → IsLed u → Run EventStep w xs m → Run EventStep u ys n
       → events_in (with_last xs c) ≡ events_in (with_last ys d)
       → entries_in (with_last xs c) ≡ entries_in (with_last ys d) → with_last xs c ≡ with_last ys d
   same_lines w u m n [] ys None d led also one two events entries = no_events (with_last ys d) events

@@ -1,7 +1,7 @@
 -- Where an element of two lists, one after the other, stands; and where an entry of a script's lines does.
 use Rattle.std.proofs.Common.{◌≡◌, ◌⊎◌, inl, inr, List, [], ◌∷◌, ◌++◌, refl, sym, ap, ◌∙◌, subst, append_assoc}
 use Rattle.world_laws.specs.Settle.{SettleEntry}
-use Rattle.world_laws.specs.Lines.{Line, entries_of}
+use Rattle.world_laws.specs.Lines.{Line, entries_of_lines}
 
 pub no_place : {X : Type 0} (before : List X) (x : X) (behind : List X) → [] ≡ before ++ x ∷ behind → ⊥
 no_place {X} [] x behind is = absurd (cc is)
@@ -50,8 +50,8 @@ pub record InLine (lines : List (Line × List SettleEntry)) (before : List Settl
   pub later : List (Line × List SettleEntry)
   pub lines_are : lines ≡ front ++ line ∷ later
   pub so_far : List SettleEntry
-  pub before_is : before ≡ entries_of front ++ so_far
-  pub place : InFirst line.1 (entries_of later) so_far entry behind
+  pub before_is : before ≡ entries_of_lines front ++ so_far
+  pub place : InFirst line.1 (entries_of_lines later) so_far entry behind
 
 line_further : (first : Line × List SettleEntry) (lines : List (Line × List SettleEntry))
     (before past : List SettleEntry) (entry : SettleEntry) (behind : List SettleEntry) → before ≡ first.1 ++ past
@@ -63,24 +63,24 @@ line_further first lines before past entry behind is at = record {
   lines_are = ap (λ (l : List (Line × List SettleEntry)). first ∷ l) at.lines_are;
   so_far = at.so_far;
   before_is = is ∙ ap (λ (l : List SettleEntry). first.1 ++ l) at.before_is
-      ∙ sym (append_assoc first.1 (entries_of at.front) at.so_far);
+      ∙ sym (append_assoc first.1 (entries_of_lines at.front) at.so_far);
   place = at.place;
 }
 
 -- it stands in the part of the first line, or in those of the others
 by_place : (first : Line × List SettleEntry) (lines : List (Line × List SettleEntry)) (before : List SettleEntry)
     (entry : SettleEntry) (behind : List SettleEntry)
-    → ((past : List SettleEntry) → entries_of lines ≡ past ++ entry ∷ behind → InLine lines past entry behind)
-    → InEither first.1 (entries_of lines) before entry behind → InLine (first ∷ lines) before entry behind
+    → ((past : List SettleEntry) → entries_of_lines lines ≡ past ++ entry ∷ behind → InLine lines past entry behind)
+    → InEither first.1 (entries_of_lines lines) before entry behind → InLine (first ∷ lines) before entry behind
 by_place first lines before entry behind others (inl at) =
     record { front = []; line = first; later = lines; lines_are = refl; so_far = before; before_is = refl; place = at }
 by_place first lines before entry behind others (inr at) =
     line_further first lines before at.later entry behind at.before_is (others at.later at.is)
 
 pub line_with : (lines : List (Line × List SettleEntry)) (before : List SettleEntry) (entry : SettleEntry)
-    (behind : List SettleEntry) → entries_of lines ≡ before ++ entry ∷ behind → InLine lines before entry behind
+    (behind : List SettleEntry) → entries_of_lines lines ≡ before ++ entry ∷ behind → InLine lines before entry behind
 line_with [] before entry behind is = absurd (no_place before entry behind is)
 line_with (first ∷ lines) before entry behind is =
     by_place first lines before entry behind
-    (λ (past : List SettleEntry) (at : entries_of lines ≡ past ++ entry ∷ behind). line_with lines past entry behind at)
-    (place_in first.1 (entries_of lines) before entry behind is)
+    (λ (past : List SettleEntry) (at : entries_of_lines lines ≡ past ++ entry ∷ behind). line_with lines past entry behind at)
+    (place_in first.1 (entries_of_lines lines) before entry behind is)

@@ -8,13 +8,13 @@ use Rattle.domain_script.specs.declared.event.DiskDecl.{DiskDecl}
 use Rattle.domain_script.specs.declared.event.Event.{Event}
 use Rattle.world_laws.specs.Settle.{SettleEntry}
 use Rattle.world_laws.proofs.Along.{lines_run}
-use Rattle.world_laws.specs.Lines.{Line, LineStep, entries_of}
+use Rattle.world_laws.specs.Lines.{Line, LineStep, entries_of_lines}
 use Rattle.world_laws.specs.World.{WorldState, fresh_world}
-use Rattle.ldom_journal.specs.EntryText.{report_entries}
-use Rattle.ldom_journal.specs.Report.{accepted_count, done_count, end_line, report, reset_count}
+use Rattle.ldom_report.specs.EntryText.{report_entries}
+use Rattle.ldom_report.specs.Report.{accepted_count, done_count, end_line, report, reset_count}
 use Rattle.ldom_entries.specs.declared.entry.Entry.{Entry}
-use Rattle.ldom_journal.specs.declared.status.Mode.TheVariants as mode
-use Rattle.ldom_journal.specs.declared.status.Status.TheVariants as status
+use Rattle.ldom_report.specs.declared.status.Mode.TheVariants as mode
+use Rattle.ldom_report.specs.declared.status.Status.TheVariants as status
 use Rattle.script_laws.proofs.EndLine.{ends_agree}
 use Rattle.script_laws.proofs.LaneReport.{SaysSame, Told, ids_in, told_lanes, told_part}
 use Rattle.script_laws.proofs.PlainGrows.{Grows, ids_below, listed, run_grows, run_same}
@@ -76,19 +76,19 @@ shows_plain disk content events lines v are runs =
 -- the next id of the one lane counts what was accepted
 accepted_all : (disk : DiskDecl) (image : ImageState) (lines : List (Line × List SettleEntry)) (v : WorldState)
     (p : lanes.Plain) → IsDisk disk → Run LineStep (fresh_world (shape_of 0 disk ∷ []) image) lines v → IsPlain p v
-    → accepted_in (entries_of lines) ≡ p.completed + length p.waiting
+    → accepted_in (entries_of_lines lines) ≡ p.completed + length p.waiting
 accepted_all disk image lines v p is run plain =
     let shape = shape_of 0 disk in
     let entries_run = lines_run (fresh_world (shape ∷ []) image) lines v run in
-    let sum = world_counts (shape ∷ []) image (entries_of lines) v (disk_shape disk is, refl, tt) entries_run in
+    let sum = world_counts (shape ∷ []) image (entries_of_lines lines) v (disk_shape disk is, refl, tt) entries_run in
     let ids = ap next_ids plain.lanes in
     let accepted = plain.accepted in
     omega (arith, sum, ids, accepted)
 
 tells_plain : (disk : DiskDecl) (content : List ℕ) (events : List Event) (journal : List Entry)
-    (lines : List (Line × List SettleEntry)) (v : WorldState) → SaysSame disk journal (entries_of lines)
+    (lines : List (Line × List SettleEntry)) (v : WorldState) → SaysSame disk journal (entries_of_lines lines)
     → (shows : ShowsPlain disk content events lines v)
-    → accepted_in (entries_of lines) ≡ (ran disk content events).completed + length (ran disk content events).waiting
+    → accepted_in (entries_of_lines lines) ≡ (ran disk content events).completed + length (ran disk content events).waiting
     → Tells disk journal v (ran disk content events)
 tells_plain disk content events journal lines v says shows accepted =
     let p = ran disk content events in
@@ -141,8 +141,8 @@ plain_law disk image content parts v is told holds quiet none_cut fits well =
     let first : image.faults ≡ 0 = lines_before w through.lanes v through.run well in
     let plainly = quiet_lines shape image content through.lanes v (disk_front disk image content is told holds first) runs in
     let shows = shows_plain disk content events through.lanes v are plainly in
-    let says : SaysSame disk (journal_of parts) (entries_of through.lanes) =
-    subst (λ (l : List (Event × List Entry)). SaysSame disk (entries_in l) (entries_of through.lanes))
+    let says : SaysSame disk (journal_of parts) (entries_of_lines through.lanes) =
+    subst (λ (l : List (Event × List Entry)). SaysSame disk (entries_in l) (entries_of_lines through.lanes))
     (sym whole.lines_are) (through.same disk) in
     let p = listed (ran disk content events) in
     let accepted = accepted_all disk image through.lanes v p is through.run shows.ends in

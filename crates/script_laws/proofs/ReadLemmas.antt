@@ -9,10 +9,10 @@ use Rattle.domain_script.specs.Spells.{Spells}
 use Rattle.domain_script.proofs.Disks.{are_disks_push}
 use Rattle.domain_script.proofs.ScriptLemmas.{taken_more, taken_none}
 use Rattle.domain_script.proofs.Spelling.{declared_first}
-use Rattle.ldom_journal.specs.declared.status.Status.{Status}
+use Rattle.ldom_report.specs.declared.status.Status.{Status}
 use Rattle.script_laws.specs.Attached.{AreOpening, is_opening}
 use Rattle.script_laws.specs.Opening.{Opens, OpensAndStops}
-use Rattle.ldom_journal.specs.LinesEnd.{counted_lines}
+use Rattle.ldom_report.specs.LinesEnd.{counted_lines}
 use Rattle.script_laws.specs.Reading.{ReadsEvent, StopsAt}
 use Rattle.domain_script.specs.ScriptEvents.{AllSpell, no_names}
 use Rattle.script_laws.specs.Script.{ReadSoFar}

@@ -8,11 +8,11 @@ use Rattle.disk_law.specs.ListStep.{Done}
 use Rattle.disk_model.specs.LaneState.{LaneState}
 use Rattle.domain_script.specs.Declarations.{AreDisks}
 use Rattle.domain_script.specs.NamesState.{NamesState}
-use Rattle.ldom_journal.specs.DiskEvents.{history}
-use Rattle.ldom_journal.specs.HasWords.{HasWords}
+use Rattle.ldom_report.specs.DiskEvents.{history}
+use Rattle.ldom_report.specs.HasWords.{HasWords}
 use Rattle.ldom_entries.specs.declared.entry.Entry.{Entry}
-use Rattle.ldom_journal.specs.declared.status.Status.{Status}
-use Rattle.ldom_journal.specs.declared.status.Status.TheVariants as status
+use Rattle.ldom_report.specs.declared.status.Status.{Status}
+use Rattle.ldom_report.specs.declared.status.Status.TheVariants as status
 use Rattle.script_laws.specs.Admitting.{AdmitsAll}
 use Rattle.script_laws.specs.Failures.{SucceedOrFail, failed_count}
 use Rattle.script_laws.specs.Headline.{Headline}

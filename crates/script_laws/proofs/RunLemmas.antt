@@ -7,13 +7,13 @@ use Rattle.domain_script.specs.declared.event.Event.{Event}
 use Rattle.domain_script.specs.NamesState.{NamesState}
 use Rattle.domain_script.specs.ScriptEvents.{AllSpell}
 use Rattle.ldom_entries.specs.declared.entry.Entry.{Entry}
-use Rattle.ldom_journal.specs.declared.status.Status.{Status}
-use Rattle.ldom_journal.specs.declared.status.Status.TheVariants as status
-use Rattle.ldom_journal.specs.Stops.{IsReaders}
+use Rattle.ldom_report.specs.declared.status.Status.{Status}
+use Rattle.ldom_report.specs.declared.status.Status.TheVariants as status
+use Rattle.ldom_report.specs.Stops.{IsReaders}
 use Rattle.script_laws.specs.Going.{ReadsOn, RunsLines}
-use Rattle.world_parts.specs.Lines.{LineStarts, LineStep, line_of}
+use Rattle.world_parts.specs.Lines.{LineStarts, EventStep, line_of}
 use Rattle.world_parts.specs.Parts.{Fits, FitsSoFar}
-use Rattle.ldom_journal.specs.LinesEnd.{counted_lines}
+use Rattle.ldom_report.specs.LinesEnd.{counted_lines}
 use Rattle.script_laws.specs.Reading.{ReadsEvent, StopsAt}
 use Rattle.world_laws.specs.World.{WorldState}
 use Rattle.world_parts.specs.Script.{BeginBelow, entries_in, events_in}
@@ -22,7 +22,7 @@ use Rattle.script_laws.proofs.LineLists.{below_push, entries_push, events_both, 
 use Rattle.script_laws.proofs.ReadLemmas.{spell_more}
 
 -- the part of a line that was run, and of one that began
-pub line_step : (m : WorldState) (event : Event) (mid new : List Entry) (t : WorldState) → (fits : Fits m (line_of event) mid new t) → LineStep m (event, fits.adds.part) t
+pub line_step : (m : WorldState) (event : Event) (mid new : List Entry) (t : WorldState) → (fits : Fits m (line_of event) mid new t) → EventStep m (event, fits.adds.part) t
 line_step m event mid new t fits = record { entries = fits.entries; says = fits.adds.says; moves = fits.moves }
 
 pub line_starts : (m : WorldState) (event : Event) (mid new : List Entry) (t : WorldState) → (fits : FitsSoFar m (line_of event) mid new t) → LineStarts m (event, fits.adds.part) t
@@ -51,7 +51,7 @@ pub record RunsSoFar (start : Option (List ℕ)) (before : NamesState) (old : Li
   pub lines : List (Event × List Entry)
   pub read : ReadsOn start rest before number (events_in lines) names
   pub grew : new ≡ old ++ entries_in lines
-  pub run : Run LineStep s lines t
+  pub run : Run EventStep s lines t
   pub below : BeginBelow (length old) lines
   pub counts : count ≡ number + length read.texts
 
@@ -90,7 +90,7 @@ runs_more start rest left before names after old mid new s m t number count next
       (events_in (so_far.lines ++ (event, fits.adds.part) ∷ [])) event so_far.read so_far.counts reads is few
       (more_events so_far.lines event fits.adds.part);
   grew = more_entries so_far.lines event fits.adds.part old mid new so_far.grew fits.adds.grew;
-  run = run_push LineStep s m t so_far.lines (event, fits.adds.part) so_far.run (line_step m event mid new t fits);
+  run = run_push EventStep s m t so_far.lines (event, fits.adds.part) so_far.run (line_step m event mid new t fits);
   below = below_push (length old) so_far.lines (event, fits.adds.part) so_far.below
       (below_here old mid (entries_in so_far.lines) so_far.grew below);
   counts = omega (arith, is, so_far.counts, length-append so_far.read.texts (reads.text ∷ []));

@@ -20,8 +20,8 @@ use Rattle.world_laws.proofs.LaneLists.{is_there}
 use Rattle.world_laws.specs.World.{IsWorld, WorldState, WorldStep}
 use Rattle.world_laws.specs.Failures.{in_entry, is_flush, is_store, is_store_that}
 use Rattle.world_laws.proofs.ImageFaults.{few_counted, run_calls, run_flushes}
-use Rattle.ldom_journal.specs.DiskEvents.{history}
-use Rattle.ldom_journal.specs.HasWords.{HasWords}
+use Rattle.ldom_report.specs.DiskEvents.{history}
+use Rattle.ldom_report.specs.HasWords.{HasWords}
 use Rattle.ldom_entries.specs.declared.entry.Entry.{Entry}
 use Rattle.world_laws.proofs.WorldLaws.{world_counted}
 use Rattle.world_laws.proofs.BehindDisks.{stays_behind}
@@ -83,7 +83,7 @@ module _ (disks : List DiskDecl) (image : ImageState) (entries : ℕ) (parts : S
       → Admission disk.blocks disk.ring (all_happened x lines)
   one_admits x disk there =
       let at = shape_there 0 disks x disk there in
-      subst (λ (es : List plain.DiskEvent). Admission disk.blocks disk.ring es) (sym (disk_seen x))
+      subst (λ (es : List plain.ListEvent). Admission disk.blocks disk.ring es) (sym (disk_seen x))
       (disk_admits (shapes_of 0 disks) image (means_of tells.tellings) v x (shape_of at.0 disk)
       (are_shapes 0 disks are) tells.run at.1)
 
@@ -106,7 +106,7 @@ module _ (disks : List DiskDecl) (image : ImageState) (entries : ℕ) (parts : S
   history_is : (x : ℕ) → history x journal ≡ filter_map kept (requests_of (happened x (means_of tells.tellings)))
   history_is x =
       ap (λ (l : List Entry). history x l) (sym tells.journal_is) ∙ history_kept x tells.tellings
-      ∙ ap (λ (es : List plain.DiskEvent). filter_map kept es) (all_seen x tells.tellings)
+      ∙ ap (λ (es : List plain.ListEvent). filter_map kept es) (all_seen x tells.tellings)
 
   pub script_once : (x : ℕ) → CompletesOnceInOrder (history x journal)
   script_once x =

@@ -1,15 +1,16 @@
 -- The part of a settle that ends settled: events of lanes, and then its answer; and a front of a settle's part that
 -- didn't run out of rounds: events of lanes alone.
-use Rattle.std.proofs.Common.{◌≡◌, ◌⊎◌, inl, inr, ℕ, ◌+◌, ◌<◌, Bool, true, false, List, [], ◌∷◌, ◌++◌, length, sym, ◌∙◌, arith}
+use Rattle.std.proofs.Common.{◌≡◌, inl, inr, ℕ, ◌+◌, ◌<◌, Bool, true, false, List, [], ◌∷◌, ◌++◌, length, sym, ◌∙◌}
 use Rattle.std.specs.Prelude.{if◌then◌else◌}
-use Rattle.runs.specs.Run.{Run}
 use Rattle.disk_model.specs.WireEvent.{Idle}
-use Rattle.disk_model.specs.DiskEvent.{DiskEvent, Off, OnWire, Turns}
+use Rattle.disk_model.specs.DiskEvent.{DiskEvent, Off, OnWire, Switches}
 use Rattle.disk_model.specs.LaneState.{LaneState}
-use Rattle.world_laws.specs.Begun.{NamesFront, NoMore, QuietFront, RoundFront, SettleFront, TickFront}
-use Rattle.world_laws.specs.Rounds.{LaneRound, are_quiet}
-use Rattle.world_laws.specs.Settle.{GoesOn, OfLane, SettleEntry, SettleRound, Settled, Settles, Settling}
-use Rattle.world_laws.specs.Settle.{TicksBehind, begin, entries_of, entry_of, most_rounds, round_entries, tick_entries}
+use Rattle.lane_kinds.proofs.Leading.{few_lead, rounds_lead}
+use Rattle.lane_kinds.specs.Laws.{Leads}
+use Rattle.world_laws.specs.Begun.{NoMore, RoundFront, SettleFront, TickFront, fronts}
+use Rattle.world_laws.specs.Rounds.{LaneRound}
+use Rattle.world_laws.specs.Settle.{OfLane, SettleEntry, Settled, Settles}
+use Rattle.world_laws.specs.Settle.{begin, disks, entries_of_rounds, entry_of, most_rounds, round_entries, tick_entries}
 use Rattle.world_laws.specs.Ticks.{gets_tick, tick}
 use Rattle.script_laws.proofs.Entries.{EachEntry, IsOfLane, each_as, each_both, each_in}
 use Rattle.script_laws.proofs.Places.{InEither, no_place, place_in}
@@ -30,7 +31,7 @@ no_more lanes part behind none = as_is part [] none.is tt
 -- STEPS
 step_entry : (k : ℕ) (event : DiskEvent) → AreOfLanes (entry_of k event)
 step_entry k (OnWire (Idle e)) = tt
-step_entry k (Turns Off) = tt
+step_entry k (Switches Off) = tt
 step_entry k event = (tt, tt)
 
 lane_entries : (k : ℕ) (r : LaneRound) → AreOfLanes (entry_of k r.client ++ entry_of k r.server)
@@ -55,21 +56,16 @@ of_ticks k (s ∷ lanes) (had ∷ marks) =
     (one_tick (gets_tick s had) k) (of_ticks (k + 1) lanes marks)
 
 -- ROUNDS with the ticks after them
-goes_on : (quiet : Bool) (w : Settling) (steps : List LaneRound) (between : List LaneState)
-    (entries : List SettleEntry) (v : Settling) → TicksBehind quiet w steps between entries v → AreOfLanes entries
-goes_on false w steps between entries v behind =
-    as_is entries (round_entries 0 steps) behind.1 (of_round 0 steps)
-goes_on true w steps between entries v behind =
-    as_is entries (round_entries 0 steps ++ tick_entries 0 between w.marks) behind.3
-    (both (round_entries 0 steps) (tick_entries 0 between w.marks) (of_round 0 steps) (of_ticks 0 between w.marks))
+abbrev Lanes : List LaneState → List SettleEntry → List LaneState → Type 0
+Lanes lanes part behind = AreOfLanes part
 
-of_rounds : (w : Settling) (rounds : List SettleRound) (v : Settling) → Run GoesOn w rounds v
-    → AreOfLanes (entries_of rounds)
-of_rounds w [] v run = tt
-of_rounds w (round ∷ rounds) v run =
-    both round.entries (entries_of rounds)
-    (goes_on (are_quiet round.steps) w round.steps run.1.between round.entries run.0 run.1.behind)
-    (of_rounds run.0 rounds v run.2)
+leads : Leads disks Lanes
+leads = record {
+  none = λ w. tt;
+  both = λ w m v one two first second. both one two first second;
+  round = λ w r v made. of_round 0 r;
+  ticks = λ w m v made. of_ticks 0 w m;
+}
 
 -- A SETTLE THAT ENDS SETTLED
 pub record SettledLast (part : List SettleEntry) : Type 0 where
@@ -80,9 +76,9 @@ pub record SettledLast (part : List SettleEntry) : Type 0 where
 pub settled_last : (start : List LaneState) (part : List SettleEntry) (behind : List LaneState)
     → Settles start part behind → SettledLast part
 settled_last start part behind at = record {
-  front = entries_of at.rounds ++ round_entries 0 at.steps;
+  front = entries_of_rounds at.rounds ++ round_entries 0 at.steps;
   is = at.is;
-  of_lanes = both (entries_of at.rounds) (round_entries 0 at.steps) (of_rounds (begin start) at.rounds at.now at.run)
+  of_lanes = both (entries_of_rounds at.rounds) (round_entries 0 at.steps) (rounds_lead disks Lanes leads (begin start) at.rounds at.now at.run)
       (of_round 0 at.steps);
 }
 
@@ -126,28 +122,11 @@ tick_front k (s ∷ lanes) (had ∷ marks) part behind (inr made) =
     (both (if gets_tick s had then OfLane k tick ∷ [] else []) made.later (one_tick (gets_tick s had) k)
     (tick_front (k + 1) lanes marks made.later made.others made.more))
 
-quiet_front : (now : Settling) (part : List SettleEntry) (behind : List LaneState) → QuietFront now part behind
-    → AreOfLanes part
-quiet_front now part behind at =
-    as_is part (round_entries 0 at.steps ++ at.later) at.is
-    (both (round_entries 0 at.steps) at.later (of_round 0 at.steps)
-    (tick_front 0 at.between now.marks at.later behind at.ticks))
-
 -- A FRONT OF A SETTLE that made fewer than the most rounds
-not_all : (made most : ℕ) → made < most → made ≡ most → ⊥
-not_all made most less all = omega (arith, less, all)
-
-behind_rounds : (rounds : List SettleRound) (now : Settling) (most : ℕ) (later : List SettleEntry)
-    (behind : List LaneState) → length rounds < most
-    → ((length rounds < most) × (RoundFront 0 now.lanes later behind ⊎ QuietFront now later behind))
-    ⊎ ((length rounds ≡ most) × NamesFront rounds now later behind) → AreOfLanes later
-behind_rounds rounds now most later behind few (inl (less, inl front)) = round_front 0 now.lanes later behind front
-behind_rounds rounds now most later behind few (inl (less, inr front)) = quiet_front now later behind front
-behind_rounds rounds now most later behind few (inr (all, names)) = absurd (not_all (length rounds) most few all)
-
 pub settle_front : (start : List LaneState) (part : List SettleEntry) (behind : List LaneState)
     (at : SettleFront start part behind) → length at.rounds < most_rounds start → AreOfLanes part
 settle_front start part behind at few =
-    as_is part (entries_of at.rounds ++ at.later) at.is
-    (both (entries_of at.rounds) at.later (of_rounds (begin start) at.rounds at.now at.run)
-    (behind_rounds at.rounds at.now (most_rounds start) at.later behind few at.front))
+    few_lead disks Lanes leads fronts (record {
+      round = λ w part v front. round_front 0 w part v front;
+      ticks = λ w m part v front. tick_front 0 w m part v front;
+    }) start part behind at few

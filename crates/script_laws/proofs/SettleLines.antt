@@ -19,14 +19,14 @@ use Rattle.script_laws.proofs.DeclaredWorlds.{as_told, line_told, lines_told, sa
 use Rattle.script_laws.specs.Settled.{KeepsRules}
 use Rattle.script_laws.specs.Told.{told_by}
 use Rattle.world_parts.specs.Declared.{world_of}
-use Rattle.world_parts.specs.Lines.{LineStarts, LineStep, line_of}
+use Rattle.world_parts.specs.Lines.{LineStarts, EventStep, line_of}
 use Rattle.world_parts.specs.Script.{FitsScript, LastStarts, ScriptParts, all_lines, with_last}
 
 -- A SETTLE after these lines: its part, or a front of it
 pub record SettlesBehind (disks : List DiskDecl) (image : ImageState) (before : List (Event × List Entry))
     (part : List SettleEntry) : Type 0 where
   pub at : WorldState
-  pub run : Run LineStep (world_of disks image) before at
+  pub run : Run EventStep (world_of disks image) before at
   pub behind : List LaneState
   pub goes : SettlePart at.lanes part behind ⊎ SettleFront at.lanes part behind
 
@@ -37,11 +37,11 @@ EachSettles disks image lines =
     → lines ≡ before ++ (Settle, part) ∷ behind → SettlesBehind disks image before (told_by (Settle, part))
 
 pub whole_settles : (disks : List DiskDecl) (image : ImageState) (lines : List (Event × List Entry)) (v : WorldState)
-    → Run LineStep (world_of disks image) lines v → EachSettles disks image lines
+    → Run EventStep (world_of disks image) lines v → EachSettles disks image lines
 whole_settles disks image lines v run before part behind is =
-    let whole : Run LineStep (world_of disks image) (before ++ (Settle, part) ∷ behind) v =
-    subst (λ (l : List (Event × List Entry)). Run LineStep (world_of disks image) l v) is run in
-    let split = run_split LineStep (world_of disks image) v before ((Settle, part) ∷ behind) whole in
+    let whole : Run EventStep (world_of disks image) (before ++ (Settle, part) ∷ behind) v =
+    subst (λ (l : List (Event × List Entry)). Run EventStep (world_of disks image) l v) is run in
+    let split = run_split EventStep (world_of disks image) v before ((Settle, part) ∷ behind) whole in
     record {
       at = split.0;
       run = split.1;
@@ -58,7 +58,7 @@ only_one {X} x (z ∷ later) y behind is =
     absurd (no_place later y behind none)
 
 module _ (disks : List DiskDecl) (image : ImageState) (whole : List (Event × List Entry)) (m : WorldState)
-    (run : Run LineStep (world_of disks image) whole m) where
+    (run : Run EventStep (world_of disks image) whole m) where
   module _ (last : Event × List Entry) (v : WorldState) (starts : LineStarts m last v)
       (before : List (Event × List Entry)) (part : List Entry) (behind : List (Event × List Entry)) where
     cut_at : InEither whole (last ∷ []) before (Settle, part) behind
@@ -75,7 +75,7 @@ module _ (disks : List DiskDecl) (image : ImageState) (whole : List (Event × Li
         sym (append-nil whole) ∙ ap (λ (l : List (Event × List Entry)). whole ++ l) (sym one.0) ∙ sym at.before_is in
         record {
           at = m;
-          run = subst (λ (l : List (Event × List Entry)). Run LineStep (world_of disks image) l m) is run;
+          run = subst (λ (l : List (Event × List Entry)). Run EventStep (world_of disks image) l m) is run;
           behind = v.lanes;
           goes = inr settle.begins;
         }

@@ -8,7 +8,7 @@ use Rattle.disk_model.specs.LaneState.{IsShape, LaneState, Shape, fresh}
 use Rattle.disk_model.specs.LaneStep.{LaneStep}
 use Rattle.world_laws.proofs.Moving.{happened_both, round_moves_lanes, rounds_move_lanes}
 use Rattle.world_laws.specs.Along.{happened}
-use Rattle.world_laws.specs.Settle.{SettleEntry, Settled, Settles, begin, entries_of, round_entries}
+use Rattle.world_laws.specs.Settle.{SettleEntry, Settled, Settles, begin, entries_of_rounds, round_entries}
 use Rattle.world_laws.proofs.LaneLists.{lane_moved}
 use Rattle.script_laws.proofs.Stillness.{calm_round, still_by}
 use Rattle.script_laws.proofs.TicksStand.{MovedTo, QuietAt, moved_to, quiet_at}
@@ -33,7 +33,7 @@ pub settled_still : (start : List LaneState) (part : List SettleEntry) (behind :
     → Run LaneStep (fresh shape) events s
     → AreStillBy (log_of after (nothing_yet shape) (events ++ happened x so_far))
 settled_still start part behind at so_far is x s there shape events sound run =
-    let rounds : List SettleEntry = entries_of at.rounds in
+    let rounds : List SettleEntry = entries_of_rounds at.rounds in
     let last : List SettleEntry = round_entries 0 at.steps in
     let m : MovedTo x rounds s at.now.lanes =
     moved_to start rounds at.now.lanes x s (rounds_move_lanes (begin start) at.rounds at.now at.run) there in

@@ -36,7 +36,7 @@ use Rattle.script_laws.specs.Still.{AreStillBy}
 use Rattle.script_laws.specs.Told.{log_at, told_by}
 use Rattle.script_laws.proofs.DiskShapes.{are_shapes, many_shapes}
 use Rattle.world_parts.specs.Declared.{shapes_of, world_of}
-use Rattle.world_parts.specs.Lines.{LineStep}
+use Rattle.world_parts.specs.Lines.{EventStep}
 
 -- EACH LANE IS FINISHED whose server runs
 abbrev pub AllFinished : List LaneState → Type 0
@@ -68,13 +68,13 @@ module _ (disks : List DiskDecl) (image : ImageState) (are : AreDisks disks) (fe
       clean_behind (shapes_of 0 disks) image lines w (are_shapes 0 disks are) (omega (arith, many, few)) run
 
   -- A SETTLE among the lines
-  pub settle_at : (lines : List (Event × List Entry)) (v : WorldState) → Run LineStep (world_of disks image) lines v
+  pub settle_at : (lines : List (Event × List Entry)) (v : WorldState) → Run EventStep (world_of disks image) lines v
       → (before : List (Event × List Entry)) (part : List Entry) (behind : List (Event × List Entry))
       → lines ≡ before ++ (Settle, part) ∷ behind → EndsSettled (told_by (Settle, part))
   settle_at lines v run before part behind is =
-      let whole : Run LineStep (world_of disks image) (before ++ (Settle, part) ∷ behind) v =
-      subst (λ (l : List (Event × List Entry)). Run LineStep (world_of disks image) l v) is run in
-      let split = run_split LineStep (world_of disks image) v before ((Settle, part) ∷ behind) whole in
+      let whole : Run EventStep (world_of disks image) (before ++ (Settle, part) ∷ behind) v =
+      subst (λ (l : List (Event × List Entry)). Run EventStep (world_of disks image) l v) is run in
+      let split = run_split EventStep (world_of disks image) v before ((Settle, part) ∷ behind) whole in
       let at : WorldState = split.0 in
       let next : WorldState = split.2.0 in
       let clean = clean_lines (map as_told before) at (lines_told (world_of disks image) before at split.1) in
@@ -92,7 +92,7 @@ module _ (disks : List DiskDecl) (image : ImageState) (are : AreDisks disks) (fe
 
   line_at : (lines : List (world.Line × List SettleEntry)) (v : WorldState)
       → Run world.LineStep (world_of disks image) lines v → (before : List SettleEntry) (entry : SettleEntry)
-      (behind : List SettleEntry) → world.entries_of lines ≡ before ++ entry ∷ behind
+      (behind : List SettleEntry) → world.entries_of_lines lines ≡ before ++ entry ∷ behind
       → LineAt lines before entry behind
   line_at lines v run before entry behind is =
       let place : InLine lines before entry behind = line_with lines before entry behind is in
@@ -105,7 +105,7 @@ module _ (disks : List DiskDecl) (image : ImageState) (are : AreDisks disks) (fe
   -- NO DISK IS LEFT OVER
   pub none_over : (lines : List (world.Line × List SettleEntry)) (v : WorldState)
       → Run world.LineStep (world_of disks image) lines v → (before : List SettleEntry) (x : ℕ)
-      (behind : List SettleEntry) → world.entries_of lines ≡ before ++ Unsettled x ∷ behind → ⊥
+      (behind : List SettleEntry) → world.entries_of_lines lines ≡ before ++ Unsettled x ∷ behind → ⊥
   none_over lines v run before x behind is =
       let of : LineAt lines before (Unsettled x) behind = line_at lines v run before (Unsettled x) behind is in
       let line = of.place.line in
@@ -155,7 +155,7 @@ module _ (disks : List DiskDecl) (image : ImageState) (are : AreDisks disks) (fe
       let stays : own.0 ≡ of.next = sym own.2.1 ∙ own.2.2 in
       let front = lines_run (world_of disks image) of.place.front of.at of.run in
       subst (λ (l : List SettleEntry). Run WorldStep (world_of disks image) l of.next) (sym of.place.before_is)
-      (run_append WorldStep (world_of disks image) of.at of.next (world.entries_of of.place.front) so_far front
+      (run_append WorldStep (world_of disks image) of.at of.next (world.entries_of_lines of.place.front) so_far front
       (subst (λ (u : WorldState). Run WorldStep of.at so_far u) stays own.1))
 
   lanes_still : (lines : List (world.Line × List SettleEntry)) (before behind : List SettleEntry)
@@ -163,7 +163,7 @@ module _ (disks : List DiskDecl) (image : ImageState) (are : AreDisks disks) (fe
       → slice_get (shapes_of 0 disks) x ≡ Some shape → AreStillBy (log_at shape x before)
   lanes_still lines before behind of x shape of_shape =
       let shapes : List Shape = shapes_of 0 disks in
-      let past : List SettleEntry = world.entries_of of.place.front in
+      let past : List SettleEntry = world.entries_of_lines of.place.front in
       let front = lines_run (world_of disks image) of.place.front of.at of.run in
       let lane = lane_at shapes image past of.at x shape front of_shape in
       let run : Run LaneStep (fresh shape) (happened x past) lane.0 =
@@ -176,7 +176,7 @@ module _ (disks : List DiskDecl) (image : ImageState) (are : AreDisks disks) (fe
 
   pub finished_at : (lines : List (world.Line × List SettleEntry)) (v : WorldState)
       → Run world.LineStep (world_of disks image) lines v → (before behind : List SettleEntry)
-      → world.entries_of lines ≡ before ++ Settled ∷ behind → FinishedAt disks image before
+      → world.entries_of_lines lines ≡ before ++ Settled ∷ behind → FinishedAt disks image before
   finished_at lines v run before behind is =
       let of : LineAt lines before Settled behind = line_at lines v run before Settled behind is in
       record {

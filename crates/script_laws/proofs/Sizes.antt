@@ -9,9 +9,9 @@ use Rattle.domain_script.specs.ScriptEvents.{AllSpell}
 use Rattle.world_laws.specs.Rounds.{Each}
 use Rattle.world_laws.specs.World.{WorldState}
 use Rattle.ldom_entries.specs.declared.entry.Entry.{Entry}
-use Rattle.ldom_journal.specs.declared.status.Status.{Status}
-use Rattle.ldom_journal.specs.declared.status.Status.TheVariants as status
-use Rattle.ldom_journal.specs.Stops.{IsReaders}
+use Rattle.ldom_report.specs.declared.status.Status.{Status}
+use Rattle.ldom_report.specs.declared.status.Status.TheVariants as status
+use Rattle.ldom_report.specs.Stops.{IsReaders}
 use Rattle.vio_io.specs.declared.host.AttachFault.{AttachFault}
 use Rattle.vio_io.specs.declared.host.AttachFault.TheVariants.{Failed, Memory}
 use Rattle.script_laws.specs.Going.{RunsAll}

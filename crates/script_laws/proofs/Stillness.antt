@@ -8,7 +8,7 @@ use Rattle.disk_model.specs.DiskLog.{DiskLog, after, nothing_yet}
 use Rattle.disk_model.specs.QuietLaws.{ClientIsIdle, EndIsIdle, ServerIsIdle}
 use Rattle.disk_model.specs.WorkLaws.{IfClient, IfServer}
 use Rattle.disk_model.specs.WorkLog.{ClientCounts, WorkLog}
-use Rattle.disk_model.specs.DiskEvent.{DiskEvent, Off, OnWire, Turns}
+use Rattle.disk_model.specs.DiskEvent.{DiskEvent, Off, OnWire, Switches}
 use Rattle.disk_model.specs.LaneState.{IsShape, LaneState, Shape, fresh}
 use Rattle.disk_model.specs.LaneStep.{LaneStep}
 use Rattle.disk_model.specs.WireAt.{IsUp}
@@ -16,10 +16,11 @@ use Rattle.disk_model.specs.WireEvent.{Blocked, Idle}
 use Rattle.disk_model.specs.WireLog.{WireLog}
 use Rattle.lane_laws.proofs.AgreementRuns.{run_agrees}
 use Rattle.lane_laws.specs.CalmEnds.{AreStill, HasNoRoom, IsStill}
-use Rattle.world_laws.proofs.LaneRounds.{and_left, and_right, quiet_still}
+use Rattle.lane_kinds.proofs.Sums.{and_left, and_right}
+use Rattle.world_laws.proofs.LaneRounds.{quiet_still}
 use Rattle.world_laws.specs.Along.{event_at, happened}
 use Rattle.world_laws.specs.Rounds.{LaneRound, MakesRound, are_quiet, is_calm, is_quiet}
-use Rattle.world_laws.specs.Settle.{OfLane, SettleEntry, Settled, Unsettled, entry_of, round_entries}
+use Rattle.world_laws.specs.Settle.{OfLane, SettleEntry, entry_of, round_entries}
 use Rattle.ldc_queue.specs.Wire.{peer_of, waiting_for}
 use Rattle.ldc_queue.specs.declared.end.End.{End}
 use Rattle.ldc_queue.specs.declared.end.End.TheVariants.{A, B}
@@ -76,17 +77,16 @@ calm_work l (OnWire (Idle A)) calm = refl
 calm_work l (OnWire (Idle B)) calm = refl
 calm_work l (OnWire (Blocked A)) calm = refl
 calm_work l (OnWire (Blocked B)) calm = refl
-calm_work l (Turns Off) calm = refl
+calm_work l (Switches Off) calm = refl
 calm_work l _ calm = absurd (cc calm)
 
 abbrev pub IsCalmEntry : SettleEntry → Type 0
 IsCalmEntry (OfLane k event) = is_calm event ≡ true
-IsCalmEntry Settled = ⊤
-IsCalmEntry (Unsettled k) = ⊤
+IsCalmEntry _ = ⊤
 
 calm_entry : (k : ℕ) (event : DiskEvent) → is_calm event ≡ true → EachEntry IsCalmEntry (entry_of k event)
 calm_entry k (OnWire (Idle e)) calm = tt
-calm_entry k (Turns Off) calm = tt
+calm_entry k (Switches Off) calm = tt
 calm_entry k event calm = (calm, tt)
 
 pub calm_round : (k : ℕ) (rounds : List LaneRound) → are_quiet rounds ≡ true
@@ -111,8 +111,7 @@ calm_log x l [] calm = refl
 calm_log x l (OfLane j event ∷ part) calm =
     ap (λ (m : DiskLog). m.work) (log_append after l (event_at x (OfLane j event)) (happened x part))
     ∙ calm_log x (log_of after l (event_at x (OfLane j event))) part calm.1 ∙ calm_at (j == x) l event calm.0
-calm_log x l (Settled ∷ part) calm = calm_log x l part calm.1
-calm_log x l (Unsettled k ∷ part) calm = calm_log x l part calm.1
+calm_log x l (entry ∷ part) calm = calm_log x l part calm.1
 
 -- BEHIND A QUIET ROUND
 pub still_by : (shape : Shape) (events : List DiskEvent) (s : LaneState) (r : LaneRound) (t : LaneState) (x : ℕ)

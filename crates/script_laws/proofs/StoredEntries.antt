@@ -7,7 +7,8 @@ use Rattle.domain_script.specs.declared.event.Lane.TheVariants.{Disk}
 use Rattle.ldom_entries.specs.declared.entry.Entry.{Entry}
 use Rattle.ldom_entries.specs.declared.entry.Entry.TheVariants as entry
 use Rattle.ldom_entries.specs.declared.entry.Who.TheVariants.{Lane as OfWhole, End as OfEnd}
-use Rattle.ldom_journal.specs.LaneEvents.{AtClient, AtLane, AtServer, AtWire, ChangesNothing, LeavesNothing, LeavesOver, Meaning, NoRoomFor, Refuses, meaning, world_event}
+use Rattle.ldom_report.specs.LaneEvents.{AtClient, AtLane, AtServer, AtWire, ChangesNothing, LeavesNothing, LeavesOver, Meaning, NoRoomFor, Refuses, meaning}
+use Rattle.world_parts.specs.WorldEvents.{world_event}
 use Rattle.world_laws.proofs.Counted.{count_more}
 use Rattle.world_laws.specs.Failures.{in_entry, is_store, is_store_that}
 use Rattle.world_laws.specs.Settle.{SettleEntry}
@@ -23,14 +24,14 @@ means_store (AtServer e event) = is_store event
 means_store (AtLane k event) = is_store event
 means_store other = false
 
-abbrev Says : (ℕ → Bool → Bool) → Bool → SettleEntry → Type 0
-Says says b m = in_entry (is_store_that says) m ≡ b
+abbrev StoreSays : (ℕ → Bool → Bool) → Bool → SettleEntry → Type 0
+StoreSays says b m = in_entry (is_store_that says) m ≡ b
 
 event_none : (says : ℕ → Bool → Bool) (event : DiskEvent) → is_store event ≡ false → is_store_that says event ≡ false
 event_none says (Works (Stored operation block count failed)) none = absurd (cc none)
 event_none says event none = refl
 
-others_none : (says : ℕ → Bool → Bool) (x : Meaning) → means_store x ≡ false → Holds (Says says false) x
+others_none : (says : ℕ → Bool → Bool) (x : Meaning) → means_store x ≡ false → Holds (StoreSays says false) x
 others_none says (AtWire e event) none = refl
 others_none says (AtClient e event) none = event_none says event none
 others_none says (AtServer e event) none = event_none says event none
@@ -48,8 +49,8 @@ others_none says LeavesNothing none = refl
 entry_stored : (says : ℕ → Bool → Bool) (asked : Event) (e : Entry) (m : SettleEntry)
     → world_event (line_of asked) e ≡ Some m → in_entry (is_store_that says) m ≡ is_stored_that says e
 entry_stored says asked (entry.Stored e operation block count failed) m is =
-    entry_has (Says says (says operation failed)) (line_of asked) (entry.Stored e operation block count failed) m refl is
-entry_stored says asked e m is = entry_has (Says says false) (line_of asked) e m (others_none says (meaning e) refl) is
+    entry_has (StoreSays says (says operation failed)) (line_of asked) (entry.Stored e operation block count failed) m refl is
+entry_stored says asked e m is = entry_has (StoreSays says false) (line_of asked) e m (others_none says (meaning e) refl) is
 
 -- A JOURNAL
 pub all_stored : (says : ℕ → Bool → Bool) (tellings : List Telling)

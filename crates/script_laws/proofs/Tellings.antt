@@ -6,11 +6,11 @@ use Rattle.std.proofs.lemmas.List.{append-nil}
 use Rattle.disk_law.specs.ListStep as plain
 use Rattle.domain_script.specs.declared.event.Event.{Event}
 use Rattle.world_laws.specs.Settle.{SettleEntry}
-use Rattle.ldom_journal.specs.DiskEvents.{disk_event, happened}
-use Rattle.ldom_journal.specs.LaneEvents.{world_event}
+use Rattle.ldom_report.specs.DiskEvents.{disk_event, happened_to}
+use Rattle.world_parts.specs.WorldEvents.{world_event}
 use Rattle.ldom_entries.specs.declared.entry.Entry.{Entry}
 use Rattle.world_parts.specs.Lines.{all_happened, line_of}
-use Rattle.world_parts.specs.Parts.{Says}
+use Rattle.world_parts.specs.Parts.{PartSays}
 
 pub record Telling : Type 0 where
   pub asked : Event
@@ -28,7 +28,7 @@ means_of [] = []
 means_of (t ∷ tellings) = t.means ∷ means_of tellings
 
 -- what they say of the requests of the disk x
-abbrev pub seen_at : ℕ → List Telling → List plain.DiskEvent
+abbrev pub seen_at : ℕ → List Telling → List plain.ListEvent
 seen_at x [] = []
 seen_at x (t ∷ tellings) = cons_option (disk_event x t.asked t.entry) (seen_at x tellings)
 
@@ -41,23 +41,23 @@ pub record PartTells (asked : Event) (part : List Entry) (entries : List SettleE
   pub tellings : List Telling
   pub entries_are : entries_told tellings ≡ part
   pub means_are : means_of tellings ≡ entries
-  pub seen : (x : ℕ) → seen_at x tellings ≡ happened x asked part
+  pub seen : (x : ℕ) → seen_at x tellings ≡ happened_to x asked part
 
-pub part_tells : (asked : Event) (part : List Entry) (entries : List SettleEntry) → Says (line_of asked) part entries
+pub part_tells : (asked : Event) (part : List Entry) (entries : List SettleEntry) → PartSays (line_of asked) part entries
     → PartTells asked part entries
 part_tells asked [] [] says = record { tellings = []; entries_are = refl; means_are = refl; seen = λ x. refl }
 part_tells asked [] (m ∷ entries) says = absurd (cc says)
 part_tells asked (e ∷ part) [] says = absurd (cc says)
 part_tells asked (e ∷ part) (m ∷ entries) says =
     let is : world_event (line_of asked) e ≡ Some m = cc says in
-    let others : Says (line_of asked) part entries = cc says in
+    let others : PartSays (line_of asked) part entries = cc says in
     let rest = part_tells asked part entries others in
     let first : Telling = record { asked = asked; entry = e; means = m; is = is } in
     record {
       tellings = first ∷ rest.tellings;
       entries_are = ap (λ (l : List Entry). e ∷ l) rest.entries_are;
       means_are = ap (λ (l : List SettleEntry). m ∷ l) rest.means_are;
-      seen = λ x. ap (λ (l : List plain.DiskEvent). cons_option (disk_event x asked e) l) (rest.seen x);
+      seen = λ x. ap (λ (l : List plain.ListEvent). cons_option (disk_event x asked e) l) (rest.seen x);
     }
 
 -- TELLINGS one after the other
@@ -76,7 +76,7 @@ cons_both (Some y) xs ys = refl
 seen_both : (x : ℕ) (xs ys : List Telling) → seen_at x (xs ++ ys) ≡ seen_at x xs ++ seen_at x ys
 seen_both x [] ys = refl
 seen_both x (t ∷ xs) ys =
-    ap (λ (l : List plain.DiskEvent). cons_option (disk_event x t.asked t.entry) l) (seen_both x xs ys)
+    ap (λ (l : List plain.ListEvent). cons_option (disk_event x t.asked t.entry) l) (seen_both x xs ys)
     ∙ cons_both (disk_event x t.asked t.entry) (seen_at x xs) (seen_at x ys)
 
 -- THE LINES of a script
@@ -103,7 +103,7 @@ line_first line lines part entries one rest = record {
       (entries_both one.tellings rest.tellings) one.entries_are rest.entries_are;
   means_are = both_lists (means_of one.tellings) (means_of rest.tellings) part entries
       (means_of (one.tellings ++ rest.tellings)) (means_both one.tellings rest.tellings) one.means_are rest.means_are;
-  seen = λ x. both_lists (seen_at x one.tellings) (seen_at x rest.tellings) (happened x line.0 line.1)
+  seen = λ x. both_lists (seen_at x one.tellings) (seen_at x rest.tellings) (happened_to x line.0 line.1)
       (all_happened x lines) (seen_at x (one.tellings ++ rest.tellings)) (seen_both x one.tellings rest.tellings)
       (one.seen x) (rest.seen x);
 }
@@ -124,7 +124,7 @@ line_last lines line entries part rest one = record {
   means_are = both_lists (means_of rest.tellings) (means_of one.tellings) entries part
       (means_of (rest.tellings ++ one.tellings)) (means_both rest.tellings one.tellings) rest.means_are one.means_are;
   seen = λ x. both_lists (seen_at x rest.tellings) (seen_at x one.tellings) (all_happened x lines)
-      (happened x line.0 line.1) (seen_at x (rest.tellings ++ one.tellings)) (seen_both x rest.tellings one.tellings)
+      (happened_to x line.0 line.1) (seen_at x (rest.tellings ++ one.tellings)) (seen_both x rest.tellings one.tellings)
       (rest.seen x) (one.seen x)
-      ∙ flat_push (λ (l : Event × List Entry). happened x l.0 l.1) lines line;
+      ∙ flat_push (λ (l : Event × List Entry). happened_to x l.0 l.1) lines line;
 }

@@ -9,15 +9,15 @@ use Rattle.domain_script.specs.declared.event.DiskDecl.{DiskDecl}
 use Rattle.domain_script.specs.declared.event.Event.{Event}
 use Rattle.lane_laws.proofs.RingPages.{same_pages}
 use Rattle.world_laws.specs.Rounds.{Each}
-use Rattle.world_laws.specs.Settle.{OfLane, SettleEntry, Settled, Unsettled}
+use Rattle.world_laws.specs.Settle.{OfLane, SettleEntry}
 use Rattle.world_laws.specs.Sums.{IsUnforged}
 use Rattle.world_laws.proofs.Along.{lane_step, lines_run}
-use Rattle.world_laws.specs.Lines.{Line, LineBegins, entries_of}
+use Rattle.world_laws.specs.Lines.{Line, LineBegins, entries_of_lines}
 use Rattle.world_laws.specs.Lines as script
 use Rattle.world_laws.specs.World.{WorldState, WorldStep}
 use Rattle.ldom_entries.specs.declared.entry.Entry.{Entry}
 use Rattle.world_parts.specs.Declared.{shapes_of, world_of}
-use Rattle.world_parts.specs.Lines.{LineStep, all_happened, line_of}
+use Rattle.world_parts.specs.Lines.{EventStep, all_happened, line_of}
 use Rattle.world_parts.specs.Script.{FitsScript, LastStarts, ScriptParts, all_lines, journal_of, with_last}
 use Rattle.world_laws.proofs.ByLines.{unforged_begun, unforged_behind}
 use Rattle.world_laws.proofs.LeftOver.{NamesBelow, cut_below, lines_below}
@@ -28,9 +28,9 @@ use Rattle.script_laws.proofs.Tellings.{LinesTell, Telling, entries_told, line_f
 pub record Through (w : WorldState) (lines : List (Event × List Entry)) (v : WorldState) : Type 0 where
   pub moved : List (Line × List SettleEntry)
   pub run : Run script.LineStep w moved v
-  pub tells : LinesTell lines (entries_of moved)
+  pub tells : LinesTell lines (entries_of_lines moved)
 
-pub lines_through : (w : WorldState) (lines : List (Event × List Entry)) (v : WorldState) → Run LineStep w lines v
+pub lines_through : (w : WorldState) (lines : List (Event × List Entry)) (v : WorldState) → Run EventStep w lines v
     → Through w lines v
 lines_through w [] v run = record { moved = []; run = run; tells = no_lines }
 lines_through w (line ∷ lines) v run =
@@ -39,7 +39,7 @@ lines_through w (line ∷ lines) v run =
     record {
       moved = (line_of line.0, step.entries) ∷ rest.moved;
       run = (run.0, step.moves, rest.run);
-      tells = line_first line lines step.entries (entries_of rest.moved)
+      tells = line_first line lines step.entries (entries_of_lines rest.moved)
           (part_tells line.0 line.1 step.entries step.says) rest.tells;
     }
 
@@ -57,7 +57,7 @@ fresh_many disks = length-map (shapes_of 0 disks) fresh ∙ many_shapes 0 disks
 
 -- the whole lines, and the one that was cut off
 module _ (disks : List DiskDecl) (image : ImageState) (whole : List (Event × List Entry)) (m : WorldState)
-    (run : Run LineStep (world_of disks image) whole m) where
+    (run : Run EventStep (world_of disks image) whole m) where
   abbrev through : Through (world_of disks image) whole m
   through = lines_through (world_of disks image) whole m run
 
@@ -66,7 +66,7 @@ module _ (disks : List DiskDecl) (image : ImageState) (whole : List (Event × Li
   tells_on None v last =
       let w = world_of disks image in
       let tells = through.tells in
-      let back : entries_of through.moved ≡ means_of tells.tellings = sym tells.means_are in
+      let back : entries_of_lines through.moved ≡ means_of tells.tellings = sym tells.means_are in
       subst (λ (x : WorldState). JournalTells disks image (record { whole = whole; cut = None }) x) (sym last) (record {
         tellings = tells.tellings;
         journal_is = tells.entries_are;
@@ -78,10 +78,10 @@ module _ (disks : List DiskDecl) (image : ImageState) (whole : List (Event × Li
       })
   tells_on (Some line) v last =
       let w = world_of disks image in
-      let tells = line_last whole line (entries_of through.moved) last.entries through.tells
+      let tells = line_last whole line (entries_of_lines through.moved) last.entries through.tells
       (part_tells line.0 line.1 last.entries last.says) in
-      let back : entries_of through.moved ++ last.entries ≡ means_of tells.tellings = sym tells.means_are in
-      let both = run_append WorldStep w m v (entries_of through.moved) last.entries
+      let back : entries_of_lines through.moved ++ last.entries ≡ means_of tells.tellings = sym tells.means_are in
+      let both = run_append WorldStep w m v (entries_of_lines through.moved) last.entries
       (lines_run w through.moved m through.run) last.begins.run in
       record {
         tellings = tells.tellings;
@@ -117,8 +117,7 @@ step_shapes w (OfLane k event) v step =
     ap (λ (l : List LaneState). map (λ (s : LaneState). s.shape) l) step.lanes
     ∙ set_shape w.lanes k step.lane step.after step.there
     (same_pages step.lane event step.after (lane_step step.lane w.image event step.after v.image step.moves)).shape
-step_shapes w Settled v step = ap (λ (x : WorldState). map (λ (s : LaneState). s.shape) x.lanes) step
-step_shapes w (Unsettled k) v step = ap (λ (x : WorldState). map (λ (s : LaneState). s.shape) x.lanes) step
+step_shapes w _ v step = ap (λ (x : WorldState). map (λ (s : LaneState). s.shape) x.lanes) step
 
 run_shapes : (w : WorldState) (entries : List SettleEntry) (v : WorldState) → Run WorldStep w entries v
     → map (λ (s : LaneState). s.shape) v.lanes ≡ map (λ (s : LaneState). s.shape) w.lanes

@@ -6,14 +6,14 @@ use Rattle.disk_model.specs.WireEvent.{Reset}
 use Rattle.disk_model.specs.DiskEvent.{Asks, Done, Full, OnWire, Refused, Works}
 use Rattle.domain_script.specs.declared.event.DiskDecl.{DiskDecl}
 use Rattle.domain_script.specs.declared.event.Event.{Event}
-use Rattle.world_laws.specs.Settle.{OfLane, SettleEntry, Settled, Unsettled}
-use Rattle.world_laws.specs.Lines.{Line, entries_of}
+use Rattle.world_laws.specs.Settle.{OfLane, SettleEntry}
+use Rattle.world_laws.specs.Lines.{Line, entries_of_lines}
 use Rattle.world_laws.specs.Lines as lane_lines
 use Rattle.world_laws.specs.World.{WorldState}
 use Rattle.ldom_entries.specs.declared.entry.Entry.{Entry}
 use Rattle.script_laws.proofs.EntryByEntry.{part_same}
 use Rattle.script_laws.proofs.LaneReport.{SaysSame, says_append, told_append, told_lanes}
-use Rattle.world_parts.specs.Lines.{LineStep, line_of}
+use Rattle.world_parts.specs.Lines.{EventStep, line_of}
 use Rattle.world_laws.specs.Quiet.{lines_of, shown_of}
 use Rattle.world_laws.specs.Shown.{is_shown, shown, shown_if}
 
@@ -22,9 +22,9 @@ pub record ThroughLanes (w : WorldState) (lines : List (Event × List Entry)) (v
   pub lanes : List (Line × List SettleEntry)
   pub lines_are : lines_of lanes ≡ map line_of (map (λ (l : Event × List Entry). l.0) lines)
   pub run : Run lane_lines.LineStep w lanes v
-  pub same : (disk : DiskDecl) → SaysSame disk (flat_map (λ (l : Event × List Entry). l.1) lines) (entries_of lanes)
+  pub same : (disk : DiskDecl) → SaysSame disk (flat_map (λ (l : Event × List Entry). l.1) lines) (entries_of_lines lanes)
 
-pub through_lanes : (w : WorldState) (lines : List (Event × List Entry)) (v : WorldState) → Run LineStep w lines v
+pub through_lanes : (w : WorldState) (lines : List (Event × List Entry)) (v : WorldState) → Run EventStep w lines v
     → ThroughLanes w lines v
 through_lanes w [] v run = record { lanes = []; lines_are = refl; run = run; same = λ disk. (refl, refl) }
 through_lanes w (line ∷ lines) v run =
@@ -35,7 +35,7 @@ through_lanes w (line ∷ lines) v run =
       lines_are = ap (λ (l : List Line). line_of line.0 ∷ l) rest.lines_are;
       run = (run.0, step.moves, rest.run);
       same = λ disk. says_append disk line.1 (flat_map (λ (l : Event × List Entry). l.1) lines) step.entries
-          (entries_of rest.lanes) (part_same disk (line_of line.0) line.1 step.entries step.says) (rest.same disk);
+          (entries_of_lines rest.lanes) (part_same disk (line_of line.0) line.1 step.entries step.says) (rest.same disk);
     }
 
 -- WHAT IS SHOWN tells all that a report tells, but for how many requests were accepted
@@ -45,8 +45,7 @@ one_shown disk (OfLane k (Asks (Refused why request))) = refl
 one_shown disk (OfLane k (Works (Done id operation status bytes))) = refl
 one_shown disk (OfLane k (OnWire (Reset e cause packet lost))) = refl
 one_shown disk (OfLane k event) = refl
-one_shown disk Settled = refl
-one_shown disk (Unsettled k) = refl
+one_shown disk _ = refl
 
 part_shown : (disk : DiskDecl) (part : List SettleEntry) → told_lanes disk part ≡ told_lanes disk (shown part)
 part_shown disk [] = refl
@@ -54,8 +53,8 @@ part_shown disk (x ∷ part) =
     told_append disk (x ∷ []) (shown_if (is_shown x) x) part (shown part) (one_shown disk x) (part_shown disk part)
 
 pub all_shown : (disk : DiskDecl) (lines : List (Line × List SettleEntry))
-    → told_lanes disk (entries_of lines) ≡ told_lanes disk (shown_of lines)
+    → told_lanes disk (entries_of_lines lines) ≡ told_lanes disk (shown_of lines)
 all_shown disk [] = refl
 all_shown disk (line ∷ lines) =
-    told_append disk line.1 (shown line.1) (entries_of lines) (shown_of lines) (part_shown disk line.1)
+    told_append disk line.1 (shown line.1) (entries_of_lines lines) (shown_of lines) (part_shown disk line.1)
     (all_shown disk lines)

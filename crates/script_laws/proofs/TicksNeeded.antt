@@ -34,7 +34,7 @@ use Rattle.script_laws.specs.Still.{AreStillBy}
 use Rattle.script_laws.specs.Told.{log_at, told, told_by}
 use Rattle.script_laws.proofs.DiskShapes.{are_shapes}
 use Rattle.world_parts.specs.Declared.{shapes_of, world_of}
-use Rattle.world_parts.specs.Lines.{LineStep}
+use Rattle.world_parts.specs.Lines.{EventStep}
 
 part_stand : (lanes : List LaneState) (part : List SettleEntry) (behind : List LaneState) → AreClean lanes
     → SettlePart lanes part behind ⊎ SettleFront lanes part behind → TicksStand lanes part
@@ -47,7 +47,7 @@ part_stand lanes part behind clean (inr at) =
 
 module _ (disks : List DiskDecl) (image : ImageState) (are : AreDisks disks) (few : length disks ≤ 8) (x : ℕ)
     (shape : Shape) (of_shape : slice_get (shapes_of 0 disks) x ≡ Some shape) where
-  told_run : (lines : List (Event × List Entry)) (w : WorldState) → Run LineStep (world_of disks image) lines w
+  told_run : (lines : List (Event × List Entry)) (w : WorldState) → Run EventStep (world_of disks image) lines w
       → Run WorldStep (world_of disks image) (told lines) w
   told_run lines w run =
       subst (λ (l : List SettleEntry). Run WorldStep (world_of disks image) l w) (sym (told_is lines))
@@ -55,7 +55,7 @@ module _ (disks : List DiskDecl) (image : ImageState) (are : AreDisks disks) (fe
 
   -- a lane that was led on from where these lines led it agrees with the log of both
   lane_needs : (before : List (Event × List Entry)) (w : WorldState) (so_far : List SettleEntry) (s : LaneState)
-      → Run LineStep (world_of disks image) before w → slice_get w.lanes x ≡ Some s → TickAt x so_far s
+      → Run EventStep (world_of disks image) before w → slice_get w.lanes x ≡ Some s → TickAt x so_far s
       → NeedsTick (log_at shape x (told before ++ so_far))
   lane_needs before w so_far s run there at =
       let shapes : List Shape = shapes_of 0 disks in

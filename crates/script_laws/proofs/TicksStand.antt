@@ -10,8 +10,9 @@ use Rattle.disk_model.specs.DiskEvent.{DiskEvent}
 use Rattle.disk_model.specs.LaneState.{IsShape, LaneState, Shape, fresh}
 use Rattle.disk_model.specs.LaneStep.{LaneStep}
 use Rattle.disk_model.specs.Reached.{IsReached}
-use Rattle.world_laws.proofs.Falling.{AreClean, rounds_fell}
-use Rattle.world_laws.proofs.LaneRounds.{and_left, and_right, quiet_finished, quiet_same, round_keeps}
+use Rattle.world_laws.proofs.Falling.{AreClean, clean_behind}
+use Rattle.lane_kinds.proofs.Sums.{and_left, and_right}
+use Rattle.world_laws.proofs.LaneRounds.{quiet_finished, quiet_same, round_keeps}
 use Rattle.world_laws.proofs.LaneTicks.{either, waits_where}
 use Rattle.world_laws.proofs.Moving.{both_none, happened_both, moves_on, round_moves_lanes, rounds_move_lanes, tick_below}
 use Rattle.world_laws.proofs.RoundCounts.{tick_entry}
@@ -21,7 +22,7 @@ use Rattle.world_laws.specs.Begun.{NamesFront, NoMore, QuietFront, RoundFront, S
 use Rattle.world_laws.specs.Moves.{is_tick}
 use Rattle.world_laws.specs.Rounds.{Each, LaneRound, MakeRound, MakesRound, are_quiet, is_quiet}
 use Rattle.world_laws.specs.Settle.{GoesOn, OfLane, SettleEntry, SettleRound, Settled, Settles, Settling, TicksBehind}
-use Rattle.world_laws.specs.Settle.{begin, entries_of, most_rounds, round_entries, tick_entries}
+use Rattle.world_laws.specs.Settle.{begin, entries_of_rounds, most_rounds, round_entries, tick_entries}
 use Rattle.world_laws.specs.Sums.{IsUnforged}
 use Rattle.world_laws.specs.Ticks.{TickLanes, gets_tick, tick, waits_on}
 use Rattle.world_laws.proofs.LaneLists.{each_there, is_there, lane_moved, many_moved}
@@ -320,23 +321,23 @@ goes_stand true w steps between entries v clean made quiet behind =
     (all_ticks 0 between w.marks v.lanes behind.1))
 
 rounds_stand : (w : Settling) (rounds : List SettleRound) (v : Settling) → AreClean w.lanes → Run GoesOn w rounds v
-    → TicksStand w.lanes (entries_of rounds)
+    → TicksStand w.lanes (entries_of_rounds rounds)
 rounds_stand w [] v clean run = none_stand w.lanes [] tt
 rounds_stand w (round ∷ rounds) v clean run =
     let once : Run GoesOn w (round ∷ []) run.0 = (run.0, run.1, refl) in
     let moves : LanesMove 0 w.lanes round.entries run.0.lanes =
     subst (λ (l : List SettleEntry). LanesMove 0 w.lanes l run.0.lanes) (append-nil round.entries)
     (rounds_move_lanes w (round ∷ []) run.0 once) in
-    two_stand w.lanes round.entries run.0.lanes (entries_of rounds) moves
+    two_stand w.lanes round.entries run.0.lanes (entries_of_rounds rounds) moves
     (goes_stand (are_quiet round.steps) w round.steps run.1.between round.entries run.0 clean run.1.made refl
     run.1.behind)
-    (rounds_stand run.0 rounds v (rounds_fell w (round ∷ []) run.0 clean once).clean run.2)
+    (rounds_stand run.0 rounds v (clean_behind w (round ∷ []) run.0 clean once) run.2)
 
 -- A SETTLE, and a front of one that made fewer than the most rounds
 pub settles_stand : (start : List LaneState) (part : List SettleEntry) (behind : List LaneState) → AreClean start
     → Settles start part behind → TicksStand start part
 settles_stand start part behind clean at =
-    let rounds : List SettleEntry = entries_of at.rounds in
+    let rounds : List SettleEntry = entries_of_rounds at.rounds in
     let last : List SettleEntry = round_entries 0 at.steps in
     let first = rounds_move_lanes (begin start) at.rounds at.now at.run in
     let then = round_moves_lanes 0 at.now.lanes at.steps behind at.last.made in
@@ -364,9 +365,9 @@ later_stand rounds now most later behind clean few (inr (all, names)) = absurd (
 pub begun_stand : (start : List LaneState) (part : List SettleEntry) (behind : List LaneState) → AreClean start
     → (at : SettleFront start part behind) → length at.rounds < most_rounds start → TicksStand start part
 begun_stand start part behind clean at few =
-    as_stand start part (entries_of at.rounds ++ at.later) at.is
-    (two_stand start (entries_of at.rounds) at.now.lanes at.later
+    as_stand start part (entries_of_rounds at.rounds ++ at.later) at.is
+    (two_stand start (entries_of_rounds at.rounds) at.now.lanes at.later
     (rounds_move_lanes (begin start) at.rounds at.now at.run)
     (rounds_stand (begin start) at.rounds at.now clean at.run)
     (later_stand at.rounds at.now (most_rounds start) at.later behind
-    (rounds_fell (begin start) at.rounds at.now clean at.run).clean few at.front))
+    (clean_behind (begin start) at.rounds at.now clean at.run) few at.front))

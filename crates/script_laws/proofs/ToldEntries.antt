@@ -61,10 +61,7 @@ run_unforged w [] v reached run clean = subst (λ (x : WorldState). Each IsUnfor
 run_unforged w (OfLane k event ∷ entries) v reached run clean =
     let behind = stay_reached w (OfLane k event ∷ []) run.0 reached (run.0, run.1, refl) in
     moved_unforged w k event run.0 reached run.1 (run_unforged run.0 entries v behind run.2 clean)
-run_unforged w (Settled ∷ entries) v reached run clean =
-    subst (λ (x : WorldState). Each IsUnforged x.lanes) run.1
-    (run_unforged run.0 entries v (subst (λ (x : WorldState). Each IsReached x.lanes) (sym run.1) reached) run.2 clean)
-run_unforged w (Unsettled k ∷ entries) v reached run clean =
+run_unforged w (entry ∷ entries) v reached run clean =
     subst (λ (x : WorldState). Each IsUnforged x.lanes) run.1
     (run_unforged run.0 entries v (subst (λ (x : WorldState). Each IsReached x.lanes) (sym run.1) reached) run.2 clean)
 
@@ -128,5 +125,4 @@ none_happened many x (OfLane k event ∷ entries) past told =
     let within = told.0.0 in
     let other : (k == x) ≡ true → ⊥ = λ same. absurd (omega (arith, eqb-true k x same, within, past)) in
     other_event (k == x) event (happened x entries) other ∙ none_happened many x entries past told.1
-none_happened many x (Settled ∷ entries) past told = none_happened many x entries past told.1
-none_happened many x (Unsettled k ∷ entries) past told = none_happened many x entries past told.1
+none_happened many x (entry ∷ entries) past told = none_happened many x entries past told.1

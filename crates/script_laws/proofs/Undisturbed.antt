@@ -2,7 +2,7 @@
 use Rattle.std.proofs.Common.{◌≡◌, inl, inr, ℕ, false, List, [], ◌∷◌, refl, ◌∙◌, arith}
 use Rattle.runs.specs.Lawful.{log_of}
 use Rattle.disk_model.specs.DiskLog.{DiskLog, after, nothing_yet}
-use Rattle.disk_model.specs.DiskEvent.{Accepted, Asks, DiskEvent, Misplaced, OnWire, Rests, Stopped, Turns, Works}
+use Rattle.disk_model.specs.DiskEvent.{Accepted, Asks, DiskEvent, Misplaced, OnWire, Calms, Stopped, Switches, Works}
 use Rattle.disk_model.specs.LaneState.{Shape}
 use Rattle.lane_laws.specs.Headline.{CompletionShows, ShowsLast}
 use Rattle.disk_model.specs.WireEvent.{Joined, Reset, Sent, Took}
@@ -18,7 +18,7 @@ use Rattle.vdisk_msg.specs.declared.request.Request.TheVariants.{Flush, Read, Wr
 disturbed_stays : (l : DiskLog) (event : DiskEvent) → disturbs event ≡ false
     → (after l event).work.disturbed_below ≡ l.work.disturbed_below
 disturbed_stays l (OnWire (Reset e cause packet lost)) is = absurd (cc is)
-disturbed_stays l (Turns Stopped) is = absurd (cc is)
+disturbed_stays l (Switches Stopped) is = absurd (cc is)
 disturbed_stays l (OnWire (Joined A lost)) is = refl
 disturbed_stays l (OnWire (Joined B lost)) is = refl
 disturbed_stays l (OnWire (Took A packet opens)) is = refl
@@ -30,8 +30,8 @@ disturbed_stays l (Asks (Accepted id request)) is = refl
 disturbed_stays l (Asks _) is = refl
 disturbed_stays l (Works Misplaced) is = refl
 disturbed_stays l (Works _) is = refl
-disturbed_stays l (Turns _) is = refl
-disturbed_stays l (Rests event) is = refl
+disturbed_stays l (Switches _) is = refl
+disturbed_stays l (Calms event) is = refl
 
 none_disturbed : (l : DiskLog) (events : List DiskEvent) → AreUndisturbed events → l.work.disturbed_below ≡ 0
     → (log_of after l events).work.disturbed_below ≡ 0

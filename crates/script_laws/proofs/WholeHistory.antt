@@ -4,8 +4,8 @@ use Rattle.std.specs.List.{All, cons_option, count_by}
 use Rattle.std.proofs.lemmas.List.Elements.{All-cons, All-nil}
 use Rattle.disk_law.specs.ListStep as plain
 use Rattle.domain_script.specs.declared.event.Event.{Event}
-use Rattle.world_laws.specs.Settle.{OfLane, SettleEntry, Settled, Unsettled}
-use Rattle.ldom_journal.specs.DiskEvents.{Said, said, said_of_any, whole_history}
+use Rattle.world_laws.specs.Settle.{OfLane, SettleEntry}
+use Rattle.ldom_report.specs.DiskEvents.{Said, said, said_of_any, whole_history}
 use Rattle.ldom_entries.specs.declared.entry.Entry.{Entry}
 use Rattle.world_laws.proofs.Counted.{count_more}
 use Rattle.world_laws.specs.Failures.{in_entry, is_failed_done}
@@ -15,7 +15,7 @@ use Rattle.script_laws.proofs.Tellings.{Telling, entries_told, means_of}
 use Rattle.script_laws.proofs.ToldEntries.{AreTold, IsTold}
 
 -- STATUSES
-entry_status : (many : ℕ) (asked : Event) (e : Entry) (m : SettleEntry) (es : List plain.DiskEvent) → Kind asked e m
+entry_status : (many : ℕ) (asked : Event) (e : Entry) (m : SettleEntry) (es : List plain.ListEvent) → Kind asked e m
     → IsTold many m
     → All SucceedsOrFails es → All SucceedsOrFails (cons_option (said_of_any (said e)) es)
 entry_status many asked e m es (inl at) told rest =
@@ -41,15 +41,14 @@ one_count b = cond {A = ℕ} b 1 0
 
 nothing_failed : (m : SettleEntry) → SaysNothing m → in_entry is_failed_done m ≡ false
 nothing_failed (OfLane k event) nothing = nothing.1
-nothing_failed Settled nothing = refl
-nothing_failed (Unsettled k) nothing = refl
+nothing_failed _ nothing = refl
 
 -- one that isn't counted
 not_counted : (m : SettleEntry) (n : ℕ) → in_entry is_failed_done m ≡ false
     → n ≡ one_count (in_entry is_failed_done m) + n
 not_counted m n none = let count = ap one_count none in omega (arith, count)
 
-entry_count : (asked : Event) (e : Entry) (m : SettleEntry) (es : List plain.DiskEvent) → Kind asked e m
+entry_count : (asked : Event) (e : Entry) (m : SettleEntry) (es : List plain.ListEvent) → Kind asked e m
     → count_by has_failed (cons_option (said_of_any (said e)) es)
     ≡ one_count (in_entry is_failed_done m) + count_by has_failed es
 entry_count asked e m es (inl at) =

@@ -11,12 +11,12 @@ use Rattle.domain_script.specs.NamesState.{NamesState}
 use Rattle.domain_script.specs.declared.event.DiskDecl.{DiskDecl}
 use Rattle.domain_script.specs.declared.event.Event.{Event}
 use Rattle.world_laws.specs.World.{WorldState}
-use Rattle.ldom_journal.specs.Report.{report}
+use Rattle.ldom_report.specs.Report.{report}
 use Rattle.ldom_entries.specs.declared.entry.Entry.{Entry}
-use Rattle.ldom_journal.specs.declared.status.Mode.{Mode}
-use Rattle.ldom_journal.specs.declared.status.Mode.TheVariants as mode
-use Rattle.ldom_journal.specs.declared.status.Status.{Status}
-use Rattle.ldom_journal.specs.declared.status.Status.TheVariants as status
+use Rattle.ldom_report.specs.declared.status.Mode.{Mode}
+use Rattle.ldom_report.specs.declared.status.Mode.TheVariants as mode
+use Rattle.ldom_report.specs.declared.status.Status.{Status}
+use Rattle.ldom_report.specs.declared.status.Status.TheVariants as status
 use Rattle.script_laws.specs.Completed.{completed_ids}
 use Rattle.script_laws.specs.PlainRun.{plain_content, plain_ids, plain_text}
 use Rattle.script_laws.specs.Quiet.{IsQuiet, IsQuietScript}
@@ -32,7 +32,7 @@ use Rattle.script_laws.specs.Whole.{RunsPlainly, RunsWhole, SpellsAll}
 use Rattle.world_parts.specs.Declared.{attached, bytes_needed, world_of}
 use Rattle.world_parts.specs.Endings.{EndsSo, ending}
 use Rattle.world_parts.specs.Script.{FitsScript, ScriptParts, events_of, journal_of}
-use Rattle.ldom_journal.specs.LinesEnd.{counted_lines}
+use Rattle.ldom_report.specs.LinesEnd.{counted_lines}
 use Rattle.script_laws.proofs.OneReading.{all_read, as_many, one_reading}
 use Rattle.script_laws.proofs.ReadLemmas.{are_disks}
 

@@ -13,8 +13,9 @@ use Rattle.ldom_entries.specs.declared.entry.Entry.{Entry}
 use Rattle.ldom_entries.specs.declared.entry.Entry.TheVariants as entry
 use Rattle.ldom_entries.specs.declared.entry.Who.{Who}
 use Rattle.ldom_entries.specs.declared.entry.Who.TheVariants.{Lane as OfWhole, End as OfEnd}
-use Rattle.ldom_journal.specs.HasWords.{HasFault, HasValues, HasWords, IsCompletion, IsDeclared, IsLane, IsNamed}
-use Rattle.ldom_journal.specs.LaneEvents.{AtClient, AtLane, AtServer, AtWire, ChangesNothing, LeavesNothing, LeavesOver, Meaning, NoRoomFor, Refuses, lane_number, meaning, world_event}
+use Rattle.ldom_report.specs.HasWords.{HasFault, HasValues, HasWords, IsCompletion, IsDeclared, IsLane, IsNamed}
+use Rattle.ldom_report.specs.LaneEvents.{AtClient, AtLane, AtServer, AtWire, ChangesNothing, LeavesNothing, LeavesOver, Meaning, NoRoomFor, Refuses, lane_number, meaning}
+use Rattle.world_parts.specs.WorldEvents.{world_event}
 use Rattle.world_parts.specs.Lines.{line_of}
 use Rattle.world_laws.specs.Words.{IsOperation, NamesFault, ReadsBlocks}
 use Rattle.script_laws.proofs.Tellings.{Telling, entries_told, means_of}

@@ -4,10 +4,10 @@ use Rattle.std.proofs.lemmas.Bool.{eq-eqb}
 use Rattle.vdisk_msg.specs.declared.request.Request.{Request}
 use Rattle.vdisk_msg.specs.declared.request.Request.TheVariants.{Flush, Read, Write}
 use Rattle.disk_law.specs.Issued.{issued}
-use Rattle.disk_model.specs.DiskEvent.{Accepted, Asks, DiskEvent, Full, OnWire, Refused, Rests, Turns, Works}
+use Rattle.disk_model.specs.DiskEvent.{Accepted, Asks, DiskEvent, Full, OnWire, Refused, Calms, Switches, Works}
 use Rattle.disk_model.specs.LaneState.{Shape}
 use Rattle.world_laws.specs.Along.{event_at, happened}
-use Rattle.world_laws.specs.Settle.{OfLane, SettleEntry, Settled, Unsettled}
+use Rattle.world_laws.specs.Settle.{OfLane, SettleEntry}
 use Rattle.world_laws.specs.NamesNo.{IsApart, NamesNo, NamesNot}
 use Rattle.world_laws.proofs.Filtered.{filter_both}
 use Rattle.world_laws.proofs.RequestLog.{issued_both}
@@ -82,10 +82,9 @@ names_not shapes place (OfLane k (Asks (Full request))) outside = tt
 names_not shapes place (OfLane k (Asks (Refused why request))) outside = tt
 names_not shapes place (OfLane k (OnWire event)) outside = tt
 names_not shapes place (OfLane k (Works event)) outside = tt
-names_not shapes place (OfLane k (Turns event)) outside = tt
-names_not shapes place (OfLane k (Rests event)) outside = tt
-names_not shapes place Settled outside = tt
-names_not shapes place (Unsettled k) outside = tt
+names_not shapes place (OfLane k (Switches event)) outside = tt
+names_not shapes place (OfLane k (Calms event)) outside = tt
+names_not shapes place _ outside = tt
 
 pub names_no : (shapes : List Shape) (place : ℕ) (entries : List SettleEntry) → AreOutside shapes place entries
     → NamesNo shapes place entries

@@ -6,11 +6,11 @@ use Rattle.domain_script.specs.NamesState.{NamesState}
 use Rattle.domain_script.specs.ScriptLines.{AreShort, script_lines}
 use Rattle.domain_script.specs.ScriptEvents.{AllSpell, no_names}
 use Rattle.domain_script.specs.Limits.{most_lines}
-use Rattle.ldom_journal.specs.LinesEnd.{most_entries}
+use Rattle.ldom_report.specs.LinesEnd.{most_entries}
 use Rattle.ldom_entries.specs.declared.entry.Entry.{Entry}
-use Rattle.ldom_journal.specs.declared.status.LimitKind.TheVariants.{Entries}
-use Rattle.ldom_journal.specs.declared.status.Status.{Status}
-use Rattle.ldom_journal.specs.declared.status.Status.TheVariants as status
+use Rattle.ldom_report.specs.declared.status.LimitKind.TheVariants.{Entries}
+use Rattle.ldom_report.specs.declared.status.Status.{Status}
+use Rattle.ldom_report.specs.declared.status.Status.TheVariants as status
 
 -- each line of these bytes spells its event, and none is past a limit
 pub record IsCleanScript (bytes : List ℕ) : Type 0 where

@@ -1,7 +1,7 @@
 -- What the reads of a disk show, and what its part of an image holds, over an image that tells its bytes.
 use Rattle.std.specs.Prelude.{◌≡◌, ℕ, ◌+◌, ◌*◌, ◌<◌, Bool, true, false, List, [], ◌∷◌, ◌++◌, length, take, Some, slice_get, ⊤}
 use Rattle.disk_model.specs.DiskLog.{DiskLog}
-use Rattle.disk_model.specs.DiskEvent.{DiskEvent, Done, OnWire, Stopped, Turns, Works}
+use Rattle.disk_model.specs.DiskEvent.{DiskEvent, Done, OnWire, Stopped, Switches, Works}
 use Rattle.disk_model.specs.LaneState.{Shape}
 use Rattle.lane_laws.specs.Blocks.{after_requests, block_at}
 use Rattle.lane_laws.specs.Headline.{CompletionShows, HoldsDone, LastWrite}
@@ -17,7 +17,7 @@ use Rattle.world_laws.specs.Failures.{is_failed_store}
 -- WHAT DISTURBS a disk's requests: a reset of an end, and a stop of its server
 abbrev pub disturbs : DiskEvent → Bool
 disturbs (OnWire (Reset e cause packet lost)) = true
-disturbs (Turns Stopped) = true
+disturbs (Switches Stopped) = true
 disturbs _ = false
 
 abbrev pub AreUndisturbed : List DiskEvent → Type 0
@@ -25,9 +25,9 @@ AreUndisturbed [] = ⊤
 AreUndisturbed (event ∷ events) = (disturbs event ≡ false) × AreUndisturbed events
 
 -- NO CALL OF THE STORE FAILED for a disk among these events
-abbrev pub NoneFailed : List DiskEvent → Type 0
-NoneFailed [] = ⊤
-NoneFailed (event ∷ events) = (is_failed_store event ≡ false) × NoneFailed events
+abbrev pub NoStoreFailed : List DiskEvent → Type 0
+NoStoreFailed [] = ⊤
+NoStoreFailed (event ∷ events) = (is_failed_store event ≡ false) × NoStoreFailed events
 
 -- A COMPLETION THAT NOTHING DISTURBED is of the first request that isn't done, with status 0; that of a read shows, block
 -- by block, the last earlier write, or the first content where there is none, and nothing else.

@@ -1,9 +1,9 @@
 -- How often the objects outside of a call failed, before it and after it.
 use Rattle.std.specs.Prelude.{◌≡◌, ◌≢◌, ℕ, ◌≤◌}
 use Rattle.vio_io.specs.Causes.{Rose}
-use Rattle.ldom_journal.specs.Failing.{Fails}
-use Rattle.ldom_journal.specs.declared.status.Status.{Status}
-use Rattle.ldom_journal.specs.declared.status.Status.TheVariants.{HostFault, SinkFault, SourceFault}
+use Rattle.ldom_report.specs.Failing.{Fails}
+use Rattle.ldom_report.specs.declared.status.Status.{Status}
+use Rattle.ldom_report.specs.declared.status.Status.TheVariants.{HostFault, SinkFault, SourceFault}
 use Rattle.script_laws.specs.Clean.{StandsStill}
 
 -- the counts of the source of a script, of the host of its image and of the sink of its report

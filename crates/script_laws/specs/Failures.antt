@@ -1,12 +1,12 @@
 -- The completions of a journal by their status.
 use Rattle.std.specs.Prelude.{◌≡◌, ℕ, Bool, false, ◌==◌, ◌⊎◌, List, ⊤}
 use Rattle.std.specs.List.{All, count_by}
-use Rattle.disk_law.specs.ListStep.{DiskEvent, Done}
-use Rattle.ldom_journal.specs.DiskEvents.{whole_history}
+use Rattle.disk_law.specs.ListStep.{ListEvent, Done}
+use Rattle.ldom_report.specs.DiskEvents.{whole_history}
 use Rattle.ldom_entries.specs.declared.entry.Entry.{Entry}
 
 -- 5 is EIO: the image failed
-abbrev pub has_failed : DiskEvent → Bool
+abbrev pub has_failed : ListEvent → Bool
 has_failed (Done id operation status bytes) = status == 5
 has_failed other = false
 
@@ -14,7 +14,7 @@ has_failed other = false
 abbrev pub failed_count : List Entry → ℕ
 failed_count entries = count_by has_failed (whole_history entries)
 
-abbrev pub SucceedsOrFails : DiskEvent → Type 0
+abbrev pub SucceedsOrFails : ListEvent → Type 0
 SucceedsOrFails (Done id operation status bytes) = (status ≡ 0) ⊎ (status ≡ 5)
 SucceedsOrFails other = ⊤
 

@@ -9,7 +9,7 @@ use Rattle.world_laws.specs.Settle.{SettleEntry}
 use Rattle.world_laws.specs.Stays.{StaysBehind}
 use Rattle.world_parts.specs.Declared.{shapes_of}
 use Rattle.world_parts.specs.Script.{ScriptParts, all_lines}
-use Rattle.script_laws.specs.Contents.{DiskHolds, NoneFailed, ReadsShow}
+use Rattle.script_laws.specs.Contents.{DiskHolds, NoStoreFailed, ReadsShow}
 use Rattle.script_laws.specs.Lanes.{LaneStands}
 use Rattle.script_laws.specs.Settled.{FinishesAll, SettlesEnd, StillBehind, TicksAreNeeded}
 use Rattle.script_laws.specs.Told.{told}
@@ -21,8 +21,8 @@ pub record OfDisk (shape : Shape) (x : ℕ) (start : ImageState) (entries : List
   pub finishes : FinishesAll shape x entries
   pub still : StillBehind shape x entries
   -- its state says whether the entries have a call of its store that failed: none where the image counts no fault
-  pub failed : (s.failed ≡ false) ↔ NoneFailed (happened x entries)
-  pub sound : now.faults ≡ 0 → s.failed ≡ false
+  pub failed : (s.failed ≡ false) ↔ NoStoreFailed (happened x entries)
+  pub unfailed : now.faults ≡ 0 → s.failed ≡ false
   -- where no call of its store failed, over an image that tells its bytes
   pub reads : (first : List ℕ) → start.told ≡ Some first → s.failed ≡ false → ReadsShow shape x first entries
   pub holds : (first bytes : List ℕ) → start.told ≡ Some first → now.told ≡ Some bytes → s.failed ≡ false

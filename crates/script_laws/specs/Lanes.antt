@@ -8,7 +8,7 @@ use Rattle.disk_model.specs.LaneStep.{LaneStep}
 use Rattle.disk_model.specs.May.{IsLawful}
 use Rattle.disk_model.specs.NearLaws.{NearInOrder}
 use Rattle.disk_model.specs.Sayings.{heard, said}
-use Rattle.disk_model.specs.TalkLog.{TalkLog, talk_of}
+use Rattle.disk_model.specs.TranscriptLog.{TranscriptLog, transcript_of}
 use Rattle.disk_model.specs.WireAt.{IsUp}
 use Rattle.disk_model.specs.WorkLog.{ClientCounts, ServerCounts}
 use Rattle.lane_laws.specs.CountsInTurn.{CountsInTurn}
@@ -17,7 +17,7 @@ use Rattle.lane_laws.specs.SlotsInOrder.{RingInOrder}
 use Rattle.world_laws.specs.Along.{happened}
 use Rattle.world_laws.specs.Settle.{SettleEntry}
 use Rattle.ldc_queue.specs.OneStream.{IsFront}
-use Rattle.ldc_queue.specs.Talk.{numbered_heard, numbered_said}
+use Rattle.ldc_queue.specs.Transcript.{numbered_heard, numbered_said}
 use Rattle.ldc_queue.specs.Wire.{peer_of}
 use Rattle.ldc_queue.specs.declared.end.End.{End}
 use Rattle.ldc_queue.specs.declared.end.End.TheVariants.{A, B}
@@ -27,13 +27,13 @@ use Rattle.script_laws.specs.Told.{log_at}
 pub record IsOneSession (s : LaneState) : Type 0 where
   pub client_up : IsUp A s.wire.wire
   pub server_up : IsUp B s.wire.wire
-  pub one : AreOneSession s.client.shake s.server.shake
+  pub one : AreOneSession s.client.handshake s.server.handshake
 
 -- WHAT AN END HEARD since it last joined is a front of what the other end said since its own: packet by packet of those
 -- with numbers, and message by message.
-pub record HearsAFront (e : End) (talk : TalkLog) : Type 0 where
-  pub packets : IsFront (numbered_heard (talk_of e talk)) (numbered_said (talk_of (peer_of e) talk))
-  pub messages : IsFront (heard (talk_of e talk)) (said (talk_of (peer_of e) talk))
+pub record HearsAFront (e : End) (transcript : TranscriptLog) : Type 0 where
+  pub packets : IsFront (numbered_heard (transcript_of e transcript)) (numbered_said (transcript_of (peer_of e) transcript))
+  pub messages : IsFront (heard (transcript_of e transcript)) (said (transcript_of (peer_of e) transcript))
 
 -- A LANE AT ONE MOMENT: it stands as its log says, and nobody forged it. An end that is up heard in order what the other
 -- said. Where both sessions are open they are one, and their counts stand in their order. The slots of the ring do where
@@ -42,7 +42,7 @@ pub record HearsAFront (e : End) (talk : TalkLog) : Type 0 where
 pub record StandsAt (s : LaneState) (l : DiskLog) : Type 0 where
   pub agrees : AgreesWithLog s l
   pub unforged : s.wire.forged ≡ false
-  pub hears : (e : End) → IsUp e s.wire.wire → HearsAFront e l.talk
+  pub hears : (e : End) → IsUp e s.wire.wire → HearsAFront e l.transcript
   pub sessions : is_some s.client.session ≡ true → is_some s.server.session ≡ true → IsOneSession s
   pub counts : (k : ClientCounts) (d : ServerCounts) → l.work.client ≡ Some k → l.work.server ≡ Some d → CountsInTurn k d
   pub slots : (k : ClientCounts) → l.work.client ≡ Some k → RingInOrder s l k

@@ -2,8 +2,8 @@
 use Rattle.std.specs.Prelude.{◌≡◌, List, Option, Some, None}
 use Rattle.disk_model.specs.LaneState.{LaneState}
 use Rattle.world_laws.specs.World.{WorldState}
-use Rattle.ldom_journal.specs.declared.status.Status.{Status}
-use Rattle.ldom_journal.specs.declared.status.Status.TheVariants as status
+use Rattle.ldom_report.specs.declared.status.Status.{Status}
+use Rattle.ldom_report.specs.declared.status.Status.TheVariants as status
 
 -- where there is an image, they are
 abbrev pub LanesOver : {D : Type 0} → Option D → Option (List LaneState) → WorldState → Type 0

@@ -4,11 +4,11 @@ use Rattle.std.specs.Io.KnownBytes.{Appends}
 use Rattle.disk_law.specs.ListState.{ImageState}
 use Rattle.domain_script.specs.NamesState.{NamesState}
 use Rattle.gathered_text.specs.Gathered.{WroteFront}
-use Rattle.ldom_journal.specs.Report.{report}
+use Rattle.ldom_report.specs.Report.{report}
 use Rattle.ldom_entries.specs.declared.entry.Entry.{Entry}
-use Rattle.ldom_journal.specs.declared.status.Mode.{Mode}
-use Rattle.ldom_journal.specs.declared.status.Status.{Status}
-use Rattle.ldom_journal.specs.declared.status.Status.TheVariants.{Done, SinkFault}
+use Rattle.ldom_report.specs.declared.status.Mode.{Mode}
+use Rattle.ldom_report.specs.declared.status.Status.{Status}
+use Rattle.ldom_report.specs.declared.status.Status.TheVariants.{Done, SinkFault}
 use Rattle.script_laws.specs.Counts.{Counts, RanTold}
 use Rattle.script_laws.specs.Headline.{Headline}
 use Rattle.script_laws.specs.Admitting.{AdmitsAll}

@@ -6,7 +6,7 @@ use Rattle.domain_script.specs.declared.event.DiskDecl.{DiskDecl}
 use Rattle.disk_law.specs.Issued.{issued}
 use Rattle.disk_law.specs.ListStep.{block_place}
 use Rattle.disk_model.specs.LaneState.{Shape}
-use Rattle.ldom_journal.specs.DiskEvents.{history}
+use Rattle.ldom_report.specs.DiskEvents.{history}
 use Rattle.ldom_entries.specs.declared.entry.Entry.{Entry}
 use Rattle.world_parts.specs.Declared.{shapes_of}
 

@@ -8,10 +8,10 @@ use Rattle.domain_script.specs.NamesState.{NamesState, noted}
 use Rattle.domain_script.specs.Pieces.{DecidesNothing}
 use Rattle.domain_script.specs.ScriptLines.{TakesLine}
 use Rattle.domain_script.specs.Spells.{Spells}
-use Rattle.ldom_journal.specs.LinesEnd.{IsPast, most_entries}
-use Rattle.ldom_journal.specs.declared.status.LimitKind.TheVariants as limit
-use Rattle.ldom_journal.specs.declared.status.Status.{Status}
-use Rattle.ldom_journal.specs.declared.status.Status.TheVariants as status
+use Rattle.ldom_report.specs.LinesEnd.{IsPast, most_entries}
+use Rattle.ldom_report.specs.declared.status.LimitKind.TheVariants as limit
+use Rattle.ldom_report.specs.declared.status.Status.{Status}
+use Rattle.ldom_report.specs.declared.status.Status.TheVariants as status
 use Rattle.domain_script.specs.Limits.{most_line_bytes, most_lines}
 
 -- the next line spells this event

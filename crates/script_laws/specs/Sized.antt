@@ -1,7 +1,7 @@
 -- Whether an image is as long as the disks of a script need.
 use Rattle.std.specs.Prelude.{◌≡◌, ℕ, ◌<◌, ◌≤◌, List, length, Option, IfSome, IsSomeAnd}
-use Rattle.ldom_journal.specs.declared.status.Status.{Status}
-use Rattle.ldom_journal.specs.declared.status.Status.TheVariants as status
+use Rattle.ldom_report.specs.declared.status.Status.{Status}
+use Rattle.ldom_report.specs.declared.status.Status.TheVariants as status
 
 -- The image is too short exactly at `ImageSize`, which tells how many bytes it had to have and has. At every other status
 -- an image has as many. `told` are its bytes as it was attached, where they are told.

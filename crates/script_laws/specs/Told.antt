@@ -6,7 +6,7 @@ use Rattle.disk_model.specs.LaneState.{Shape}
 use Rattle.domain_script.specs.declared.event.Event.{Event}
 use Rattle.world_laws.specs.Along.{happened}
 use Rattle.world_laws.specs.Settle.{SettleEntry}
-use Rattle.ldom_journal.specs.LaneEvents.{world_event}
+use Rattle.world_parts.specs.WorldEvents.{world_event}
 use Rattle.ldom_entries.specs.declared.entry.Entry.{Entry}
 use Rattle.runs.specs.Lawful.{log_of}
 use Rattle.world_parts.specs.Lines.{line_of}

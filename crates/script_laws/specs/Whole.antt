@@ -7,10 +7,10 @@ use Rattle.domain_script.specs.declared.event.Event.{Event}
 use Rattle.domain_script.specs.NamesState.{NamesState}
 use Rattle.domain_script.specs.ScriptEvents.{AllSpell, no_names}
 use Rattle.domain_script.specs.ScriptLines.{script_lines}
-use Rattle.ldom_journal.specs.Report.{report}
+use Rattle.ldom_report.specs.Report.{report}
 use Rattle.ldom_entries.specs.declared.entry.Entry.{Entry}
-use Rattle.ldom_journal.specs.declared.status.Mode.{Mode}
-use Rattle.ldom_journal.specs.declared.status.Status.TheVariants.{Done}
+use Rattle.ldom_report.specs.declared.status.Mode.{Mode}
+use Rattle.ldom_report.specs.declared.status.Status.TheVariants.{Done}
 use Rattle.script_laws.specs.Completed.{completed_ids}
 use Rattle.script_laws.specs.PlainRun.{plain_text, plain_content, plain_ids}
 use Rattle.world_parts.specs.Script.{ScriptParts, events_of}

@@ -7,8 +7,8 @@ ghost use Rattle.disk_law.specs.ListState.{ImageState};
 ghost use Rattle.domain_script.specs.Declarations.{AreDisks};
 ghost use Rattle.domain_script.specs.declared.event.DiskDecl.{DiskDecl};
 ghost use Rattle.world_laws.specs.World.{WorldState};
-ghost use Rattle.ldom_journal.specs.DiskEvents.{history};
-ghost use Rattle.ldom_journal.specs.HasWords.{HasWords};
+ghost use Rattle.ldom_report.specs.DiskEvents.{history};
+ghost use Rattle.ldom_report.specs.HasWords.{HasWords};
 ghost use Rattle.script_laws.specs.Admitting.{AdmitsAll};
 ghost use Rattle.script_laws.specs.Failures.{SucceedOrFail, failed_count};
 ghost use Rattle.script_laws.specs.Outside.{IsOutsideDisks, KeepsOthers};
@@ -63,7 +63,7 @@ pub fn failed_completions_are_counted()
 
 /// Each call of the image is told: it was called as often as the journal says `stored`, and asked to flush as often as
 /// that says so of a flush, whether it failed or not; where nothing was asked of it at first and its count can't have
-/// stopped at the last value. So no flush that is told was kept from it, and nothing was asked that isn't told.
+/// stopped at the last value. These are counts: so many flushes were asked of it as are told, and no more calls.
 pub fn calls_of_the_image_are_told()
     ensures calls { (disks : List DiskDecl) (image : ImageState) (entries : ℕ) (parts : ScriptParts) (v : WorldState)
         → AreDisks disks → FitsScript entries (world_of disks image) parts v

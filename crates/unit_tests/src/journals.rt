@@ -1,6 +1,6 @@
 // A journal of each kind of entry, and what is read of it.
 
-use ldom_journal::{
+use ldom_report::{
     Bytes, Cause, CopyFault, EndName, Entries, Entry, EntryRef, Journal, KeptRequest, Lane,
     NoMemory, Request, Side, VD_OP_BREAD, VD_OP_BWRITE, VD_OP_FLUSH, Who, Why,
 };

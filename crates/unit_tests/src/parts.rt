@@ -1,6 +1,6 @@
 // Arrays and bytes as a journal keeps them.
 
-use ldom_journal::Bytes;
+use ldom_report::Bytes;
 use std::alloc::Global;
 use std::test::Fail;
 use trimmed_arrays::{NoMemory, TrimmedArray, TrimmedArrays};

@@ -1,11 +1,11 @@
 // Lines of a report that no script reaches, and a sink that fails.
 ghost use Rattle.std.specs.Prelude.{◌≡◌, ◌%◌, ◌≤◌, ◌<◌, ◌++◌, All, List, length, IfOk, OnOk};
 ghost use Rattle.domain_script.specs.declared.event.DiskDecl.{DiskDecl};
-ghost use Rattle.ldom_journal.specs.HasWords.{HasFault, HasWords, IsEnd};
+ghost use Rattle.ldom_report.specs.HasWords.{HasFault, HasWords, IsEnd};
 
 use crate::journals::journal_of_all;
 use domain_script::{DiskDecl, Event, Name};
-use ldom_journal::{
+use ldom_report::{
     Bytes, Cause, CopyFault, EndName, Entry, Journal, Lane, LimitKind, Mode, Names, NoMemory, Side,
     Status, VD_OP_BREAD, VD_OP_BWRITE, Who, write_end, write_text,
 };

@@ -20,16 +20,16 @@ use Rattle.vdisk_client.proofs.Linking.{LinkTook, bytes_took}
 use Rattle.vdisk_client.specs.Calls.{Steps, rule_of, sees}
 use Rattle.vdisk_client.specs.declared.answers.ClientOut.{ClientOut}
 use Rattle.vdisk_client.specs.declared.answers.ClientOut.TheVariants as out
-use Rattle.vdisk_client.specs.Standing.{TalkStands}
+use Rattle.vdisk_client.specs.Standing.{TranscriptStands}
 
 -- a message that became whole came over a link that was up, and the handshake had begun
 whole_up : (b : Bool) (k m : LinkState) → is_up k ≡ b → LinkTook k m → m.whole ≢ None → is_up k ≡ true
 whole_up true k m is took some = is
 whole_up false k m is took some = absurd (some (took.whole is))
 
-pub whole_begun : (s : ClientState) (m : LinkState) (bytes : List ℕ) → TalkStands s → TakesBytes s.link bytes (Heard m) → m.whole ≢ None → s.shake.phase ≢ Down
-whole_begun s m bytes talk takes some =
-    (talk.begun (whole_up (is_up s.link) s.link m refl (bytes_took s.link m bytes talk.no_message talk.phase takes) some)).phase
+pub whole_begun : (s : ClientState) (m : LinkState) (bytes : List ℕ) → TranscriptStands s → TakesBytes s.link bytes (Heard m) → m.whole ≢ None → s.handshake.phase ≢ Down
+whole_begun s m bytes transcript takes some =
+    (transcript.begun (whole_up (is_up s.link) s.link m refl (bytes_took s.link m bytes transcript.no_message transcript.phase takes) some)).phase
 
 -- the packet that is taken before an end that is up is configured makes no difference
 pub empties_anyway : (c : ChannelView) → c.wire.end_a ≡ Up → configured_channel A (channel_without_first A c) ≡ configured_channel A c
@@ -57,13 +57,13 @@ resets s t c d memory packet cause answer rule takes is new channel =
     })
 
 pub hear_fails : (s t h : ClientState) (m : LinkState) (c b d : ChannelView) (memory packet : List ℕ) (cause : Cause) (answer : ClientOut)
-    → TalkStands s → rule_of s c ≡ takes_first (sees c).first (puts_first s) → c.wire.end_a ≡ Up
+    → TranscriptStands s → rule_of s c ≡ takes_first (sees c).first (puts_first s) → c.wire.end_a ≡ Up
     → Leaves A c packet b → TakesBytes s.link packet (Heard m) → HearsWhole (record s { link = m }) m.whole (Resets cause)
     → joined_client h ≡ joined_client (record s { link = m })
     → answer ≡ out.Reset cause (Some packet) → t ≡ joined_client h → d ≡ configured_channel A b → Steps s c memory answer t d memory
-hear_fails s t h m c b d memory packet cause answer talk rule up leaves takes hears refused is new channel =
+hear_fails s t h m c b d memory packet cause answer transcript rule up leaves takes hears refused is new channel =
     let first : rule_of s c ≡ Takes packet = rule ∙ ap (λ (f : Option (List ℕ)). takes_first f (puts_first s)) leaves.0 in
-    let took : LinkTook s.link m = bytes_took s.link m packet talk.no_message talk.phase takes in
+    let took : LinkTook s.link m = bytes_took s.link m packet transcript.no_message transcript.phase takes in
     resets s t c d memory packet cause answer first (record { link = Heard m; takes = takes; hears = hears }) is
     (new ∙ refused ∙ same_joined s m took.role)
     (channel ∙ ap (λ (x : ChannelView). configured_channel A x) leaves.1 ∙ empties_anyway c up)

@@ -16,7 +16,7 @@ use Rattle.vio_tag.specs.declared.message.Message.{Message}
 use Rattle.disk_model.specs.ClientPutting.{announcement, announcing, client_holds, client_kind, client_put, holding, is_announcing, opened_if, session_behind}
 use Rattle.disk_model.specs.ClientRule.{Announces, ClientRule, Puts, Says}
 use Rattle.disk_model.specs.ClientState.{ClientSession, ClientState}
-use Rattle.disk_model.specs.EndPuts.{ComesUp, EndsOwn, EndsShake, Goes, PutKind, ending, kind_in, put_kind, put_opens}
+use Rattle.disk_model.specs.EndPuts.{ComesUp, EndsOwn, EndsHandshake, Goes, PutKind, ending, kind_in, put_kind, put_opens}
 use Rattle.vdisk_client.specs.Calls.{Steps, rule_of}
 use Rattle.vdisk_client.specs.declared.answers.ClientOut.{ClientOut}
 use Rattle.vdisk_client.specs.declared.answers.ClientOut.TheVariants as out
@@ -32,14 +32,14 @@ no_part : (k : LinkState) (left : List ℕ) → left ≡ [] → is_some (part_ow
 no_part k left is = ap (λ (xs : List ℕ). is_some (part_owed k xs)) is
 
 goes_or_ends : (k : LinkState) (message : List ℕ) (own : Bool)
-    → (if is_some (part_owed k (drop 56 message)) then Goes else (if own then EndsOwn else EndsShake)) ≡ ending (nat_le (length message) 56) own
+    → (if is_some (part_owed k (drop 56 message)) then Goes else (if own then EndsOwn else EndsHandshake)) ≡ ending (nat_le (length message) 56) own
 goes_or_ends k message own =
     elim (cases_lt 56 (length message)) [
       | inl more ↦
-          ap (λ (b : Bool). if b then Goes else (if own then EndsOwn else EndsShake)) (some_part k (drop 56 message) (omega (arith, more, length-drop 56 message)))
+          ap (λ (b : Bool). if b then Goes else (if own then EndsOwn else EndsHandshake)) (some_part k (drop 56 message) (omega (arith, more, length-drop 56 message)))
           ∙ ap (λ (b : Bool). ending b own) (sym (lt-leb (length message) 56 more))
       | inr few ↦
-          ap (λ (b : Bool). if b then Goes else (if own then EndsOwn else EndsShake)) (no_part k (drop 56 message) (drop_all 56 message few))
+          ap (λ (b : Bool). if b then Goes else (if own then EndsOwn else EndsHandshake)) (no_part k (drop 56 message) (drop_all 56 message few))
           ∙ ap (λ (b : Bool). ending b own) (sym (le-leb (length message) 56 few))
     ]
 
@@ -69,7 +69,7 @@ session_same : (kind : PutKind) (s : ClientState) (m : LinkState) → session_be
 session_same EndsOwn s m = refl
 session_same Goes s m = refl
 session_same ComesUp s m = refl
-session_same EndsShake s m = opened_same (put_opens EndsShake s.shake) s m
+session_same EndsHandshake s m = opened_same (put_opens EndsHandshake s.handshake) s m
 
 noted_put : (s : ClientState) → noted (client_kind s) (record s { link = behind_put s.link }) ≡ client_put s
 noted_put s = ap (λ (x : Option ClientSession). record (client_put s) { session = x }) (session_same (client_kind s) s (behind_put s.link))
@@ -84,13 +84,13 @@ puts_behind k m bytes puts = with_behind (owed_packet k) (behind_put k) m puts.p
 
 pub put_sent : (held t : ClientState) (m : LinkState) (c d : ChannelView) (memory new bytes : List ℕ) (opens : Bool) → Sends A held.link c (send.Sent bytes) m d
     → t ≡ noted (kind_after (is_up held.link) m (is_announcing held.session)) (record held { link = m })
-    → opens ≡ put_opens (kind_after (is_up held.link) m (is_announcing held.session)) held.shake
+    → opens ≡ put_opens (kind_after (is_up held.link) m (is_announcing held.session)) held.handshake
     → new ≡ cleared_if opens held.slots memory → PutsHeld held c memory (out.Sent bytes opens) t d new
 put_sent held t m c d memory new bytes opens sends is opens_is cleared =
     let own : Bool = is_announcing held.session in
     let behind : m ≡ behind_put held.link = puts_behind held.link m bytes sends.0 in
     let kind : kind_after (is_up held.link) m own ≡ put_kind held.link own = ap (λ (k : LinkState). kind_after (is_up held.link) k own) behind ∙ kind_same held.link own in
-    let opened : opens ≡ put_opens (put_kind held.link own) held.shake = opens_is ∙ ap (λ (k : PutKind). put_opens k held.shake) kind in
+    let opened : opens ≡ put_opens (put_kind held.link own) held.handshake = opens_is ∙ ap (λ (k : PutKind). put_opens k held.handshake) kind in
     let whole : t ≡ client_put held =
     is ∙ ap (λ (k : PutKind). noted k (record held { link = m })) kind ∙ ap (λ (k : LinkState). noted (put_kind held.link own) (record held { link = k })) behind ∙ noted_put held in
     let link : t.link ≡ m = ap (λ (s : ClientState). s.link) is in (
@@ -150,11 +150,11 @@ counted_infos pending next (Some session) small stands = λ own.
 
 pub own_holds : (s : ClientState) → Stands s → HoldsOwn s
 own_holds s stands = record {
-  owed = stands.talk.holds;
+  owed = stands.transcript.holds;
   infos = counted_infos (length s.pending) s.next_id s.session stands.requests.next stands.session;
 }
 
-pub own_says : (s : ClientState) (message : Message) → Stands s → s.shake.owed ≡ Some message → HoldsOwn (holding message s)
+pub own_says : (s : ClientState) (message : Message) → Stands s → s.handshake.owed ≡ Some message → HoldsOwn (holding message s)
 own_says s message stands owed = record {
   owed = λ _ _. ap is_some owed;
   infos = counted_infos (length s.pending) s.next_id s.session stands.requests.next stands.session;

@@ -6,7 +6,7 @@ use Rattle.ldc_queue.specs.declared.end.End.TheVariants.{A}
 use Rattle.vdisk_msg.specs.declared.request.Request.{Request}
 use Rattle.disk_model.specs.WireEvent.{Blocked, Idle, Joined, Reset, Sent, Took}
 use Rattle.disk_model.specs.ClientPutting.{announcement, announcing, client_holds, holding, is_announcing}
-use Rattle.disk_model.specs.ClientRule.{Announces, ClientRule, Completes, Joins, Publishes, Puts, Rests, Says, Takes, client_rule}
+use Rattle.disk_model.specs.ClientRule.{Announces, ClientRule, Completes, Joins, Publishes, Puts, Idles, Says, Takes, client_rule}
 use Rattle.disk_model.specs.ClientState.{ClientSession, ClientState}
 use Rattle.disk_model.specs.ClientStep.{ClientCompletes, ClientPublishes, ClientStep}
 use Rattle.disk_model.specs.DiskEvent.{DiskEvent, Done, OnWire, Published, Works}
@@ -19,25 +19,25 @@ use Rattle.vdisk_client.proofs.Standing.{joined_stands}
 use Rattle.vdisk_client.proofs.Unmoved.{fixed_of}
 use Rattle.vdisk_client.specs.Calls.{Steps, client_event, sees}
 use Rattle.vdisk_client.specs.declared.answers.ClientOut.{ClientOut}
-use Rattle.vdisk_client.specs.Standing.{CountsStand, SessionStands, Stands, Talks}
+use Rattle.vdisk_client.specs.Standing.{CountsStand, SessionStands, Stands, Transcripts}
 
 got_within : (requests : List Request) (k : ℕ) (request : Request) → slice_get requests k ≡ Some request → k < length requests
 got_within [] k request is = absurd (cc is)
 got_within (first ∷ requests) zero request is = omega arith
 got_within (first ∷ requests) (suc k) request is = omega (arith, got_within requests k request is)
 
--- the talk with another session in the place of one that is open, and that announces as the first does
-other_session : (s : ClientState) (session other : ClientSession) → Stands s → s.session ≡ Some session → other.announcing ≡ session.announcing → Talks s.link s.shake (Some other)
+-- the transcript with another session in the place of one that is open, and that announces as the first does
+other_session : (s : ClientState) (session other : ClientSession) → Stands s → s.session ≡ Some session → other.announcing ≡ session.announcing → Transcripts s.link s.handshake (Some other)
 other_session s session other stands is same = record {
-  link = stands.talk.link;
-  phase = stands.talk.phase;
-  no_message = stands.talk.no_message;
-  shake = stands.talk.shake;
-  begun = stands.talk.begun;
-  opened = λ _. stands.talk.opened (ap is_some is);
-  quiet = λ down. absurd (cc (is, (stands.talk.quiet down).closed));
-  holds = λ some whose. stands.talk.holds some (ap is_announcing is ∙ sym same ∙ whose);
-  owed = stands.talk.owed;
+  link = stands.transcript.link;
+  phase = stands.transcript.phase;
+  no_message = stands.transcript.no_message;
+  handshake = stands.transcript.handshake;
+  begun = stands.transcript.begun;
+  opened = λ _. stands.transcript.opened (ap is_some is);
+  quiet = λ down. absurd (cc (is, (stands.transcript.quiet down).closed));
+  holds = λ some whose. stands.transcript.holds some (ap is_announcing is ∙ sym same ∙ whose);
+  owed = stands.transcript.owed;
 }
 
 counts_of : (s : ClientState) (session : ClientSession) → Stands s → s.session ≡ Some session → CountsStand (length s.pending) s.next_id session
@@ -49,7 +49,7 @@ published_stands : (s : ClientState) (session : ClientSession) (id : ℕ) → St
 published_stands s session id stands is number within =
     let counts : CountsStand (length s.pending) s.next_id session = counts_of s session stands is in
     record {
-      talk = other_session s session (record session { published = session.published + 1 }) stands is refl;
+      transcript = other_session s session (record session { published = session.published + 1 }) stands is refl;
       requests = record {
         some_slots = stands.requests.some_slots;
         most_slots = stands.requests.most_slots;
@@ -77,7 +77,7 @@ completed_stands s session last stands is acknowledged some =
     let counts : CountsStand (length s.pending) s.next_id session = counts_of s session stands is in
     let long : length (drop 1 s.pending) ≡ length s.pending - 1 = length-drop 1 s.pending in
     record {
-      talk = other_session s session (record session { completed = session.completed + 1 }) stands is refl;
+      transcript = other_session s session (record session { completed = session.completed + 1 }) stands is refl;
       requests = record {
         some_slots = stands.requests.some_slots;
         most_slots = stands.requests.most_slots;
@@ -126,7 +126,7 @@ held_fixed s held Joins is = absurd (cc is)
 held_fixed s held (Completes session) is = absurd (cc is)
 held_fixed s held (Takes packet) is = absurd (cc is)
 held_fixed s held (Publishes session request) is = absurd (cc is)
-held_fixed s held Rests is = absurd (cc is)
+held_fixed s held Idles is = absurd (cc is)
 
 pub step_keeps : (s t : ClientState) (at : Seen) (memory new : List ℕ) (event : DiskEvent) → Stands s → ClientStep s at memory event t new → Keeps s t
 step_keeps s t at memory new (OnWire (Joined A lost)) stands step = subst (Keeps s) (sym step.2) (joined_stands s stands, refl)

@@ -13,16 +13,16 @@ use Rattle.vio_handshake.proofs.WellFormed.{sent_owes, up_owes}
 use Rattle.vio_handshake.specs.declared.handshake.Handshake.{Handshake}
 use Rattle.vio_handshake.specs.declared.handshake.Phase.{Phase}
 use Rattle.vio_handshake.specs.declared.handshake.Phase.TheVariants.{Open, PeerReadyTaken}
-use Rattle.vio_handshake.specs.Rules.{opens_by_put, put_in, shake_sent}
-use Rattle.vio_handshake.specs.State.{shake_up}
+use Rattle.vio_handshake.specs.Rules.{opens_by_put, put_in, handshake_sent}
+use Rattle.vio_handshake.specs.State.{handshake_up}
 use Rattle.vio_tag.specs.declared.message.Message.{Message}
 use Rattle.disk_model.specs.ClientPutting.{announced, announcement, announcing, client_holds, client_put, holding, is_announcing, opened_if, session_behind}
-use Rattle.disk_model.specs.ClientRule.{Announces, ClientRule, Completes, Joins, Publishes, Puts, Rests, Says, Takes, client_rule}
+use Rattle.disk_model.specs.ClientRule.{Announces, ClientRule, Completes, Joins, Publishes, Puts, Idles, Says, Takes, client_rule}
 use Rattle.disk_model.specs.ClientState.{ClientSession, ClientState}
-use Rattle.disk_model.specs.EndPuts.{ending, kind_in, shake_behind}
+use Rattle.disk_model.specs.EndPuts.{ending, kind_in, handshake_behind}
 use Rattle.disk_model.specs.Seeing.{Seen}
 use Rattle.vdisk_client.proofs.Rules.{Known, Unannounced, rule_known}
-use Rattle.vdisk_client.proofs.Shaking.{ShakeKeeps, begun_keeps, sent_keeps, up_begins}
+use Rattle.vdisk_client.proofs.Handshaking.{HandshakeKeeps, begun_keeps, sent_keeps, up_begins}
 use Rattle.vdisk_client.proofs.Standing.{not_true}
 use Rattle.vdisk_client.specs.Standing.{CountsStand, IsBegun, IsInitiators, IsQuiet, SessionStands, Stands}
 
@@ -35,18 +35,18 @@ pub record SameLink (k m : LinkState) : Type 0 where
 down_stands : (s : ClientState) (m : LinkState) → Stands s → is_up s.link ≡ false → SameLink s.link m → m.to_send ≡ s.link.to_send → IsInitiators m.phase → is_up m ≡ false
     → Stands (record s { link = m })
 down_stands s m stands down same left phase still =
-    let quiet : IsQuiet s.link s.shake s.session = stands.talk.quiet down in
+    let quiet : IsQuiet s.link s.handshake s.session = stands.transcript.quiet down in
     record {
-      talk = record {
-        link = same.role ∙ stands.talk.link;
+      transcript = record {
+        link = same.role ∙ stands.transcript.link;
         phase = phase;
-        no_message = same.whole ∙ stands.talk.no_message;
-        shake = stands.talk.shake;
+        no_message = same.whole ∙ stands.transcript.no_message;
+        handshake = stands.transcript.handshake;
         begun = λ up. absurd (not_true (is_up m) up still);
-        opened = stands.talk.opened;
+        opened = stands.transcript.opened;
         quiet = λ _. record { owed = quiet.owed; closed = quiet.closed; to_send = left ∙ quiet.to_send };
         holds = λ some. absurd (some (left ∙ quiet.to_send));
-        owed = stands.talk.owed;
+        owed = stands.transcript.owed;
       };
       requests = stands.requests;
       session = stands.session;
@@ -57,21 +57,21 @@ none_open session is some = absurd (cc (some, ap is_some is))
 
 -- RDX, by which the link comes up
 up_stands : (s : ClientState) (m : LinkState) → Stands s → is_up s.link ≡ false → SameLink s.link m → m.to_send ≡ s.link.to_send → IsInitiators m.phase → is_up m ≡ true
-    → Stands (record s { link = m; shake = shake_up s.shake })
+    → Stands (record s { link = m; handshake = handshake_up s.handshake })
 up_stands s m stands down same left phase up =
-    let quiet : IsQuiet s.link s.shake s.session = stands.talk.quiet down in
-    let begins : IsBegun (shake_up s.shake) × ((shake_up s.shake).role ≡ s.shake.role) = up_begins s.shake stands.talk.shake in
+    let quiet : IsQuiet s.link s.handshake s.session = stands.transcript.quiet down in
+    let begins : IsBegun (handshake_up s.handshake) × ((handshake_up s.handshake).role ≡ s.handshake.role) = up_begins s.handshake stands.transcript.handshake in
     record {
-      talk = record {
-        link = same.role ∙ stands.talk.link;
+      transcript = record {
+        link = same.role ∙ stands.transcript.link;
         phase = phase;
-        no_message = same.whole ∙ stands.talk.no_message;
-        shake = begins.1 ∙ stands.talk.shake;
+        no_message = same.whole ∙ stands.transcript.no_message;
+        handshake = begins.1 ∙ stands.transcript.handshake;
         begun = λ _. begins.0;
         opened = λ some. absurd (none_open s.session quiet.closed some);
         quiet = λ other. absurd (not_true (is_up m) up other);
         holds = λ some. absurd (some (left ∙ quiet.to_send));
-        owed = up_owes s.shake stands.talk.owed;
+        owed = up_owes s.handshake stands.transcript.owed;
       };
       requests = stands.requests;
       session = stands.session;
@@ -81,16 +81,16 @@ up_stands s m stands down same left phase up =
 part_stands : (s : ClientState) (m : LinkState) → Stands s → is_up s.link ≡ true → SameLink s.link m → (m.to_send ≢ [] → s.link.to_send ≢ []) → IsInitiators m.phase → is_up m ≡ true
     → Stands (record s { link = m })
 part_stands s m stands was same left phase up = record {
-  talk = record {
-    link = same.role ∙ stands.talk.link;
+  transcript = record {
+    link = same.role ∙ stands.transcript.link;
     phase = phase;
-    no_message = same.whole ∙ stands.talk.no_message;
-    shake = stands.talk.shake;
-    begun = λ _. stands.talk.begun was;
-    opened = stands.talk.opened;
+    no_message = same.whole ∙ stands.transcript.no_message;
+    handshake = stands.transcript.handshake;
+    begun = λ _. stands.transcript.begun was;
+    opened = stands.transcript.opened;
     quiet = λ other. absurd (not_true (is_up m) up other);
-    holds = λ some. stands.talk.holds (left some);
-    owed = stands.talk.owed;
+    holds = λ some. stands.transcript.holds (left some);
+    owed = stands.transcript.owed;
   };
   requests = stands.requests;
   session = stands.session;
@@ -116,16 +116,16 @@ announced_open (Some session) some = refl
 own_stands : (s : ClientState) (m : LinkState) → Stands s → is_up s.link ≡ true → SameLink s.link m → m.to_send ≡ [] → IsInitiators m.phase → is_up m ≡ true → is_announcing s.session ≡ true
     → Stands (record s { link = m; session = announced s.session })
 own_stands s m stands was same left phase up own = record {
-  talk = record {
-    link = same.role ∙ stands.talk.link;
+  transcript = record {
+    link = same.role ∙ stands.transcript.link;
     phase = phase;
-    no_message = same.whole ∙ stands.talk.no_message;
-    shake = stands.talk.shake;
-    begun = λ _. stands.talk.begun was;
-    opened = λ some. stands.talk.opened (announced_open s.session some);
+    no_message = same.whole ∙ stands.transcript.no_message;
+    handshake = stands.transcript.handshake;
+    begun = λ _. stands.transcript.begun was;
+    opened = λ some. stands.transcript.opened (announced_open s.session some);
     quiet = λ other. absurd (not_true (is_up m) up other);
     holds = λ some. absurd (some left);
-    owed = stands.talk.owed;
+    owed = stands.transcript.owed;
   };
   requests = stands.requests;
   session = announced_counts (length s.pending) s.next_id s.session stands.session own;
@@ -153,24 +153,24 @@ opened_counts true s ids stands = record {
 opened_counts false s ids stands = stands
 
 -- the last part of what the handshake owed
-shake_stands : (s : ClientState) (m : LinkState) → Stands s → is_up s.link ≡ true → SameLink s.link m → m.to_send ≡ [] → IsInitiators m.phase → is_up m ≡ true
-    → Stands (record s { link = m; shake = shake_sent s.shake; session = opened_if (opens_by_put s.shake.role s.shake.phase) s })
-shake_stands s m stands was same left phase up =
-    let keeps : ShakeKeeps s.shake (shake_sent s.shake) = sent_keeps s.shake stands.talk.shake in
+handshake_stands : (s : ClientState) (m : LinkState) → Stands s → is_up s.link ≡ true → SameLink s.link m → m.to_send ≡ [] → IsInitiators m.phase → is_up m ≡ true
+    → Stands (record s { link = m; handshake = handshake_sent s.handshake; session = opened_if (opens_by_put s.handshake.role s.handshake.phase) s })
+handshake_stands s m stands was same left phase up =
+    let keeps : HandshakeKeeps s.handshake (handshake_sent s.handshake) = sent_keeps s.handshake stands.transcript.handshake in
     record {
-      talk = record {
-        link = same.role ∙ stands.talk.link;
+      transcript = record {
+        link = same.role ∙ stands.transcript.link;
         phase = phase;
-        no_message = same.whole ∙ stands.talk.no_message;
-        shake = keeps.role ∙ stands.talk.shake;
-        begun = λ _. begun_keeps s.shake (shake_sent s.shake) keeps (stands.talk.begun was);
-        opened = session_open (opens_by_put s.shake.role s.shake.phase) s (shake_sent s.shake) (opens_open s.shake.role s.shake.phase s.shake) (λ some. keeps.opened (stands.talk.opened some));
+        no_message = same.whole ∙ stands.transcript.no_message;
+        handshake = keeps.role ∙ stands.transcript.handshake;
+        begun = λ _. begun_keeps s.handshake (handshake_sent s.handshake) keeps (stands.transcript.begun was);
+        opened = session_open (opens_by_put s.handshake.role s.handshake.phase) s (handshake_sent s.handshake) (opens_open s.handshake.role s.handshake.phase s.handshake) (λ some. keeps.opened (stands.transcript.opened some));
         quiet = λ other. absurd (not_true (is_up m) up other);
         holds = λ some. absurd (some left);
-        owed = sent_owes s.shake stands.talk.owed;
+        owed = sent_owes s.handshake stands.transcript.owed;
       };
       requests = stands.requests;
-      session = opened_counts (opens_by_put s.shake.role s.shake.phase) s stands.requests.ids stands.session;
+      session = opened_counts (opens_by_put s.handshake.role s.handshake.phase) s stands.requests.ids stands.session;
     }
 
 -- the client after a put, where its link was in this phase
@@ -182,7 +182,7 @@ put_at p s = record s {
     to_send = left_behind_put p s.link.to_send;
     begun = begun_behind_put p s.link.to_send s.link.begun;
   };
-  shake = shake_behind (kind_in p s.link (is_announcing s.session)) s.shake;
+  handshake = handshake_behind (kind_in p s.link (is_announcing s.session)) s.handshake;
   session = session_behind (kind_in p s.link (is_announcing s.session)) s;
 }
 
@@ -200,12 +200,12 @@ nothing_left (byte ∷ message) some none = absurd (cc none)
 
 -- whose message ends, if it does
 end_at : (b own : Bool) (s : ClientState) → Stands s → is_up s.link ≡ true → nat_le (length s.link.to_send) 56 ≡ b → is_announcing s.session ≡ own
-    → Stands (record s { link = part_at s; shake = shake_behind (ending b own) s.shake; session = session_behind (ending b own) s })
+    → Stands (record s { link = part_at s; handshake = handshake_behind (ending b own) s.handshake; session = session_behind (ending b own) s })
 end_at false own s stands up left whose = part_stands s (part_at s) stands up (record { role = refl; whole = refl }) (nothing_left s.link.to_send) tt refl
 end_at true true s stands up left whose =
     own_stands s (part_at s) stands up (record { role = refl; whole = refl }) (drop_all 56 s.link.to_send (leb-true (length s.link.to_send) 56 left)) tt refl whose
 end_at true false s stands up left whose =
-    shake_stands s (part_at s) stands up (record { role = refl; whole = refl }) (drop_all 56 s.link.to_send (leb-true (length s.link.to_send) 56 left)) tt refl
+    handshake_stands s (part_at s) stands up (record { role = refl; whole = refl }) (drop_all 56 s.link.to_send (leb-true (length s.link.to_send) 56 left)) tt refl
 
 phase_at : (p : LinkPhase) (s : ClientState) → Stands s → s.link.phase ≡ p → IsInitiators p → Stands (put_at p s)
 phase_at phase.OwesVersInfo s stands is begins = down_stands s (put_at phase.OwesVersInfo s).link stands (ap is_established is) (record { role = refl; whole = refl }) refl tt refl
@@ -222,21 +222,21 @@ phase_at phase.AwaitsRdx s stands is begins = absurd begins
 phase_at phase.Established s stands is begins = end_at (nat_le (length s.link.to_send) 56) (is_announcing s.session) s stands (ap is_established is) refl refl
 
 pub put_stands : (s : ClientState) → Stands s → Stands (client_put s)
-put_stands s stands = phase_at s.link.phase s stands refl stands.talk.phase
+put_stands s stands = phase_at s.link.phase s stands refl stands.transcript.phase
 
 -- A MESSAGE THAT THE LINK HOLDS: one that the handshake owes, or the client's own INFO
-holding_stands : (s : ClientState) (message : Message) → Stands s → s.shake.owed ≡ Some message → Stands (holding message s)
+holding_stands : (s : ClientState) (message : Message) → Stands s → s.handshake.owed ≡ Some message → Stands (holding message s)
 holding_stands s message stands owed = record {
-  talk = record {
-    link = stands.talk.link;
-    phase = stands.talk.phase;
-    no_message = stands.talk.no_message;
-    shake = stands.talk.shake;
-    begun = stands.talk.begun;
-    opened = stands.talk.opened;
-    quiet = λ down. absurd (cc (owed, (stands.talk.quiet down).owed));
+  transcript = record {
+    link = stands.transcript.link;
+    phase = stands.transcript.phase;
+    no_message = stands.transcript.no_message;
+    handshake = stands.transcript.handshake;
+    begun = stands.transcript.begun;
+    opened = stands.transcript.opened;
+    quiet = λ down. absurd (cc (owed, (stands.transcript.quiet down).owed));
     holds = λ _ _. ap is_some owed;
-    owed = stands.talk.owed;
+    owed = stands.transcript.owed;
   };
   requests = stands.requests;
   session = stands.session;
@@ -246,16 +246,16 @@ announcing_stands : (s : ClientState) (session : ClientSession) (message : Messa
 announcing_stands s session message stands says =
     let counts : CountsStand (length s.pending) s.next_id session = subst (λ (x : Option ClientSession). SessionStands (length s.pending) s.next_id x) says.is_open stands.session in
     record {
-      talk = record {
-        link = stands.talk.link;
-        phase = stands.talk.phase;
-        no_message = stands.talk.no_message;
-        shake = stands.talk.shake;
-        begun = stands.talk.begun;
-        opened = λ _. stands.talk.opened (ap is_some says.is_open);
-        quiet = λ down. absurd (cc (says.is_open, (stands.talk.quiet down).closed));
+      transcript = record {
+        link = stands.transcript.link;
+        phase = stands.transcript.phase;
+        no_message = stands.transcript.no_message;
+        handshake = stands.transcript.handshake;
+        begun = stands.transcript.begun;
+        opened = λ _. stands.transcript.opened (ap is_some says.is_open);
+        quiet = λ down. absurd (cc (says.is_open, (stands.transcript.quiet down).closed));
         holds = λ _ other. absurd (cc other);
-        owed = stands.talk.owed;
+        owed = stands.transcript.owed;
       };
       requests = stands.requests;
       session = record {
@@ -279,7 +279,7 @@ held_by s at Joins held stands knows is = absurd (cc is)
 held_by s at (Completes session) held stands knows is = absurd (cc is)
 held_by s at (Takes packet) held stands knows is = absurd (cc is)
 held_by s at (Publishes session request) held stands knows is = absurd (cc is)
-held_by s at Rests held stands knows is = absurd (cc is)
+held_by s at Idles held stands knows is = absurd (cc is)
 
 pub held_stands : (s : ClientState) (at : Seen) (held : ClientState) → Stands s → client_holds (client_rule s at) s ≡ Some held → Stands held
 held_stands s at held stands is = held_by s at (client_rule s at) held stands (rule_known s at) is

@@ -10,7 +10,7 @@ use Rattle.ldc_packet.specs.declared.packet.Subtype.TheVariants.{Ack, Nack}
 use Rattle.vio_handshake.proofs.WellFormed.{taken_owes}
 use Rattle.vio_handshake.specs.declared.handshake.Handshake.{Handshake}
 use Rattle.vio_handshake.specs.declared.session.HsOut.TheVariants.{Nothing, Opens}
-use Rattle.vio_handshake.specs.Rules.{Faults, Goes, GoesOpen, ShakeTake, shake_take, sid_fault}
+use Rattle.vio_handshake.specs.Rules.{Faults, Goes, GoesOpen, HandshakeTake, handshake_take, sid_fault}
 use Rattle.vio_handshake.specs.State.{OwesWell}
 use Rattle.vio_tag.specs.declared.cause.Cause.{Cause}
 use Rattle.vio_tag.specs.declared.cause.Cause.TheVariants as the_cause
@@ -26,7 +26,7 @@ use Rattle.disk_model.specs.ClientState.{ClientSession, ClientState, slot_in}
 use Rattle.disk_model.specs.ClientTaking.{ClientTake, ClientTakes, GoesOn, HearsLink, HearsWhole, Resets, acknowledged, by_handshake, hears_message, in_session, reads, sid_first, takes_ack}
 use Rattle.disk_model.specs.Ranges.{is_other, range_length}
 use Rattle.vdisk_client.proofs.Linking.{LinkTook, bytes_took}
-use Rattle.vdisk_client.proofs.Shaking.{ShakeKeeps, TakeKeeps, begun_keeps, take_keeps}
+use Rattle.vdisk_client.proofs.Handshaking.{HandshakeKeeps, TakeKeeps, begun_keeps, take_keeps}
 use Rattle.vdisk_client.proofs.Standing.{not_true}
 use Rattle.vdisk_client.proofs.Unmoved.{Fixed, fixed_of}
 use Rattle.vdisk_client.specs.Standing.{CountsStand, IsQuiet, SessionStands, Stands}
@@ -40,18 +40,18 @@ free_in false (Some message) opening is = absurd (cc is)
 -- the link without the message that was heard
 linked_stands : (s : ClientState) (m : LinkState) → Stands s → LinkTook s.link m → m.whole ≡ None → Stands (record s { link = m })
 linked_stands s m stands took none = record {
-  talk = record {
-    link = took.role ∙ stands.talk.link;
+  transcript = record {
+    link = took.role ∙ stands.transcript.link;
     phase = took.phase;
     no_message = none;
-    shake = stands.talk.shake;
-    begun = λ up. stands.talk.begun (sym took.up ∙ up);
-    opened = stands.talk.opened;
+    handshake = stands.transcript.handshake;
+    begun = λ up. stands.transcript.begun (sym took.up ∙ up);
+    opened = stands.transcript.opened;
     quiet = λ down.
-        let quiet : IsQuiet s.link s.shake s.session = stands.talk.quiet (sym took.up ∙ down) in
+        let quiet : IsQuiet s.link s.handshake s.session = stands.transcript.quiet (sym took.up ∙ down) in
         record { owed = quiet.owed; closed = quiet.closed; to_send = took.to_send ∙ quiet.to_send };
-    holds = λ some. stands.talk.holds (λ nothing. some (took.to_send ∙ nothing));
-    owed = stands.talk.owed;
+    holds = λ some. stands.transcript.holds (λ nothing. some (took.to_send ∙ nothing));
+    owed = stands.transcript.owed;
   };
   requests = stands.requests;
   session = stands.session;
@@ -69,49 +69,49 @@ both_second : (a b : Bool) → (a && b) ≡ true → b ≡ true
 both_second true b is = is
 both_second false b is = absurd (cc is)
 
-module _ (s : ClientState) (stands : Stands s) (up : is_up s.link ≡ true) (free : s.shake.owed ≡ None) where
-  owed_not : is_some s.shake.owed ≡ true → ⊥
+module _ (s : ClientState) (stands : Stands s) (up : is_up s.link ≡ true) (free : s.handshake.owed ≡ None) where
+  owed_not : is_some s.handshake.owed ≡ true → ⊥
   owed_not some = absurd (cc (some, ap is_some free))
 
-  shaken_stands : (h : Handshake) → ShakeKeeps s.shake h → OwesWell h → Stands (record s { shake = h })
-  shaken_stands h keeps owed = record {
-    talk = record {
-      link = stands.talk.link;
-      phase = stands.talk.phase;
-      no_message = stands.talk.no_message;
-      shake = keeps.role ∙ stands.talk.shake;
-      begun = λ up. begun_keeps s.shake h keeps (stands.talk.begun up);
-      opened = λ some. keeps.opened (stands.talk.opened some);
+  negotiated_stands : (h : Handshake) → HandshakeKeeps s.handshake h → OwesWell h → Stands (record s { handshake = h })
+  negotiated_stands h keeps owed = record {
+    transcript = record {
+      link = stands.transcript.link;
+      phase = stands.transcript.phase;
+      no_message = stands.transcript.no_message;
+      handshake = keeps.role ∙ stands.transcript.handshake;
+      begun = λ up. begun_keeps s.handshake h keeps (stands.transcript.begun up);
+      opened = λ some. keeps.opened (stands.transcript.opened some);
       quiet = λ down. absurd (not_true (is_up s.link) up down);
-      holds = λ some whose. absurd (owed_not (stands.talk.holds some whose));
+      holds = λ some whose. absurd (owed_not (stands.transcript.holds some whose));
       owed = owed;
     };
     requests = stands.requests;
     session = stands.session;
   }
 
-  by_take : (message : Message) (take : ShakeTake) → IsWellFormed message → shake_take s.shake message ≡ take → TakeKeeps s.shake take → TakeStands (fixed_of s) (by_handshake s take)
-  by_take message (Goes h) form is keeps = (shaken_stands h keeps (taken_owes Nothing s.shake h message stands.talk.owed form (sym is) (λ fault. absurd fault)), refl)
-  by_take message (GoesOpen h) form is keeps = (shaken_stands h keeps (taken_owes Opens s.shake h message stands.talk.owed form (sym is) (λ fault. absurd fault)), refl)
+  by_take : (message : Message) (take : HandshakeTake) → IsWellFormed message → handshake_take s.handshake message ≡ take → TakeKeeps s.handshake take → TakeStands (fixed_of s) (by_handshake s take)
+  by_take message (Goes h) form is keeps = (negotiated_stands h keeps (taken_owes Nothing s.handshake h message stands.transcript.owed form (sym is) (λ fault. absurd fault)), refl)
+  by_take message (GoesOpen h) form is keeps = (negotiated_stands h keeps (taken_owes Opens s.handshake h message stands.transcript.owed form (sym is) (λ fault. absurd fault)), refl)
   by_take message (Faults cause) form is keeps = tt
 
-  by_shake : (message : Message) → IsWellFormed message → TakeStands (fixed_of s) (by_handshake s (shake_take s.shake message))
-  by_shake message form = by_take message (shake_take s.shake message) form refl (take_keeps s.shake message stands.talk.shake)
+  by_handshake_take : (message : Message) → IsWellFormed message → TakeStands (fixed_of s) (by_handshake s (handshake_take s.handshake message))
+  by_handshake_take message form = by_take message (handshake_take s.handshake message) form refl (take_keeps s.handshake message stands.transcript.handshake)
 
   acked_stands : (session : ClientSession) (count : ℕ) → s.session ≡ Some session → session.acked + count ≤ session.announced → Stands (acknowledged s session count)
   acked_stands session count is within =
       let counts : CountsStand (length s.pending) s.next_id session = subst (λ (x : Option ClientSession). SessionStands (length s.pending) s.next_id x) is stands.session in
       record {
-        talk = record {
-          link = stands.talk.link;
-          phase = stands.talk.phase;
-          no_message = stands.talk.no_message;
-          shake = stands.talk.shake;
-          begun = stands.talk.begun;
-          opened = λ _. stands.talk.opened (ap is_some is);
+        transcript = record {
+          link = stands.transcript.link;
+          phase = stands.transcript.phase;
+          no_message = stands.transcript.no_message;
+          handshake = stands.transcript.handshake;
+          begun = stands.transcript.begun;
+          opened = λ _. stands.transcript.opened (ap is_some is);
           quiet = λ down. absurd (not_true (is_up s.link) up down);
-          holds = λ some whose. absurd (owed_not (stands.talk.holds some (ap is_announcing is ∙ whose)));
-          owed = stands.talk.owed;
+          holds = λ some whose. absurd (owed_not (stands.transcript.holds some (ap is_announcing is ∙ whose)));
+          owed = stands.transcript.owed;
         };
         requests = stands.requests;
         session = record {
@@ -128,7 +128,7 @@ module _ (s : ClientState) (stands : Stands s) (up : is_up s.link ≡ true) (fre
   ack_stands : (session : ClientSession) (ident start end : ℕ) → s.session ≡ Some session → TakeStands (fixed_of s) (takes_ack s session ident start end)
   ack_stands session ident start end is =
       let count : ℕ = range_length s.slots start end in
-      if_stands (fixed_of s) (is_other s.shake.draft.ident_own ident) (Resets (the_cause.Ident s.shake.draft.ident_own ident))
+      if_stands (fixed_of s) (is_other s.handshake.draft.ident_own ident) (Resets (the_cause.Ident s.handshake.draft.ident_own ident))
       (if is_other (slot_in s session.acked) start then Resets (the_cause.Slot (slot_in s session.acked) start)
       else if nat_lt end s.slots && nat_le (session.acked + count) session.announced then GoesOn (acknowledged s session count) else Resets (the_cause.RangeEnd end))
       (λ _. tt)
@@ -143,16 +143,16 @@ module _ (s : ClientState) (stands : Stands s) (up : is_up s.link ≡ true) (fre
       → TakeStands (fixed_of s) (in_session s session message subtype body)
   session_stands session message Ack (DringData seq ident start end state) form is = ack_stands session ident start end is
   session_stands session message Nack (DringData seq ident start end state) form is = tt
-  session_stands session message subtype body form is = by_shake message form
+  session_stands session message subtype body form is = by_handshake_take message form
 
   sid_stands : (fault : Option Cause) (otherwise : ClientTake) → TakeStands (fixed_of s) otherwise → TakeStands (fixed_of s) (sid_first fault otherwise)
   sid_stands None otherwise stands = stands
   sid_stands (Some cause) otherwise stands = tt
 
   message_stands : (session : Option ClientSession) (message : Message) → IsWellFormed message → s.session ≡ session → TakeStands (fixed_of s) (hears_message s session message)
-  message_stands None message form is = by_shake message form
+  message_stands None message form is = by_handshake_take message form
   message_stands (Some session) message form is =
-      sid_stands (sid_fault s.shake.sid message.sid) (in_session s session message message.subtype message.body)
+      sid_stands (sid_fault s.handshake.sid message.sid) (in_session s session message message.subtype message.body)
       (session_stands session message message.subtype message.body form is)
 
   reads_stands : (bytes : List ℕ) (decoded : Result Message TagFault) → Decodes bytes decoded → TakeStands (fixed_of s) (reads s decoded)
@@ -164,7 +164,7 @@ whole_up : (b : Bool) (k m : LinkState) (bytes : List ℕ) → is_up k ≡ b →
 whole_up true k m bytes is took some = is
 whole_up false k m bytes is took some = absurd (cc (some, took.whole is))
 
-whole_stands : (s : ClientState) (m : LinkState) (w : Option (List ℕ)) (take : ClientTake) → Stands s → s.shake.owed ≡ None → LinkTook s.link m → m.whole ≡ w
+whole_stands : (s : ClientState) (m : LinkState) (w : Option (List ℕ)) (take : ClientTake) → Stands s → s.handshake.owed ≡ None → LinkTook s.link m → m.whole ≡ w
     → HearsWhole (record s { link = m }) w take → TakeStands (fixed_of s) take
 whole_stands s m None take stands free took is hears = subst (TakeStands (fixed_of s)) (sym hears) (linked_stands s m stands took is, refl)
 whole_stands s m (Some bytes) take stands free took is hears =
@@ -173,12 +173,12 @@ whole_stands s m (Some bytes) take stands free took is hears =
     subst (TakeStands (fixed_of s)) (sym hears.2)
     (reads_stands (record s { link = cleared m }) (linked_stands s (cleared m) stands clear refl) up free bytes hears.0 hears.1)
 
-link_stands : (s : ClientState) (bytes : List ℕ) (link : LinkTake) (take : ClientTake) → Stands s → s.shake.owed ≡ None → TakesBytes s.link bytes link → HearsLink s link take → TakeStands (fixed_of s) take
+link_stands : (s : ClientState) (bytes : List ℕ) (link : LinkTake) (take : ClientTake) → Stands s → s.handshake.owed ≡ None → TakesBytes s.link bytes link → HearsLink s link take → TakeStands (fixed_of s) take
 link_stands s bytes (Heard m) take stands free takes hears =
-    whole_stands s m m.whole take stands free (bytes_took s.link m bytes stands.talk.no_message stands.talk.phase takes) refl hears
+    whole_stands s m m.whole take stands free (bytes_took s.link m bytes stands.transcript.no_message stands.transcript.phase takes) refl hears
 link_stands s bytes (Unheard cause) take stands free takes hears = subst (TakeStands (fixed_of s)) (sym hears) tt
 
 pub takes_stands : (s t : ClientState) (bytes : List ℕ) → Stands s → is_urgent s ≡ false → ClientTakes s bytes (GoesOn t) → Stands t × (fixed_of t ≡ fixed_of s)
 takes_stands s t bytes stands calm takes =
     link_stands s bytes takes.link (GoesOn t) stands
-    (free_in (owes_control s.link) s.shake.owed (is_none s.session && owes s.link) calm) takes.takes takes.hears
+    (free_in (owes_control s.link) s.handshake.owed (is_none s.session && owes s.link) calm) takes.takes takes.hears

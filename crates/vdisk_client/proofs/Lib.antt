@@ -1,7 +1,7 @@
 pub mod Requests
 pub mod Rules
 pub mod Linking
-pub mod Shaking
+pub mod Handshaking
 pub mod Standing
 pub mod Unmoved
 pub mod HeardFails

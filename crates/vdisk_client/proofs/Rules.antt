@@ -6,7 +6,7 @@ use Rattle.cookie_copy.specs.Faults.{is_up}
 use Rattle.ldc_link.specs.Putting.{owes}
 use Rattle.vdisk_msg.specs.declared.request.Request.{Request}
 use Rattle.vio_tag.specs.declared.message.Message.{Message}
-use Rattle.disk_model.specs.ClientRule.{Announces, ClientRule, Completes, Joins, Publishes, Puts, Rests, Says, Takes, announces, client_rule, completes_first, in_session, is_urgent, publishes, puts_first, puts_or_takes, says, takes_first}
+use Rattle.disk_model.specs.ClientRule.{Announces, ClientRule, Completes, Joins, Publishes, Puts, Idles, Says, Takes, announces, client_rule, completes_first, in_session, is_urgent, publishes, puts_first, puts_or_takes, says, takes_first}
 use Rattle.disk_model.specs.ClientState.{ClientSession, ClientState}
 use Rattle.disk_model.specs.Seeing.{Seen}
 
@@ -20,10 +20,10 @@ Known s at Joins = ⊤
 Known s at (Completes session) = (s.session ≡ Some session) × (session.completed < session.acked)
 Known s at (Takes packet) = (is_urgent s ≡ false) × (at.first ≡ Some packet)
 Known s at Puts = owes s.link ≡ true
-Known s at (Says message) = (s.shake.owed ≡ Some message) × (owes s.link ≡ false)
+Known s at (Says message) = (s.handshake.owed ≡ Some message) × (owes s.link ≡ false)
 Known s at (Announces session) = Unannounced s session
 Known s at (Publishes session request) = (s.session ≡ Some session) × (slice_get s.pending (session.published - session.completed) ≡ Some request)
-Known s at Rests = ⊤
+Known s at Idles = ⊤
 
 module _ (s : ClientState) (at : Seen) where
   if_known : (b : Bool) (x y : ClientRule) → (b ≡ true → Known s at x) → (b ≡ false → Known s at y) → Known s at (if b then x else y)
@@ -35,7 +35,7 @@ module _ (s : ClientState) (at : Seen) where
 
   announces_known : (session : ClientSession) → s.session ≡ Some session → owes s.link ≡ false → Known s at (announces session)
   announces_known session is nothing =
-      if_known (nat_lt session.announced session.published) (Announces session) Rests
+      if_known (nat_lt session.announced session.published) (Announces session) Idles
       (λ some. record { is_open = is; some = more session.announced session.published some; nothing = nothing }) (λ _. tt)
 
   publishes_known : (session : ClientSession) (next : Option Request) → s.session ≡ Some session → owes s.link ≡ false
@@ -47,12 +47,12 @@ module _ (s : ClientState) (at : Seen) where
   session_known None is nothing = tt
   session_known (Some session) is nothing = publishes_known session (slice_get s.pending (session.published - session.completed)) is nothing refl
 
-  says_known : (owed : Option Message) → s.shake.owed ≡ owed → owes s.link ≡ false → Known s at (says s owed)
+  says_known : (owed : Option Message) → s.handshake.owed ≡ owed → owes s.link ≡ false → Known s at (says s owed)
   says_known None is nothing = session_known s.session refl nothing
   says_known (Some message) is nothing = (is, nothing)
 
   puts_known : Known s at (puts_first s)
-  puts_known = if_known (owes s.link) Puts (says s s.shake.owed) (λ is. is) (λ nothing. says_known s.shake.owed refl nothing)
+  puts_known = if_known (owes s.link) Puts (says s s.handshake.owed) (λ is. is) (λ nothing. says_known s.handshake.owed refl nothing)
 
   takes_known : (first : Option (List ℕ)) → at.first ≡ first → is_urgent s ≡ false → Known s at (takes_first first (puts_first s))
   takes_known None is calm = puts_known
@@ -76,11 +76,11 @@ says_on s None none = refl
 says_on s (Some message) none = absurd (cc)
 
 -- what is put where the link owes nothing
-pub puts_owed : (s : ClientState) → owes s.link ≡ false → puts_first s ≡ says s s.shake.owed
+pub puts_owed : (s : ClientState) → owes s.link ≡ false → puts_first s ≡ says s s.handshake.owed
 puts_owed s nothing = rw nothing refl
 
-pub puts_on : (s : ClientState) → owes s.link ≡ false → is_some s.shake.owed ≡ false → puts_first s ≡ in_session s s.session
-puts_on s nothing none = puts_owed s nothing ∙ says_on s s.shake.owed none
+pub puts_on : (s : ClientState) → owes s.link ≡ false → is_some s.handshake.owed ≡ false → puts_first s ≡ in_session s s.session
+puts_on s nothing none = puts_owed s nothing ∙ says_on s s.handshake.owed none
 
 -- what is known of this rule
 pub known : (s : ClientState) (at : Seen) (rule : ClientRule) → client_rule s at ≡ rule → Known s at rule

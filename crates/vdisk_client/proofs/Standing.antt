@@ -13,7 +13,7 @@ use Rattle.disk_model.specs.ClientStep.{ClientAdmits}
 use Rattle.disk_model.specs.DiskEvent.{Accepted, Admitted, Full, Refused}
 use Rattle.disk_model.specs.Offering.{client_offer}
 use Rattle.vdisk_client.proofs.Requests.{sound_push}
-use Rattle.vdisk_client.specs.Standing.{CountsStand, IsInitiators, SessionStands, Stands, TalkStands}
+use Rattle.vdisk_client.specs.Standing.{CountsStand, IsInitiators, SessionStands, Stands, TranscriptStands}
 
 pub not_true : (b : Bool) → b ≡ true → b ≡ false → ⊥
 not_true true is other = absurd (cc other)
@@ -28,32 +28,32 @@ begins : (role : Role) → role ≡ Initiator → Begins role
 begins Initiator is = record { phase = tt; down = refl }
 begins Responder is = absurd (cc is)
 
-pub joined_talk : (s : ClientState) → TalkStands s → TalkStands (joined_client s)
-joined_talk s talk =
-    let new : Begins s.link.role = begins s.link.role talk.link in
+pub joined_transcript : (s : ClientState) → TranscriptStands s → TranscriptStands (joined_client s)
+joined_transcript s transcript =
+    let new : Begins s.link.role = begins s.link.role transcript.link in
     record {
-      link = talk.link;
+      link = transcript.link;
       phase = new.phase;
       no_message = refl;
-      shake = talk.shake;
+      handshake = transcript.handshake;
       begun = λ up. absurd (not_true (is_established (first_phase s.link.role)) up new.down);
       opened = λ some. absurd (cc some);
       quiet = λ _. record { owed = refl; closed = refl; to_send = refl };
       holds = λ some. absurd (some refl);
-      owed = joined_owes s.shake talk.owed;
+      owed = joined_owes s.handshake transcript.owed;
     }
 
 pub joined_stands : (s : ClientState) → Stands s → Stands (joined_client s)
-joined_stands s stands = record { talk = joined_talk s stands.talk; requests = stands.requests; session = tt }
+joined_stands s stands = record { transcript = joined_transcript s stands.transcript; requests = stands.requests; session = tt }
 
 pub fresh_stands : (blocks slots : ℕ) → blocks ≤ 65536 → 2 ≤ slots → slots ≤ 256 → AreCookies (client_offer blocks slots).count (client_offer blocks slots).cookies
     → Stands (fresh_client blocks slots)
 fresh_stands blocks slots few_blocks some most form = record {
-  talk = record {
+  transcript = record {
     link = refl;
     phase = tt;
     no_message = refl;
-    shake = refl;
+    handshake = refl;
     begun = λ up. absurd (cc up);
     opened = λ some. absurd (cc some);
     quiet = λ _. record { owed = refl; closed = refl; to_send = refl };
@@ -94,7 +94,7 @@ pushed_stands : (s : ClientState) (request : Request) → Stands s → defect s.
 pushed_stands s request stands admitted fill room small =
     let long : length (s.pending ++ request ∷ []) ≡ length s.pending + 1 = length-append s.pending (request ∷ []) in
     record {
-      talk = stands.talk;
+      transcript = stands.transcript;
       requests = record {
         some_slots = stands.requests.some_slots;
         most_slots = stands.requests.most_slots;

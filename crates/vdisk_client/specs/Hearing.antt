@@ -23,7 +23,7 @@ AgreesIn (Some session) h = IsAgreed h
 
 -- a client that may hear a message
 pub record MayHear (s : ClientState) : Type 0 where
-  pub free : s.shake.owed ≡ None
-  pub agreed : AgreesIn s.session s.shake
+  pub free : s.handshake.owed ≡ None
+  pub agreed : AgreesIn s.session s.handshake
   pub requests : RequestsStand s
   pub session : SessionStands (length s.pending) s.next_id s.session

@@ -2,7 +2,7 @@
 use Rattle.std.specs.Prelude.{ℕ, List}
 use Rattle.disk_model.specs.WireLog.{wire_moved}
 use Rattle.disk_model.specs.ClientState.{ClientState}
-use Rattle.disk_model.specs.DiskEvent.{Asks, DiskEvent, OnWire, Rests, Turns, Works}
+use Rattle.disk_model.specs.DiskEvent.{Asks, DiskEvent, OnWire, Calms, Switches, Works}
 use Rattle.disk_model.specs.LaneState.{LaneState}
 use Rattle.disk_model.specs.LaneStep.{near_on_wire, near_worked}
 
@@ -12,5 +12,5 @@ client_moved s (OnWire event) client memory =
     record s { wire = wire_moved s.wire event; client = client; memory = memory; near = near_on_wire s event }
 client_moved s (Works event) client memory = record s { client = client; memory = memory; near = near_worked event s.near }
 client_moved s (Asks event) client memory = record s { client = client }
-client_moved s (Turns event) client memory = s
-client_moved s (Rests event) client memory = s
+client_moved s (Switches event) client memory = s
+client_moved s (Calms event) client memory = s

@@ -7,7 +7,7 @@ use Rattle.ldc_link.specs.LinkState.{LinkState, is_up}
 use Rattle.ldc_link.specs.Putting.{owes}
 use Rattle.disk_model.specs.ClientPutting.{client_opens, client_put, is_announcing, memory_put, session_behind}
 use Rattle.disk_model.specs.ClientState.{ClientSession, ClientState}
-use Rattle.disk_model.specs.EndPuts.{ComesUp, EndsOwn, EndsShake, Goes, PutKind, shake_behind}
+use Rattle.disk_model.specs.EndPuts.{ComesUp, EndsOwn, EndsHandshake, Goes, PutKind, handshake_behind}
 use Rattle.ldc_queue.specs.ChannelView.{ChannelView}
 use Rattle.vdisk_client.specs.Calls.{channel_after, sees}
 use Rattle.vdisk_client.specs.declared.answers.ClientOut.{ClientOut}
@@ -16,12 +16,12 @@ use Rattle.vdisk_client.specs.declared.answers.ClientOut.TheVariants as out
 -- of a link that was up or wasn't, as it is after a put: it comes up by RDX, goes on, or has ended a message
 abbrev pub kind_after : Bool → LinkState → Bool → PutKind
 kind_after was_up k own =
-    if is_up k then (if was_up then (if owes k then Goes else (if own then EndsOwn else EndsShake)) else ComesUp)
+    if is_up k then (if was_up then (if owes k then Goes else (if own then EndsOwn else EndsHandshake)) else ComesUp)
     else Goes
 
 -- the handshake and the session after it, and the memory, whose ring is cleared as the session opens
 abbrev pub noted : PutKind → ClientState → ClientState
-noted kind s = record s { shake = shake_behind kind s.shake; session = session_behind kind s }
+noted kind s = record s { handshake = handshake_behind kind s.handshake; session = session_behind kind s }
 
 abbrev pub cleared_if : Bool → ℕ → List ℕ → List ℕ
 cleared_if opens slots memory = if opens then put_at 0 (free_slots 128 slots) memory else memory
@@ -40,5 +40,5 @@ CanCount session = IfSome session (λ (x : ClientSession). x.announcing ≡ true
 
 -- a message that the link holds is the client's own or owed by the handshake, and an INFO can be counted
 pub record HoldsOwn (s : ClientState) : Type 0 where
-  pub owed : s.link.to_send ≢ [] → is_announcing s.session ≡ false → is_some s.shake.owed ≡ true
+  pub owed : s.link.to_send ≢ [] → is_announcing s.session ≡ false → is_some s.handshake.owed ≡ true
   pub infos : CanCount s.session

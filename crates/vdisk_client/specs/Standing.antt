@@ -52,19 +52,19 @@ pub record IsBegun (h : Handshake) : Type 0 where
 -- THE LINK AND THE HANDSHAKE, each an initiator's, the link without a whole message between calls: a handshake that
 -- began where the link is up, and is through where the session is open. A message that the link holds is the client's
 -- own, or the handshake owes it.
-pub record Talks (k : LinkState) (h : Handshake) (session : Option ClientSession) : Type 0 where
+pub record Transcripts (k : LinkState) (h : Handshake) (session : Option ClientSession) : Type 0 where
   pub link : k.role ≡ Initiator
   pub phase : IsInitiators k.phase
   pub no_message : k.whole ≡ None
-  pub shake : h.role ≡ Initiator
+  pub handshake : h.role ≡ Initiator
   pub begun : is_up k ≡ true → IsBegun h
   pub opened : is_some session ≡ true → h.phase ≡ Open
   pub quiet : is_up k ≡ false → IsQuiet k h session
   pub holds : k.to_send ≢ [] → is_announcing session ≡ false → is_some h.owed ≡ true
   pub owed : OwesWell h
 
-abbrev pub TalkStands : ClientState → Type 0
-TalkStands s = Talks s.link s.shake s.session
+abbrev pub TranscriptStands : ClientState → Type 0
+TranscriptStands s = Transcripts s.link s.handshake s.session
 
 -- THE REQUESTS: at most as many as the ring has slots, all within the disk, and the last of them with the id before
 -- the next
@@ -82,6 +82,6 @@ abbrev pub RequestsStand : ClientState → Type 0
 RequestsStand s = Waits s.blocks s.slots s.next_id s.ever_published s.pending
 
 pub record Stands (s : ClientState) : Type 0 where
-  pub talk : TalkStands s
+  pub transcript : TranscriptStands s
   pub requests : RequestsStand s
   pub session : SessionStands (length s.pending) s.next_id s.session

@@ -26,7 +26,7 @@ use vio_tag::Cause;
 #[derive(Drop)]
 pub(crate) struct ClientEnd {
     pub(crate) link: Link,
-    pub(crate) shake: Handshake,
+    pub(crate) handshake: Handshake,
     pub(crate) blocks: u64,
     pub(crate) slots: u32,
     /// The requests that were taken up and aren't done.
@@ -48,7 +48,7 @@ impl Model for ClientEnd {
 
     ghost view = { λ c. record {
       link = c.link;
-      shake = c.shake;
+      handshake = c.handshake;
       blocks = c.blocks;
       slots = c.slots;
       pending = c.pending.items;
@@ -81,7 +81,7 @@ impl ClientEnd {
         buffer.resize(MOST_BYTES as usize, 0)?;
         Ok(ClientEnd {
             link: Link::new(Role::Initiator),
-            shake: Handshake::new(Role::Initiator, &client_offer(blocks, slots)),
+            handshake: Handshake::new(Role::Initiator, &client_offer(blocks, slots)),
             blocks,
             slots,
             pending,
@@ -118,7 +118,7 @@ impl ClientEnd {
         ensures channel { channel.new ≡ configured_channel A channel.old }
     {
         self.link.join(channel, End::A);
-        self.shake.drop_session();
+        self.handshake.drop_session();
         self.session = None;
     }
 

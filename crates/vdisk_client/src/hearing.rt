@@ -2,7 +2,7 @@
 
 ghost use Rattle.std.specs.Prelude.{◌≡◌, ◌≢◌, ◌<◌, ◌≤◌, ℕ, List, None, Some, length, false, OnErr};
 ghost use Rattle.ldc_queue.specs.declared.end.ChannelState.TheVariants.{Up};
-ghost use Rattle.vio_handshake.specs.Rules.{shake_take};
+ghost use Rattle.vio_handshake.specs.Rules.{handshake_take};
 ghost use Rattle.vio_handshake.specs.declared.handshake.Phase.TheVariants.{Down};
 ghost use Rattle.disk_model.specs.Ranges.{range_length};
 
@@ -50,7 +50,7 @@ impl ClientEnd {
     /// Hears the message that is whole, if one is.
     fn hear(&mut self) -> Result<(), Cause>
         requires may { MayHear self.old }
-        requires begun { self.old.link.whole ≢ None → self.old.shake.phase ≢ Down }
+        requires begun { self.old.link.whole ≢ None → self.old.handshake.phase ≢ Down }
         ensures hears { HearsWhole self.old self.old.link.whole (take_of result self.new) }
         ensures refused { OnErr result (joined_client self.new ≡ joined_client self.old) }
     {
@@ -67,7 +67,7 @@ impl ClientEnd {
 
     fn hear_message(&mut self, message: &Message) -> Result<(), Cause>
         requires may { MayHear self.old }
-        requires begun { self.old.shake.phase ≢ Down }
+        requires begun { self.old.handshake.phase ≢ Down }
         ensures hears { take_of result self.new ≡ hears_message self.old self.old.session message.now }
         ensures refused { OnErr result (joined_client self.new ≡ joined_client self.old) }
     {
@@ -79,14 +79,14 @@ impl ClientEnd {
 
     /// In session the answers to an INFO are the client's own, and all else is the handshake's.
     fn hear_in_session(&mut self, session: OpenSession, message: &Message) -> Result<(), Cause>
-        requires agreed { IsAgreed self.old.shake }
-        requires free { self.old.shake.owed ≡ None }
+        requires agreed { IsAgreed self.old.handshake }
+        requires free { self.old.handshake.owed ≡ None }
         requires counts { CountsStand (length self.old.pending) self.old.next_id session }
         requires requests { RequestsStand self.old }
         ensures hears { take_of result self.new ≡ hears_message self.old (Some session) message.now }
         ensures refused { OnErr result (joined_client self.new ≡ joined_client self.old) }
     {
-        let agreed = match self.shake.session() {
+        let agreed = match self.handshake.session() {
             Some(agreed) => agreed,
             None => unreachable!(),
         };
@@ -112,12 +112,12 @@ impl ClientEnd {
     }
 
     fn hear_handshake(&mut self, message: &Message) -> Result<(), Cause>
-        requires begun { self.old.shake.phase ≢ Down }
-        requires free { self.old.shake.owed ≡ None }
-        ensures hears { take_of result self.new ≡ by_handshake self.old (shake_take self.old.shake message.now) }
+        requires begun { self.old.handshake.phase ≢ Down }
+        requires free { self.old.handshake.owed ≡ None }
+        ensures hears { take_of result self.new ≡ by_handshake self.old (handshake_take self.old.handshake message.now) }
         ensures refused { OnErr result (self.new ≡ self.old) }
     {
-        match self.shake.take(message) {
+        match self.handshake.take(message) {
             HsOut::Nothing | HsOut::Opens => Ok(()),
             HsOut::Fault(cause) => Err(cause),
         }
@@ -133,7 +133,7 @@ impl ClientEnd {
         start: u32,
         end: u32,
     ) -> Result<(), Cause>
-        requires own { own ≡ self.old.shake.draft.ident_own }
+        requires own { own ≡ self.old.handshake.draft.ident_own }
         requires counts { CountsStand (length self.old.pending) self.old.next_id session }
         requires requests { RequestsStand self.old }
         ensures hears { take_of result self.new ≡ takes_ack self.old session ident start end }

@@ -27,7 +27,7 @@ impl ClientEnd {
     ghost use Rattle.disk_model.specs.ClientPutting.{announcement, holding, is_announcing};
     ghost use Rattle.disk_model.specs.ClientRule.{Announces, Says, announces, in_session, publishes, puts_first, says};
     ghost use Rattle.disk_model.specs.ClientState.{first_id, opened_session};
-    ghost use Rattle.disk_model.specs.EndPuts.{EndsShake, ending, put_opens};
+    ghost use Rattle.disk_model.specs.EndPuts.{EndsHandshake, ending, put_opens};
     ghost use Rattle.vdisk_client.specs.Calls.{Steps, rule_of};
     ghost use Rattle.vdisk_client.specs.Putting.{CanCount, HoldsOwn, PutsHeld, cleared_if, kind_after, noted};
     ghost use Rattle.disk_requests.specs.Room.{HoldsRing};
@@ -41,7 +41,7 @@ impl ClientEnd {
         memory: &mut Memory,
         out: &mut ClientOut,
     )
-        requires owed { owes_message ≡ is_some self.old.shake.owed }
+        requires owed { owes_message ≡ is_some self.old.handshake.owed }
         requires up { channel.old.wire.end_a ≡ Up }
         requires rule { rule_of self.old channel.old ≡ puts_first self.old }
         requires stands { Stands self.old }
@@ -61,15 +61,15 @@ impl ClientEnd {
     /// Says the message that the handshake owes.
     fn say_owed(&mut self, channel: &mut Channel, memory: &mut Memory, out: &mut ClientOut)
         requires up { channel.old.wire.end_a ≡ Up }
-        requires rule { rule_of self.old channel.old ≡ says self.old self.old.shake.owed }
-        requires owed { is_some self.old.shake.owed ≡ true }
+        requires rule { rule_of self.old channel.old ≡ says self.old self.old.handshake.owed }
+        requires owed { is_some self.old.handshake.owed ≡ true }
         requires nothing { owes self.old.link ≡ false }
         requires stands { Stands self.old }
         requires room { HoldsRing self.old.slots memory.old }
         ensures step { Steps self.old channel.old memory.old out.new self.new channel.new memory.new }
         ensures same_length { length memory.new ≡ length memory.old }
     {
-        match self.shake.next() {
+        match self.handshake.next() {
             Some(message) => self.say(&message, channel, memory, out),
             None => unreachable!(),
         }
@@ -85,7 +85,7 @@ impl ClientEnd {
     )
         requires up { channel.old.wire.end_a ≡ Up }
         requires rule { rule_of self.old channel.old ≡ Says message.now }
-        requires owed { self.old.shake.owed ≡ Some message.now }
+        requires owed { self.old.handshake.owed ≡ Some message.now }
         requires nothing { owes self.old.link ≡ false }
         requires stands { Stands self.old }
         requires room { HoldsRing self.old.slots memory.old }
@@ -164,11 +164,11 @@ impl ClientEnd {
     /// The INFO of the slots from the first that isn't announced to the last that is published.
     fn announcement(&self, session: &OpenSession) -> Message
         requires slots { self.now.slots ≢ 0 }
-        requires open { self.now.shake.phase ≡ Open }
+        requires open { self.now.handshake.phase ≡ Open }
         requires some { session.now.announced < session.now.published }
         ensures { result ≡ announcement self.now session.now }
     {
-        let agreed = match self.shake.session() {
+        let agreed = match self.handshake.session() {
             Some(agreed) => agreed,
             None => unreachable!(),
         };
@@ -223,12 +223,12 @@ impl ClientEnd {
     /// whether the session opened.
     fn note_put(&mut self, was_up: bool, memory: &mut Memory) -> bool
         requires owed { was_up ≡ true → is_announcing self.old.session ≡ false
-            → is_some self.old.shake.owed ≡ true }
+            → is_some self.old.handshake.owed ≡ true }
         requires infos { CanCount self.old.session }
         requires requests { RequestsStand self.old }
         requires room { HoldsRing self.old.slots memory.old }
         ensures opens { result
-            ≡ put_opens (kind_after was_up self.old.link (is_announcing self.old.session)) self.old.shake }
+            ≡ put_opens (kind_after was_up self.old.link (is_announcing self.old.session)) self.old.handshake }
         ensures state { self.new ≡ noted (kind_after was_up self.old.link (is_announcing self.old.session)) self.old }
         ensures memory { memory.new ≡ cleared_if result self.old.slots memory.old }
         ensures same_length { length memory.new ≡ length memory.old }
@@ -239,17 +239,17 @@ impl ClientEnd {
         if was_up {
             return self.end_message(memory);
         }
-        self.shake.link_up();
+        self.handshake.link_up();
         false
     }
 
     /// The message that the link held was put whole: the client's own INFO, or what the handshake owed.
     fn end_message(&mut self, memory: &mut Memory) -> bool
-        requires owed { is_announcing self.old.session ≡ false → is_some self.old.shake.owed ≡ true }
+        requires owed { is_announcing self.old.session ≡ false → is_some self.old.handshake.owed ≡ true }
         requires infos { CanCount self.old.session }
         requires requests { RequestsStand self.old }
         requires room { HoldsRing self.old.slots memory.old }
-        ensures opens { result ≡ put_opens (ending true (is_announcing self.old.session)) self.old.shake }
+        ensures opens { result ≡ put_opens (ending true (is_announcing self.old.session)) self.old.handshake }
         ensures state { self.new ≡ noted (ending true (is_announcing self.old.session)) self.old }
         ensures memory { memory.new ≡ cleared_if result self.old.slots memory.old }
         ensures same_length { length memory.new ≡ length memory.old }
@@ -277,15 +277,15 @@ impl ClientEnd {
 
     /// What the handshake owed was put whole. The session may open by that.
     fn end_owed(&mut self, memory: &mut Memory) -> bool
-        requires owed { is_some self.old.shake.owed ≡ true }
+        requires owed { is_some self.old.handshake.owed ≡ true }
         requires requests { RequestsStand self.old }
         requires room { HoldsRing self.old.slots memory.old }
-        ensures opens { result ≡ put_opens EndsShake self.old.shake }
-        ensures state { self.new ≡ noted EndsShake self.old }
+        ensures opens { result ≡ put_opens EndsHandshake self.old.handshake }
+        ensures state { self.new ≡ noted EndsHandshake self.old }
         ensures memory { memory.new ≡ cleared_if result self.old.slots memory.old }
         ensures same_length { length memory.new ≡ length memory.old }
     {
-        let opens = self.shake.sent();
+        let opens = self.handshake.sent();
         if opens {
             self.open(memory);
         }

@@ -54,15 +54,15 @@ impl ClientEnd {
 
     /// Whether the handshake owes a message. A message is long, so it is fetched only where it is said.
     fn owes_message(&self) -> bool
-        ensures { result ≡ is_some self.now.shake.owed }
+        ensures { result ≡ is_some self.now.handshake.owed }
     {
-        self.shake.next().is_some()
+        self.handshake.next().is_some()
     }
 
     /// What goes before taking: a packet of the link's handshake, all of the handshake of the session, and in session
     /// a refusal, which is owed until it is put whole.
     fn is_urgent(&self, owes_message: bool) -> bool
-        requires { owes_message ≡ is_some self.now.shake.owed }
+        requires { owes_message ≡ is_some self.now.handshake.owed }
         ensures { result ≡ is_urgent self.now }
     {
         self.link.owes_control() || owes_message || (self.session.is_none() && self.link.owes())

@@ -12,11 +12,11 @@ use Rattle.ldc_queue.specs.declared.end.ChannelState.TheVariants as channel
 use Rattle.ldc_queue.specs.declared.end.End.TheVariants.{B}
 use Rattle.ldc_queue.specs.Wire.{configured, queue_behind, state_of as state_in, waiting_for}
 use Rattle.vio_handshake.specs.declared.handshake.Handshake.{Handshake}
-use Rattle.vio_handshake.specs.State.{begun, joined_shake, shake_up}
+use Rattle.vio_handshake.specs.State.{begun, joined_handshake, handshake_up}
 use Rattle.vio_tag.specs.declared.cause.Cause.{Cause}
 use Rattle.vio_tag.specs.declared.message.Message.{Message}
 use Rattle.vio_tag.specs.declared.message.TagFault.{TagFault}
-use Rattle.disk_model.specs.EndPuts.{shake_risen}
+use Rattle.disk_model.specs.EndPuts.{handshake_risen}
 use Rattle.disk_model.specs.ServerRule.{ServerRule, Takes, server_rule, takes_first}
 use Rattle.disk_model.specs.ServerState.{ServerState, joined_server}
 use Rattle.disk_model.specs.ServerStep.{ServerFails}
@@ -45,21 +45,21 @@ can_of (Some bytes) decoded r decodes can = can
 pub can_cleared : (r : ServerState) (k : LinkState) → CanHear r → CanHear (record r { link = k })
 can_cleared r k can = record { began = can.began; free = can.free; session = can.session }
 
-cond_link : (test : Bool) (s : ServerState) → (if test then record s { shake = shake_up s.shake } else s).link ≡ s.link
+cond_link : (test : Bool) (s : ServerState) → (if test then record s { handshake = handshake_up s.handshake } else s).link ≡ s.link
 cond_link true s = refl
 cond_link false s = refl
 
 pub risen_link : (was_up : Bool) (s : ServerState) → (risen was_up s).link ≡ s.link
 risen_link was_up s = cond_link (is_up s.link && not was_up) s
 
-role_joined : (h : Handshake) (role : Role) → h.role ≡ role → role ≡ Responder → joined_shake (begun role (joined_shake h)) ≡ joined_shake h
-role_joined h role is responds = ap (λ (r : Role). joined_shake (begun r (joined_shake h))) responds
+role_joined : (h : Handshake) (role : Role) → h.role ≡ role → role ≡ Responder → joined_handshake (begun role (joined_handshake h)) ≡ joined_handshake h
+role_joined h role is responds = ap (λ (r : Role). joined_handshake (begun r (joined_handshake h))) responds
 
-cond_joined : (test : Bool) (s : ServerState) → s.shake.role ≡ Responder → joined_server (if test then record s { shake = shake_up s.shake } else s) ≡ joined_server s
-cond_joined true s role = ap (λ (h : Handshake). record (joined_server s) { shake = h }) (role_joined s.shake s.shake.role refl role)
+cond_joined : (test : Bool) (s : ServerState) → s.handshake.role ≡ Responder → joined_server (if test then record s { handshake = handshake_up s.handshake } else s) ≡ joined_server s
+cond_joined true s role = ap (λ (h : Handshake). record (joined_server s) { handshake = h }) (role_joined s.handshake s.handshake.role refl role)
 cond_joined false s role = refl
 
-pub risen_joined : (was_up : Bool) (s : ServerState) → s.shake.role ≡ Responder → joined_server (risen was_up s) ≡ joined_server s
+pub risen_joined : (was_up : Bool) (s : ServerState) → s.handshake.role ≡ Responder → joined_server (risen was_up s) ≡ joined_server s
 risen_joined was_up s role = cond_joined (is_up s.link && not was_up) s role
 
 pub on_err_then : (answer : Result Bool Cause) (P Q : Type 0) → (P → Q) → OnErr answer P → OnErr answer Q
@@ -68,11 +68,11 @@ on_err_then (Err cause) P Q so holds = so holds
 
 -- THE PACKET
 cond_risen : (test : Bool) (s : ServerState)
-    → (if test then record s { shake = shake_up s.shake } else s) ≡ record s { shake = if test then (shake_up s.shake) else s.shake }
+    → (if test then record s { handshake = handshake_up s.handshake } else s) ≡ record s { handshake = if test then (handshake_up s.handshake) else s.handshake }
 cond_risen true s = refl
 cond_risen false s = refl
 
-risen_is : (s : ServerState) (k : LinkState) → risen (is_up s.link) (record s { link = k }) ≡ record s { link = k; shake = shake_risen s.link k s.shake }
+risen_is : (s : ServerState) (k : LinkState) → risen (is_up s.link) (record s { link = k }) ≡ record s { link = k; handshake = handshake_risen s.link k s.handshake }
 risen_is s k = cond_risen (is_up k && not (is_up s.link)) (record s { link = k })
 
 takes_packet : (s : ServerState) (c : ChannelView) (packet : List ℕ) → server_rule s (sees c) ≡ takes_first (sees c).first

@@ -4,7 +4,7 @@ pub mod LinkSteps
 pub mod PutSteps
 pub mod RuleFacts
 pub mod RuleOrder
-pub mod ShakeSteps
+pub mod HandshakeSteps
 pub mod SlotSteps
 pub mod StandKept
 pub mod StandPuts

@@ -15,12 +15,12 @@ use Rattle.ldc_packet.specs.declared.packet.Subtype.TheVariants.{Ack, Info, Nack
 use Rattle.ldc_queue.specs.Fragments.{Fragment}
 use Rattle.vio_tag.specs.declared.cause.Cause.{Cause}
 use Rattle.vio_tag.specs.declared.cause.Cause.TheVariants as cause
-use Rattle.vdisk_server.specs.Standing.{Answers}
+use Rattle.vdisk_server.specs.Standing.{AnswersLink}
 
 -- its role stays, what is to be sent stays, it stays up, and a message is whole only where it is up
 pub record LinkTook (k t : LinkState) : Type 0 where
   pub role : t.role ≡ k.role
-  pub phase : Answers k.phase → Answers t.phase
+  pub phase : AnswersLink k.phase → AnswersLink t.phase
   pub to_send : t.to_send ≡ k.to_send
   pub stays : is_up k ≡ true → is_up t ≡ true
   pub whole : is_up t ≡ false → t.whole ≡ k.whole
@@ -30,18 +30,18 @@ TookBy k (Heard t) = LinkTook k t
 TookBy k (Unheard cause) = ⊤
 
 abbrev pub PhaseWent : LinkPhase → Result LinkPhase Cause → Type 0
-PhaseWent p (Ok q) = (Answers p → Answers q) × (is_established p ≡ true → is_established q ≡ true)
+PhaseWent p (Ok q) = (AnswersLink p → AnswersLink q) × (is_established p ≡ true → is_established q ≡ true)
 PhaseWent p (Err cause) = ⊤
 
 cond_went : (p : LinkPhase) (test : Bool) (x y : Result LinkPhase Cause) → PhaseWent p x → PhaseWent p y → PhaseWent p (if test then x else y)
 cond_went p true x y one other = one
 cond_went p false x y one other = other
 
-cond_answers : (test : Bool) (x y : LinkPhase) → Answers x → Answers y → Answers (if test then x else y)
+cond_answers : (test : Bool) (x y : LinkPhase) → AnswersLink x → AnswersLink y → AnswersLink (if test then x else y)
 cond_answers true x y one other = one
 cond_answers false x y one other = other
 
-answer_answers : (major : ℕ) → Answers (answer_to major)
+answer_answers : (major : ℕ) → AnswersLink (answer_to major)
 answer_answers major =
     cond_answers (nat_eq major 1) link.OwesVersAck (if nat_eq major 0 then link.OwesVersNack 0 else link.OwesVersNack 1) tt
     (cond_answers (nat_eq major 0) (link.OwesVersNack 0) (link.OwesVersNack 1) tt tt)

@@ -16,7 +16,7 @@ use Rattle.ldc_queue.specs.ChannelView.{ChannelView}
 use Rattle.vio_handshake.specs.declared.handshake.Handshake.{Handshake}
 use Rattle.vio_handshake.specs.Rules.{opens_by_put}
 use Rattle.vio_tag.specs.declared.message.Message.{Message}
-use Rattle.disk_model.specs.EndPuts.{ComesUp, EndsOwn, EndsShake, Goes, PutKind, ending, kind_in, put_opens, shake_behind}
+use Rattle.disk_model.specs.EndPuts.{ComesUp, EndsOwn, EndsHandshake, Goes, PutKind, ending, kind_in, put_opens, handshake_behind}
 use Rattle.disk_model.specs.ServerPutting.{server_holds, server_kind, server_opens, server_put, session_behind}
 use Rattle.disk_model.specs.ServerRule.{server_rule}
 use Rattle.disk_model.specs.ServerState.{ServerState}
@@ -24,7 +24,7 @@ use Rattle.descriptor_work.specs.declared.answers.ServerOut.{ServerOut}
 use Rattle.descriptor_work.specs.declared.answers.ServerOut.TheVariants as out
 use Rattle.vdisk_server.specs.Answering.{StepsAlone, sees}
 use Rattle.vdisk_server.specs.Putting.{PutsNext, PutsRightly, message_put, noted}
-use Rattle.vdisk_server.specs.Standing.{Answers}
+use Rattle.vdisk_server.specs.Standing.{AnswersLink}
 
 -- WHAT IS PUT
 put_next : (packet : Option Packet) (behind : LinkState) (said : Packet) (k : LinkState) → with_link packet behind ≡ Some (said, k) → k ≡ behind
@@ -49,7 +49,7 @@ part_ends k message =
           ∙ sym (ap (λ (xs : List ℕ). not (is_some (part_owed k xs))) (drop_all 56 message few))
     ]
 
-pub kind_noted : (phase : LinkPhase) (k : LinkState) (own : Bool) → k.phase ≡ phase → Answers phase
+pub kind_noted : (phase : LinkPhase) (k : LinkState) (own : Bool) → k.phase ≡ phase → AnswersLink phase
     → kind_in phase k own ≡ ending (is_established phase && not (owes (behind_put k))) own
 kind_noted link.OwesVersInfo k own is answers = absurd answers
 kind_noted link.AwaitsVersAck k own is answers = absurd answers
@@ -76,37 +76,37 @@ kind_noted link.Established k own is answers =
 
 ended : (test : Bool) (owed : Option Message) (t : ServerState)
     → (if test then message_put (is_some owed) t else t)
-    ≡ record t { shake = shake_behind (ending test (is_none owed)) t.shake; session = session_behind (ending test (is_none owed)) t.session }
+    ≡ record t { handshake = handshake_behind (ending test (is_none owed)) t.handshake; session = session_behind (ending test (is_none owed)) t.session }
 ended true None t = refl
 ended true (Some message) t = refl
 ended false owed t = refl
 
-message_link : (test shake : Bool) (s : ServerState) → (if test then message_put shake s else s).link ≡ s.link
+message_link : (test handshake : Bool) (s : ServerState) → (if test then message_put handshake s else s).link ≡ s.link
 message_link true true s = refl
 message_link true false s = refl
-message_link false shake s = refl
+message_link false handshake s = refl
 
 pub put_is : (s : ServerState) (k : LinkState) (bytes : List ℕ) → PutsRightly s → PutsPacket s.link bytes k
     → noted (is_up s.link) (record s { link = k }) ≡ server_put s
 put_is s k bytes rightly puts =
     let behind : k ≡ behind_put s.link = put_behind s.link k bytes puts in
     subst (λ (k : LinkState). noted (is_up s.link) (record s { link = k }) ≡ server_put s) (sym behind)
-    (ended (is_up s.link && not (owes (behind_put s.link))) s.shake.owed (record s { link = behind_put s.link })
-    ∙ ap (λ (kind : PutKind). record s { link = behind_put s.link; shake = shake_behind kind s.shake; session = session_behind kind s.session })
-    (sym (kind_noted s.link.phase s.link (is_none s.shake.owed) refl rightly.phase)))
+    (ended (is_up s.link && not (owes (behind_put s.link))) s.handshake.owed (record s { link = behind_put s.link })
+    ∙ ap (λ (kind : PutKind). record s { link = behind_put s.link; handshake = handshake_behind kind s.handshake; session = session_behind kind s.session })
+    (sym (kind_noted s.link.phase s.link (is_none s.handshake.owed) refl rightly.phase)))
 
 pub noted_link : (test : Bool) (s : ServerState) → (noted test s).link ≡ s.link
-noted_link test s = message_link (test && not (owes s.link)) (is_some s.shake.owed) s
+noted_link test s = message_link (test && not (owes s.link)) (is_some s.handshake.owed) s
 
 -- a responder's session never opens by what it puts
 role_opens : (kind : PutKind) (h : Handshake) (role : Role) → h.role ≡ role → role ≡ Responder → put_opens kind h ≡ false
 role_opens Goes h role is responds = refl
 role_opens ComesUp h role is responds = refl
 role_opens EndsOwn h role is responds = refl
-role_opens EndsShake h role is responds = ap (λ (r : Role). opens_by_put r h.phase) (is ∙ responds)
+role_opens EndsHandshake h role is responds = ap (λ (r : Role). opens_by_put r h.phase) (is ∙ responds)
 
 pub opens_not : (s : ServerState) → PutsRightly s → false ≡ server_opens s
-opens_not s rightly = sym (role_opens (server_kind s) s.shake s.shake.role refl rightly.role)
+opens_not s rightly = sym (role_opens (server_kind s) s.handshake s.handshake.role refl rightly.role)
 
 room_is : (n entries : ℕ) → n + 1 < entries → nat_lt (n + 1) entries ≡ true
 room_is n entries room = lt-ltb (n + 1) entries room

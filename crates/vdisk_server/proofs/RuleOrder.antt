@@ -18,7 +18,7 @@ rule_joins s at down = rw down refl
 pub rule_puts : (s : ServerState) (at : Seen) → is_configured at.state ≡ true → owes s.link ≡ true → server_rule s at ≡ Puts
 rule_puts s at up more = rw (up, more) refl
 
-behind_link : (s : ServerState) (at : Seen) → is_configured at.state ≡ true → owes s.link ≡ false → server_rule s at ≡ says s s.shake.owed at
+behind_link : (s : ServerState) (at : Seen) → is_configured at.state ≡ true → owes s.link ≡ false → server_rule s at ≡ says s s.handshake.owed at
 behind_link s at up free = rw (up, free) refl
 
 -- an answer that is owed is said, and else the range is in work, or a packet is taken
@@ -49,7 +49,7 @@ first_says s None at message is = session_says s s.session at message is
 
 pub rule_says : (s : ServerState) (at : Seen) (message : Message) → is_configured at.state ≡ true → owes s.link ≡ false
     → owed_message s ≡ Some message → server_rule s at ≡ Says message
-rule_says s at message up free owed = behind_link s at up free ∙ first_says s s.shake.owed at message owed
+rule_says s at message up free owed = behind_link s at up free ∙ first_says s s.handshake.owed at message owed
 
 range_serves : (s : ServerState) (session held : ServerSession) (range : Option SlotRange) (at : Seen)
     → answer_owed s session range ≡ None → ranged session range ≡ Some held → in_range s session range at ≡ serves held s.work
@@ -69,7 +69,7 @@ first_serves s None held at none is = session_serves s s.session held at none is
 
 pub rule_serves : (s : ServerState) (at : Seen) (held : ServerSession) → is_configured at.state ≡ true → owes s.link ≡ false
     → owed_message s ≡ None → in_hand s.session ≡ Some held → server_rule s at ≡ serves held s.work
-rule_serves s at held up free none is = behind_link s at up free ∙ first_serves s s.shake.owed held at none is
+rule_serves s at held up free none is = behind_link s at up free ∙ first_serves s s.handshake.owed held at none is
 
 range_takes : (s : ServerState) (session : ServerSession) (range : Option SlotRange) (at : Seen)
     → ranged session range ≡ None → in_range s session range at ≡ takes_first at.first
@@ -87,7 +87,7 @@ first_takes s None at none is = session_takes s s.session at is
 
 pub rule_takes : (s : ServerState) (at : Seen) → is_configured at.state ≡ true → owes s.link ≡ false
     → owed_message s ≡ None → in_hand s.session ≡ None → server_rule s at ≡ takes_first at.first
-rule_takes s at up free none is = behind_link s at up free ∙ first_takes s s.shake.owed at none is
+rule_takes s at up free none is = behind_link s at up free ∙ first_takes s s.handshake.owed at none is
 
 range_hand : (session : ServerSession) (range : Option SlotRange) (held : ServerSession) → ranged session range ≡ Some held → Some session ≡ Some held
 range_hand session None held is = absurd (cc)

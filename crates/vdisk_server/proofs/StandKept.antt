@@ -9,9 +9,9 @@ use Rattle.ldc_packet.specs.declared.packet.Subtype.{Subtype}
 use Rattle.ldc_packet.specs.declared.packet.Subtype.TheVariants.{Info}
 use Rattle.vio_handshake.specs.declared.handshake.Handshake.{Handshake}
 use Rattle.vio_handshake.specs.declared.handshake.Phase.{Phase}
-use Rattle.vio_handshake.specs.declared.handshake.Phase.TheVariants as shake
-use Rattle.vio_handshake.specs.Rules.{Faults, Goes as GoesShake, GoesOpen, ShakeTake, shake_take, sid_fault}
-use Rattle.vio_handshake.specs.State.{shake_up}
+use Rattle.vio_handshake.specs.declared.handshake.Phase.TheVariants as handshake
+use Rattle.vio_handshake.specs.Rules.{Faults, Goes as GoesHandshake, GoesOpen, HandshakeTake, handshake_take, sid_fault}
+use Rattle.vio_handshake.specs.State.{handshake_up}
 use Rattle.vio_tag.specs.declared.cause.Cause.{Cause}
 use Rattle.vio_tag.specs.declared.cause.Cause.TheVariants as the_cause
 use Rattle.vio_tag.specs.declared.message.Message.{Message}
@@ -20,20 +20,20 @@ use Rattle.vio_tag.specs.declared.message.MsgBody.TheVariants.{DringData}
 use Rattle.vio_tag.specs.declared.message.TagFault.{TagFault}
 use Rattle.vio_tag.specs.Decoding.{Decodes}
 use Rattle.vio_tag.specs.Form.{IsWellFormed}
-use Rattle.disk_model.specs.EndPuts.{shake_risen}
+use Rattle.disk_model.specs.EndPuts.{handshake_risen}
 use Rattle.disk_model.specs.Ranges.{is_other}
 use Rattle.disk_model.specs.ServerState.{ServerSession, ServerState, SlotRange, Work, joined_server, opened_server}
 use Rattle.disk_model.specs.ServerTaking.{GoesOn, HearsLink, HearsWhole, Resets, ServerTake, ServerTakes, asked, by_handshake, hears_message, in_session, place_of, reads, sid_first, takes_info}
-use Rattle.vdisk_server.specs.Standing.{Answers, Began, IsDisk, IsOpen, IsQuiet, ShakeStands, Stands, WorkIn}
+use Rattle.vdisk_server.specs.Standing.{AnswersLink, Began, IsDisk, IsOpen, IsQuiet, HandshakeStands, Stands, WorkIn}
 use Rattle.vdisk_server.proofs.LinkSteps.{LinkTook, link_took}
-use Rattle.vdisk_server.proofs.ShakeSteps.{ShakeWent, goes_open, goes_stands, opens_open, opens_stands, shake_joined, shake_rises, up_is}
+use Rattle.vdisk_server.proofs.HandshakeSteps.{HandshakeWent, goes_open, goes_stands, opens_open, opens_stands, handshake_joined, handshake_rises, up_is}
 use Rattle.vdisk_server.proofs.StandSteps.{either}
 
 -- small facts of constructors
 both_ways : (b : Bool) → b ≡ true → b ≡ false → ⊥
 both_ways b yes_it_is no_it_is = cc
 
-version_down : (phase : Phase) → phase ≡ shake.Version → phase ≡ shake.Down → ⊥
+version_down : (phase : Phase) → phase ≡ handshake.Version → phase ≡ handshake.Down → ⊥
 version_down phase version down = cc
 
 on_state : (s t : ServerState) (one other : Bool) → GoesOn s one ≡ GoesOn t other → s ≡ t
@@ -57,8 +57,8 @@ not_up Initiator is up = cc
 pub stands_joined : (s : ServerState) → Stands s → Stands (joined_server s)
 stands_joined s stands = record {
   disk = stands.disk;
-  link = record { role = stands.link.role; phase = subst (λ (r : Role). Answers (first_phase r)) (sym stands.link.role) tt; seen = refl };
-  shake = shake_joined s.blocks s.slots s.shake stands.shake;
+  link = record { role = stands.link.role; phase = subst (λ (r : Role). AnswersLink (first_phase r)) (sym stands.link.role) tt; seen = refl };
+  handshake = handshake_joined s.blocks s.slots s.handshake stands.handshake;
   began = record {
     down = λ down. record { phase = refl; owed = refl; to_send = refl; session = refl };
     up = λ up. absurd (not_up s.link.role stands.link.role up);
@@ -74,50 +74,50 @@ work_none s work is = subst (λ (w : Option Work). WorkIn s w) (sym is) tt
 pub record Rose (r : ServerState) : Type 0 where
   pub disk : IsDisk r.blocks r.slots
   pub role : r.link.role ≡ Responder
-  pub phase : Answers r.link.phase
-  pub shake_stands : ShakeStands r.blocks r.slots r.shake
+  pub phase : AnswersLink r.link.phase
+  pub handshake_stands : HandshakeStands r.blocks r.slots r.handshake
   pub began : Began r
-  pub session_open : IsOpen r.session r.shake.phase
+  pub session_open : IsOpen r.session r.handshake.phase
   pub none : r.work ≡ None
 
 with_seen : (r : ServerState) → Rose r → r.link.whole ≡ None → Stands r
 with_seen r rose seen = record {
   disk = rose.disk;
   link = record { role = rose.role; phase = rose.phase; seen = seen };
-  shake = rose.shake_stands;
+  handshake = rose.handshake_stands;
   began = rose.began;
   session = rose.session_open;
   work = work_none r r.work rose.none;
 }
 
 -- the link was up already, or comes up, or doesn't
-rose_up : (s : ServerState) (k : LinkState) (h : Handshake) → Stands s → LinkTook s.link k → s.work ≡ None → is_up s.link ≡ true → h ≡ s.shake
-    → Rose (record s { link = k; shake = h })
+rose_up : (s : ServerState) (k : LinkState) (h : Handshake) → Stands s → LinkTook s.link k → s.work ≡ None → is_up s.link ≡ true → h ≡ s.handshake
+    → Rose (record s { link = k; handshake = h })
 rose_up s k h stands took none was is =
     let up : is_up k ≡ true = took.stays was in
     record {
       disk = stands.disk;
       role = took.role ∙ stands.link.role;
       phase = took.phase stands.link.phase;
-      shake_stands = subst (λ (g : Handshake). ShakeStands s.blocks s.slots g) (sym is) stands.shake;
+      handshake_stands = subst (λ (g : Handshake). HandshakeStands s.blocks s.slots g) (sym is) stands.handshake;
       began = record {
         down = λ down. absurd (both_ways (is_up k) up down);
-        up = λ _. subst (λ (g : Handshake). g.phase ≢ shake.Down) (sym is) (stands.began.up was);
+        up = λ _. subst (λ (g : Handshake). g.phase ≢ handshake.Down) (sym is) (stands.began.up was);
       };
       session_open = subst (λ (g : Handshake). IsOpen s.session g.phase) (sym is) stands.session;
       none = none;
     }
 
-rose_now : (s : ServerState) (k : LinkState) (h : Handshake) → Stands s → LinkTook s.link k → s.work ≡ None → is_up s.link ≡ false → is_up k ≡ true → h ≡ shake_up s.shake
-    → Rose (record s { link = k; shake = h })
+rose_now : (s : ServerState) (k : LinkState) (h : Handshake) → Stands s → LinkTook s.link k → s.work ≡ None → is_up s.link ≡ false → is_up k ≡ true → h ≡ handshake_up s.handshake
+    → Rose (record s { link = k; handshake = h })
 rose_now s k h stands took none was up is =
     let quiet : IsQuiet s = stands.began.down was in
-    let version : h.phase ≡ shake.Version = ap (λ (g : Handshake). g.phase) (is ∙ up_is s.shake stands.shake.role) in
+    let version : h.phase ≡ handshake.Version = ap (λ (g : Handshake). g.phase) (is ∙ up_is s.handshake stands.handshake.role) in
     record {
       disk = stands.disk;
       role = took.role ∙ stands.link.role;
       phase = took.phase stands.link.phase;
-      shake_stands = subst (λ (g : Handshake). ShakeStands s.blocks s.slots g) (sym is) (shake_rises s.blocks s.slots s.shake stands.shake);
+      handshake_stands = subst (λ (g : Handshake). HandshakeStands s.blocks s.slots g) (sym is) (handshake_rises s.blocks s.slots s.handshake stands.handshake);
       began = record {
         down = λ down. absurd (both_ways (is_up k) up down);
         up = λ _ down. version_down h.phase version down;
@@ -126,15 +126,15 @@ rose_now s k h stands took none was up is =
       none = none;
     }
 
-rose_not : (s : ServerState) (k : LinkState) (h : Handshake) → Stands s → LinkTook s.link k → s.work ≡ None → is_up s.link ≡ false → is_up k ≡ false → h ≡ s.shake
-    → Rose (record s { link = k; shake = h })
+rose_not : (s : ServerState) (k : LinkState) (h : Handshake) → Stands s → LinkTook s.link k → s.work ≡ None → is_up s.link ≡ false → is_up k ≡ false → h ≡ s.handshake
+    → Rose (record s { link = k; handshake = h })
 rose_not s k h stands took none was down is =
     let quiet : IsQuiet s = stands.began.down was in
     record {
       disk = stands.disk;
       role = took.role ∙ stands.link.role;
       phase = took.phase stands.link.phase;
-      shake_stands = subst (λ (g : Handshake). ShakeStands s.blocks s.slots g) (sym is) stands.shake;
+      handshake_stands = subst (λ (g : Handshake). HandshakeStands s.blocks s.slots g) (sym is) stands.handshake;
       began = record {
         down = λ _. record {
           phase = ap (λ (g : Handshake). g.phase) is ∙ quiet.phase;
@@ -148,46 +148,46 @@ rose_not s k h stands took none was down is =
       none = none;
     }
 
-rose : (s : ServerState) (k : LinkState) → Stands s → LinkTook s.link k → s.work ≡ None → Rose (record s { link = k; shake = shake_risen s.link k s.shake })
+rose : (s : ServerState) (k : LinkState) → Stands s → LinkTook s.link k → s.work ≡ None → Rose (record s { link = k; handshake = handshake_risen s.link k s.handshake })
 rose s k stands took none =
     elim (either (is_up s.link)) [
-      | inl was ↦ rose_up s k (shake_risen s.link k s.shake) stands took none was (rw (was, took.stays was) refl)
+      | inl was ↦ rose_up s k (handshake_risen s.link k s.handshake) stands took none was (rw (was, took.stays was) refl)
       | inr was ↦ elim (either (is_up k)) [
-        | inl up ↦ rose_now s k (shake_risen s.link k s.shake) stands took none was up (rw (up, was) refl)
-        | inr down ↦ rose_not s k (shake_risen s.link k s.shake) stands took none was down (rw down refl)
+        | inl up ↦ rose_now s k (handshake_risen s.link k s.handshake) stands took none was up (rw (up, was) refl)
+        | inr down ↦ rose_not s k (handshake_risen s.link k s.handshake) stands took none was down (rw down refl)
       ]
     ]
 
 -- a message of the handshake
-open_goes : (session : Option ServerSession) (h t : Handshake) (message : Message) → IsOpen session h.phase → shake_take h message ≡ GoesShake t → IsOpen session t.phase
+open_goes : (session : Option ServerSession) (h t : Handshake) (message : Message) → IsOpen session h.phase → handshake_take h message ≡ GoesHandshake t → IsOpen session t.phase
 open_goes None h t message opened is = tt
 open_goes (Some session) h t message opened is = goes_open h t message opened is
 
-by_shake : (s t : ServerState) (take : ShakeTake) (message : Message) (opens : Bool) → Stands s → is_up s.link ≡ true → s.work ≡ None → IsWellFormed message
-    → shake_take s.shake message ≡ take → by_handshake s take ≡ GoesOn t opens → Stands t
-by_shake s t (GoesShake h) message opens stands up none form is on =
-    let went : ShakeWent s.blocks s.slots s.shake h = goes_stands s.blocks s.slots s.shake h message stands.shake form is in
-    subst (λ (x : ServerState). Stands x) (on_state (record s { shake = h }) t false opens on)
+by_handshake_take : (s t : ServerState) (take : HandshakeTake) (message : Message) (opens : Bool) → Stands s → is_up s.link ≡ true → s.work ≡ None → IsWellFormed message
+    → handshake_take s.handshake message ≡ take → by_handshake s take ≡ GoesOn t opens → Stands t
+by_handshake_take s t (GoesHandshake h) message opens stands up none form is on =
+    let went : HandshakeWent s.blocks s.slots s.handshake h = goes_stands s.blocks s.slots s.handshake h message stands.handshake form is in
+    subst (λ (x : ServerState). Stands x) (on_state (record s { handshake = h }) t false opens on)
     (record {
       disk = stands.disk;
       link = record { role = stands.link.role; phase = stands.link.phase; seen = stands.link.seen };
-      shake = went.stands;
+      handshake = went.stands;
       began = record { down = λ down. absurd (both_ways (is_up s.link) up down); up = λ up. went.began (stands.began.up up) };
-      session = open_goes s.session s.shake h message stands.session is;
-      work = work_none (record s { shake = h }) s.work none;
+      session = open_goes s.session s.handshake h message stands.session is;
+      work = work_none (record s { handshake = h }) s.work none;
     })
-by_shake s t (GoesOpen h) message opens stands up none form is on =
-    let went : ShakeWent s.blocks s.slots s.shake h = opens_stands s.blocks s.slots s.shake h message stands.shake form is in
-    subst (λ (x : ServerState). Stands x) (on_state (record s { shake = h; session = Some opened_server }) t true opens on)
+by_handshake_take s t (GoesOpen h) message opens stands up none form is on =
+    let went : HandshakeWent s.blocks s.slots s.handshake h = opens_stands s.blocks s.slots s.handshake h message stands.handshake form is in
+    subst (λ (x : ServerState). Stands x) (on_state (record s { handshake = h; session = Some opened_server }) t true opens on)
     (record {
       disk = stands.disk;
       link = record { role = stands.link.role; phase = stands.link.phase; seen = stands.link.seen };
-      shake = went.stands;
+      handshake = went.stands;
       began = record { down = λ down. absurd (both_ways (is_up s.link) up down); up = λ up. went.began (stands.began.up up) };
-      session = opens_open s.shake h message is;
-      work = work_none (record s { shake = h; session = Some opened_server }) s.work none;
+      session = opens_open s.handshake h message is;
+      work = work_none (record s { handshake = h; session = Some opened_server }) s.work none;
     })
-by_shake s t (Faults cause) message opens stands up none form is on = absurd (resets_not cause t opens on)
+by_handshake_take s t (Faults cause) message opens stands up none form is on = absurd (resets_not cause t opens on)
 
 -- an INFO of a range
 info_goes : (a b c d : Bool) (w x y z : Cause) (u t : ServerState) (opens : Bool)
@@ -202,15 +202,15 @@ by_info : (s t : ServerState) (session : ServerSession) (ident : ℕ) (range : S
     → takes_info s session ident range ≡ GoesOn t opens → Stands t
 by_info s t session ident range opens stands up none held is =
     subst (λ (x : ServerState). Stands x)
-    (info_goes (is_other s.shake.draft.ident_peer ident) (is_other session.seq range.seq) (is_other (place_of s session) range.start) (nat_le s.shake.draft.peer_slots range.end)
-    (the_cause.Ident s.shake.draft.ident_peer ident) (the_cause.Seq session.seq range.seq) (the_cause.Slot (place_of s session) range.start) (the_cause.RangeEnd range.end)
+    (info_goes (is_other s.handshake.draft.ident_peer ident) (is_other session.seq range.seq) (is_other (place_of s session) range.start) (nat_le s.handshake.draft.peer_slots range.end)
+    (the_cause.Ident s.handshake.draft.ident_peer ident) (the_cause.Seq session.seq range.seq) (the_cause.Slot (place_of s session) range.start) (the_cause.RangeEnd range.end)
     (asked s session range) t opens is)
     (record {
       disk = stands.disk;
       link = record { role = stands.link.role; phase = stands.link.phase; seen = stands.link.seen };
-      shake = stands.shake;
+      handshake = stands.handshake;
       began = record { down = λ down. absurd (both_ways (is_up s.link) up down); up = stands.began.up };
-      session = subst (λ (x : Option ServerSession). IsOpen x s.shake.phase) held stands.session;
+      session = subst (λ (x : Option ServerSession). IsOpen x s.handshake.phase) held stands.session;
       work = work_none (asked s session range) s.work none;
     })
 
@@ -220,7 +220,7 @@ in_session_stands : (s t : ServerState) (session : ServerSession) (message : Mes
 in_session_stands s t session message Info (DringData seq ident start end state) opens stands up none held form is =
     by_info s t session ident (record { seq = seq; start = start; end = end; state = state }) opens stands up none held is
 in_session_stands s t session message subtype body opens stands up none held form is =
-    by_shake s t (shake_take s.shake message) message opens stands up none form refl is
+    by_handshake_take s t (handshake_take s.handshake message) message opens stands up none form refl is
 
 sid_stands : (s t : ServerState) (fault : Option Cause) (take : ServerTake) (opens : Bool) → (take ≡ GoesOn t opens → Stands t) → sid_first fault take ≡ GoesOn t opens → Stands t
 sid_stands s t None take opens so is = so is
@@ -228,9 +228,9 @@ sid_stands s t (Some cause) take opens so is = absurd (resets_not cause t opens 
 
 hears_stands : (s t : ServerState) (session : Option ServerSession) (message : Message) (opens : Bool) → Stands s → is_up s.link ≡ true → s.work ≡ None → s.session ≡ session
     → IsWellFormed message → hears_message s session message ≡ GoesOn t opens → Stands t
-hears_stands s t None message opens stands up none held form is = by_shake s t (shake_take s.shake message) message opens stands up none form refl is
+hears_stands s t None message opens stands up none held form is = by_handshake_take s t (handshake_take s.handshake message) message opens stands up none form refl is
 hears_stands s t (Some session) message opens stands up none held form is =
-    sid_stands s t (sid_fault s.shake.sid message.sid) (in_session s session message message.subtype message.body) opens
+    sid_stands s t (sid_fault s.handshake.sid message.sid) (in_session s session message message.subtype message.body) opens
     (in_session_stands s t session message message.subtype message.body opens stands up none held form) is
 
 reads_stands : (s t : ServerState) (decoded : Result Message TagFault) (bytes : List ℕ) (opens : Bool) → Stands s → is_up s.link ≡ true → s.work ≡ None
@@ -248,7 +248,7 @@ whole_stands r t (Some bytes) opens rose_r is up (decoded, decodes, on) =
       disk = rose_r.disk;
       role = rose_r.role;
       phase = rose_r.phase;
-      shake_stands = rose_r.shake_stands;
+      handshake_stands = rose_r.handshake_stands;
       began = record {
         down = λ down. absurd (both_ways (is_up r.link) (up (λ none. some_not bytes none)) down);
         up = rose_r.began.up;
@@ -262,7 +262,7 @@ link_stands : (s t : ServerState) (packet : List ℕ) (take : LinkTake) (opens :
     → HearsLink s take (GoesOn t opens) → Stands t
 link_stands s t packet (Heard k) opens stands none takes hears =
     let took : LinkTook s.link k = link_took s.link k packet takes in
-    whole_stands (record s { link = k; shake = shake_risen s.link k s.shake }) t k.whole opens (rose s k stands took none) refl
+    whole_stands (record s { link = k; handshake = handshake_risen s.link k s.handshake }) t k.whole opens (rose s k stands took none) refl
     (λ some. whole_up (is_up k) (is_up k) refl (λ down. some (took.whole down ∙ stands.link.seen))) hears
 link_stands s t packet (Unheard cause) opens stands none takes hears = absurd (resets_not cause t opens (sym hears))
 

@@ -9,15 +9,15 @@ use Rattle.ldc_link.specs.LinkState.{LinkState, is_established, is_up, offered}
 use Rattle.ldc_link.specs.Putting.{behind_put, left_behind_put, owed_in, owes, part_owed, phase_behind_put}
 use Rattle.vio_handshake.specs.declared.handshake.Handshake.{Handshake}
 use Rattle.vio_handshake.specs.declared.handshake.Phase.{Phase}
-use Rattle.vio_handshake.specs.Rules.{shake_sent}
+use Rattle.vio_handshake.specs.Rules.{handshake_sent}
 use Rattle.vio_tag.specs.declared.message.Message.{Message}
-use Rattle.disk_model.specs.EndPuts.{EndsOwn, EndsShake, Goes, PutKind, ending, shake_behind}
+use Rattle.disk_model.specs.EndPuts.{EndsOwn, EndsHandshake, Goes, PutKind, ending, handshake_behind}
 use Rattle.disk_model.specs.ServerPutting.{answered, server_put, session_behind}
 use Rattle.disk_model.specs.ServerRule.{answer}
 use Rattle.disk_model.specs.ServerState.{ServerSession, ServerState, SlotRange, Work}
 use Rattle.vdisk_server.specs.Rules.{answer_owed, first_owed, owed_message, session_owes}
-use Rattle.vdisk_server.specs.Standing.{Answers, HasRange, IsOpen, IsQuiet, IsUnfinished, Stands, WorkIn}
-use Rattle.vdisk_server.proofs.ShakeSteps.{sent_keeps, sent_open, shake_sends}
+use Rattle.vdisk_server.specs.Standing.{AnswersLink, HasRange, IsOpen, IsQuiet, IsUnfinished, Stands, WorkIn}
+use Rattle.vdisk_server.proofs.HandshakeSteps.{sent_keeps, sent_open, handshake_sends}
 use Rattle.vdisk_server.proofs.PutSteps.{kind_noted}
 use Rattle.vdisk_server.proofs.StandSteps.{either, none_some, says_up}
 
@@ -25,7 +25,7 @@ both_ways : (b : Bool) → b ≡ true → b ≡ false → ⊥
 both_ways b yes_it_is no_it_is = cc
 
 -- THE LINK after a packet that it put
-put_phase : (p : LinkPhase) → Answers p → Answers (phase_behind_put p)
+put_phase : (p : LinkPhase) → AnswersLink p → AnswersLink (phase_behind_put p)
 put_phase link.OwesVersInfo answers = absurd answers
 put_phase link.AwaitsVersAck answers = absurd answers
 put_phase link.OwesRts answers = absurd answers
@@ -39,7 +39,7 @@ put_phase link.OwesRtr answers = tt
 put_phase link.AwaitsRdx answers = tt
 put_phase link.Established answers = tt
 
-put_up : (p : LinkPhase) → Answers p → is_established (phase_behind_put p) ≡ is_established p
+put_up : (p : LinkPhase) → AnswersLink p → is_established (phase_behind_put p) ≡ is_established p
 put_up link.OwesVersInfo answers = absurd answers
 put_up link.AwaitsVersAck answers = absurd answers
 put_up link.OwesRts answers = absurd answers
@@ -65,18 +65,18 @@ answered_open : (session : Option ServerSession) (phase : Phase) → IsOpen sess
 answered_open None phase opened = tt
 answered_open (Some session) phase opened = opened
 
-sent_opened : (session : Option ServerSession) (h : Handshake) → h.role ≡ Responder → IsOpen session h.phase → IsOpen session (shake_sent h).phase
+sent_opened : (session : Option ServerSession) (h : Handshake) → h.role ≡ Responder → IsOpen session h.phase → IsOpen session (handshake_sent h).phase
 sent_opened None h role opened = tt
 sent_opened (Some session) h role opened = sent_open h role opened
 
 abbrev pub put_by : ServerState → PutKind → ServerState
-put_by s kind = record s { link = behind_put s.link; shake = shake_behind kind s.shake; session = session_behind kind s.session }
+put_by s kind = record s { link = behind_put s.link; handshake = handshake_behind kind s.handshake; session = session_behind kind s.session }
 
 put_goes : (s : ServerState) → Stands s → s.work ≡ None → Stands (put_by s Goes)
 put_goes s stands none = record {
   disk = stands.disk;
   link = record { role = stands.link.role; phase = put_phase s.link.phase stands.link.phase; seen = stands.link.seen };
-  shake = stands.shake;
+  handshake = stands.handshake;
   began = record {
     down = λ down.
         let was : is_up s.link ≡ false = sym (put_up s.link.phase stands.link.phase) ∙ down in
@@ -92,41 +92,41 @@ put_own : (s : ServerState) → Stands s → s.work ≡ None → is_up s.link �
 put_own s stands none up = record {
   disk = stands.disk;
   link = record { role = stands.link.role; phase = put_phase s.link.phase stands.link.phase; seen = stands.link.seen };
-  shake = stands.shake;
+  handshake = stands.handshake;
   began = record {
     down = λ down. absurd (both_ways (is_up s.link) up (sym (put_up s.link.phase stands.link.phase) ∙ down));
     up = λ _. stands.began.up up;
   };
-  session = answered_open s.session s.shake.phase stands.session;
+  session = answered_open s.session s.handshake.phase stands.session;
   work = work_none (put_by s EndsOwn) s.work none;
 }
 
-put_shake : (s : ServerState) → Stands s → s.work ≡ None → is_up s.link ≡ true → Stands (put_by s EndsShake)
-put_shake s stands none up = record {
+put_handshake : (s : ServerState) → Stands s → s.work ≡ None → is_up s.link ≡ true → Stands (put_by s EndsHandshake)
+put_handshake s stands none up = record {
   disk = stands.disk;
   link = record { role = stands.link.role; phase = put_phase s.link.phase stands.link.phase; seen = stands.link.seen };
-  shake = shake_sends s.blocks s.slots s.shake stands.shake;
+  handshake = handshake_sends s.blocks s.slots s.handshake stands.handshake;
   began = record {
     down = λ down. absurd (both_ways (is_up s.link) up (sym (put_up s.link.phase stands.link.phase) ∙ down));
-    up = λ _. (sent_keeps s.shake stands.shake.role stands.shake.knows).began (stands.began.up up);
+    up = λ _. (sent_keeps s.handshake stands.handshake.role stands.handshake.knows).began (stands.began.up up);
   };
-  session = sent_opened s.session s.shake stands.shake.role stands.session;
-  work = work_none (put_by s EndsShake) s.work none;
+  session = sent_opened s.session s.handshake stands.handshake.role stands.session;
+  work = work_none (put_by s EndsHandshake) s.work none;
 }
 
 put_ending : (s : ServerState) (up more own : Bool) → Stands s → s.work ≡ None → is_up s.link ≡ up → Stands (put_by s (ending (up && more) own))
 put_ending s false more own stands none up = put_goes s stands none
 put_ending s true false own stands none up = put_goes s stands none
 put_ending s true true true stands none up = put_own s stands none up
-put_ending s true true false stands none up = put_shake s stands none up
+put_ending s true true false stands none up = put_handshake s stands none up
 
 pub stands_put : (s : ServerState) → Stands s → s.work ≡ None → Stands (server_put s)
 stands_put s stands none =
-    subst (λ (kind : PutKind). Stands (put_by s kind)) (sym (kind_noted s.link.phase s.link (is_none s.shake.owed) refl stands.link.phase))
-    (put_ending s (is_up s.link) (not (owes (behind_put s.link))) (is_none s.shake.owed) stands none refl)
+    subst (λ (kind : PutKind). Stands (put_by s kind)) (sym (kind_noted s.link.phase s.link (is_none s.handshake.owed) refl stands.link.phase))
+    (put_ending s (is_up s.link) (not (owes (behind_put s.link))) (is_none s.handshake.owed) stands none refl)
 
 -- WHAT IS HELD: nothing is in work where a packet or a message is owed
-idle_work : (s : ServerState) (work : Option Work) → s.work ≡ work → (WorkIn s work) → (HasRange s.session → s.shake.owed ≡ None → s.link.to_send ≡ [] → ⊥) → work ≡ None
+idle_work : (s : ServerState) (work : Option Work) → s.work ≡ work → (WorkIn s work) → (HasRange s.session → s.handshake.owed ≡ None → s.link.to_send ≡ [] → ⊥) → work ≡ None
 idle_work s None is stands none = refl
 idle_work s (Some work) is stands none = absurd (none stands.range stands.owed stands.to_send)
 
@@ -177,7 +177,7 @@ stands_offered s message bytes stands is =
     record {
       disk = stands.disk;
       link = record { role = stands.link.role; phase = stands.link.phase; seen = stands.link.seen };
-      shake = stands.shake;
+      handshake = stands.handshake;
       began = record { down = λ down. absurd (both_ways (is_up s.link) up down); up = stands.began.up };
       session = stands.session;
       work = work_none (record s { link = offered bytes s.link }) s.work (says_idle s message stands is);

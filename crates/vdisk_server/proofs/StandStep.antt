@@ -69,8 +69,8 @@ unfinished_more : (range : Option SlotRange) (session : ServerSession) (n : ℕ)
 unfinished_more None session n unfinished = unfinished
 unfinished_more (Some range) session n unfinished = unfinished
 
-session_phase : (s : ServerState) (session other : ServerSession) → Stands s → s.session ≡ Some session → IsOpen (Some other) s.shake.phase
-session_phase s session other stands is = subst (λ (x : Option ServerSession). IsOpen x s.shake.phase) is stands.session
+session_phase : (s : ServerState) (session other : ServerSession) → Stands s → s.session ≡ Some session → IsOpen (Some other) s.handshake.phase
+session_phase s session other stands is = subst (λ (x : Option ServerSession). IsOpen x s.handshake.phase) is stands.session
 
 rightly_same : (blocks : ℕ) (work : Work) (next : Progress) → WorksRightly blocks next work → WorksRightly blocks next (record work { progress = next })
 rightly_same blocks work (Reads unit) rightly = rightly
@@ -92,7 +92,7 @@ stands_progress s session work next stands working rightly =
     record {
       disk = stands.disk;
       link = record { role = stands.link.role; phase = stands.link.phase; seen = stands.link.seen };
-      shake = stands.shake;
+      handshake = stands.handshake;
       began = record { down = λ down. stands_quiet s work next stands down; up = stands.began.up };
       session = stands.session;
       work = record { range = was.range; owed = was.owed; to_send = was.to_send; rightly = rightly_same s.blocks work next rightly };
@@ -110,7 +110,7 @@ stands_fetched s at reach slot bytes t new stands fetches =
     (record {
       disk = stands.disk;
       link = record { role = stands.link.role; phase = stands.link.phase; seen = stands.link.seen };
-      shake = stands.shake;
+      handshake = stands.handshake;
       began = record { down = λ down. absurd (both_ways (is_up s.link) up down); up = stands.began.up };
       session = session_phase s session (record session { descs = wrapped (session.descs + 1) }) stands working.session_is;
       work = record {
@@ -149,7 +149,7 @@ stands_finished s at reach slot status t new stands finishes =
     (record {
       disk = stands.disk;
       link = record { role = stands.link.role; phase = stands.link.phase; seen = stands.link.seen };
-      shake = stands.shake;
+      handshake = stands.handshake;
       began = record { down = λ down. absurd (both_ways (is_up s.link) up down); up = stands.began.up };
       session = session_phase s session (record session { finished = wrapped (session.finished + 1) }) stands working.session_is;
       work = tt;

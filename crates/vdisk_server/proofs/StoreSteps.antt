@@ -9,9 +9,9 @@ use Rattle.disk_model.specs.ServerStep.{ServerStep, with_progress}
 use Rattle.disk_model.specs.ServerWork.{Reach}
 use Rattle.descriptor_work.specs.declared.answers.ServerOut.{ServerOut}
 use Rattle.descriptor_work.specs.declared.answers.ServerOut.TheVariants as out
-use Rattle.descriptor_work.specs.Calling as calling
-use Rattle.descriptor_work.specs.Calling.{Calls, WithinDisk, reach_over}
-use Rattle.vdisk_server.specs.Answering.{KeepsStore, LeavesStore, Serves, StepsAlone, StepsIn, ToldAfter, channel_after, sees, server_event}
+use Rattle.vio_io.specs.declared.store.Store.{Ghosts}
+use Rattle.descriptor_work.specs.Calling.{StoreAfter, WithinDisk, reach_over}
+use Rattle.vdisk_server.specs.Answering.{LeavesStore, Serves, StepsAlone, StepsIn, ToldAfter, channel_after, sees, server_event}
 use Rattle.descriptor_work.specs.Pieces.{MovedFor, PieceIn, PieceOn, StoredFor, disk_at}
 
 -- STEPS that leave the store
@@ -39,22 +39,6 @@ pub in_serves : (s : ServerState) (c : ChannelView) (table : List (Option Entry)
     → StepsIn s c table memory answer t new → Serves s c table memory told answer t new told
 in_serves s c table memory new told answer t steps = record { gave = []; step = steps.step; store = told_stays s answer told steps.leaves }
 
-pub leaves_calls : (answer : ServerOut) (calls faults : ℕ) → LeavesStore answer → Calls answer calls calls faults faults
-leaves_calls (out.Stored operation block count failed) calls faults leaves = absurd leaves
-leaves_calls out.Idle calls faults leaves = (refl, refl)
-leaves_calls out.Blocked calls faults leaves = (refl, refl)
-leaves_calls out.Joined calls faults leaves = (refl, refl)
-leaves_calls (out.Took packet opens) calls faults leaves = (refl, refl)
-leaves_calls (out.Sent packet opens) calls faults leaves = (refl, refl)
-leaves_calls (out.Desc slot bytes) calls faults leaves = (refl, refl)
-leaves_calls (out.Moved unit fault) calls faults leaves = (refl, refl)
-leaves_calls (out.Finished slot status) calls faults leaves = (refl, refl)
-leaves_calls (out.Reset cause packet) calls faults leaves = (refl, refl)
-
-pub leaves_flushes : (answer : ServerOut) (flushes : ℕ) → LeavesStore answer → calling.Flushes answer flushes flushes
-leaves_flushes (out.Stored operation block count failed) flushes leaves = absurd leaves
-leaves_flushes other flushes leaves = refl
-
 pub leaves_within : (answer : ServerOut) (blocks : ℕ) → LeavesStore answer → WithinDisk blocks answer
 leaves_within (out.Stored operation block count failed) blocks leaves = absurd leaves
 leaves_within out.Idle blocks leaves = tt
@@ -67,17 +51,17 @@ leaves_within (out.Moved unit fault) blocks leaves = tt
 leaves_within (out.Finished slot status) blocks leaves = tt
 leaves_within (out.Reset cause packet) blocks leaves = tt
 
-pub leaves_store : {D : Type 0} (answer : ServerOut) (store : D) → LeavesStore answer → KeepsStore answer store store
-leaves_store (out.Stored operation block count failed) store leaves = absurd leaves
-leaves_store out.Idle store leaves = refl
-leaves_store out.Blocked store leaves = refl
-leaves_store out.Joined store leaves = refl
-leaves_store (out.Took packet opens) store leaves = refl
-leaves_store (out.Sent packet opens) store leaves = refl
-leaves_store (out.Desc slot bytes) store leaves = refl
-leaves_store (out.Moved unit fault) store leaves = refl
-leaves_store (out.Finished slot status) store leaves = refl
-leaves_store (out.Reset cause packet) store leaves = refl
+pub leaves_store : {D : Type 0} (g : Ghosts D) (answer : ServerOut) (store : D) → LeavesStore answer → StoreAfter g answer store store
+leaves_store g (out.Stored operation block count failed) store leaves = absurd leaves
+leaves_store g out.Idle store leaves = refl
+leaves_store g out.Blocked store leaves = refl
+leaves_store g out.Joined store leaves = refl
+leaves_store g (out.Took packet opens) store leaves = refl
+leaves_store g (out.Sent packet opens) store leaves = refl
+leaves_store g (out.Desc slot bytes) store leaves = refl
+leaves_store g (out.Moved unit fault) store leaves = refl
+leaves_store g (out.Finished slot status) store leaves = refl
+leaves_store g (out.Reset cause packet) store leaves = refl
 
 -- STEPS of a piece
 did_at : (s : ServerState) (progress : Progress) (block : ℕ) (failed : Bool) (gave : List ℕ) (told new : Option (List ℕ))
@@ -120,11 +104,6 @@ on_serves s c table memory session work told new answer behind rule is piece =
 pub on_channel : (first : ℕ) (work : Work) (told : Option (List ℕ)) (answer : ServerOut) (behind : Work) (new : Option (List ℕ)) (c : ChannelView)
     → PieceOn first work told answer behind new → c ≡ channel_after answer c
 on_channel first work told answer behind new c piece = sym (on_stays first work told answer behind new c piece)
-
-pub on_store : {D : Type 0} (first : ℕ) (work : Work) (told : Option (List ℕ)) (answer : ServerOut) (behind : Work) (new : Option (List ℕ)) (one other : D)
-    → PieceOn first work told answer behind new → KeepsStore answer one other
-on_store first work told (out.Stored operation block count failed) behind new one other piece = tt
-on_store first work told result behind new one other piece = absurd piece.stored
 
 in_step : (s : ServerState) (c : ChannelView) (table : List (Option Entry)) (memory new : List ℕ) (session : ServerSession) (work : Work) (answer : ServerOut) (next : Progress)
     → server_rule s (sees c) ≡ ServesWork session work → MovedFor answer work (reach_over c table memory) next new

@@ -1,4 +1,5 @@
--- The answer of a step as an event of the disk's lane, and what the step does to the channel and to the store.
+-- The answer of a step as an event of the disk's lane, and what the step does to the channel and to what the store
+-- tells.
 use Rattle.std.specs.Prelude.{◌≡◌, ℕ, List, [], Option, ⊤}
 use Rattle.ldc_queue.specs.ChannelView.{ChannelView, channel_with, channel_without_first, configured_channel}
 use Rattle.ldc_queue.specs.declared.end.End.TheVariants.{A, B}
@@ -49,11 +50,6 @@ pub record Serves (s : ServerState) (c : ChannelView) (table : List (Option Entr
   pub gave : List ℕ
   pub step : ServerStep s (sees c) (reach_over c table memory) gave (server_event answer) t new_memory
   pub store : ToldAfter s answer gave told new_told
-
--- the store is called for a unit and for a flush alone: in all other steps it stays as it is
-abbrev pub KeepsStore : {D : Type 0} → ServerOut → D → D → Type 0
-KeepsStore (out.Stored operation block count failed) old new = ⊤
-KeepsStore _ old new = new ≡ old
 
 -- the store isn't called
 abbrev pub LeavesStore : ServerOut → Type 0

@@ -36,7 +36,7 @@ work_of (Some work) bytes = Some (work_with work bytes)
 abbrev pub state_of : ServerEnd → ServerState
 state_of e = record {
   link = e.link;
-  shake = e.shake;
+  handshake = e.handshake;
   first = e.region.first;
   blocks = e.region.blocks;
   slots = e.slots;

@@ -2,8 +2,8 @@
 use Rattle.std.specs.Prelude.{◌≡◌, ◌≢◌, ℕ, ◌<◌, Bool, ◌&&◌, not, if◌then◌else◌, List, Option, Some, None, Result, Ok, Err}
 use Rattle.ldc_link.specs.LinkState.{is_up}
 use Rattle.vio_handshake.specs.declared.handshake.Handshake.{Handshake}
-use Rattle.vio_handshake.specs.declared.handshake.Phase.TheVariants as shake
-use Rattle.vio_handshake.specs.State.{shake_up}
+use Rattle.vio_handshake.specs.declared.handshake.Phase.TheVariants as handshake
+use Rattle.vio_handshake.specs.State.{handshake_up}
 use Rattle.vio_tag.specs.declared.cause.Cause.{Cause}
 use Rattle.vio_tag.specs.declared.message.Message.{Message}
 use Rattle.vio_tag.specs.declared.message.TagFault.{TagFault}
@@ -18,7 +18,7 @@ took (Err cause) t = Resets cause
 
 -- the handshake begins where the link came up, which wasn't up before
 abbrev pub risen : Bool → ServerState → ServerState
-risen was_up s = if is_up s.link && not was_up then record s { shake = shake_up s.shake } else s
+risen was_up s = if is_up s.link && not was_up then record s { handshake = handshake_up s.handshake } else s
 
 -- the whole message as it decodes, if one stands
 abbrev pub DecodesWhole : Option (List ℕ) → Option (Result Message TagFault) → Type 0
@@ -29,13 +29,13 @@ DecodesWhole _ _ = ⊥
 -- a session that is open knows its number and its ring
 abbrev pub SessionKnows : Option ServerSession → Handshake → Type 0
 SessionKnows None h = Unit {0}
-SessionKnows (Some session) h = (h.phase ≡ shake.Open) × (h.sid ≡ Some h.draft.sid) × (0 < h.draft.peer_slots)
+SessionKnows (Some session) h = (h.phase ≡ handshake.Open) × (h.sid ≡ Some h.draft.sid) × (0 < h.draft.peer_slots)
 
 -- a message can be heard: the handshake has begun, and nothing is owed
 pub record CanHear (s : ServerState) : Type 0 where
-  pub began : s.shake.phase ≢ shake.Down
-  pub free : s.shake.owed ≡ None
-  pub session : SessionKnows s.session s.shake
+  pub began : s.handshake.phase ≢ handshake.Down
+  pub free : s.handshake.owed ≡ None
+  pub session : SessionKnows s.session s.handshake
 
 -- the whole message, if one stands, can be heard
 abbrev pub CanHearWhole : Option (List ℕ) → ServerState → Type 0

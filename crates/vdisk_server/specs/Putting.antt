@@ -5,12 +5,12 @@ use Rattle.ldc_queue.specs.ChannelView.{ChannelView, HasRoom, IsFull}
 use Rattle.ldc_queue.specs.declared.end.End.TheVariants.{A}
 use Rattle.ldc_link.specs.declared.phase.Role.TheVariants.{Responder}
 use Rattle.ldc_link.specs.Putting.{owes}
-use Rattle.vio_handshake.specs.Rules.{shake_sent}
+use Rattle.vio_handshake.specs.Rules.{handshake_sent}
 use Rattle.disk_model.specs.ServerPutting.{answered, server_opens, server_put}
 use Rattle.disk_model.specs.ServerState.{ServerState}
 use Rattle.descriptor_work.specs.declared.answers.ServerOut.{ServerOut}
 use Rattle.descriptor_work.specs.declared.answers.ServerOut.TheVariants as out
-use Rattle.vdisk_server.specs.Standing.{Answers}
+use Rattle.vdisk_server.specs.Standing.{AnswersLink}
 
 -- by a server whose link holds the message, where there is room
 abbrev pub PutsNext : ServerState → ChannelView → ServerOut → ServerState → Type 0
@@ -21,14 +21,14 @@ PutsNext held c _ t = ⊥
 
 -- its link and its handshake are a responder's
 pub record PutsRightly (s : ServerState) : Type 0 where
-  pub phase : Answers s.link.phase
-  pub role : s.shake.role ≡ Responder
+  pub phase : AnswersLink s.link.phase
+  pub role : s.handshake.role ≡ Responder
 
 -- a message was wholly put: the handshake's where it owes one, else the answer to a range
 abbrev pub message_put : Bool → ServerState → ServerState
-message_put true s = record s { shake = shake_sent s.shake }
+message_put true s = record s { handshake = handshake_sent s.handshake }
 message_put false s = record s { session = answered s.session }
 
 -- a packet was put by a link that was up or wasn't
 abbrev pub noted : Bool → ServerState → ServerState
-noted in_message s = if in_message && not (owes s.link) then message_put (is_some s.shake.owed) s else s
+noted in_message s = if in_message && not (owes s.link) then message_put (is_some s.handshake.owed) s else s

@@ -22,7 +22,7 @@ first_owed None other = other
 
 -- the message that is to be offered next: the handshake's, or the answer
 abbrev pub owed_message : ServerState → Option Message
-owed_message s = first_owed s.shake.owed (session_owes s s.session)
+owed_message s = first_owed s.handshake.owed (session_owes s s.session)
 
 abbrev pub ranged : ServerSession → Option SlotRange → Option ServerSession
 ranged session None = None

@@ -6,7 +6,7 @@ use Rattle.ldc_link.specs.declared.phase.Role.TheVariants.{Responder}
 use Rattle.ldc_link.specs.LinkState.{LinkState, is_up}
 use Rattle.vio_handshake.specs.declared.handshake.Handshake.{Handshake}
 use Rattle.vio_handshake.specs.declared.handshake.Phase.{Phase}
-use Rattle.vio_handshake.specs.declared.handshake.Phase.TheVariants as shake
+use Rattle.vio_handshake.specs.declared.handshake.Phase.TheVariants as handshake
 use Rattle.vio_handshake.specs.declared.session.Session.{Session}
 use Rattle.vio_handshake.specs.State.{OwesWell}
 use Rattle.disk_model.specs.Offering.{server_offer}
@@ -15,17 +15,17 @@ use Rattle.disk_model.specs.ServerWork.{desc_of, length_of}
 use Rattle.descriptor_work.specs.Units.{IsUnit}
 
 -- it is the responder of its link and of its handshake
-abbrev pub Answers : LinkPhase → Type 0
-Answers link.OwesVersInfo = ⊥
-Answers link.AwaitsVersAck = ⊥
-Answers link.OwesRts = ⊥
-Answers link.AwaitsRtr = ⊥
-Answers link.OwesRdx = ⊥
-Answers _ = ⊤
+abbrev pub AnswersLink : LinkPhase → Type 0
+AnswersLink link.OwesVersInfo = ⊥
+AnswersLink link.AwaitsVersAck = ⊥
+AnswersLink link.OwesRts = ⊥
+AnswersLink link.AwaitsRtr = ⊥
+AnswersLink link.OwesRdx = ⊥
+AnswersLink _ = ⊤
 
 pub record LinkStands (k : LinkState) : Type 0 where
   pub role : k.role ≡ Responder
-  pub phase : Answers k.phase
+  pub phase : AnswersLink k.phase
   -- a message that became whole is looked at in the same step
   pub seen : k.whole ≡ None
 
@@ -40,13 +40,13 @@ pub record KnowsRing (known : Option ℕ) (agreed : Session) (expected : ℕ) : 
   pub most : agreed.peer_count ≤ 14
 
 abbrev pub Knows : Phase → Option ℕ → Session → ℕ → Type 0
-Knows shake.Down known agreed expected = ⊤
-Knows shake.Version known agreed expected = ⊤
-Knows shake.Attributes known agreed expected = KnowsSid known agreed
-Knows shake.PeerRing known agreed expected = KnowsSid known agreed
+Knows handshake.Down known agreed expected = ⊤
+Knows handshake.Version known agreed expected = ⊤
+Knows handshake.Attributes known agreed expected = KnowsSid known agreed
+Knows handshake.PeerRing known agreed expected = KnowsSid known agreed
 Knows _ known agreed expected = KnowsRing known agreed expected
 
-pub record ShakeStands (blocks slots : ℕ) (h : Handshake) : Type 0 where
+pub record HandshakeStands (blocks slots : ℕ) (h : Handshake) : Type 0 where
   pub role : h.role ≡ Responder
   pub offer : h.offer ≡ server_offer blocks slots
   pub form : OwesWell h
@@ -54,19 +54,19 @@ pub record ShakeStands (blocks slots : ℕ) (h : Handshake) : Type 0 where
 
 -- something is owed, a message is left to be sent, or a session is open only where the link is up; its handshake began with the link
 pub record IsQuiet (s : ServerState) : Type 0 where
-  pub phase : s.shake.phase ≡ shake.Down
-  pub owed : s.shake.owed ≡ None
+  pub phase : s.handshake.phase ≡ handshake.Down
+  pub owed : s.handshake.owed ≡ None
   pub to_send : s.link.to_send ≡ []
   pub session : s.session ≡ None
 
 pub record Began (s : ServerState) : Type 0 where
   pub down : is_up s.link ≡ false → IsQuiet s
-  pub up : is_up s.link ≡ true → s.shake.phase ≢ shake.Down
+  pub up : is_up s.link ≡ true → s.handshake.phase ≢ handshake.Down
 
 -- a session is open only where the handshake's is
 abbrev pub IsOpen : Option ServerSession → Phase → Type 0
 IsOpen None phase = ⊤
-IsOpen (Some session) phase = phase ≡ shake.Open
+IsOpen (Some session) phase = phase ≡ handshake.Open
 
 -- a unit in work is one of its descriptor, and the bytes between its two pieces are as many as it has
 abbrev pub WorksRightly : ℕ → Progress → Work → Type 0
@@ -88,7 +88,7 @@ HasRange (Some session) = IsUnfinished session.range session
 
 pub record WorkStands (s : ServerState) (work : Work) : Type 0 where
   pub range : HasRange s.session
-  pub owed : s.shake.owed ≡ None
+  pub owed : s.handshake.owed ≡ None
   pub to_send : s.link.to_send ≡ []
   pub rightly : WorksRightly s.blocks work.progress work
 
@@ -106,7 +106,7 @@ pub record IsDisk (blocks slots : ℕ) : Type 0 where
 pub record Stands (s : ServerState) : Type 0 where
   pub disk : IsDisk s.blocks s.slots
   pub link : LinkStands s.link
-  pub shake : ShakeStands s.blocks s.slots s.shake
+  pub handshake : HandshakeStands s.blocks s.slots s.handshake
   pub began : Began s
-  pub session : IsOpen s.session s.shake.phase
+  pub session : IsOpen s.session s.handshake.phase
   pub work : WorkIn s s.work

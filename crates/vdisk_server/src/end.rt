@@ -53,7 +53,7 @@ fn offer(blocks: u64, slots: u32) -> Offer
 #[derive(Drop)]
 pub(crate) struct ServerEnd {
     pub link: Link,
-    pub shake: Handshake,
+    pub handshake: Handshake,
     pub region: Region,
     /// The slots of the ring that it expects of its client.
     pub slots: u32,
@@ -69,7 +69,7 @@ impl ServerEnd {
     {
         Ok(ServerEnd {
             link: Link::new(Role::Responder),
-            shake: Handshake::new(Role::Responder, &offer(region.blocks, slots)),
+            handshake: Handshake::new(Role::Responder, &offer(region.blocks, slots)),
             region,
             slots,
             session: None,
@@ -81,12 +81,12 @@ impl ServerEnd {
     /// Makes all its values new.
     pub fn forget(&mut self)
         requires link { self.old.link.role ≡ Responder }
-        requires shake { self.old.shake.role ≡ Responder }
-        requires offer { self.old.shake.offer ≡ server_offer self.old.region.blocks self.old.slots }
+        requires handshake { self.old.handshake.role ≡ Responder }
+        requires offer { self.old.handshake.offer ≡ server_offer self.old.region.blocks self.old.slots }
         ensures { state_of self.new ≡ restarted_server (state_of self.old) }
     {
         self.link.forget();
-        self.shake.forget();
+        self.handshake.forget();
         self.drop_session();
     }
 
@@ -96,7 +96,7 @@ impl ServerEnd {
         ensures channel { channel.new ≡ configured_channel B channel.old }
     {
         self.link.join(channel, End::B);
-        self.shake.drop_session();
+        self.handshake.drop_session();
         self.drop_session();
     }
 
@@ -126,10 +126,10 @@ impl ServerEnd {
 
     /// What the handshake agreed on, while the session is open.
     pub fn agreed(&self) -> Session
-        requires { self.now.shake.phase ≡ Open }
-        ensures { result ≡ self.now.shake.draft }
+        requires { self.now.handshake.phase ≡ Open }
+        ensures { result ≡ self.now.handshake.draft }
     {
-        match self.shake.session() {
+        match self.handshake.session() {
             Some(session) => session,
             None => unreachable!(),
         }
@@ -137,25 +137,25 @@ impl ServerEnd {
 
     /// The slots of the client's ring.
     pub fn peer_slots(&self) -> u32
-        requires { self.now.shake.phase ≡ Open }
-        ensures { result ≡ self.now.shake.draft.peer_slots }
+        requires { self.now.handshake.phase ≡ Open }
+        ensures { result ≡ self.now.handshake.draft.peer_slots }
     {
         self.agreed().peer_slots
     }
 
     /// The slot of a descriptor by its number.
     pub fn slot_at(&self, number: u64) -> u32
-        requires open { self.now.shake.phase ≡ Open }
-        requires some { 0 < self.now.shake.draft.peer_slots }
+        requires open { self.now.handshake.phase ≡ Open }
+        requires some { 0 < self.now.handshake.draft.peer_slots }
         ensures slot { result ≡ slot_at (state_of self.now) number }
-        ensures within { result < self.now.shake.draft.peer_slots }
+        ensures within { result < self.now.handshake.draft.peer_slots }
     {
         slot_of(number, 0, self.peer_slots())
     }
 
     /// The client's ring.
     pub fn peer_ring(&self) -> PeerRing
-        requires { self.now.shake.phase ≡ Open }
+        requires { self.now.handshake.phase ≡ Open }
         ensures { result ≡ peer_ring (state_of self.now) }
     {
         let Session {
@@ -173,10 +173,10 @@ impl ServerEnd {
 
     /// The message that is to be offered next: the handshake's, or the answer to a range that is finished.
     pub fn owed_message(&self) -> Option<Message>
-        requires { IsOpen (state_of self.now).session self.now.shake.phase }
+        requires { IsOpen (state_of self.now).session self.now.handshake.phase }
         ensures { result ≡ owed_message (state_of self.now) }
     {
-        match self.shake.next() {
+        match self.handshake.next() {
             Some(message) => Some(message),
             None => self.owed_answer(),
         }
@@ -187,7 +187,7 @@ impl ServerEnd {
         ensures some { result ≡ is_some (owed_message (state_of self.now)) }
         ensures none { result ≡ false → owed_message (state_of self.now) ≡ None }
     {
-        self.shake.next().is_some() || self.owes_answer()
+        self.handshake.next().is_some() || self.owes_answer()
     }
 
     /// Whether each descriptor of a range is finished.
@@ -202,7 +202,7 @@ impl ServerEnd {
 
     /// The INFO's fields, acknowledged, once each descriptor of its range is finished.
     fn owed_answer(&self) -> Option<Message>
-        requires { IsOpen (state_of self.now).session self.now.shake.phase }
+        requires { IsOpen (state_of self.now).session self.now.handshake.phase }
         ensures { result ≡ session_owes (state_of self.now) (state_of self.now).session }
     {
         let session = self.session?;

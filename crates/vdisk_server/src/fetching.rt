@@ -34,10 +34,10 @@ impl ServerEnd {
         memory: &mut Memory,
         out: &mut ServerOut,
     )
-        requires open { self.old.shake.phase ≡ Open }
-        requires some { 0 < self.old.shake.draft.peer_slots }
-        requires few { self.old.shake.draft.peer_slots ≤ 256 }
-        requires cookies { self.old.shake.draft.peer_count ≤ 14 }
+        requires open { self.old.handshake.phase ≡ Open }
+        requires some { 0 < self.old.handshake.draft.peer_slots }
+        requires few { self.old.handshake.draft.peer_slots ≤ 256 }
+        requires cookies { self.old.handshake.draft.peer_count ≤ 14 }
         requires session { (state_of self.old).session ≡ Some (ring_session session) }
         requires rule { server_rule (state_of self.old) (sees channel.old) ≡ Fetches (ring_session session) }
         requires pages { PagesWithin table.now (length memory.old) }
@@ -62,10 +62,10 @@ impl ServerEnd {
 
     // The slot of the next descriptor: they are fetched in the order in which they were announced.
     fn next_slot(&self, session: RingSession) -> u32
-        requires open { self.now.shake.phase ≡ Open }
-        requires some { 0 < self.now.shake.draft.peer_slots }
+        requires open { self.now.handshake.phase ≡ Open }
+        requires some { 0 < self.now.handshake.draft.peer_slots }
         ensures slot { result ≡ slot_at (state_of self.now) (ring_session session).descs }
-        ensures within { result < self.now.shake.draft.peer_slots }
+        ensures within { result < self.now.handshake.draft.peer_slots }
     {
         self.slot_at(session.fetched)
     }
@@ -94,10 +94,10 @@ impl ServerEnd {
         table: &MapTable,
         memory: &mut Memory,
     ) -> Result<[u8; SLOT], Cause>
-        requires open { self.now.shake.phase ≡ Open }
-        requires slot { slot < self.now.shake.draft.peer_slots }
-        requires few { self.now.shake.draft.peer_slots ≤ 256 }
-        requires cookies { self.now.shake.draft.peer_count ≤ 14 }
+        requires open { self.now.handshake.phase ≡ Open }
+        requires slot { slot < self.now.handshake.draft.peer_slots }
+        requires few { self.now.handshake.draft.peer_slots ≤ 256 }
+        requires cookies { self.now.handshake.draft.peer_count ≤ 14 }
         requires pages { PagesWithin table.now (length memory.old) }
         ensures fetched { FetchedOr result (state_of self.now) (reach_over channel.now table.now memory.old) slot memory.new }
         ensures same_length { length memory.new ≡ length memory.old }

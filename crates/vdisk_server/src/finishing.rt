@@ -36,10 +36,10 @@ impl ServerEnd {
         memory: &mut Memory,
         out: &mut ServerOut,
     )
-        requires open { self.old.shake.phase ≡ Open }
-        requires some { 0 < self.old.shake.draft.peer_slots }
-        requires few { self.old.shake.draft.peer_slots ≤ 256 }
-        requires cookies { self.old.shake.draft.peer_count ≤ 14 }
+        requires open { self.old.handshake.phase ≡ Open }
+        requires some { 0 < self.old.handshake.draft.peer_slots }
+        requires few { self.old.handshake.draft.peer_slots ≤ 256 }
+        requires cookies { self.old.handshake.draft.peer_count ≤ 14 }
         requires session { (state_of self.old).session ≡ Some (ring_session session) }
         requires rule { server_rule (state_of self.old) (sees channel.old) ≡ serves (ring_session session) (state_of self.old).work }
         requires ends { IsEnding (state_of self.old).work status }
@@ -86,10 +86,10 @@ impl ServerEnd {
         table: &MapTable,
         memory: &mut Memory,
     ) -> Result<(), Cause>
-        requires open { self.now.shake.phase ≡ Open }
-        requires slot { slot < self.now.shake.draft.peer_slots }
-        requires few { self.now.shake.draft.peer_slots ≤ 256 }
-        requires cookies { self.now.shake.draft.peer_count ≤ 14 }
+        requires open { self.now.handshake.phase ≡ Open }
+        requires slot { slot < self.now.handshake.draft.peer_slots }
+        requires few { self.now.handshake.draft.peer_slots ≤ 256 }
+        requires cookies { self.now.handshake.draft.peer_count ≤ 14 }
         requires ends { IsEnding (state_of self.now).work status }
         requires pages { PagesWithin table.now (length memory.old) }
         ensures ended { EndedFor (state_of self.now).work result (state_of self.now) (reach_over channel.now table.now memory.old) slot status memory.new }

@@ -3,7 +3,7 @@
 ghost use Rattle.std.specs.Prelude.{◌≡◌, ◌≢◌, ◌%◌, ◌<◌, ◌≤◌, false, None, Some, MatchResult, OnErr};
 ghost use Rattle.ldc_link.specs.LinkState.{cleared};
 ghost use Rattle.ldc_link.specs.declared.phase.Role.TheVariants.{Responder};
-ghost use Rattle.vio_handshake.specs.Rules.{shake_take};
+ghost use Rattle.vio_handshake.specs.Rules.{handshake_take};
 ghost use Rattle.vio_handshake.specs.declared.handshake.Phase.TheVariants.{Down, Open};
 ghost use Rattle.disk_model.specs.ServerTaking.{GoesOn, HearsWhole, Resets, asked, by_handshake, hears_message, reads, takes_info};
 ghost use Rattle.disk_model.specs.ServerState.{joined_server};
@@ -22,7 +22,7 @@ impl ServerEnd {
     /// A packet was taken: the handshake begins where the link came up by it, and a message that became whole is heard. Tells whether
     /// the session opened by it, or why the end is to be reset.
     pub fn hear(&mut self, was_up: bool) -> Result<bool, Cause>
-        requires role { self.old.shake.role ≡ Responder }
+        requires role { self.old.handshake.role ≡ Responder }
         requires hears { CanHearWhole self.old.link.whole (risen was_up (state_of self.old)) }
         ensures heard { HearsWhole (risen was_up (state_of self.old)) self.old.link.whole (took result (state_of self.new)) }
         ensures kept { OnErr result (joined_server (state_of self.new) ≡ joined_server (state_of self.old)) }
@@ -41,7 +41,7 @@ impl ServerEnd {
         ensures { state_of self.new ≡ risen was_up (state_of self.old) }
     {
         if self.link.is_up() && !was_up {
-            self.shake.link_up();
+            self.handshake.link_up();
         }
     }
 
@@ -92,13 +92,13 @@ impl ServerEnd {
     }
 
     fn take_handshake(&mut self, message: &Message) -> Result<bool, Cause>
-        requires began { self.old.shake.phase ≢ Down }
-        requires free { self.old.shake.owed ≡ None }
-        ensures heard { took result (state_of self.new) ≡ by_handshake (state_of self.old) (shake_take self.old.shake message.now) }
+        requires began { self.old.handshake.phase ≢ Down }
+        requires free { self.old.handshake.owed ≡ None }
+        ensures heard { took result (state_of self.new) ≡ by_handshake (state_of self.old) (handshake_take self.old.handshake message.now) }
         ensures kept { OnErr result (state_of self.new ≡ state_of self.old) }
         ensures disk { SameDisk (state_of self.old) (state_of self.new) }
     {
-        match self.shake.take(message) {
+        match self.handshake.take(message) {
             HsOut::Nothing => Ok(false),
             HsOut::Opens => {
                 self.session = Some(RingSession::OPENED);
@@ -110,8 +110,8 @@ impl ServerEnd {
 
     // Each message of a session has its number.
     fn check_sid(&self, found: u32) -> Result<(), Cause>
-        requires open { self.now.shake.phase ≡ Open }
-        ensures { MatchResult result (λ _. self.now.shake.draft.sid ≡ found) (λ cause. (self.now.shake.draft.sid ≢ found) × (cause ≡ Cause.Sid self.now.shake.draft.sid found)) }
+        requires open { self.now.handshake.phase ≡ Open }
+        ensures { MatchResult result (λ _. self.now.handshake.draft.sid ≡ found) (λ cause. (self.now.handshake.draft.sid ≢ found) × (cause ≡ Cause.Sid self.now.handshake.draft.sid found)) }
     {
         let expected = self.agreed().sid;
         if expected != found {
@@ -127,8 +127,8 @@ impl ServerEnd {
         ident: u64,
         range: SlotRange,
     ) -> Result<bool, Cause>
-        requires open { self.old.shake.phase ≡ Open }
-        requires some { 0 < self.old.shake.draft.peer_slots }
+        requires open { self.old.handshake.phase ≡ Open }
+        requires some { 0 < self.old.handshake.draft.peer_slots }
         requires session { self.old.session ≡ Some session }
         ensures heard { took result (state_of self.new) ≡ takes_info (state_of self.old) (ring_session session) ident (slot_range range) }
         ensures kept { OnErr result (state_of self.new ≡ state_of self.old) }
@@ -146,8 +146,8 @@ impl ServerEnd {
     }
 
     fn check_info(&self, session: RingSession, ident: u64, range: SlotRange) -> Result<(), Cause>
-        requires open { self.now.shake.phase ≡ Open }
-        requires some { 0 < self.now.shake.draft.peer_slots }
+        requires open { self.now.handshake.phase ≡ Open }
+        requires some { 0 < self.now.handshake.draft.peer_slots }
         ensures { MatchResult result (λ _. takes_info (state_of self.now) (ring_session session) ident (slot_range range) ≡ GoesOn (asked (state_of self.now) (ring_session session) (slot_range range)) false) (λ cause. takes_info (state_of self.now) (ring_session session) ident (slot_range range) ≡ Resets cause) }
     {
         let agreed = self.agreed();

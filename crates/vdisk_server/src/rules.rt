@@ -11,8 +11,8 @@ ghost use Rattle.vio_tag.specs.Form.{IsWellFormed};
 ghost use Rattle.vio_tag.specs.Spelling.{canonical};
 ghost use Rattle.disk_model.specs.ServerPutting.{answered};
 ghost use Rattle.disk_model.specs.ServerRule.{Joins, server_rule, serves, takes_first};
-ghost use Rattle.descriptor_work.specs.Calling.{Calls, Flushes, WithinDisk};
-ghost use Rattle.vdisk_server.specs.Answering.{KeepsStore, SameDisk, Serves, StepsAlone, channel_after, sees};
+ghost use Rattle.descriptor_work.specs.Calling.{StoreAfter, WithinDisk};
+ghost use Rattle.vdisk_server.specs.Answering.{SameDisk, Serves, StepsAlone, channel_after, sees};
 ghost use Rattle.vdisk_server.specs.Fields.{ring_session, state_of};
 ghost use Rattle.vdisk_server.specs.Putting.{PutsNext, PutsRightly, noted};
 ghost use Rattle.vdisk_server.specs.Rules.{owed_message};
@@ -45,10 +45,7 @@ impl ServerEnd {
             (state_of self.new) memory.new (D.content store.new) }
         ensures channel { channel.new ≡ channel_after out.new channel.old }
         ensures same_length { length memory.new ≡ length memory.old }
-        ensures store { KeepsStore out.new store.old store.new }
-        ensures calls { Calls out.new (D.calls store.old) (D.calls store.new) (D.faults store.old)
-            (D.faults store.new) }
-        ensures flushes { Flushes out.new (D.flushes store.old) (D.flushes store.new) }
+        ensures store { StoreAfter D.Store out.new store.old store.new }
         ensures size { D.size store.new ≡ D.size store.old }
         ensures within { WithinDisk self.old.region.blocks out.new }
         ensures disk { SameDisk (state_of self.old) (state_of self.new) }
@@ -120,8 +117,8 @@ impl ServerEnd {
         if !in_message || self.link.owes() {
             return;
         }
-        if self.shake.next().is_some() {
-            let _opens = self.shake.sent();
+        if self.handshake.next().is_some() {
+            let _opens = self.handshake.sent();
         } else {
             self.note_answered();
         }
@@ -192,10 +189,7 @@ impl ServerEnd {
             (state_of self.new) memory.new (D.content store.new) }
         ensures channel { channel.new ≡ channel_after out.new channel.old }
         ensures same_length { length memory.new ≡ length memory.old }
-        ensures store { KeepsStore out.new store.old store.new }
-        ensures calls { Calls out.new (D.calls store.old) (D.calls store.new) (D.faults store.old)
-            (D.faults store.new) }
-        ensures flushes { Flushes out.new (D.flushes store.old) (D.flushes store.new) }
+        ensures store { StoreAfter D.Store out.new store.old store.new }
         ensures size { D.size store.new ≡ D.size store.old }
         ensures within { WithinDisk self.old.region.blocks out.new }
         ensures disk { SameDisk (state_of self.old) (state_of self.new) }
@@ -244,7 +238,7 @@ impl ServerEnd {
         requires rule { server_rule (state_of self.old) (sees channel.old) ≡ takes_first (sees channel.old).first }
         requires up { state_in B channel.old.wire ≡ Up }
         requires free { owes self.old.link ≡ false }
-        requires nothing_owed { self.old.shake.owed ≡ None }
+        requires nothing_owed { self.old.handshake.owed ≡ None }
         ensures step { StepsAlone (state_of self.old) channel.old out.new (state_of self.new) }
         ensures channel { channel.new ≡ channel_after out.new channel.old }
         ensures disk { SameDisk (state_of self.old) (state_of self.new) }

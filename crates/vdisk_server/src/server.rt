@@ -3,8 +3,8 @@ ghost use Rattle.cookie_copy.specs.Faults.{PagesWithin};
 ghost use Rattle.ldc_queue.specs.ChannelView.{closed_channel, configured_channel};
 ghost use Rattle.ldc_queue.specs.declared.end.End.TheVariants.{B};
 ghost use Rattle.disk_model.specs.ServerState.{fresh_server, joined_server, restarted_server};
-ghost use Rattle.descriptor_work.specs.Calling.{Calls, Flushes, WithinDisk};
-ghost use Rattle.vdisk_server.specs.Answering.{KeepsStore, SameDisk, Serves, channel_after};
+ghost use Rattle.descriptor_work.specs.Calling.{StoreAfter, WithinDisk};
+ghost use Rattle.vdisk_server.specs.Answering.{SameDisk, Serves, channel_after};
 
 use crate::end::ServerEnd;
 use descriptor_work::ServerOut;
@@ -71,9 +71,7 @@ impl Server {
 
         // The store is called once for a unit or a flush, and not at all in any other step. A flush flushes it, and no
         // other step does.
-        ensures store { KeepsStore result store.old store.new }
-        ensures calls { Calls result (D.calls store.old) (D.calls store.new) (D.faults store.old) (D.faults store.new) }
-        ensures flushes { Flushes result (D.flushes store.old) (D.flushes store.new) }
+        ensures store { StoreAfter D.Store result store.old store.new }
         ensures size { D.size store.new ≡ D.size store.old }
         ensures within { WithinDisk self.old.blocks result }
         ensures disk { SameDisk self.old self.new }
@@ -101,10 +99,7 @@ impl Server {
 
         // The store is called once for a unit or a flush, and not at all in any other step. A flush flushes it, and no
         // other step does.
-        ensures store { KeepsStore out.new store.old store.new }
-        ensures calls { Calls out.new (D.calls store.old) (D.calls store.new) (D.faults store.old)
-            (D.faults store.new) }
-        ensures flushes { Flushes out.new (D.flushes store.old) (D.flushes store.new) }
+        ensures store { StoreAfter D.Store out.new store.old store.new }
         ensures size { D.size store.new ≡ D.size store.old }
         ensures within { WithinDisk self.old.blocks out.new }
         ensures disk { SameDisk self.old self.new }

@@ -1,4 +1,4 @@
--- Every run of two handshakes whose offers match is a talk, and at rest it ends in agreement.
+-- Every run of two handshakes whose offers match is a transcript, and at rest it ends in agreement.
 use Rattle.std.proofs.Common.{arith, ◌+◌, ◌*◌, ◌≤◌, suc, ◌⊎◌, inl, inr, length, ◌≡◌, Bool, true, false, None, List, [], ◌∷◌, sym, ap, ◌∙◌, refl, subst, ℕ, Option, Some}
 use Rattle.ldc_link.specs.declared.phase.Role.{Role}
 use Rattle.ldc_link.specs.declared.phase.Role.TheVariants.{Initiator, Responder}
@@ -6,25 +6,25 @@ use Rattle.runs.specs.Run.{Run}
 use Rattle.vio_tag.specs.declared.message.Message.{Message}
 use Rattle.vio_handshake.specs.Offers.{Match}
 use Rattle.vio_handshake.specs.Pairing.{Act, Puts, Takes, Agreed, AreHeard, AtRest, IsHeard, KnowsBoth, Pair, PairStep, met}
-use Rattle.vio_handshake.specs.State.{IsFault, next_sid, session_of, shake_up}
+use Rattle.vio_handshake.specs.State.{IsFault, next_sid, session_of, handshake_up}
 use Rattle.vio_handshake.specs.declared.session.HsOut.{HsOut}
 use Rattle.vio_handshake.specs.declared.session.HsOut.TheVariants.{Nothing, Opens, Fault}
 use Rattle.vio_handshake.specs.declared.handshake.Handshake.{Handshake}
 use Rattle.vio_handshake.proofs.PlaceRows.{Fits}
-use Rattle.vio_handshake.proofs.Places.{Place, VersionSaid, AllSaid, Deal, IsPlace, answered_in_all, asked_in_all, message_at, next, owed_by, owner, shake_at}
-use Rattle.vio_handshake.proofs.Talking.{Ahead, Level, MineOne, MineTwo, TheirsOne, TheirsTwo, Scene, Talk, CanAct, first_taken, left, own_puts, talk_puts, talk_takes, turn_talk}
+use Rattle.vio_handshake.proofs.Places.{Place, VersionSaid, AllSaid, Deal, IsPlace, answered_in_all, asked_in_all, message_at, next, owed_by, owner, handshake_at}
+use Rattle.vio_handshake.proofs.Transcribing.{Ahead, Level, MineOne, MineTwo, TheirsOne, TheirsTwo, Scene, Transcript, CanAct, first_taken, left, own_puts, transcript_puts, transcript_takes, turn_transcript}
 
 -- the initiator's view
-abbrev pub InTalk : Bool → Deal → ℕ → Pair → Type 0
-InTalk both d count s = Talk both d Initiator count s.initiator s.responder s.to_initiator s.to_responder
+abbrev pub InTranscript : Bool → Deal → ℕ → Pair → Type 0
+InTranscript both d count s = Transcript both d Initiator count s.initiator s.responder s.to_initiator s.to_responder
 
--- what stays carries the acting end's talk to the pair
+-- what stays carries the acting end's transcript to the pair
 stayed : (both : Bool) (d : Deal) (r : Role) (count : ℕ) (mine theirs now : Handshake) (to_me to_them me_left them_left : List Message)
-    → now ≡ theirs → me_left ≡ to_me → them_left ≡ to_them → Talk both d r count mine theirs to_me to_them → Talk both d r count mine now me_left them_left
-stayed both d r count mine theirs now to_me to_them me_left them_left same me them talk =
-    subst (λ (q : List Message). Talk both d r count mine now q them_left) (sym me)
-    (subst (λ (q : List Message). Talk both d r count mine now to_me q) (sym them)
-    (subst (λ (s : Handshake). Talk both d r count mine s to_me to_them) (sym same) talk))
+    → now ≡ theirs → me_left ≡ to_me → them_left ≡ to_them → Transcript both d r count mine theirs to_me to_them → Transcript both d r count mine now me_left them_left
+stayed both d r count mine theirs now to_me to_them me_left them_left same me them transcript =
+    subst (λ (q : List Message). Transcript both d r count mine now q them_left) (sym me)
+    (subst (λ (q : List Message). Transcript both d r count mine now to_me q) (sym them)
+    (subst (λ (s : Handshake). Transcript both d r count mine s to_me to_them) (sym same) transcript))
 
 is_heard : (r : Role) (answer : HsOut) → (IsFault answer → ⊥) → IsHeard (Takes r answer)
 is_heard r Nothing heard = tt
@@ -35,66 +35,66 @@ is_heard r (Fault cause) heard = heard tt
 pub record Goes (both : Bool) (d : Deal) (count : ℕ) (act : Act) (t : Pair) : Type 0 where
   pub now : ℕ
   pub fewer : count ≡ now + 1
-  pub talk : InTalk both d now t
+  pub transcript : InTranscript both d now t
   pub heard : IsHeard act
 
-pub talk_step : (both : Bool) (d : Deal) (count : ℕ) (s t : Pair) (act : Act) → Fits both d → InTalk both d count s → PairStep s act t → Goes both d count act t
-talk_step both d count s t (Puts Initiator) fits talk step =
-    let put = talk_puts both d Initiator count s.initiator s.responder s.to_initiator s.to_responder t.initiator t.to_responder talk step.0 in
+pub transcript_step : (both : Bool) (d : Deal) (count : ℕ) (s t : Pair) (act : Act) → Fits both d → InTranscript both d count s → PairStep s act t → Goes both d count act t
+transcript_step both d count s t (Puts Initiator) fits transcript step =
+    let put = transcript_puts both d Initiator count s.initiator s.responder s.to_initiator s.to_responder t.initiator t.to_responder transcript step.0 in
     record {
       now = put.now;
       fewer = put.fewer;
-      talk = stayed both d Initiator put.now t.initiator s.responder t.responder s.to_initiator t.to_responder t.to_initiator t.to_responder step.1 step.2 refl put.talk;
+      transcript = stayed both d Initiator put.now t.initiator s.responder t.responder s.to_initiator t.to_responder t.to_initiator t.to_responder step.1 step.2 refl put.transcript;
       heard = tt;
     }
-talk_step both d count s t (Puts Responder) fits talk step =
-    let seen = turn_talk both d Initiator count s.initiator s.responder s.to_initiator s.to_responder talk in
-    let put = talk_puts both d Responder count s.responder s.initiator s.to_responder s.to_initiator t.responder t.to_initiator seen step.0 in
-    let kept = stayed both d Responder put.now t.responder s.initiator t.initiator s.to_responder t.to_initiator t.to_responder t.to_initiator step.1 step.2 refl put.talk in
+transcript_step both d count s t (Puts Responder) fits transcript step =
+    let seen = turn_transcript both d Initiator count s.initiator s.responder s.to_initiator s.to_responder transcript in
+    let put = transcript_puts both d Responder count s.responder s.initiator s.to_responder s.to_initiator t.responder t.to_initiator seen step.0 in
+    let kept = stayed both d Responder put.now t.responder s.initiator t.initiator s.to_responder t.to_initiator t.to_responder t.to_initiator step.1 step.2 refl put.transcript in
     record {
       now = put.now;
       fewer = put.fewer;
-      talk = turn_talk both d Responder put.now t.responder t.initiator t.to_responder t.to_initiator kept;
+      transcript = turn_transcript both d Responder put.now t.responder t.initiator t.to_responder t.to_initiator kept;
       heard = tt;
     }
-talk_step both d count s t (Takes Initiator answer) fits talk step =
-    let took = talk_takes both d Initiator count s.initiator s.responder s.to_initiator s.to_responder answer t.initiator t.to_initiator fits talk step.0 in
+transcript_step both d count s t (Takes Initiator answer) fits transcript step =
+    let took = transcript_takes both d Initiator count s.initiator s.responder s.to_initiator s.to_responder answer t.initiator t.to_initiator fits transcript step.0 in
     record {
       now = took.gone.now;
       fewer = took.gone.fewer;
-      talk = stayed both d Initiator took.gone.now t.initiator s.responder t.responder t.to_initiator s.to_responder t.to_initiator t.to_responder step.1 refl step.2 took.gone.talk;
+      transcript = stayed both d Initiator took.gone.now t.initiator s.responder t.responder t.to_initiator s.to_responder t.to_initiator t.to_responder step.1 refl step.2 took.gone.transcript;
       heard = is_heard Initiator answer took.heard;
     }
-talk_step both d count s t (Takes Responder answer) fits talk step =
-    let seen = turn_talk both d Initiator count s.initiator s.responder s.to_initiator s.to_responder talk in
-    let took = talk_takes both d Responder count s.responder s.initiator s.to_responder s.to_initiator answer t.responder t.to_responder fits seen step.0 in
-    let kept = stayed both d Responder took.gone.now t.responder s.initiator t.initiator t.to_responder s.to_initiator t.to_responder t.to_initiator step.1 refl step.2 took.gone.talk in
+transcript_step both d count s t (Takes Responder answer) fits transcript step =
+    let seen = turn_transcript both d Initiator count s.initiator s.responder s.to_initiator s.to_responder transcript in
+    let took = transcript_takes both d Responder count s.responder s.initiator s.to_responder s.to_initiator answer t.responder t.to_responder fits seen step.0 in
+    let kept = stayed both d Responder took.gone.now t.responder s.initiator t.initiator t.to_responder s.to_initiator t.to_responder t.to_initiator step.1 refl step.2 took.gone.transcript in
     record {
       now = took.gone.now;
       fewer = took.gone.fewer;
-      talk = turn_talk both d Responder took.gone.now t.responder t.initiator t.to_responder t.to_initiator kept;
+      transcript = turn_transcript both d Responder took.gone.now t.responder t.initiator t.to_responder t.to_initiator kept;
       heard = is_heard Responder answer took.heard;
     }
 
 pub record Went (both : Bool) (d : Deal) (count : ℕ) (acts : List Act) (t : Pair) : Type 0 where
   pub now : ℕ
   pub fewer : count ≡ now + length acts
-  pub talk : InTalk both d now t
+  pub transcript : InTranscript both d now t
   pub heard : AreHeard acts
 
 more_acts : (count middle now acts : ℕ) → count ≡ middle + 1 → middle ≡ now + acts → count ≡ now + suc acts
 more_acts count middle now acts first rest = omega arith
 
-pub talk_run : (both : Bool) (d : Deal) (count : ℕ) (s t : Pair) (acts : List Act) → Fits both d → InTalk both d count s → Run PairStep s acts t → Went both d count acts t
-talk_run both d count s t [] fits talk run =
-    record { now = count; fewer = omega arith; talk = subst (λ (x : Pair). InTalk both d count x) run talk; heard = tt }
-talk_run both d count s t (act ∷ acts) fits talk run =
-    let gone = talk_step both d count s run.0 act fits talk run.1 in
-    let rest = talk_run both d gone.now run.0 t acts fits gone.talk run.2 in
+pub transcript_run : (both : Bool) (d : Deal) (count : ℕ) (s t : Pair) (acts : List Act) → Fits both d → InTranscript both d count s → Run PairStep s acts t → Went both d count acts t
+transcript_run both d count s t [] fits transcript run =
+    record { now = count; fewer = omega arith; transcript = subst (λ (x : Pair). InTranscript both d count x) run transcript; heard = tt }
+transcript_run both d count s t (act ∷ acts) fits transcript run =
+    let gone = transcript_step both d count s run.0 act fits transcript run.1 in
+    let rest = transcript_run both d gone.now run.0 t acts fits gone.transcript run.2 in
     record {
       now = rest.now;
       fewer = more_acts count gone.now rest.now (length acts) gone.fewer rest.fewer;
-      talk = rest.talk;
+      transcript = rest.transcript;
       heard = (gone.heard, rest.heard);
     }
 
@@ -107,18 +107,18 @@ deal_of initiator responder = record {
   last = responder.last_sid;
 }
 
-begun_initiator : (both : Bool) (i r : Handshake) → i.role ≡ Initiator → shake_up i ≡ shake_at both (deal_of i r) Initiator VersionSaid
+begun_initiator : (both : Bool) (i r : Handshake) → i.role ≡ Initiator → handshake_up i ≡ handshake_at both (deal_of i r) Initiator VersionSaid
 begun_initiator both i r is = rw (is) refl
 
-begun_responder : (both : Bool) (i r : Handshake) → r.role ≡ Responder → shake_up r ≡ shake_at both (deal_of i r) Responder VersionSaid
+begun_responder : (both : Bool) (i r : Handshake) → r.role ≡ Responder → handshake_up r ≡ handshake_at both (deal_of i r) Responder VersionSaid
 begun_responder both i r is = rw (is) refl
 
 place_there : (both : Bool) → IsPlace both VersionSaid
 place_there true = tt
 place_there false = tt
 
-met_talk : (both : Bool) (i r : Handshake) → i.role ≡ Initiator → r.role ≡ Responder → InTalk both (deal_of i r) (2 * left both VersionSaid) (met i r)
-met_talk both i r is peer_is = record {
+met_transcript : (both : Bool) (i r : Handshake) → i.role ≡ Initiator → r.role ≡ Responder → InTranscript both (deal_of i r) (2 * left both VersionSaid) (met i r)
+met_transcript both i r is peer_is = record {
   place = VersionSaid;
   ahead = Level;
   here = place_there both;
@@ -132,7 +132,7 @@ fits_of i r matched = record { kind = refl; peer_kind = matched.kind; ring = mat
 pub met_run : (i r : Handshake) (acts : List Act) (pair : Pair) → i.role ≡ Initiator → r.role ≡ Responder → Match i.offer r.offer
     → Run PairStep (met i r) acts pair → Went i.offer.both_rings (deal_of i r) (2 * left i.offer.both_rings VersionSaid) acts pair
 met_run i r acts pair is peer_is matched run =
-    talk_run i.offer.both_rings (deal_of i r) (2 * left i.offer.both_rings VersionSaid) (met i r) pair acts (fits_of i r matched) (met_talk i.offer.both_rings i r is peer_is) run
+    transcript_run i.offer.both_rings (deal_of i r) (2 * left i.offer.both_rings VersionSaid) (met i r) pair acts (fits_of i r matched) (met_transcript i.offer.both_rings i r is peer_is) run
 
 pub all_heard : (i r : Handshake) (acts : List Act) (pair : Pair) → i.role ≡ Initiator → r.role ≡ Responder → Match i.offer r.offer
     → Run PairStep (met i r) acts pair → AreHeard acts
@@ -167,11 +167,11 @@ responder_acts s (inl puts) =
 responder_acts s (inr takes) =
     inr (Takes Responder takes.0, record s { responder = takes.1; to_responder = takes.2 }, (takes.3, refl, refl))
 
-owed_to_none : (r : Role) (both : Bool) (d : Deal) (n : Place) (mine : Handshake) → mine ≡ shake_at both d r n → owner n ≡ None → mine.owed ≡ None
+owed_to_none : (r : Role) (both : Bool) (d : Deal) (n : Place) (mine : Handshake) → mine ≡ handshake_at both d r n → owner n ≡ None → mine.owed ≡ None
 owed_to_none Initiator both d n mine at none = ap (λ (s : Handshake). s.owed) at ∙ ap (λ (who : Option Role). owed_by Initiator who (message_at d n)) none
 owed_to_none Responder both d n mine at none = ap (λ (s : Handshake). s.owed) at ∙ ap (λ (who : Option Role). owed_by Responder who (message_at d n)) none
 
-level_goes : (both : Bool) (d : Deal) (n : Place) (s : Pair) → s.initiator ≡ shake_at both d Initiator n → s.responder ≡ shake_at both d Responder n
+level_goes : (both : Bool) (d : Deal) (n : Place) (s : Pair) → s.initiator ≡ handshake_at both d Initiator n → s.responder ≡ handshake_at both d Responder n
     → s.to_initiator ≡ [] → s.to_responder ≡ [] → (who : Option Role) → owner n ≡ who → CanGoOn s
 level_goes both d n s mine theirs none none_there None is =
     inl (record { initiator = owed_to_none Initiator both d n s.initiator mine is; responder = owed_to_none Responder both d n s.responder theirs is; to_initiator = none; to_responder = none_there })
@@ -180,21 +180,21 @@ level_goes both d n s mine theirs none none_there (Some Initiator) is =
 level_goes both d n s mine theirs none none_there (Some Responder) is =
     responder_acts s (own_puts both d Responder n s.responder s.to_responder s.to_initiator is theirs)
 
-talk_goes : (both : Bool) (d : Deal) (count : ℕ) (s : Pair) → Fits both d → InTalk both d count s → CanGoOn s
-talk_goes both d count s fits talk =
-    elim talk.ahead as (λ (a : Ahead). Scene both d Initiator talk.place a s.initiator s.responder s.to_initiator s.to_responder → CanGoOn s) [
-      | Level ↦ λ scene. level_goes both d talk.place s scene.0 scene.1 scene.2 scene.3 (owner talk.place) refl
-      | MineOne ↦ λ scene. responder_acts s (first_taken both d Responder talk.place s.responder [] s.to_responder s.to_initiator fits talk.here scene.4 scene.1 scene.3)
-      | MineTwo ↦ λ scene. responder_acts s (first_taken both d Responder talk.place s.responder (message_at d (next both talk.place) ∷ []) s.to_responder s.to_initiator fits talk.here scene.4 scene.1 scene.3)
-      | TheirsOne ↦ λ scene. initiator_acts s (first_taken both d Initiator talk.place s.initiator [] s.to_initiator s.to_responder fits talk.here scene.4 scene.0 scene.2)
-      | TheirsTwo ↦ λ scene. initiator_acts s (first_taken both d Initiator talk.place s.initiator (message_at d (next both talk.place) ∷ []) s.to_initiator s.to_responder fits talk.here scene.4 scene.0 scene.2)
-    ] talk.scene
+transcript_goes : (both : Bool) (d : Deal) (count : ℕ) (s : Pair) → Fits both d → InTranscript both d count s → CanGoOn s
+transcript_goes both d count s fits transcript =
+    elim transcript.ahead as (λ (a : Ahead). Scene both d Initiator transcript.place a s.initiator s.responder s.to_initiator s.to_responder → CanGoOn s) [
+      | Level ↦ λ scene. level_goes both d transcript.place s scene.0 scene.1 scene.2 scene.3 (owner transcript.place) refl
+      | MineOne ↦ λ scene. responder_acts s (first_taken both d Responder transcript.place s.responder [] s.to_responder s.to_initiator fits transcript.here scene.4 scene.1 scene.3)
+      | MineTwo ↦ λ scene. responder_acts s (first_taken both d Responder transcript.place s.responder (message_at d (next both transcript.place) ∷ []) s.to_responder s.to_initiator fits transcript.here scene.4 scene.1 scene.3)
+      | TheirsOne ↦ λ scene. initiator_acts s (first_taken both d Initiator transcript.place s.initiator [] s.to_initiator s.to_responder fits transcript.here scene.4 scene.0 scene.2)
+      | TheirsTwo ↦ λ scene. initiator_acts s (first_taken both d Initiator transcript.place s.initiator (message_at d (next both transcript.place) ∷ []) s.to_initiator s.to_responder fits transcript.here scene.4 scene.0 scene.2)
+    ] transcript.scene
 
 pub all_goes : (i r : Handshake) (acts : List Act) (pair : Pair) → i.role ≡ Initiator → r.role ≡ Responder → Match i.offer r.offer
     → Run PairStep (met i r) acts pair → CanGoOn pair
 all_goes i r acts pair is peer_is matched run =
     let gone = met_run i r acts pair is peer_is matched run in
-    talk_goes i.offer.both_rings (deal_of i r) gone.now pair (fits_of i r matched) gone.talk
+    transcript_goes i.offer.both_rings (deal_of i r) gone.now pair (fits_of i r matched) gone.transcript
 
 -- how it ends
 said_all : (n : Place) (message : Message) → owed_by Initiator (owner n) message ≡ None → owed_by Responder (owner n) message ≡ None → n ≡ AllSaid
@@ -207,27 +207,27 @@ not_waiting message rest queue none is = cc
 
 -- both ends stand after the last message
 pub record Ends (both : Bool) (d : Deal) (s : Pair) : Type 0 where
-  pub initiator : s.initiator ≡ shake_at both d Initiator AllSaid
-  pub responder : s.responder ≡ shake_at both d Responder AllSaid
+  pub initiator : s.initiator ≡ handshake_at both d Initiator AllSaid
+  pub responder : s.responder ≡ handshake_at both d Responder AllSaid
 
-level_ends : (both : Bool) (d : Deal) (n : Place) (s : Pair) → s.initiator ≡ shake_at both d Initiator n → s.responder ≡ shake_at both d Responder n
+level_ends : (both : Bool) (d : Deal) (n : Place) (s : Pair) → s.initiator ≡ handshake_at both d Initiator n → s.responder ≡ handshake_at both d Responder n
     → AtRest s → Ends both d s
 level_ends both d n s mine theirs rest =
     let last = said_all n (message_at d n) (sym (ap (λ (h : Handshake). h.owed) mine) ∙ rest.initiator) (sym (ap (λ (h : Handshake). h.owed) theirs) ∙ rest.responder) in
     record {
-      initiator = mine ∙ ap (λ (m : Place). shake_at both d Initiator m) last;
-      responder = theirs ∙ ap (λ (m : Place). shake_at both d Responder m) last;
+      initiator = mine ∙ ap (λ (m : Place). handshake_at both d Initiator m) last;
+      responder = theirs ∙ ap (λ (m : Place). handshake_at both d Responder m) last;
     }
 
-rest_ends : (both : Bool) (d : Deal) (count : ℕ) (s : Pair) → InTalk both d count s → AtRest s → Ends both d s
-rest_ends both d count s talk rest =
-    elim talk.ahead as (λ (a : Ahead). Scene both d Initiator talk.place a s.initiator s.responder s.to_initiator s.to_responder → Ends both d s) [
-      | Level ↦ λ scene. level_ends both d talk.place s scene.0 scene.1 rest
-      | MineOne ↦ λ scene. absurd (not_waiting (message_at d talk.place) [] s.to_responder rest.to_responder scene.3)
+rest_ends : (both : Bool) (d : Deal) (count : ℕ) (s : Pair) → InTranscript both d count s → AtRest s → Ends both d s
+rest_ends both d count s transcript rest =
+    elim transcript.ahead as (λ (a : Ahead). Scene both d Initiator transcript.place a s.initiator s.responder s.to_initiator s.to_responder → Ends both d s) [
+      | Level ↦ λ scene. level_ends both d transcript.place s scene.0 scene.1 rest
+      | MineOne ↦ λ scene. absurd (not_waiting (message_at d transcript.place) [] s.to_responder rest.to_responder scene.3)
       | MineTwo ↦ λ scene. absurd (cc (rest.to_responder, scene.3))
-      | TheirsOne ↦ λ scene. absurd (not_waiting (message_at d talk.place) [] s.to_initiator rest.to_initiator scene.2)
+      | TheirsOne ↦ λ scene. absurd (not_waiting (message_at d transcript.place) [] s.to_initiator rest.to_initiator scene.2)
       | TheirsTwo ↦ λ scene. absurd (cc (rest.to_initiator, scene.2))
-    ] talk.scene
+    ] transcript.scene
 
 end_agrees : (both : Bool) (d : Deal) (s : Pair) → d.asks.both_rings ≡ both → Ends both d s → Agreed d.sid d.asks d.answers s
 end_agrees true d s is ends = record {
@@ -259,4 +259,4 @@ pub rest_agrees : (i r : Handshake) (acts : List Act) (pair : Pair) → i.role �
     → Run PairStep (met i r) acts pair → AtRest pair → Agreed (next_sid i) i.offer r.offer pair
 rest_agrees i r acts pair is peer_is matched run rest =
     let gone = met_run i r acts pair is peer_is matched run in
-    end_agrees i.offer.both_rings (deal_of i r) pair refl (rest_ends i.offer.both_rings (deal_of i r) gone.now pair gone.talk rest)
+    end_agrees i.offer.both_rings (deal_of i r) pair refl (rest_ends i.offer.both_rings (deal_of i r) gone.now pair gone.transcript rest)

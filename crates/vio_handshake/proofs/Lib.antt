@@ -1,8 +1,9 @@
 pub mod Agreeable
 pub mod Agreeing
+pub mod Attributing
 pub mod MessageWidths
 pub mod Opening
 pub mod PlaceRows
 pub mod Places
-pub mod Talking
+pub mod Transcribing
 pub mod WellFormed

@@ -10,7 +10,7 @@ use Rattle.vio_tag.specs.declared.attributes.DiskAttr.{DiskAttr}
 use Rattle.vio_tag.specs.declared.attributes.NetAttr.{NetAttr}
 use Rattle.vio_handshake.specs.Attributes.{answered_attributes, client_attributes, port_attributes, said_attributes, server_attributes}
 use Rattle.vio_handshake.specs.declared.session.Offer.{Offer}
-use Rattle.vio_handshake.proofs.Places.{Place, VersionSaid, VersionAnswered, AttributesSaid, AttributesAnswered, RingSaid, RingAnswered, PeerRingSaid, PeerRingAnswered, ReadySaid, ReadyAnswered, PeerReadySaid, PeerReadyAnswered, AllSaid, Deal, message_at}
+use Rattle.vio_handshake.proofs.Places.{Place, VersionSaid, VersionAnswered, AttributesSaid, AttributesAnswered, RingSaid, RingAnswered, PeerRingSaid, PeerRingAnswered, ReadySaid, ReadyAnswered, PeerReadySaid, PeerReadyAnswered, AllSaid, Deal, message_at, minor_of}
 
 -- each number of the offer is of its field's width, as in a program, and its ring's cookies are well formed
 pub record OfferHasWidths (offer : Offer) : Type 0 where
@@ -28,14 +28,14 @@ disk_long attr = refl
 net_long : (attr : NetAttr) → length (net_attr_bytes attr) ≡ 48
 net_long attr = refl
 
-said_long : (both : Bool) (a : Offer) → a.both_rings ≡ both → length (said_attributes a) ≡ 48
+said_long : (both : Bool) (a : Offer) (minor : ℕ) → a.both_rings ≡ both → length (said_attributes a minor) ≡ 48
 unfolding said_attributes
-said_long true a is = rw (is) (net_long (port_attributes a))
-said_long false a is = rw (is) (disk_long client_attributes)
+said_long true a minor is = rw (is) (net_long (port_attributes a minor))
+said_long false a minor is = rw (is) (disk_long client_attributes)
 
 answered_long : (both : Bool) (b : Offer) (minor : ℕ) (bytes : List ℕ) → b.both_rings ≡ both → length (answered_attributes b minor bytes) ≡ 48
 unfolding answered_attributes
-answered_long true b minor bytes is = rw (is) (net_long (port_attributes b))
+answered_long true b minor bytes is = rw (is) (net_long (port_attributes b minor))
 answered_long false b minor bytes is = rw (is) (disk_long (server_attributes b minor (disk_attr_of bytes)))
 
 small_minor : (a b : ℕ) → a < 2 ^ 16 → min a b < 2 ^ 16
@@ -47,8 +47,8 @@ sid_fits sid fits = omega arith
 pub message_has_widths : (d : Deal) (n : Place) → OfferHasWidths d.asks → OfferHasWidths d.answers → d.sid < 2 ^ 32 → HasWidths (message_at d n)
 message_has_widths d VersionSaid a b sid = (sid, (omega arith, a.minor, a.class))
 message_has_widths d VersionAnswered a b sid = (sid, (omega arith, small_minor d.asks.minor d.answers.minor a.minor, b.class))
-message_has_widths d AttributesSaid a b sid = (sid, said_long d.asks.both_rings d.asks refl)
-message_has_widths d AttributesAnswered a b sid = (sid, answered_long d.answers.both_rings d.answers (min d.asks.minor d.answers.minor) (said_attributes d.asks) refl)
+message_has_widths d AttributesSaid a b sid = (sid, said_long d.asks.both_rings d.asks (minor_of d) refl)
+message_has_widths d AttributesAnswered a b sid = (sid, answered_long d.answers.both_rings d.answers (minor_of d) (said_attributes d.asks (minor_of d)) refl)
 message_has_widths d RingSaid a b sid = (sid, (omega arith, a.slots, a.slot_size, omega arith, a.room, a.cookies))
 message_has_widths d RingAnswered a b sid = (sid, (sid_fits d.sid sid, a.slots, a.slot_size, omega arith, a.room, a.cookies))
 message_has_widths d PeerRingSaid a b sid = (sid, (omega arith, b.slots, b.slot_size, omega arith, b.room, b.cookies))

@@ -14,7 +14,7 @@ use Rattle.vio_tag.specs.declared.message.MsgBody.TheVariants.{Ver, Attr, DringR
 use Rattle.vio_handshake.specs.Acceptance.{accepts_ring}
 use Rattle.vio_handshake.specs.Attributes.{accepts_answered, accepts_said, answered_attributes, said_attributes}
 use Rattle.vio_handshake.specs.Messages.{ack, info, nack, own_ring}
-use Rattle.vio_handshake.specs.Rules.{ShakeTake, Goes, GoesOpen, Faults, agrees_minor, answered, asked, attributes_answered, attributes_asked, behind_ring, fault_or, is_declined, knows, opens_by_put, owes, own_named, peer_named, put_in, ready_answered, refuses_version, ring_answered, ring_asked, row, shake_hear, shake_sent, shake_take, sid_fault, version_answered, version_asked}
+use Rattle.vio_handshake.specs.Rules.{HandshakeTake, Goes, GoesOpen, Faults, agrees_minor, answered, asked, attributes_answered, attributes_asked, behind_ring, fault_or, is_declined, knows, opens_by_put, owes, own_named, peer_named, put_in, ready_answered, refuses_version, ring_answered, ring_asked, row, handshake_hear, handshake_sent, handshake_take, sid_fault, version_answered, version_asked}
 use Rattle.vio_handshake.specs.State.{session_in, session_of}
 use Rattle.vio_handshake.specs.declared.session.Session.{Session}
 use Rattle.vio_handshake.specs.declared.handshake.Handshake.{Handshake}
@@ -32,7 +32,7 @@ put_stays Responder PeerRingTaken s is stays = sym (was_in s PeerRingTaken is)
 put_stays Initiator phase s is stays = refl
 put_stays Responder phase s is stays = refl
 
-pub sent_stays : (s : Handshake) → opens_by_put s.role s.phase ≡ false → session_of (shake_sent s) ≡ session_of s
+pub sent_stays : (s : Handshake) → opens_by_put s.role s.phase ≡ false → session_of (handshake_sent s) ≡ session_of s
 sent_stays s stays = put_stays s.role s.phase s refl stays
 
 put_opens : (role : Role) (phase : Phase) (s : Handshake) → s.phase ≡ phase → opens_by_put role phase ≡ true
@@ -42,26 +42,26 @@ put_opens Responder PeerReadyTaken s is opens = absurd (cc)
 put_opens Initiator phase s is opens = absurd (cc)
 put_opens Responder phase s is opens = absurd (cc)
 
-pub sent_opens : (s : Handshake) → opens_by_put s.role s.phase ≡ true → (session_of s ≡ None) × (session_of (shake_sent s) ≡ Some s.draft)
+pub sent_opens : (s : Handshake) → opens_by_put s.role s.phase ≡ true → (session_of s ≡ None) × (session_of (handshake_sent s) ≡ Some s.draft)
 sent_opens s opens = put_opens s.role s.phase s refl opens
 
 -- what a message makes of the session that was
-abbrev pub TakeSession : Option Session → ShakeTake → Type 0
+abbrev pub TakeSession : Option Session → HandshakeTake → Type 0
 TakeSession was (Goes t) = session_of t ≡ was
 TakeSession was (GoesOpen t) = (was ≡ None) × (session_of t ≡ Some t.draft)
 TakeSession was (Faults cause) = ⊤
 
-answered_session : (was : Option Session) (subtype : Subtype) (judged : ShakeTake) → TakeSession was judged → TakeSession was (answered subtype judged)
+answered_session : (was : Option Session) (subtype : Subtype) (judged : HandshakeTake) → TakeSession was judged → TakeSession was (answered subtype judged)
 answered_session was Info judged session = tt
 answered_session was Ack judged session = session
 answered_session was Nack judged session = tt
 
-asked_session : (was : Option Session) (subtype : Subtype) (judged : ShakeTake) → TakeSession was judged → TakeSession was (asked subtype judged)
+asked_session : (was : Option Session) (subtype : Subtype) (judged : HandshakeTake) → TakeSession was judged → TakeSession was (asked subtype judged)
 asked_session was Info judged session = session
 asked_session was Ack judged session = tt
 asked_session was Nack judged session = tt
 
-cond_take : (was : Option Session) (test : Bool) (x y : ShakeTake) → TakeSession was x → TakeSession was y → TakeSession was (if test then x else y)
+cond_take : (was : Option Session) (test : Bool) (x y : HandshakeTake) → TakeSession was x → TakeSession was y → TakeSession was (if test then x else y)
 cond_take was true x y session other = session
 cond_take was false x y session other = other
 
@@ -81,7 +81,7 @@ version_asked_none s sid major minor class =
 
 attributes_asked_none : (s : Handshake) (sid : ℕ) (bytes : List ℕ) → session_of (attributes_asked s sid bytes) ≡ None
 attributes_asked_none s sid bytes =
-    cond_session None (accepts_said s.offer bytes) (owes PeerRing (ack sid (Attr (answered_attributes s.offer s.draft.minor bytes))) s) (owes Attributes (nack sid (Attr bytes)) s) refl refl
+    cond_session None (accepts_said s.offer s.draft.minor bytes) (owes PeerRing (ack sid (Attr (answered_attributes s.offer s.draft.minor bytes))) s) (owes Attributes (nack sid (Attr bytes)) s) refl refl
 
 ring_asked_none : (s : Handshake) (sid ident slots slot_size options count : ℕ) (cookies : List Cookie) → session_of (ring_asked s sid ident slots slot_size options count cookies) ≡ None
 ring_asked_none s sid ident slots slot_size options count cookies =
@@ -97,7 +97,7 @@ ring_answered_none Responder s sid ident = refl
 
 version_answered_none : (s : Handshake) (sid major minor : ℕ) → TakeSession None (version_answered s sid major minor)
 version_answered_none s sid major minor =
-    cond_take None (major == 1 && nat_le minor s.offer.minor) (Goes (owes Attributes (info sid (Attr (said_attributes s.offer))) (agrees_minor minor s))) (Faults Refused) refl tt
+    cond_take None (major == 1 && nat_le minor s.offer.minor) (Goes (owes Attributes (info sid (Attr (said_attributes s.offer minor))) (agrees_minor minor s))) (Faults Refused) refl tt
 
 attributes_answered_none : (s : Handshake) (sid : ℕ) (bytes : List ℕ) → TakeSession None (attributes_answered s sid bytes)
 attributes_answered_none s sid bytes =
@@ -137,21 +137,21 @@ row_none Responder PeerReady s subtype sid Rdx was is =
 row_none Initiator phase s subtype sid body was is = tt
 row_none Responder phase s subtype sid body was is = tt
 
-hear_session : (s : Handshake) (subtype : Subtype) (sid : ℕ) (body : MsgBody) → TakeSession (session_of s) (shake_hear s subtype sid body)
+hear_session : (s : Handshake) (subtype : Subtype) (sid : ℕ) (body : MsgBody) → TakeSession (session_of s) (handshake_hear s subtype sid body)
 hear_session s subtype sid body =
     cond_take (session_of s) (is_declined subtype body) (Goes (record s { owed = Some (nack sid body) })) (row s.role s.phase s subtype sid body) refl
     (row_none s.role s.phase s subtype sid body (session_of s) refl)
 
-fault_session : (was : Option Session) (fault : Option Cause) (rest : ShakeTake) → TakeSession was rest → TakeSession was (fault_or fault rest)
+fault_session : (was : Option Session) (fault : Option Cause) (rest : HandshakeTake) → TakeSession was rest → TakeSession was (fault_or fault rest)
 fault_session was None rest session = session
 fault_session was (Some cause) rest session = tt
 
-take_session : (s : Handshake) (message : Message) → TakeSession (session_of s) (shake_take s message)
+take_session : (s : Handshake) (message : Message) → TakeSession (session_of s) (handshake_take s message)
 take_session s message =
-    fault_session (session_of s) (sid_fault s.sid message.sid) (shake_hear s message.subtype message.sid message.body) (hear_session s message.subtype message.sid message.body)
+    fault_session (session_of s) (sid_fault s.sid message.sid) (handshake_hear s message.subtype message.sid message.body) (hear_session s message.subtype message.sid message.body)
 
-pub take_stays : (s t : Handshake) (message : Message) → shake_take s message ≡ Goes t → session_of t ≡ session_of s
+pub take_stays : (s t : Handshake) (message : Message) → handshake_take s message ≡ Goes t → session_of t ≡ session_of s
 take_stays s t message is = let here = subst (TakeSession (session_of s)) is (take_session s message) in here
 
-pub take_opens : (s t : Handshake) (message : Message) → shake_take s message ≡ GoesOpen t → (session_of s ≡ None) × (session_of t ≡ Some t.draft)
+pub take_opens : (s t : Handshake) (message : Message) → handshake_take s message ≡ GoesOpen t → (session_of s ≡ None) × (session_of t ≡ Some t.draft)
 take_opens s t message is = let here = subst (TakeSession (session_of s)) is (take_session s message) in here

@@ -90,8 +90,8 @@ named_ring sid offer = DringReg sid offer.slots offer.slot_size 1 offer.count of
 abbrev pub message_at : Deal → Place → Message
 message_at d VersionSaid = info d.sid (Ver 1 d.asks.minor d.asks.class)
 message_at d VersionAnswered = ack d.sid (Ver 1 (minor_of d) d.answers.class)
-message_at d AttributesSaid = info d.sid (Attr (said_attributes d.asks))
-message_at d AttributesAnswered = ack d.sid (Attr (answered_attributes d.answers (minor_of d) (said_attributes d.asks)))
+message_at d AttributesSaid = info d.sid (Attr (said_attributes d.asks (minor_of d)))
+message_at d AttributesAnswered = ack d.sid (Attr (answered_attributes d.answers (minor_of d) (said_attributes d.asks (minor_of d))))
 message_at d RingSaid = info d.sid (own_ring d.asks)
 message_at d RingAnswered = ack d.sid (named_ring d.sid d.asks)
 message_at d PeerRingSaid = info d.sid (own_ring d.answers)
@@ -195,8 +195,8 @@ owed_by Responder (Some Responder) message = Some message
 owed_by role who message = None
 
 -- an end at a place
-abbrev pub shake_at : Bool → Deal → Role → Place → Handshake
-shake_at both d role place = record {
+abbrev pub handshake_at : Bool → Deal → Role → Place → Handshake
+handshake_at both d role place = record {
   role = role;
   offer = offer_at d role;
   phase = phase_at both role place;

@@ -16,8 +16,8 @@ use Rattle.vio_tag.specs.declared.message.MsgBody.TheVariants.{Ver, Attr, DringR
 use Rattle.vio_handshake.specs.Acceptance.{accepts_ring}
 use Rattle.vio_handshake.specs.Attributes.{accepts_answered, accepts_said, answered_attributes, said_attributes}
 use Rattle.vio_handshake.specs.Messages.{ack, info, nack, own_ring}
-use Rattle.vio_handshake.specs.Rules.{ShakeTake, Goes, GoesOpen, Faults, agrees_minor, answered, asked, attributes_answered, attributes_asked, behind_ring, fault_or, is_declined, knows, owes, own_named, peer_named, put_in, ready_answered, refuses_version, ring_answered, ring_asked, row, shake_hear, shake_sent, shake_take, sid_fault, taken, version_answered, version_asked}
-use Rattle.vio_handshake.specs.State.{IsFault, OwesWell, begun, forgotten_shake, fresh_shake, joined_shake, shake_up}
+use Rattle.vio_handshake.specs.Rules.{HandshakeTake, Goes, GoesOpen, Faults, agrees_minor, answered, asked, attributes_answered, attributes_asked, behind_ring, fault_or, is_declined, knows, owes, own_named, peer_named, put_in, ready_answered, refuses_version, ring_answered, ring_asked, row, handshake_hear, handshake_sent, handshake_take, sid_fault, taken, version_answered, version_asked}
+use Rattle.vio_handshake.specs.State.{IsFault, OwesWell, begun, forgotten_handshake, fresh_handshake, joined_handshake, handshake_up}
 use Rattle.vio_handshake.specs.declared.session.HsOut.{HsOut}
 use Rattle.vio_handshake.specs.declared.session.HsOut.TheVariants.{Nothing, Opens, Fault}
 use Rattle.vio_handshake.specs.declared.session.Offer.{Offer}
@@ -25,21 +25,21 @@ use Rattle.vio_handshake.specs.declared.handshake.Handshake.{Handshake}
 use Rattle.vio_handshake.specs.declared.handshake.Phase.{Phase}
 use Rattle.vio_handshake.specs.declared.handshake.Phase.TheVariants.{Version, Attributes, OwnRing, PeerRing, PeerRingTaken, OwnReady, PeerReady, PeerReadyTaken}
 
-pub fresh_owes : (role : Role) (offer : Offer) → AreCookies offer.count offer.cookies → OwesWell (fresh_shake role offer)
+pub fresh_owes : (role : Role) (offer : Offer) → AreCookies offer.count offer.cookies → OwesWell (fresh_handshake role offer)
 fresh_owes role offer form = record { offer = form; owed = tt }
 
-pub joined_owes : (s : Handshake) → OwesWell s → OwesWell (joined_shake s)
+pub joined_owes : (s : Handshake) → OwesWell s → OwesWell (joined_handshake s)
 joined_owes s well = record { offer = well.offer; owed = tt }
 
-pub forgotten_owes : (s : Handshake) → OwesWell s → OwesWell (forgotten_shake s)
+pub forgotten_owes : (s : Handshake) → OwesWell s → OwesWell (forgotten_handshake s)
 forgotten_owes s well = record { offer = well.offer; owed = tt }
 
 begun_owes : (role : Role) (s : Handshake) → s.owed ≡ None → OwesWell s → OwesWell (begun role s)
 begun_owes Initiator s none well = record { offer = well.offer; owed = tt }
 begun_owes Responder s none well = record { offer = well.offer; owed = well.owed }
 
-pub up_owes : (s : Handshake) → OwesWell s → OwesWell (shake_up s)
-up_owes s well = begun_owes s.role (joined_shake s) refl (joined_owes s well)
+pub up_owes : (s : Handshake) → OwesWell s → OwesWell (handshake_up s)
+up_owes s well = begun_owes s.role (joined_handshake s) refl (joined_owes s well)
 
 put_owes : (role : Role) (phase : Phase) (s : Handshake) → OwesWell s → OwesWell (put_in role phase s)
 put_owes Initiator PeerRingTaken s well = record { offer = well.offer; owed = tt }
@@ -49,27 +49,27 @@ put_owes Responder PeerReadyTaken s well = record { offer = well.offer; owed = t
 put_owes Initiator phase s well = record { offer = well.offer; owed = tt }
 put_owes Responder phase s well = record { offer = well.offer; owed = tt }
 
-pub sent_owes : (s : Handshake) → OwesWell s → OwesWell (shake_sent s)
+pub sent_owes : (s : Handshake) → OwesWell s → OwesWell (handshake_sent s)
 sent_owes s well = put_owes s.role s.phase s well
 
 -- whatever comes of a message
-abbrev pub TakeOwes : ShakeTake → Type 0
+abbrev pub TakeOwes : HandshakeTake → Type 0
 TakeOwes (Goes s) = OwesWell s
 TakeOwes (GoesOpen s) = OwesWell s
 TakeOwes (Faults cause) = ⊤
 
-answered_owes : (subtype : Subtype) (judged : ShakeTake) → TakeOwes judged → TakeOwes (answered subtype judged)
+answered_owes : (subtype : Subtype) (judged : HandshakeTake) → TakeOwes judged → TakeOwes (answered subtype judged)
 answered_owes Info judged well = tt
 answered_owes Ack judged well = well
 answered_owes Nack judged well = tt
 
-asked_owes : (subtype : Subtype) (judged : ShakeTake) → TakeOwes judged → TakeOwes (asked subtype judged)
+asked_owes : (subtype : Subtype) (judged : HandshakeTake) → TakeOwes judged → TakeOwes (asked subtype judged)
 asked_owes Info judged well = well
 asked_owes Ack judged well = tt
 asked_owes Nack judged well = tt
 
 -- of two outcomes whichever comes
-cond_take : (test : Bool) (x y : ShakeTake) → TakeOwes x → TakeOwes y → TakeOwes (if test then x else y)
+cond_take : (test : Bool) (x y : HandshakeTake) → TakeOwes x → TakeOwes y → TakeOwes (if test then x else y)
 cond_take true x y well other = well
 cond_take false x y well other = other
 
@@ -79,7 +79,7 @@ cond_owes false x y well other = other
 
 version_answered_owes : (s : Handshake) (sid major minor : ℕ) → OwesWell s → TakeOwes (version_answered s sid major minor)
 version_answered_owes s sid major minor well =
-    cond_take (major == 1 && nat_le minor s.offer.minor) (Goes (owes Attributes (info sid (Attr (said_attributes s.offer))) (agrees_minor minor s))) (Faults Refused)
+    cond_take (major == 1 && nat_le minor s.offer.minor) (Goes (owes Attributes (info sid (Attr (said_attributes s.offer minor))) (agrees_minor minor s))) (Faults Refused)
     (record { offer = well.offer; owed = tt }) tt
 
 version_asked_owes : (s : Handshake) (sid major minor class : ℕ) → OwesWell s → OwesWell (version_asked s sid major minor class)
@@ -97,7 +97,7 @@ attributes_answered_owes s sid bytes well =
 
 attributes_asked_owes : (s : Handshake) (sid : ℕ) (bytes : List ℕ) → OwesWell s → OwesWell (attributes_asked s sid bytes)
 attributes_asked_owes s sid bytes well =
-    cond_owes (accepts_said s.offer bytes) (owes PeerRing (ack sid (Attr (answered_attributes s.offer s.draft.minor bytes))) s) (owes Attributes (nack sid (Attr bytes)) s)
+    cond_owes (accepts_said s.offer s.draft.minor bytes) (owes PeerRing (ack sid (Attr (answered_attributes s.offer s.draft.minor bytes))) s) (owes Attributes (nack sid (Attr bytes)) s)
     (record { offer = well.offer; owed = tt }) (record { offer = well.offer; owed = tt })
 
 ring_answered_owes : (role : Role) (s : Handshake) (sid ident : ℕ) → OwesWell s → OwesWell (ring_answered role s sid ident)
@@ -145,26 +145,26 @@ row_owes Responder PeerReady s subtype sid Rdx well form =
 row_owes Initiator phase s subtype sid body well form = tt
 row_owes Responder phase s subtype sid body well form = tt
 
-hear_owes : (s : Handshake) (subtype : Subtype) (sid : ℕ) (body : MsgBody) → OwesWell s → HasForm body → TakeOwes (shake_hear s subtype sid body)
+hear_owes : (s : Handshake) (subtype : Subtype) (sid : ℕ) (body : MsgBody) → OwesWell s → HasForm body → TakeOwes (handshake_hear s subtype sid body)
 hear_owes s subtype sid body well form =
     cond_take (is_declined subtype body) (Goes (record s { owed = Some (nack sid body) })) (row s.role s.phase s subtype sid body)
     (record { offer = well.offer; owed = form }) (row_owes s.role s.phase s subtype sid body well form)
 
-fault_owes : (fault : Option Cause) (rest : ShakeTake) → TakeOwes rest → TakeOwes (fault_or fault rest)
+fault_owes : (fault : Option Cause) (rest : HandshakeTake) → TakeOwes rest → TakeOwes (fault_or fault rest)
 fault_owes None rest well = well
 fault_owes (Some cause) rest well = tt
 
-take_owes : (s : Handshake) (message : Message) → OwesWell s → IsWellFormed message → TakeOwes (shake_take s message)
+take_owes : (s : Handshake) (message : Message) → OwesWell s → IsWellFormed message → TakeOwes (handshake_take s message)
 take_owes s message well form =
-    fault_owes (sid_fault s.sid message.sid) (shake_hear s message.subtype message.sid message.body) (hear_owes s message.subtype message.sid message.body well form)
+    fault_owes (sid_fault s.sid message.sid) (handshake_hear s message.subtype message.sid message.body) (hear_owes s message.subtype message.sid message.body well form)
 
 -- as a program's take has it
-told_owes : (answer : HsOut) (s t : Handshake) (take : ShakeTake) → OwesWell s → TakeOwes take → taken answer t ≡ take → (IsFault answer → t ≡ s) → OwesWell t
+told_owes : (answer : HsOut) (s t : Handshake) (take : HandshakeTake) → OwesWell s → TakeOwes take → taken answer t ≡ take → (IsFault answer → t ≡ s) → OwesWell t
 told_owes Nothing s t take before well is unchanged = subst TakeOwes (sym is) well
 told_owes Opens s t take before well is unchanged = subst TakeOwes (sym is) well
 told_owes (Fault cause) s t take before well is unchanged = subst OwesWell (sym (unchanged tt)) before
 
 pub taken_owes : (answer : HsOut) (s t : Handshake) (message : Message) → OwesWell s → IsWellFormed message
-    → taken answer t ≡ shake_take s message → (IsFault answer → t ≡ s) → OwesWell t
+    → taken answer t ≡ handshake_take s message → (IsFault answer → t ≡ s) → OwesWell t
 taken_owes answer s t message well form is unchanged =
-    told_owes answer s t (shake_take s message) well (take_owes s message well form) is unchanged
+    told_owes answer s t (handshake_take s message) well (take_owes s message well form) is unchanged

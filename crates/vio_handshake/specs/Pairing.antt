@@ -1,10 +1,13 @@
 -- Two handshakes that are given each other's messages, in any interleaving of their steps.
-use Rattle.std.specs.Prelude.{◌≡◌, ℕ, Bool, true, false, min, List, [], ◌∷◌, ◌++◌, Some, None, ⊤}
+use Rattle.std.specs.Prelude.{◌≡◌, ℕ, Bool, true, false, min, List, [], ◌∷◌, ◌++◌, Option, Some, None, IfSome, ⊤}
 use Rattle.ldc_link.specs.declared.phase.Role.{Role}
 use Rattle.ldc_link.specs.declared.phase.Role.TheVariants.{Initiator, Responder}
 use Rattle.vio_tag.specs.declared.message.Message.{Message}
-use Rattle.vio_handshake.specs.Rules.{shake_sent, shake_take, taken}
-use Rattle.vio_handshake.specs.State.{IsFault, session_of, shake_up}
+use Rattle.vio_tag.specs.declared.message.MsgBody.{MsgBody}
+use Rattle.vio_tag.specs.declared.message.MsgBody.TheVariants.{Attr}
+use Rattle.vio_handshake.specs.Attributes.{answered_attributes, said_attributes}
+use Rattle.vio_handshake.specs.Rules.{handshake_sent, handshake_take, taken}
+use Rattle.vio_handshake.specs.State.{IsFault, session_of, handshake_up}
 use Rattle.vio_handshake.specs.declared.session.HsOut.{HsOut}
 use Rattle.vio_handshake.specs.declared.session.HsOut.TheVariants.{Nothing, Opens, Fault}
 use Rattle.vio_handshake.specs.declared.session.Offer.{Offer}
@@ -21,8 +24,8 @@ pub record Pair : Type 0 where
 -- their links just came up
 abbrev pub met : Handshake → Handshake → Pair
 met initiator responder = record {
-  initiator = shake_up initiator;
-  responder = shake_up responder;
+  initiator = handshake_up initiator;
+  responder = handshake_up responder;
   to_initiator = [];
   to_responder = [];
 }
@@ -44,7 +47,7 @@ waiting Responder pair = pair.to_responder
 pub record PutsOwed (s : Handshake) (queue : List Message) (t : Handshake) (after : List Message) : Type 0 where
   pub message : Message
   pub owed : s.owed ≡ Some message
-  pub sent : t ≡ shake_sent s
+  pub sent : t ≡ handshake_sent s
   pub put : after ≡ queue ++ message ∷ []
 
 -- an end that owes nothing takes the first message that waits for it
@@ -52,7 +55,7 @@ pub record TakesFirst (s : Handshake) (queue : List Message) (answer : HsOut) (t
   pub free : s.owed ≡ None
   pub message : Message
   pub first : queue ≡ message ∷ after
-  pub exact : taken answer t ≡ shake_take s message
+  pub exact : taken answer t ≡ handshake_take s message
   pub unchanged : IsFault answer → t ≡ s
 
 pub data Act : Type 0 where
@@ -111,3 +114,17 @@ pub record Agreed (sid : ℕ) (a b : Offer) (s : Pair) : Type 0 where
   pub responder_minor : responder.minor ≡ min a.minor b.minor
   pub ring : KnowsRing responder initiator a
   pub peer_ring : KnowsBoth a.both_rings initiator responder b
+
+-- the attributes in the message that an end owes
+abbrev pub attributes_in : MsgBody → Option (List ℕ)
+attributes_in (Attr bytes) = Some bytes
+attributes_in body = None
+
+abbrev pub owed_attributes : Option Message → Option (List ℕ)
+owed_attributes None = None
+owed_attributes (Some message) = attributes_in message.body
+
+-- the attributes that either end says are those of a session of this minor, also where its own is higher
+pub record SayOfMinor (minor : ℕ) (a b : Offer) (s : Pair) : Type 0 where
+  pub asked : IfSome (owed_attributes s.initiator.owed) (λ (bytes : List ℕ). bytes ≡ said_attributes a minor)
+  pub answered : IfSome (owed_attributes s.responder.owed) (λ (bytes : List ℕ). bytes ≡ answered_attributes b minor (said_attributes a minor))

@@ -21,25 +21,25 @@ use Rattle.vio_handshake.specs.declared.handshake.Phase.{Phase}
 use Rattle.vio_handshake.specs.declared.handshake.Phase.TheVariants.{Version, Attributes, OwnRing, PeerRing, PeerRingTaken, OwnReady, PeerReady, PeerReadyTaken, Open}
 
 -- what comes of a message: the handshake goes on, the session opens, or it is refused and nothing changes
-pub data ShakeTake : Type 0 where
-  Goes : (s : Handshake) → ShakeTake
-  GoesOpen : (s : Handshake) → ShakeTake
-  Faults : (cause : Cause) → ShakeTake
+pub data HandshakeTake : Type 0 where
+  Goes : (s : Handshake) → HandshakeTake
+  GoesOpen : (s : Handshake) → HandshakeTake
+  Faults : (cause : Cause) → HandshakeTake
 
 -- what a program answered, with the state that it left
-abbrev pub taken : HsOut → Handshake → ShakeTake
+abbrev pub taken : HsOut → Handshake → HandshakeTake
 taken Nothing s = Goes s
 taken Opens s = GoesOpen s
 taken (Fault cause) s = Faults cause
 
 -- what an end makes of the answer to its own message: the agreement is judged, the refusal is refused
-abbrev pub answered : Subtype → ShakeTake → ShakeTake
+abbrev pub answered : Subtype → HandshakeTake → HandshakeTake
 answered Info judged = Faults Order
 answered Ack judged = judged
 answered Nack judged = Faults Refused
 
 -- what an end makes of the other's own message
-abbrev pub asked : Subtype → ShakeTake → ShakeTake
+abbrev pub asked : Subtype → HandshakeTake → HandshakeTake
 asked Info judged = judged
 asked Ack judged = Faults Order
 asked Nack judged = Faults Order
@@ -66,22 +66,22 @@ version_asked s sid major minor class =
     else if major == 0 then (refuses_version sid 0 0 class (knows sid s))
     else (refuses_version sid 1 s.offer.minor class (knows sid s))
 
--- VER ACK: version 1, with a minor up to the own
-abbrev pub version_answered : Handshake → ℕ → ℕ → ℕ → ShakeTake
+-- VER ACK: version 1, with a minor up to the own, whose attributes are said
+abbrev pub version_answered : Handshake → ℕ → ℕ → ℕ → HandshakeTake
 version_answered s sid major minor =
     if major == 1 && nat_le minor s.offer.minor
-    then (Goes (owes Attributes (info sid (Attr (said_attributes s.offer))) (agrees_minor minor s)))
+    then (Goes (owes Attributes (info sid (Attr (said_attributes s.offer minor))) (agrees_minor minor s)))
     else (Faults Refused)
 
 -- ATTR INFO
 abbrev pub attributes_asked : Handshake → ℕ → List ℕ → Handshake
 attributes_asked s sid bytes =
-    if accepts_said s.offer bytes
+    if accepts_said s.offer s.draft.minor bytes
     then (owes PeerRing (ack sid (Attr (answered_attributes s.offer s.draft.minor bytes))) s)
     else (owes Attributes (nack sid (Attr bytes)) s)
 
 -- ATTR ACK
-abbrev pub attributes_answered : Handshake → ℕ → List ℕ → ShakeTake
+abbrev pub attributes_answered : Handshake → ℕ → List ℕ → HandshakeTake
 attributes_answered s sid bytes =
     if accepts_answered s.offer s.draft.minor bytes
     then (Goes (owes OwnRing (info sid (own_ring s.offer)) s))
@@ -113,12 +113,12 @@ ring_answered Initiator s sid ident =
 ring_answered Responder s sid ident = record (own_named s ident) { phase = PeerReady }
 
 -- RDX ACK: the initiator waits for the responder's RDX, the responder's session opens
-abbrev pub ready_answered : Role → Handshake → ShakeTake
+abbrev pub ready_answered : Role → Handshake → HandshakeTake
 ready_answered Initiator s = Goes (record s { phase = PeerReady })
 ready_answered Responder s = GoesOpen (record s { phase = Open })
 
 -- the table: what each state takes of the messages of its session; all else is out of order
-abbrev pub row : Role → Phase → Handshake → Subtype → ℕ → MsgBody → ShakeTake
+abbrev pub row : Role → Phase → Handshake → Subtype → ℕ → MsgBody → HandshakeTake
 row Initiator Version s subtype sid (Ver major minor class) = answered subtype (version_answered s sid major minor)
 row Responder Version s subtype sid (Ver major minor class) = asked subtype (Goes (version_asked s sid major minor class))
 row Initiator Attributes s subtype sid (Attr bytes) = answered subtype (attributes_answered s sid bytes)
@@ -141,18 +141,18 @@ is_declined Info (Plain envelope) = true
 is_declined subtype body = false
 
 -- a message of this session
-abbrev pub shake_hear : Handshake → Subtype → ℕ → MsgBody → ShakeTake
-shake_hear s subtype sid body =
+abbrev pub handshake_hear : Handshake → Subtype → ℕ → MsgBody → HandshakeTake
+handshake_hear s subtype sid body =
     if is_declined subtype body then (Goes (record s { owed = Some (nack sid body) }))
     else row s.role s.phase s subtype sid body
 
-abbrev pub fault_or : Option Cause → ShakeTake → ShakeTake
+abbrev pub fault_or : Option Cause → HandshakeTake → HandshakeTake
 fault_or (Some cause) rest = Faults cause
 fault_or None rest = rest
 
 -- a message: first its session is looked at, then whether it is declined, then the table
-abbrev pub shake_take : Handshake → Message → ShakeTake
-shake_take s message = fault_or (sid_fault s.sid message.sid) (shake_hear s message.subtype message.sid message.body)
+abbrev pub handshake_take : Handshake → Message → HandshakeTake
+handshake_take s message = fault_or (sid_fault s.sid message.sid) (handshake_hear s message.subtype message.sid message.body)
 
 -- what follows the message that was put: after the agreement to the peer's ring the own ring, or RDX; after the
 -- agreement to the peer's RDX the own RDX, or the session is open
@@ -163,8 +163,8 @@ put_in Initiator PeerReadyTaken s = record s { phase = Open; owed = None }
 put_in Responder PeerReadyTaken s = owes OwnReady (info s.draft.sid Rdx) s
 put_in role phase s = record s { owed = None }
 
-abbrev pub shake_sent : Handshake → Handshake
-shake_sent s = put_in s.role s.phase s
+abbrev pub handshake_sent : Handshake → Handshake
+handshake_sent s = put_in s.role s.phase s
 
 -- the initiator's session opens as its last message was put
 abbrev pub opens_by_put : Role → Phase → Bool

@@ -27,8 +27,8 @@ no_session = record {
 }
 
 -- the end of a link that was never up
-abbrev pub fresh_shake : Role → Offer → Handshake
-fresh_shake role offer = record {
+abbrev pub fresh_handshake : Role → Offer → Handshake
+fresh_handshake role offer = record {
   role = role;
   offer = offer;
   phase = Down;
@@ -39,12 +39,12 @@ fresh_shake role offer = record {
 }
 
 -- the link goes down: the session and the handshake end, and the count of sids stays
-abbrev pub joined_shake : Handshake → Handshake
-joined_shake s = record s { phase = Down; sid = None; owed = None; draft = no_session }
+abbrev pub joined_handshake : Handshake → Handshake
+joined_handshake s = record s { phase = Down; sid = None; owed = None; draft = no_session }
 
 -- the count of sids goes too
-abbrev pub forgotten_shake : Handshake → Handshake
-forgotten_shake s = fresh_shake s.role s.offer
+abbrev pub forgotten_handshake : Handshake → Handshake
+forgotten_handshake s = fresh_handshake s.role s.offer
 
 -- the sid of the next session
 abbrev pub next_sid : Handshake → ℕ
@@ -61,8 +61,8 @@ begun Initiator s = record s {
 }
 begun Responder s = record s { phase = Version }
 
-abbrev pub shake_up : Handshake → Handshake
-shake_up s = begun s.role (joined_shake s)
+abbrev pub handshake_up : Handshake → Handshake
+handshake_up s = begun s.role (joined_handshake s)
 
 -- the session that is open, or none
 abbrev pub session_in : Phase → Session → Option Session

@@ -1,8 +1,8 @@
-// Attributes: what each end says of the device, and what it accepts.
+// Attributes: what each end says of the device in a session of version 1.0, 1.1 or 1.2, and what it accepts.
 
 ghost use Rattle.std.specs.Prelude.{◌≡◌, min};
 ghost use Rattle.ldc_link.specs.declared.phase.Role.TheVariants.{Initiator, Responder};
-ghost use Rattle.vio_handshake.specs.Attributes.{accepts_answered, accepts_client, accepts_port, accepts_said, accepts_server, answered_attributes, client_attributes, from_1_1, port_attributes, said_attributes, server_attributes};
+ghost use Rattle.vio_handshake.specs.Attributes.{accepts_answered, accepts_client, accepts_port, accepts_said, accepts_server, answered_attributes, client_attributes, from_1_1, from_1_2, operations_in, port_attributes, port_mode, said_attributes, server_attributes};
 ghost use Rattle.vio_handshake.specs.Messages.{info};
 ghost use Rattle.vio_handshake.specs.Rules.{attributes_answered, attributes_asked, owes, row, taken};
 ghost use Rattle.vio_handshake.specs.State.{IsFault};
@@ -20,6 +20,8 @@ use vio_tag::{
 
 /// Data moves by rings of descriptors.
 const VIO_DRING_MODE: u8 = 3;
+/// So it does at a port, from version 1.2 on.
+const VIO_NEW_DRING_MODE: u8 = 4;
 /// A block device, and not a part of one.
 const VD_DISK_TYPE_DISK: u8 = 2;
 /// Its medium isn't removable.
@@ -28,6 +30,8 @@ const VD_MEDIA_TYPE_FIXED: u8 = 1;
 const BLOCK_SIZE: u32 = 512;
 /// A bit for each of read, write and flush.
 const OPERATIONS: u64 = 0x0e;
+/// From version 1.2 on the disk also tells and sets whether it caches writes.
+const OPERATIONS_FROM_1_2: u64 = 0x3e;
 /// The most blocks of one request.
 const MAX_TRANSFER: u64 = 64;
 /// The device has an Ethernet address.
@@ -37,9 +41,9 @@ const MTU: u64 = 1514;
 
 impl Handshake {
     pub(crate) fn say_attributes(&mut self, sid: u32)
-        ensures { self.new ≡ owes Attributes (info sid (Attr (said_attributes self.old.offer))) self.old }
+        ensures { self.new ≡ owes Attributes (info sid (Attr (said_attributes self.old.offer self.old.draft.minor))) self.old }
     {
-        let bytes = said_attributes(&self.offer);
+        let bytes = said_attributes(&self.offer, self.draft.minor);
         self.owe(Phase::Attributes, info(sid, MsgBody::Attr { bytes }));
     }
 
@@ -60,7 +64,7 @@ impl Handshake {
     fn answer_attributes(&mut self, sid: u32, bytes: &[u8; 48])
         ensures { self.new ≡ attributes_asked self.old sid bytes.now }
     {
-        if accepts_said(&self.offer, bytes) {
+        if accepts_said(&self.offer, self.draft.minor, bytes) {
             let bytes = answered_attributes(&self.offer, self.draft.minor, bytes);
             self.owe(Phase::PeerRing, ack(sid, MsgBody::Attr { bytes }));
         } else {
@@ -95,11 +99,11 @@ impl Handshake {
 
 /// The bytes of ATTR INFO, which the initiator says.
 #[tactic(auto, unfolding(crate::specs::Attributes::said_attributes))]
-fn said_attributes(offer: &Offer) -> [u8; 48]
-    ensures { result ≡ said_attributes offer.now }
+fn said_attributes(offer: &Offer, minor: u16) -> [u8; 48]
+    ensures { result ≡ said_attributes offer.now minor }
 {
     if offer.both_rings {
-        put_net_attr(&port_attributes(offer))
+        put_net_attr(&port_attributes(offer, minor))
     } else {
         put_disk_attr(&CLIENT_ATTRIBUTES)
     }
@@ -107,11 +111,11 @@ fn said_attributes(offer: &Offer) -> [u8; 48]
 
 /// Whether the responder accepts them.
 #[tactic(auto, unfolding(crate::specs::Attributes::accepts_said))]
-fn accepts_said(offer: &Offer, bytes: &[u8; 48]) -> bool
-    ensures { result ≡ accepts_said offer.now bytes.now }
+fn accepts_said(offer: &Offer, minor: u16, bytes: &[u8; 48]) -> bool
+    ensures { result ≡ accepts_said offer.now minor bytes.now }
 {
     if offer.both_rings {
-        accepts_port(offer, &net_attr(bytes))
+        accepts_port(offer, minor, &net_attr(bytes))
     } else {
         accepts_client(&disk_attr(bytes))
     }
@@ -123,7 +127,7 @@ fn answered_attributes(offer: &Offer, minor: u16, bytes: &[u8; 48]) -> [u8; 48]
     ensures { result ≡ answered_attributes offer.now minor bytes.now }
 {
     if offer.both_rings {
-        put_net_attr(&port_attributes(offer))
+        put_net_attr(&port_attributes(offer, minor))
     } else {
         put_disk_attr(&server_attributes(offer, minor, &disk_attr(bytes)))
     }
@@ -135,7 +139,7 @@ fn accepts_answered(offer: &Offer, minor: u16, bytes: &[u8; 48]) -> bool
     ensures { result ≡ accepts_answered offer.now minor bytes.now }
 {
     if offer.both_rings {
-        accepts_port(offer, &net_attr(bytes))
+        accepts_port(offer, minor, &net_attr(bytes))
     } else {
         accepts_server(offer, minor, &disk_attr(bytes))
     }
@@ -159,7 +163,7 @@ fn accepts_client(attr: &DiskAttr) -> bool
     attr.mode == VIO_DRING_MODE && attr.block_size == BLOCK_SIZE && attr.max_transfer != 0
 }
 
-/// What a disk's server answers.
+/// What a disk's server answers in a session of version 1 and this minor.
 fn server_attributes(offer: &Offer, minor: u16, asked: &DiskAttr) -> DiskAttr
     ensures { result ≡ server_attributes offer.now minor asked.now }
 {
@@ -168,14 +172,18 @@ fn server_attributes(offer: &Offer, minor: u16, asked: &DiskAttr) -> DiskAttr
         kind: VD_DISK_TYPE_DISK,
         media: if minor >= 1 { VD_MEDIA_TYPE_FIXED } else { 0 },
         block_size: BLOCK_SIZE,
-        operations: OPERATIONS,
+        operations: if minor >= 2 {
+            OPERATIONS_FROM_1_2
+        } else {
+            OPERATIONS
+        },
         blocks: if minor >= 1 {
             disk_attr(&offer.attr).blocks
         } else {
             0
         },
         max_transfer: asked.max_transfer.min(MAX_TRANSFER),
-        physical: 0,
+        physical: if minor >= 2 { BLOCK_SIZE } else { 0 },
     }
 }
 
@@ -187,14 +195,19 @@ fn accepts_server(offer: &Offer, minor: u16, attr: &DiskAttr) -> bool
         && attr.operations & OPERATIONS == OPERATIONS
         && attr.max_transfer == MAX_TRANSFER
         && (minor < 1 || attr.blocks == disk_attr(&offer.attr).blocks)
+        && (minor < 2 || attr.physical == BLOCK_SIZE)
 }
 
-/// What either end of a port says.
-fn port_attributes(offer: &Offer) -> NetAttr
-    ensures { result ≡ port_attributes offer.now }
+/// What either end of a port says in a session of version 1 and this minor.
+fn port_attributes(offer: &Offer, minor: u16) -> NetAttr
+    ensures { result ≡ port_attributes offer.now minor }
 {
     NetAttr {
-        mode: VIO_DRING_MODE,
+        mode: if minor >= 2 {
+            VIO_NEW_DRING_MODE
+        } else {
+            VIO_DRING_MODE
+        },
         address_kind: VNET_ADDR_ETHERMAC,
         ack_freq: 0,
         link: 0,
@@ -206,8 +219,8 @@ fn port_attributes(offer: &Offer) -> NetAttr
     }
 }
 
-fn accepts_port(offer: &Offer, attr: &NetAttr) -> bool
-    ensures { result ≡ accepts_port offer.now attr.now }
+fn accepts_port(offer: &Offer, minor: u16, attr: &NetAttr) -> bool
+    ensures { result ≡ accepts_port offer.now minor attr.now }
 {
-    *attr == port_attributes(offer)
+    *attr == port_attributes(offer, minor)
 }

@@ -1,8 +1,8 @@
 // The state of a handshake, and its calls.
 
 ghost use Rattle.std.specs.Prelude.{◌≡◌, ◌≢◌, None, Some};
-ghost use Rattle.vio_handshake.specs.Rules.{is_declined, opens_by_put, owes, shake_sent, shake_take, sid_fault, taken};
-ghost use Rattle.vio_handshake.specs.State.{IsFault, forgotten_shake, fresh_shake, joined_shake, session_of, shake_up};
+ghost use Rattle.vio_handshake.specs.Rules.{is_declined, opens_by_put, owes, handshake_sent, handshake_take, sid_fault, taken};
+ghost use Rattle.vio_handshake.specs.State.{IsFault, forgotten_handshake, fresh_handshake, joined_handshake, session_of, handshake_up};
 ghost use Rattle.vio_handshake.specs.declared.handshake.Phase.TheVariants.{Down};
 
 use crate::messages::nack;
@@ -55,7 +55,7 @@ pub struct Handshake {
 impl Handshake {
     /// The end of a link that isn't up yet.
     pub fn new(role: Role, offer: &Offer) -> Handshake
-        ensures { result ≡ fresh_shake role offer.now }
+        ensures { result ≡ fresh_handshake role offer.now }
     {
         Handshake {
             role,
@@ -71,7 +71,7 @@ impl Handshake {
     /// The link is up: a session begins. The initiator owes VER INFO with its highest version and a new sid, one more
     /// than the last, modulo 2^32, the first being 1.
     pub fn link_up(&mut self)
-        ensures { self.new ≡ shake_up self.old }
+        ensures { self.new ≡ handshake_up self.old }
     {
         self.drop_session();
         match self.role {
@@ -87,7 +87,7 @@ impl Handshake {
     pub fn take(&mut self, message: &Message) -> HsOut
         requires up { self.old.phase ≢ Down }
         requires free { self.old.owed ≡ None }
-        ensures exact { taken result self.new ≡ shake_take self.old message.now }
+        ensures exact { taken result self.new ≡ handshake_take self.old message.now }
         ensures unchanged { IsFault result → self.new ≡ self.old }
     {
         if let Some(cause) = sid_fault(self.sid, message.sid) {
@@ -110,7 +110,7 @@ impl Handshake {
     /// The message that was owed was put whole. Tells whether the session opened by that.
     pub fn sent(&mut self) -> bool
         requires { self.old.owed ≢ None }
-        ensures state { self.new ≡ shake_sent self.old }
+        ensures state { self.new ≡ handshake_sent self.old }
         ensures opens { result ≡ opens_by_put self.old.role self.old.phase }
     {
         match (self.role, self.phase) {
@@ -147,7 +147,7 @@ impl Handshake {
 
     /// The link went down: the session and the handshake end. An initiator's count of sessions stays.
     pub fn drop_session(&mut self)
-        ensures { self.new ≡ joined_shake self.old }
+        ensures { self.new ≡ joined_handshake self.old }
     {
         self.phase = Phase::Down;
         self.sid = None;
@@ -157,7 +157,7 @@ impl Handshake {
 
     /// Begins anew, with the first session.
     pub fn forget(&mut self)
-        ensures { self.new ≡ forgotten_shake self.old }
+        ensures { self.new ≡ forgotten_handshake self.old }
     {
         self.drop_session();
         self.last_sid = 0;

@@ -19,5 +19,8 @@ mod session;
 mod version;
 
 pub use handshake::Handshake;
-pub use laws::{handshakes_agree, opens_where_it_is_told, what_is_owed_is_well_formed};
+pub use laws::{
+    attributes_are_of_the_smaller_minor, handshakes_agree, opens_where_it_is_told,
+    what_is_owed_is_well_formed,
+};
 pub use session::{HsOut, Offer, Session};

@@ -5,7 +5,7 @@ use Rattle.std.proofs.lemmas.Option.{slice_get-map, slice_get_within}
 use Rattle.std.specs.Option.{option_map}
 use Rattle.runs.specs.Run.{Run, run_append, run_keeps}
 use Rattle.disk_law.specs.ListState.{ImageState}
-use Rattle.disk_model.specs.DiskEvent.{Asks, Desc, DiskEvent, Done, Finished, Misplaced, Moved, OnWire, Published, Rests, Stored, Turns, Works}
+use Rattle.disk_model.specs.DiskEvent.{Asks, Desc, DiskEvent, Done, Finished, Misplaced, Moved, OnWire, Published, Calms, Stored, Switches, Works}
 use Rattle.disk_model.specs.LaneState.{IsShape, LaneState, Shape, fresh}
 use Rattle.disk_model.specs.LaneStep.{LaneStep}
 use Rattle.disk_model.specs.Reached.{IsReached}
@@ -14,10 +14,10 @@ use Rattle.world_laws.proofs.FrontMoving.{moved_reached}
 use Rattle.world_laws.proofs.Moving.{moves_on, nothing_moves, stay}
 use Rattle.world_laws.specs.Along.{LanesMove, happened}
 use Rattle.world_laws.specs.Rounds.{Each}
-use Rattle.world_laws.specs.Settle.{OfLane, SettleEntry, Settled, Unsettled}
+use Rattle.world_laws.specs.Settle.{OfLane, SettleEntry}
 use Rattle.world_laws.proofs.LaneLists.{is_there, lane_moved, many_moved, set_moves}
 use Rattle.world_laws.specs.WorldAlong.{LanesRun}
-use Rattle.world_laws.specs.Lines.{Line, LineStep, entries_of}
+use Rattle.world_laws.specs.Lines.{Line, LineStep, entries_of_lines}
 use Rattle.world_laws.specs.World.{AreShapes, LaneMoves, WorldState, WorldStep, fresh_world}
 
 -- an event over the image is a step of the lane
@@ -31,18 +31,16 @@ lane_step s i (Works (Moved unit fault)) t j moves = moves.0
 lane_step s i (Works (Stored operation block count failed)) t j moves = (moves.0.gave, moves.0.step)
 lane_step s i (Works (Finished slot status)) t j moves = moves.0
 lane_step s i (Works Misplaced) t j moves = moves.0
-lane_step s i (Turns event) t j moves = moves.0
-lane_step s i (Rests event) t j moves = moves.0
+lane_step s i (Switches event) t j moves = moves.0
+lane_step s i (Calms event) t j moves = moves.0
 
 -- EACH ENTRY moves all lanes, and so does a run
 pub entry_moves : (w : WorldState) (entry : SettleEntry) (v : WorldState) → WorldStep w entry v → LanesMove 0 w.lanes (entry ∷ []) v.lanes
 entry_moves w (OfLane k event) v step =
     subst (λ (l : List LaneState). LanesMove 0 w.lanes (OfLane k event ∷ []) l) (sym step.lanes)
     (set_moves 0 k k w.lanes step.lane event step.after (omega (arith)) step.there (lane_step step.lane w.image event step.after v.image step.moves))
-entry_moves w Settled v step =
-    subst (λ (x : WorldState). LanesMove 0 w.lanes (Settled ∷ []) x.lanes) (sym step) (nothing_moves 0 w.lanes (Settled ∷ []) (λ j. refl))
-entry_moves w (Unsettled k) v step =
-    subst (λ (x : WorldState). LanesMove 0 w.lanes (Unsettled k ∷ []) x.lanes) (sym step) (nothing_moves 0 w.lanes (Unsettled k ∷ []) (λ j. refl))
+entry_moves w entry v step =
+    subst (λ (x : WorldState). LanesMove 0 w.lanes (entry ∷ []) x.lanes) (sym step) (nothing_moves 0 w.lanes (entry ∷ []) (λ j. refl))
 
 pub run_moves : (w : WorldState) (entries : List SettleEntry) (v : WorldState) → Run WorldStep w entries v → LanesMove 0 w.lanes entries v.lanes
 run_moves w [] v run = subst (λ (x : WorldState). LanesMove 0 w.lanes [] x.lanes) run (stay 0 w.lanes)
@@ -103,6 +101,6 @@ world_shape shapes image entries w k shape s run of_shape there =
     run_shape (fresh shape) (happened k entries) s ((lanes_run shapes image entries w run).each k shape s of_shape there)
 
 -- A SCRIPT runs the world by the parts of its lines
-pub lines_run : (w : WorldState) (lines : List (Line × List SettleEntry)) (v : WorldState) → Run LineStep w lines v → Run WorldStep w (entries_of lines) v
+pub lines_run : (w : WorldState) (lines : List (Line × List SettleEntry)) (v : WorldState) → Run LineStep w lines v → Run WorldStep w (entries_of_lines lines) v
 lines_run w [] v run = run
-lines_run w (line ∷ lines) v run = run_append WorldStep w run.0 v line.1 (entries_of lines) run.1.run (lines_run run.0 lines v run.2)
+lines_run w (line ∷ lines) v run = run_append WorldStep w run.0 v line.1 (entries_of_lines lines) run.1.run (lines_run run.0 lines v run.2)

@@ -16,8 +16,8 @@ use Rattle.lane_laws.specs.CalmEnds.{StepKeeps}
 use Rattle.world_laws.specs.Settle.{OfLane, SettleEntry}
 use Rattle.world_laws.specs.Lines.{AnswersRequest, Asked, LineMoves}
 use Rattle.world_laws.specs.World.{LaneMoves, OneMoves, WorldState, WorldStep}
-use Rattle.world_laws.proofs.Regions.{IsFirst}
-use Rattle.world_laws.proofs.SettleLine.{LaneOne, LineIsPlain, Rests, lane_one}
+use Rattle.world_laws.proofs.Regions.{IsFirstShape}
+use Rattle.world_laws.proofs.SettleLine.{LaneOne, LineIsPlain, RestsAt, lane_one}
 use Rattle.world_laws.proofs.Undisturbed.{Stands, Undisturbed, blocks_at, slots_at, undisturbed_on}
 use Rattle.world_laws.specs.Plain.{Plain, answer, asked, is_full}
 use Rattle.world_laws.specs.Shown.{shown}
@@ -49,7 +49,7 @@ waits_plain shape p request t d full is room stands =
     (subst (λ (b : Bool). Stands shape (asked p request None b) t p.content) (sym room) stands)
 
 -- the tests of the plain list, as the lane has them
-admitted_at : (shape : Shape) (p : Plain) (s : LaneState) (request : Request) (d : Option Defect) → IsFirst shape → Undisturbed shape p.completed s → defect s.client.blocks request ≡ d
+admitted_at : (shape : Shape) (p : Plain) (s : LaneState) (request : Request) (d : Option Defect) → IsFirstShape shape → Undisturbed shape p.completed s → defect s.client.blocks request ≡ d
     → defect shape.blocks request ≡ d
 admitted_at shape p s request d front at is = subst (λ (n : ℕ). defect n request ≡ d) (blocks_at shape p.completed s front.sound at) is
 
@@ -63,7 +63,7 @@ room_where slots waiting of pending less same wait = grind (arith, nat_tests)
 lane_stays : (s t : LaneState) → t.client ≡ s.client → t ≡ record s { client = t.client } → t ≡ s
 lane_stays s t client is = is ∙ ap (λ (c : ClientState). record s { client = c }) client
 
-refused_answer : (shape : Shape) (p : Plain) (s : LaneState) (why : Defect) (request : Request) (t : LaneState) → IsFirst shape → Stands shape p s p.content
+refused_answer : (shape : Shape) (p : Plain) (s : LaneState) (why : Defect) (request : Request) (t : LaneState) → IsFirstShape shape → Stands shape p s p.content
     → LaneStep s (Asks (Refused why request)) t → Answered shape p request (Asks (Refused why request)) t
 refused_answer shape p s why request t front stands step =
     let is : defect shape.blocks request ≡ Some why = admitted_at shape p s request (Some why) front stands.lane step.0.0 in
@@ -73,7 +73,7 @@ refused_answer shape p s why request t front stands step =
       stands = refused_plain shape p request why t (defect shape.blocks request) (is_full shape p) is behind;
     }
 
-full_answer : (shape : Shape) (p : Plain) (s : LaneState) (request : Request) (t : LaneState) → IsFirst shape → Stands shape p s p.content
+full_answer : (shape : Shape) (p : Plain) (s : LaneState) (request : Request) (t : LaneState) → IsFirstShape shape → Stands shape p s p.content
     → LaneStep s (Asks (Full request)) t → Answered shape p request (Asks (Full request)) t
 full_answer shape p s request t front stands step =
     let is : defect shape.blocks request ≡ None = admitted_at shape p s request None front stands.lane step.0.0 in
@@ -97,7 +97,7 @@ ask_keeps s t is = record {
   stopped = ap (λ (x : LaneState). x.stopped) is;
 }
 
-accepted_stands : (shape : Shape) (p : Plain) (s : LaneState) (id : ℕ) (request : Request) (t : LaneState) → IsFirst shape → Stands shape p s p.content
+accepted_stands : (shape : Shape) (p : Plain) (s : LaneState) (id : ℕ) (request : Request) (t : LaneState) → IsFirstShape shape → Stands shape p s p.content
     → LaneStep s (Asks (Accepted id request)) t → defect shape.blocks request ≡ None → Stands shape (waits p request) t p.content
 accepted_stands shape p s id request t front stands step admitted =
     let event : DiskEvent = Asks (Accepted id request) in
@@ -113,7 +113,7 @@ accepted_stands shape p s id request t front stands step admitted =
       behind = stands.behind;
     }
 
-accepted_answer : (shape : Shape) (p : Plain) (s : LaneState) (id : ℕ) (request : Request) (t : LaneState) → IsFirst shape → Stands shape p s p.content
+accepted_answer : (shape : Shape) (p : Plain) (s : LaneState) (id : ℕ) (request : Request) (t : LaneState) → IsFirstShape shape → Stands shape p s p.content
     → LaneStep s (Asks (Accepted id request)) t → Answered shape p request (Asks (Accepted id request)) t
 accepted_answer shape p s id request t front stands step =
     let is : defect shape.blocks request ≡ None = admitted_at shape p s request None front stands.lane step.0.0 in
@@ -129,7 +129,7 @@ record AnsweredOver (shape : Shape) (p : Plain) (request : Request) (event : Dis
   answered : Answered shape p request event t
   image : j ≡ i
 
-each_answer : (shape : Shape) (p : Plain) (s : LaneState) (request : Request) (event : DiskEvent) (t : LaneState) (i j : ImageState) → IsFirst shape → Stands shape p s p.content
+each_answer : (shape : Shape) (p : Plain) (s : LaneState) (request : Request) (event : DiskEvent) (t : LaneState) (i j : ImageState) → IsFirstShape shape → Stands shape p s p.content
     → AnswersRequest request event → LaneMoves s i event t j → AnsweredOver shape p request event t i j
 each_answer shape p s request (Asks (Accepted id same)) t i j front stands answers moves = record {
   answered = subst (λ (r : Request). Answered shape p r (Asks (Accepted id same)) t) answers (accepted_answer shape p s id same t front stands moves.0);
@@ -157,12 +157,12 @@ asked_content p request None false = refl
 same_store : (told : Option (List ℕ)) (store content : List ℕ) → told ≡ Some store → told ≡ Some content → store ≡ content
 same_store told store content one two = let both : Some store ≡ Some content = sym one ∙ two in cc both
 
-pub stands_at : (shape : Shape) (p : Plain) (w : WorldState) → (rests : Rests shape p w) → Stands shape p rests.beside.lane p.content
+pub stands_at : (shape : Shape) (p : Plain) (w : WorldState) → (rests : RestsAt shape p w) → Stands shape p rests.beside.lane p.content
 stands_at shape p w rests =
     let over = rests.beside.over in
     subst (Stands shape p rests.beside.lane) (same_store w.image.told over.store p.content over.told rests.told) over.stands
 
-pub asked_line : (shape : Shape) (p : Plain) (w : WorldState) (request : Request) (part : List SettleEntry) (v : WorldState) → IsFirst shape → Rests shape p w
+pub asked_line : (shape : Shape) (p : Plain) (w : WorldState) (request : Request) (part : List SettleEntry) (v : WorldState) → IsFirstShape shape → RestsAt shape p w
     → LineMoves w (Asked 0 request) part v → LineIsPlain shape p (Asked 0 request) part v
 asked_line shape p w request part v front rests moves =
     let entry = moves.part_of in

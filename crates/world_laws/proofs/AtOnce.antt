@@ -3,7 +3,7 @@ use Rattle.std.proofs.Common.{◌≡◌, ℕ, ◌+◌, ◌*◌, ◌<◌, Bool, t
 use Rattle.std.specs.Prelude.{◌||◌}
 use Rattle.ldc_queue.specs.declared.end.End.TheVariants.{A, B}
 use Rattle.disk_model.specs.WireEvent.{Idle}
-use Rattle.disk_model.specs.DiskEvent.{Off, OnWire, Turns}
+use Rattle.disk_model.specs.DiskEvent.{Off, OnWire, Switches}
 use Rattle.disk_model.specs.LaneState.{LaneState}
 use Rattle.disk_model.specs.LaneStep.{LaneStep}
 use Rattle.world_laws.specs.Settle.{Settled, Settles, begin}
@@ -42,13 +42,13 @@ at_rest s client server rests = record {
   is = refl;
 }
 
-pub server_off : (s : LaneState) → LaneStep s (OnWire (Idle A)) s → LaneStep s (Turns Off) s → waits_on s ≡ false → Settles (s ∷ []) (Settled ∷ []) (s ∷ [])
+pub server_off : (s : LaneState) → LaneStep s (OnWire (Idle A)) s → LaneStep s (Switches Off) s → waits_on s ≡ false → Settles (s ∷ []) (Settled ∷ []) (s ∷ [])
 server_off s client server rests = record {
   rounds = [];
   now = begin (s ∷ []);
   run = refl;
   few = few _;
-  steps = record { client = OnWire (Idle A); server = Turns Off } ∷ [];
+  steps = record { client = OnWire (Idle A); server = Switches Off } ∷ [];
   last = record {
     made = (record { between = s; first = client; of_client = refl; second = server; of_server = tt }, tt);
     quiet = refl;

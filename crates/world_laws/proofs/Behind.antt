@@ -1,18 +1,21 @@
 -- What stands after quiet rounds: all ends are still; and after the last round of a settle each running lane is finished, or is one that
 -- somebody forged and that had its tick.
-use Rattle.std.proofs.Common.{◌≡◌, ◌⊎◌, inl, inr, Bool, true, false, List, [], ◌∷◌, refl, sym, ap, ◌∙◌, subst}
+use Rattle.std.proofs.Common.{◌≡◌, ◌⊎◌, inl, inr, Bool, true, false, List, [], ◌∷◌, refl, sym, ap, ◌∙◌}
 use Rattle.std.specs.Prelude.{◌||◌, if◌then◌else◌}
-use Rattle.runs.specs.Run.{Run, run_keeps}
+use Rattle.runs.specs.Run.{Run}
 use Rattle.disk_model.specs.ClientState.{is_finished}
 use Rattle.disk_model.specs.LaneState.{LaneState}
 use Rattle.disk_model.specs.Reached.{IsReached}
+use Rattle.lane_kinds.proofs.Standing.{rounds_stand}
+use Rattle.lane_kinds.proofs.Sums.{and_left, and_right}
+use Rattle.lane_kinds.specs.Laws.{Keeps}
 use Rattle.lane_laws.specs.CalmEnds.{StepKeeps}
-use Rattle.world_laws.proofs.LaneRounds.{and_left, and_right, quiet_finished, quiet_same, quiet_still, round_keeps}
+use Rattle.world_laws.proofs.LaneRounds.{quiet_finished, quiet_same, quiet_still, round_keeps}
 use Rattle.world_laws.proofs.LaneTicks.{rests_where, tick_whole}
 use Rattle.world_laws.proofs.Together.{rounds_reached, ticks_reached}
 use Rattle.world_laws.specs.Ended.{AllStill, EndsFinished}
 use Rattle.world_laws.specs.Rounds.{Each, EachMarked, LaneRound, MakeRound, MakesRound, are_quiet, is_quiet}
-use Rattle.world_laws.specs.Settle.{GoesOn, IsLast, SettleEntry, SettleRound, Settling, TicksBehind, begin}
+use Rattle.world_laws.specs.Settle.{GoesOn, IsLast, SettleRound, Settling, begin, disks}
 use Rattle.world_laws.specs.Sums.{IsUnforged}
 use Rattle.world_laws.specs.Ticks.{TickLanes, TicksWhere, gets_tick, marked, no_marks, some_get_ticks, waits_on}
 
@@ -27,11 +30,11 @@ all_still _ _ _ made quiet = absurd made
 abbrev pub IsWhole : LaneState → Bool → Type 0
 IsWhole s had = had ≡ true → s.wire.lossy ≡ false
 
-pub whole_fresh : (lanes : List LaneState) → EachMarked IsWhole lanes (no_marks lanes)
+whole_fresh : (lanes : List LaneState) → EachMarked IsWhole lanes (no_marks lanes)
 whole_fresh [] = tt
 whole_fresh (s ∷ lanes) = ((λ never. absurd (cc never)), whole_fresh lanes)
 
-pub whole_round : (lanes : List LaneState) (rounds : List LaneRound) (behind : List LaneState) (marks : List Bool) → EachMarked IsWhole lanes marks → MakeRound lanes rounds behind
+whole_round : (lanes : List LaneState) (rounds : List LaneRound) (behind : List LaneState) (marks : List Bool) → EachMarked IsWhole lanes marks → MakeRound lanes rounds behind
     → EachMarked IsWhole behind marks
 whole_round [] [] [] [] whole made = tt
 whole_round (s ∷ lanes) (r ∷ rounds) (t ∷ behind) (had ∷ marks) whole made =
@@ -66,25 +69,21 @@ whole_ticks (s ∷ lanes) (r ∷ rounds) (t ∷ between) [] behind all whole mad
 whole_ticks (s ∷ lanes) (r ∷ rounds) (t ∷ between) (had ∷ marks) [] all whole made quiet ticks = absurd ticks
 
 -- ALONG THE ROUNDS
-pub record Stands (w : Settling) : Type 0 where
-  pub reached : Each IsReached w.lanes
-  pub whole : EachMarked IsWhole w.lanes w.marks
+pub record Stands (lanes : List LaneState) (marks : List Bool) : Type 0 where
+  pub reached : Each IsReached lanes
+  pub whole : EachMarked IsWhole lanes marks
 
-stands : (quiet : Bool) (w : Settling) (steps : List LaneRound) (between : List LaneState) (entries : List SettleEntry) (v : Settling) → Stands w → MakeRound w.lanes steps between
-    → are_quiet steps ≡ quiet → TicksBehind quiet w steps between entries v → Stands v
-stands false w steps between entries v at made loud behind =
-    subst Stands (sym behind.0) (record { reached = rounds_reached w.lanes steps between at.reached made; whole = whole_round w.lanes steps between w.marks at.whole made })
-stands true w steps between entries v at made quiet behind = record {
-  reached = ticks_reached between w.marks v.lanes (rounds_reached w.lanes steps between at.reached made) behind.1;
-  whole = subst (EachMarked IsWhole v.lanes) (sym behind.2)
-      (whole_ticks w.lanes steps between w.marks v.lanes at.reached (whole_round w.lanes steps between w.marks at.whole made) made quiet behind.1);
+pub keeps : Keeps disks Stands
+keeps = record {
+  round = λ w m r v at made. record { reached = rounds_reached w r v at.reached made; whole = whole_round w r v m at.whole made };
+  ticks = λ w m r v u at made quiet ticks. record {
+    reached = ticks_reached v m u (rounds_reached w r v at.reached made) ticks;
+    whole = whole_ticks w r v m u at.reached (whole_round w r v m at.whole made) made quiet ticks;
+  };
 }
 
-pub goes_on : (w : Settling) (round : SettleRound) (v : Settling) → GoesOn w round v → Stands w → Stands v
-goes_on w round v goes at = stands (are_quiet round.steps) w round.steps goes.between round.entries v at goes.made refl goes.behind
-
-pub rounds_stand : (start : List LaneState) (rounds : List SettleRound) (now : Settling) → Each IsReached start → Run GoesOn (begin start) rounds now → Stands now
-rounds_stand start rounds now reached run = run_keeps GoesOn Stands goes_on (begin start) now rounds run (record { reached = reached; whole = whole_fresh start })
+pub begins : (start : List LaneState) → Each IsReached start → Stands start (no_marks start)
+begins start reached = record { reached = reached; whole = whole_fresh start }
 
 -- THE LAST ROUND
 or_left : (a b : Bool) → (a || b) ≡ false → a ≡ false
@@ -132,5 +131,5 @@ last_ends (s ∷ lanes) (r ∷ rounds) (t ∷ behind) [] all whole made quiet no
 pub ends_finished : (start : List LaneState) (rounds : List SettleRound) (now : Settling) (steps : List LaneRound) (behind : List LaneState) → Each IsReached start
     → Run GoesOn (begin start) rounds now → IsLast now steps behind → EachMarked EndsFinished behind now.marks
 ends_finished start rounds now steps behind reached run last =
-    let at : Stands now = rounds_stand start rounds now reached run in
+    let at : Stands now.lanes now.marks = rounds_stand disks Stands keeps (begin start) rounds now run (begins start reached) in
     last_ends now.lanes steps behind now.marks at.reached at.whole last.made last.quiet last.no_tick

@@ -4,7 +4,7 @@ use Rattle.runs.specs.Run.{Run}
 use Rattle.disk_law.specs.ListState.{ImageState}
 use Rattle.disk_model.specs.DiskEvent.{DiskEvent}
 use Rattle.disk_model.specs.LaneState.{Shape}
-use Rattle.world_laws.specs.Settle.{OfLane, SettleEntry, Settled, Unsettled}
+use Rattle.world_laws.specs.Settle.{OfLane, SettleEntry}
 use Rattle.world_laws.specs.World.{IsWorld, OneMoves, WorldState, WorldStep, blocks_in, fresh_world}
 use Rattle.world_laws.specs.Stays.{StaysAround, StaysBehind}
 use Rattle.world_laws.proofs.ImageKeeping.{further, some_is}
@@ -33,8 +33,7 @@ module _ (shapes : List Shape) (image : ImageState) (first : List ℕ) (world : 
       let long = before.long in
       behind_around shapes at.shape first w.image.told v.image.told at.ends before
       (step_around shapes image past w k event v before.now world run step before.told_is (omega (arith, holds, long)) at)
-  behind_step past w Settled v run step before = subst (λ (x : WorldState). StaysBehind shapes first x.image.told) (sym step) before
-  behind_step past w (Unsettled k) v run step before = subst (λ (x : WorldState). StaysBehind shapes first x.image.told) (sym step) before
+  behind_step past w _ v run step before = subst (λ (x : WorldState). StaysBehind shapes first x.image.told) (sym step) before
 
   pub stays_behind : (entries : List SettleEntry) (w : WorldState) → Run WorldStep (fresh_world shapes image) entries w → StaysBehind shapes first w.image.told
   stays_behind entries w run =

@@ -6,12 +6,12 @@ use Rattle.ldc_queue.specs.declared.end.End.TheVariants.{A, B}
 use Rattle.vdisk_msg.specs.declared.request.Request.{Request}
 use Rattle.disk_model.specs.WireEvent.{Blocked, Declines, Idle, Injected, Joined, Lost, Poked, Reset, Sent, Took, WireEvent}
 use Rattle.disk_law.specs.ListState.{ImageState}
-use Rattle.disk_model.specs.DiskEvent.{Asks, DiskEvent, Off, OnWire, Rests, Started, Stopped, Turns, Works}
+use Rattle.disk_model.specs.DiskEvent.{Asks, DiskEvent, Off, OnWire, Calms, Started, Stopped, Switches, Works}
 use Rattle.disk_model.specs.LaneState.{LaneState, Shape, fresh}
 use Rattle.disk_model.specs.LaneStep.{LaneStep}
 use Rattle.lane_laws.specs.CalmEnds.{IsStep}
 use Rattle.world_laws.specs.Rounds.{Each}
-use Rattle.world_laws.specs.Settle.{OfLane, SettleEntry, Settled, Unsettled}
+use Rattle.world_laws.specs.Settle.{OfLane, SettleEntry}
 use Rattle.world_laws.specs.Sums.{IsUnforged}
 use Rattle.world_laws.proofs.Along.{lane_step}
 use Rattle.world_laws.proofs.LaneLists.{each_set, each_there}
@@ -38,33 +38,33 @@ step_honest : (e : End) (event : DiskEvent) → IsStep e event → IsHonest even
 step_honest e (OnWire event) own = wire_honest e event own
 step_honest e (Asks event) own = tt
 step_honest e (Works event) own = tt
-step_honest e (Turns event) own = tt
-step_honest e (Rests event) own = tt
+step_honest e (Switches event) own = tt
+step_honest e (Calms event) own = tt
 
 step_on : (e : End) (event : DiskEvent) → IsStep e event → KeepsOn event
 step_on e (OnWire event) own = tt
 step_on e (Asks event) own = tt
 step_on e (Works event) own = tt
-step_on A (Turns Stopped) own = absurd own
-step_on B (Turns Stopped) own = absurd own
-step_on e (Turns Started) own = tt
-step_on e (Turns Off) own = tt
-step_on e (Rests event) own = tt
+step_on A (Switches Stopped) own = absurd own
+step_on B (Switches Stopped) own = absurd own
+step_on e (Switches Started) own = tt
+step_on e (Switches Off) own = tt
+step_on e (Calms event) own = tt
 
 -- REQUESTS
 asked_honest : (request : Request) (event : DiskEvent) → AnswersRequest request event → IsHonest event
 asked_honest request (OnWire event) answers = absurd answers
 asked_honest request (Asks event) answers = tt
 asked_honest request (Works event) answers = tt
-asked_honest request (Turns event) answers = tt
-asked_honest request (Rests event) answers = tt
+asked_honest request (Switches event) answers = tt
+asked_honest request (Calms event) answers = tt
 
 asked_on : (request : Request) (event : DiskEvent) → AnswersRequest request event → KeepsOn event
 asked_on request (OnWire event) answers = tt
 asked_on request (Asks event) answers = tt
 asked_on request (Works event) answers = tt
-asked_on request (Turns event) answers = absurd answers
-asked_on request (Rests event) answers = tt
+asked_on request (Switches event) answers = absurd answers
+asked_on request (Calms event) answers = tt
 
 -- CALLS
 injects_none : (call : Call) (e : End) (packet : List ℕ) → AnswersCall call (OnWire (Injected e packet)) → ⊥
@@ -99,22 +99,22 @@ call_honest : (call : Call) (event : DiskEvent) → AnswersCall call event → I
 call_honest call (OnWire event) answers = call_wire_honest call event answers
 call_honest call (Asks event) answers = tt
 call_honest call (Works event) answers = tt
-call_honest call (Turns event) answers = tt
-call_honest call (Rests event) answers = tt
+call_honest call (Switches event) answers = tt
+call_honest call (Calms event) answers = tt
 
 call_on : (k : ℕ) (call : Call) (event : DiskEvent) → LeavesRunning (Calls k call) → AnswersCall call event → KeepsOn event
 call_on k call (OnWire event) leaves answers = tt
 call_on k call (Asks event) leaves answers = tt
 call_on k call (Works event) leaves answers = tt
-call_on k (Resets e) (Turns Stopped) leaves answers = absurd answers
-call_on k Restarts (Turns Stopped) leaves answers = absurd answers
-call_on k Stops (Turns Stopped) leaves answers = absurd leaves
-call_on k Starts (Turns Stopped) leaves answers = absurd answers
-call_on k (Loses e) (Turns Stopped) leaves answers = absurd answers
-call_on k Ticks (Turns Stopped) leaves answers = absurd answers
-call_on k call (Turns Started) leaves answers = tt
-call_on k call (Turns Off) leaves answers = tt
-call_on k call (Rests event) leaves answers = tt
+call_on k (Resets e) (Switches Stopped) leaves answers = absurd answers
+call_on k Restarts (Switches Stopped) leaves answers = absurd answers
+call_on k Stops (Switches Stopped) leaves answers = absurd leaves
+call_on k Starts (Switches Stopped) leaves answers = absurd answers
+call_on k (Loses e) (Switches Stopped) leaves answers = absurd answers
+call_on k Ticks (Switches Stopped) leaves answers = absurd answers
+call_on k call (Switches Started) leaves answers = tt
+call_on k call (Switches Off) leaves answers = tt
+call_on k call (Calms event) leaves answers = tt
 
 -- A RUN keeps of each lane what each of its events keeps
 entries_keep : (P : DiskEvent → Type 0) (Q : LaneState → Type 0) → ((s : LaneState) (event : DiskEvent) (t : LaneState) → P event → LaneStep s event t → Q s → Q t)
@@ -124,8 +124,7 @@ entries_keep P Q keeps w (OfLane k event ∷ entries) v events run all =
     let moves = run.1 in
     let holds = keeps moves.lane event moves.after events.0 (lane_step moves.lane w.image event moves.after run.0.image moves.moves) (each_there Q w.lanes k moves.lane all moves.there) in
     entries_keep P Q keeps run.0 entries v events.1 run.2 (subst (λ (l : List LaneState). Each Q l) (sym moves.lanes) (each_set Q w.lanes k moves.after all holds))
-entries_keep P Q keeps w (Settled ∷ entries) v events run all = entries_keep P Q keeps run.0 entries v events run.2 (subst (λ (x : WorldState). Each Q x.lanes) (sym run.1) all)
-entries_keep P Q keeps w (Unsettled k ∷ entries) v events run all = entries_keep P Q keeps run.0 entries v events run.2 (subst (λ (x : WorldState). Each Q x.lanes) (sym run.1) all)
+entries_keep P Q keeps w (entry ∷ entries) v events run all = entries_keep P Q keeps run.0 entries v events run.2 (subst (λ (x : WorldState). Each Q x.lanes) (sym run.1) all)
 
 -- NOBODY FORGES
 line_clean : (w : WorldState) (line : Line) (part : List SettleEntry) (v : WorldState) → LineMoves w line part v → Each IsUnforged w.lanes → Each IsUnforged v.lanes

@@ -4,7 +4,7 @@ use Rattle.std.specs.Prelude.{◌==◌, if◌then◌else◌, nat_lt, ⊤}
 use Rattle.runs.specs.Lawful.{log_of, run_lawful}
 use Rattle.runs.specs.Run.{Run}
 use Rattle.cookie_copy.specs.declared.fault.CopyFault.{CopyFault}
-use Rattle.ldc_queue.specs.Talk.{Turn}
+use Rattle.ldc_queue.specs.Transcript.{Turn}
 use Rattle.vdisk_msg.specs.Check.{first_defect}
 use Rattle.vdisk_msg.specs.declared.desc.DescFault.{DescFault}
 use Rattle.vdisk_msg.specs.declared.desc.DiskDesc.{DiskDesc}
@@ -133,13 +133,13 @@ held_checked s server.Joins held is checked = absurd (cc)
 held_checked s (server.Fetches session) held is checked = absurd (cc)
 held_checked s (server.Serves session work) held is checked = absurd (cc)
 held_checked s (server.Takes packet) held is checked = absurd (cc)
-held_checked s server.Rests held is checked = absurd (cc)
+held_checked s server.Idles held is checked = absurd (cc)
 
 took_checked : (s : ServerState) (turns : List Turn) (packet : List ℕ) (t : ServerState) (opens : Bool) → ServerTook s turns packet t opens → IsChecked s.blocks s.work → IsChecked t.blocks t.work
 took_checked s turns packet t opens (inl part) checked =
     checked_in t s.blocks s.work (ap (λ (x : ServerState). x.blocks) part.is) (ap (λ (x : ServerState). x.work) part.is) checked
-took_checked s turns packet t opens (inr (inl shakes)) checked =
-    checked_in t s.blocks s.work (ap (λ (x : ServerState). x.blocks) shakes.is) (ap (λ (x : ServerState). x.work) shakes.is) checked
+took_checked s turns packet t opens (inr (inl handshakes)) checked =
+    checked_in t s.blocks s.work (ap (λ (x : ServerState). x.blocks) handshakes.is) (ap (λ (x : ServerState). x.work) handshakes.is) checked
 took_checked s turns packet t opens (inr (inr asks)) checked =
     checked_in t s.blocks s.work (ap (λ (x : ServerState). x.blocks) asks.is) (ap (λ (x : ServerState). x.work) asks.is) checked
 
@@ -177,16 +177,16 @@ server_keeps_checks = record {
 -- ALONG A RUN
 pub record ServesChecked (s : LaneState) (l : DiskLog) : Type 0 where
   pub serves : Serves s l
-  pub checks : Both AnyClient ServerChecks s l.talk
+  pub checks : Both AnyClient ServerChecks s l.transcript
 
 checked_step : (s : LaneState) (l : DiskLog) (event : DiskEvent) (t : LaneState) → ServesChecked s l → LaneStep s event t → ⊤ × ServesChecked t (after l event)
 checked_step s l event t along step =
     let knows = along.serves.0.grounded.knows in
-    let known : Known s l.talk = record { talks = knows.all.talks; rests = knows.rests; utters = knows.utters } in (
+    let known : Known s l.transcript = record { transcripts = knows.all.transcripts; rests = knows.rests; utters = knows.utters } in (
       tt,
       record {
         serves = serves_step s l event t along.serves step;
-        checks = both_step AnyClient ServerChecks s event t l.talk any_client_keeps server_keeps_checks known along.checks step;
+        checks = both_step AnyClient ServerChecks s event t l.transcript any_client_keeps server_keeps_checks known along.checks step;
       },
     )
 

@@ -5,12 +5,12 @@ use Rattle.runs.specs.Run.{Run, run_push}
 use Rattle.disk_law.specs.Issued.{issued}
 use Rattle.disk_law.specs.ListState.{ImageState}
 use Rattle.disk_law.specs.ListStep as plain
-use Rattle.disk_model.specs.DiskEvent.{Accepted, Asks, Desc, DiskEvent, Done, Finished, Full, Misplaced, Moved, OnWire, Published, Refused, Rests, Stored, Turns, Works}
+use Rattle.disk_model.specs.DiskEvent.{Accepted, Asks, Desc, DiskEvent, Done, Finished, Full, Misplaced, Moved, OnWire, Published, Refused, Calms, Stored, Switches, Works}
 use Rattle.disk_model.specs.LaneState.{LaneState, Shape, fresh}
 use Rattle.disk_model.specs.LaneStep.{LaneStep}
 use Rattle.disk_model.specs.Reached.{IsReached}
 use Rattle.world_laws.specs.Rounds.{Each}
-use Rattle.world_laws.specs.Settle.{OfLane, SettleEntry, Settled, Unsettled}
+use Rattle.world_laws.specs.Settle.{OfLane, SettleEntry}
 use Rattle.world_laws.proofs.Along.{fresh_reached, lane_step, stay_reached}
 use Rattle.world_laws.proofs.LaneLists.{each_there}
 use Rattle.world_laws.specs.World.{AreShapes, WorldState, WorldStep, fresh_world}
@@ -32,13 +32,13 @@ accepts_is (Works (Moved unit fault)) = refl
 accepts_is (Works (Stored operation block count failed)) = refl
 accepts_is (Works (Finished slot status)) = refl
 accepts_is (Works Misplaced) = refl
-accepts_is (Turns event) = refl
-accepts_is (Rests event) = refl
+accepts_is (Switches event) = refl
+accepts_is (Calms event) = refl
 
 issued_more : (events : List DiskEvent) (event : DiskEvent) → length (issued (requests_of (events ++ event ∷ []))) ≡ length (issued (requests_of events)) + accepts event
 issued_more events event =
     let both : length (issued (requests_of (events ++ event ∷ []))) ≡ length (issued (requests_of events ++ requests_of (event ∷ []))) =
-    ap (λ (es : List plain.DiskEvent). length (issued es)) (filter_both request_event events (event ∷ [])) in
+    ap (λ (es : List plain.ListEvent). length (issued es)) (filter_both request_event events (event ∷ [])) in
     let parts = ap (λ l. length l) (issued_both (requests_of events) (requests_of (event ∷ []))) in
     let long = length-append (issued (requests_of events)) (issued (requests_of (event ∷ []))) in
     both ∙ parts ∙ long ∙ ap (λ (n : ℕ). length (issued (requests_of events)) + n) (accepts_is event)
@@ -66,11 +66,7 @@ run_counts w (OfLane k event ∷ entries) v all run =
     let now = ap next_ids moves.lanes in
     let rest = run_counts run.0 entries v (stay_reached w (OfLane k event ∷ []) run.0 all (run.0, moves, refl)) run.2 in
     omega (arith, one, now, rest)
-run_counts w (Settled ∷ entries) v all run =
-    let now = ap (λ (x : WorldState). next_ids x.lanes) run.1 in
-    let rest = run_counts run.0 entries v (subst (λ (x : WorldState). Each IsReached x.lanes) (sym run.1) all) run.2 in
-    omega (arith, now, rest)
-run_counts w (Unsettled k ∷ entries) v all run =
+run_counts w (entry ∷ entries) v all run =
     let now = ap (λ (x : WorldState). next_ids x.lanes) run.1 in
     let rest = run_counts run.0 entries v (subst (λ (x : WorldState). Each IsReached x.lanes) (sym run.1) all) run.2 in
     omega (arith, now, rest)
@@ -93,14 +89,13 @@ accepts_most (Asks (Accepted id request)) = omega (arith)
 accepts_most (Asks (Full request)) = omega (arith)
 accepts_most (Asks (Refused why request)) = omega (arith)
 accepts_most (Works event) = omega (arith)
-accepts_most (Turns event) = omega (arith)
-accepts_most (Rests event) = omega (arith)
+accepts_most (Switches event) = omega (arith)
+accepts_most (Calms event) = omega (arith)
 
 accepted_most : (entries : List SettleEntry) → accepted_in entries ≤ length entries
 accepted_most [] = omega (arith)
 accepted_most (OfLane k event ∷ entries) = let one = accepts_most event in let rest = accepted_most entries in omega (arith, one, rest)
-accepted_most (Settled ∷ entries) = let rest = accepted_most entries in omega (arith, rest)
-accepted_most (Unsettled k ∷ entries) = let rest = accepted_most entries in omega (arith, rest)
+accepted_most (x ∷ entries) = let rest = accepted_most entries in omega (arith, rest)
 
 part_of_sum : (lanes : List LaneState) (k : ℕ) (s : LaneState) → slice_get lanes k ≡ Some s → s.client.next_id ≤ next_ids lanes
 part_of_sum [] k s there = absurd (cc there)

@@ -8,7 +8,7 @@ use Rattle.std.proofs.lemmas.Option.{slice_get_within}
 use Rattle.runs.specs.Run.{Run}
 use Rattle.disk_model.specs.DiskEvent.{DiskEvent}
 use Rattle.world_laws.specs.Along.{event_at, happened}
-use Rattle.world_laws.specs.Settle.{OfLane, SettleEntry, Settled, Unsettled}
+use Rattle.world_laws.specs.Settle.{OfLane, SettleEntry}
 use Rattle.world_laws.specs.World.{WorldState, WorldStep}
 use Rattle.world_laws.proofs.Counted.{count_behind, count_more}
 use Rattle.world_laws.specs.Failures.{in_entry}
@@ -22,8 +22,7 @@ counts_on is k (suc many) entries = count_by is (happened k entries) + counts_on
 abbrev pub AreOf : ℕ → List SettleEntry → Type 0
 AreOf many [] = ⊤
 AreOf many (OfLane k event ∷ entries) = (k < many) × AreOf many entries
-AreOf many (Settled ∷ entries) = AreOf many entries
-AreOf many (Unsettled k ∷ entries) = AreOf many entries
+AreOf many (x ∷ entries) = AreOf many entries
 
 -- ONE ENTRY counts on its lane alone
 abbrev count_at : (DiskEvent → Bool) → ℕ → SettleEntry → ℕ
@@ -89,20 +88,12 @@ all_counts is many (OfLane k event ∷ entries) are =
       one_lane is 0 many k event (omega arith) (omega (arith, are.0)),
       all_counts is many entries are.1,
     )
-all_counts is many (Settled ∷ entries) are =
+all_counts is many (x ∷ entries) are =
     omega (
       arith,
-      count_more (in_entry is) Settled entries,
-      entry_first is 0 many Settled entries,
-      no_lane is 0 many Settled (λ j. refl),
-      all_counts is many entries are,
-    )
-all_counts is many (Unsettled k ∷ entries) are =
-    omega (
-      arith,
-      count_more (in_entry is) (Unsettled k) entries,
-      entry_first is 0 many (Unsettled k) entries,
-      no_lane is 0 many (Unsettled k) (λ j. refl),
+      count_more (in_entry is) x entries,
+      entry_first is 0 many x entries,
+      no_lane is 0 many x (λ j. refl),
       all_counts is many entries are,
     )
 
@@ -132,8 +123,7 @@ lane_le is k (OfLane j event ∷ entries) =
     at_most : (b : Bool) → count_by is (if b then event ∷ [] else []) ≤ cond (is event) 1 0
     at_most true = omega (arith, count_more is event [])
     at_most false = omega arith
-lane_le is k (Settled ∷ entries) = omega (arith, count_more (in_entry is) Settled entries, lane_le is k entries)
-lane_le is k (Unsettled j ∷ entries) = omega (arith, count_more (in_entry is) (Unsettled j) entries, lane_le is k entries)
+lane_le is k (x ∷ entries) = omega (arith, count_more (in_entry is) x entries, lane_le is k entries)
 
 -- A RUN of a world has events of its lanes alone
 pub run_of : (w : WorldState) (entries : List SettleEntry) (v : WorldState) → Run WorldStep w entries v → AreOf (length w.lanes) entries
@@ -142,5 +132,4 @@ run_of w (OfLane k event ∷ entries) v run =
     let step = run.1 in
     let long : length run.0.lanes ≡ length w.lanes = ap length step.lanes ∙ length-set w.lanes k step.after in
     (slice_get_within w.lanes k step.lane step.there, subst (λ (n : ℕ). AreOf n entries) long (run_of run.0 entries v run.2))
-run_of w (Settled ∷ entries) v run = subst (λ (x : WorldState). AreOf (length x.lanes) entries) run.1 (run_of run.0 entries v run.2)
-run_of w (Unsettled k ∷ entries) v run = subst (λ (x : WorldState). AreOf (length x.lanes) entries) run.1 (run_of run.0 entries v run.2)
+run_of w (entry ∷ entries) v run = subst (λ (x : WorldState). AreOf (length x.lanes) entries) run.1 (run_of run.0 entries v run.2)

@@ -5,7 +5,7 @@ use Rattle.runs.specs.Lawful.{lawful_split, log_of, run_lawful}
 use Rattle.runs.specs.Run.{Run, run_push}
 use Rattle.ldc_queue.specs.declared.end.End.{End}
 use Rattle.ldc_queue.specs.declared.end.End.TheVariants.{A, B}
-use Rattle.ldc_queue.specs.Talk.{Turn}
+use Rattle.ldc_queue.specs.Transcript.{Turn}
 use Rattle.vdisk_msg.specs.declared.request.Request.{Request}
 use Rattle.vdisk_msg.specs.declared.request.Request.TheVariants.{Flush, Read, Write}
 use Rattle.vdisk_msg.specs.Requests.{BadCount, BadRange, Defect, defect, given_count, operation_of}
@@ -26,7 +26,7 @@ use Rattle.lane_laws.proofs.CarriedRuns.{AllStand, all_step, fresh_all}
 use Rattle.lane_laws.proofs.MemorySteps.{carried_long, got_sound}
 use Rattle.lane_laws.specs.MemoryStands.{MemoryStands}
 use Rattle.lane_laws.proofs.EveryRun.{every_run}
-use Rattle.disk_model.specs.TalkLog.{talk_of}
+use Rattle.disk_model.specs.TranscriptLog.{transcript_of}
 use Rattle.world_laws.specs.Words.{AreBlocks, HasWords, IsOperation, NamesFault}
 
 -- OPERATIONS
@@ -100,7 +100,7 @@ cause_named l turns e (the_cause.Copy fault) packet own says = copy_named l turn
 cause_named l turns e _ packet own says = tt
 
 reset_words : (l : DiskLog) (e : End) (cause : Cause) (packet : Option (List ℕ)) (lost : ℕ) → May l (OnWire (Reset e cause packet lost)) → HasWords (OnWire (Reset e cause packet lost))
-reset_words l e cause packet lost may = (cause_named l (talk_of e l.talk) e cause packet may.own_resets.1 may.reset_says, may.own_resets.0)
+reset_words l e cause packet lost may = (cause_named l (transcript_of e l.transcript) e cause packet may.own_resets.1 may.reset_says, may.own_resets.0)
 
 -- EACH EVENT after a run of a lane
 may_behind : (shape : Shape) (events : List DiskEvent) (s : LaneState) (event : DiskEvent) (t : LaneState) → IsShape shape → Run LaneStep (fresh shape) events s → LaneStep s event t

@@ -5,7 +5,7 @@ use Rattle.ldc_queue.specs.declared.end.End.{End}
 use Rattle.ldc_queue.specs.declared.end.End.TheVariants.{A, B}
 use Rattle.vio_tag.specs.declared.cause.Cause.{Cause}
 use Rattle.disk_model.specs.WireEvent.{Blocked, ByRestart, ByScript, ByStep, ByTick, Declines, Giver, Idle, Injected, Joined, Lost, Poked, Reset, Sent, Took, WireEvent, giver}
-use Rattle.disk_model.specs.DiskEvent.{Asks, Calm, CalmReset, CalmRestart, CalmStart, CalmStop, CalmTick, Desc, DiskEvent, Done, Finished, Misplaced, Moved, Off, OnWire, Published, Rests, Started, Stopped, Stored, Switched, Turns, Worked, Works}
+use Rattle.disk_model.specs.DiskEvent.{Asks, Calm, CalmReset, CalmRestart, CalmStart, CalmStop, CalmTick, Desc, DiskEvent, Done, Finished, Misplaced, Moved, Off, OnWire, Published, Calms, Started, Stopped, Stored, Switched, Switches, Worked, Works}
 use Rattle.disk_model.specs.LaneState.{LaneState}
 use Rattle.disk_model.specs.LaneStep.{EndOnWire, LaneStep, ResetBy, RestStep, ServerWorks, TurnStep, WireStep, WorkStep, failed_worked}
 use Rattle.world_laws.specs.Failures.{is_failed_store}
@@ -72,5 +72,5 @@ pub failed_stays : (s : LaneState) (event : DiskEvent) (t : LaneState) → LaneS
 failed_stays s (OnWire event) t step well before = wire_stays s event t step ∙ before
 failed_stays s (Asks event) t step well before = ap (λ (x : LaneState). x.failed) step.1 ∙ before
 failed_stays s (Works event) t step well before = work_stays s event t step well before
-failed_stays s (Turns event) t step well before = turn_stays s event t step ∙ before
-failed_stays s (Rests event) t step well before = rest_stays s event t step ∙ before
+failed_stays s (Switches event) t step well before = turn_stays s event t step ∙ before
+failed_stays s (Calms event) t step well before = rest_stays s event t step ∙ before

@@ -14,7 +14,7 @@ use Rattle.disk_model.specs.DiskLog.{DiskLog, after, nothing_yet}
 use Rattle.disk_model.specs.RingLog.{Accepted as IsAccepted, Done as IsDone, Free, Ready, SlotLog, Zeros, cleared_if, fetched_at, finished_at, freed_at, id_at, published_at}
 use Rattle.disk_model.specs.WorkLaws.{FinishesPiece, InServer, Owes}
 use Rattle.disk_model.specs.WorkLog.{ClientCounts, ServerCounts, WorkLog, change_server, moved_rest, opened_counts, rest_of, stored_rest}
-use Rattle.disk_model.specs.DiskEvent.{Accepted, Admitted, Asks, Desc, DiskEvent, Done, Finished, Full, Misplaced, Moved, Off, OnWire, Published, Refused, Rests, Started, Stopped, Stored, Switched, Turns, Worked, Works}
+use Rattle.disk_model.specs.DiskEvent.{Accepted, Admitted, Asks, Desc, DiskEvent, Done, Finished, Full, Misplaced, Moved, Off, OnWire, Published, Refused, Calms, Started, Stopped, Stored, Switched, Switches, Worked, Works}
 use Rattle.disk_model.specs.LaneState.{Shape}
 use Rattle.world_laws.proofs.LawFacts.{Facts, FreesSlot}
 use Rattle.world_laws.specs.Failures.{is_failed_done, is_failed_store}
@@ -207,7 +207,7 @@ work_fives l (Finished slot status) facts clean =
     ended_fives l l.shape.slots l.work l.work.server slot status l.ring _ (λ c. refl) facts.may.pieces
 work_fives l Misplaced facts clean = omega arith
 
-turn_fives : (l : DiskLog) (event : Switched) → TellsSome l (Turns event)
+turn_fives : (l : DiskLog) (event : Switched) → TellsSome l (Switches event)
 turn_fives l Stopped = omega arith
 turn_fives l Started = omega arith
 turn_fives l Off = omega arith
@@ -216,8 +216,8 @@ pub event_fives : (l : DiskLog) (event : DiskEvent) → Facts l event → l.wire
 event_fives l (OnWire event) facts clean = wire_fives l event
 event_fives l (Asks event) facts clean = asked_fives l event
 event_fives l (Works event) facts clean = work_fives l event facts clean
-event_fives l (Turns event) facts clean = turn_fives l event
-event_fives l (Rests event) facts clean = omega arith
+event_fives l (Switches event) facts clean = turn_fives l event
+event_fives l (Calms event) facts clean = omega arith
 
 pub nothing_to_tell : (shape : Shape) → to_tell (nothing_yet shape) ≡ 0
 nothing_to_tell shape = omega (arith, many_fives shape.slots Zeros refl)

@@ -1,16 +1,17 @@
 -- Each lane is run by what a front of a settle's part says happened to it.
-use Rattle.std.proofs.Common.{◌≡◌, ℕ, ◌+◌, ◌<◌, ◌≤◌, ◌⊎◌, inl, inr, Bool, List, [], ◌∷◌, ◌++◌, length, refl, sym, ap, ◌∙◌, subst, arith}
+use Rattle.std.proofs.Common.{◌≡◌, ℕ, ◌+◌, ◌<◌, ◌≤◌, inl, inr, Bool, List, [], ◌∷◌, ◌++◌, refl, sym, ap, ◌∙◌, subst, arith}
 use Rattle.runs.specs.Run.{Run, run_append}
 use Rattle.disk_model.specs.DiskEvent.{DiskEvent}
 use Rattle.disk_model.specs.LaneState.{LaneState, fresh}
 use Rattle.disk_model.specs.LaneStep.{LaneStep}
 use Rattle.disk_model.specs.Reached.{IsReached}
-use Rattle.world_laws.proofs.Moving.{IsBelow, behind_others, below_next, both_below, both_none, entry_above, entry_below, happened_both, left_none, moves_on, next, nothing_moves, own_front, round_moves_lanes, round_run, rounds_move_lanes, stay, step_run, tick_above, tick_below, tick_run, weaken}
+use Rattle.lane_kinds.proofs.Leading.{front_leads}
+use Rattle.world_laws.proofs.Moving.{IsBelow, behind_others, below_next, both_below, both_none, ends, entry_above, entry_below, leads, next, own_front, round_run, stay, step_run, tick_above, tick_below, tick_run, weaken}
 use Rattle.world_laws.proofs.RoundCounts.{tick_entry}
 use Rattle.world_laws.specs.Along.{LanesMove, happened}
-use Rattle.world_laws.specs.Begun.{NamesFront, NoMore, QuietFront, RoundFront, SettleFront, TickFront}
+use Rattle.world_laws.specs.Begun.{NoMore, RoundFront, SettleFront, TickFront, fronts}
 use Rattle.world_laws.specs.Rounds.{Each}
-use Rattle.world_laws.specs.Settle.{SettleEntry, SettleRound, Settling, begin, entries_of, entry_of, most_rounds, round_entries}
+use Rattle.world_laws.specs.Settle.{SettleEntry, disks, entry_of}
 use Rattle.world_laws.specs.Ticks.{gets_tick}
 
 -- NO MORE
@@ -47,7 +48,7 @@ front_above j (s ∷ lanes) part behind k less (inr (inr both)) =
     (both_none k (entry_of j both.round.client) (entry_of j both.round.server) (entry_above j both.round.client k less) (entry_above j both.round.server k less))
     (front_above (j + 1) lanes both.later both.others k (below_next j k less) both.more)
 
-front_moves : (j : ℕ) (lanes : List LaneState) (part : List SettleEntry) (behind : List LaneState) → RoundFront j lanes part behind → LanesMove j lanes part behind
+pub front_moves : (j : ℕ) (lanes : List LaneState) (part : List SettleEntry) (behind : List LaneState) → RoundFront j lanes part behind → LanesMove j lanes part behind
 front_moves j [] part behind ended = none_stay j [] part behind ended
 front_moves j (s ∷ lanes) part behind (inl ended) = none_stay j (s ∷ lanes) part behind ended
 front_moves j (s ∷ lanes) part behind (inr (inl client)) =
@@ -69,7 +70,7 @@ ticked_above j (s ∷ lanes) (had ∷ marks) part behind k less (inr made) =
     ∙ both_none k (tick_entry j (gets_tick s had)) made.later (tick_above j (gets_tick s had) k less)
     (ticked_above (j + 1) lanes marks made.later made.others k (below_next j k less) made.more)
 
-ticked_moves : (j : ℕ) (lanes : List LaneState) (marks : List Bool) (part : List SettleEntry) (behind : List LaneState) → TickFront j lanes marks part behind → LanesMove j lanes part behind
+pub ticked_moves : (j : ℕ) (lanes : List LaneState) (marks : List Bool) (part : List SettleEntry) (behind : List LaneState) → TickFront j lanes marks part behind → LanesMove j lanes part behind
 ticked_moves j [] marks part behind ended = none_stay j [] part behind ended
 ticked_moves j (s ∷ lanes) [] part behind ended = none_stay j (s ∷ lanes) part behind ended
 ticked_moves j (s ∷ lanes) (had ∷ marks) part behind (inl ended) = none_stay j (s ∷ lanes) part behind ended
@@ -78,32 +79,13 @@ ticked_moves j (s ∷ lanes) (had ∷ marks) part behind (inr made) =
     (tick_below j (gets_tick s had)) (ticked_above (j + 1) lanes marks made.later made.others j (next j) made.more)
     (ticked_moves (j + 1) lanes marks made.later made.others made.more) made.is made.rest
 
--- THE NAMES
-front_empty : (one two : List DiskEvent) → one ++ two ≡ [] → one ≡ []
-front_empty [] two is = refl
-front_empty (x ∷ one) two is = absurd (cc is)
-
-names_said : (k : ℕ) (rounds : List SettleRound) (now : Settling) (part : List SettleEntry) (behind : List LaneState) → NamesFront rounds now part behind → happened k part ≡ []
-names_said k rounds now part behind names =
-    front_empty (happened k part) (happened k names.unnamed)
-    (sym (happened_both k part names.unnamed) ∙ ap (happened k) names.is ∙ left_none k 0 names.last.steps now.lanes)
-
 -- ALL OF IT
-later_moves : (rounds : List SettleRound) (now : Settling) (most : ℕ) (count : ℕ) (later : List SettleEntry) (behind : List LaneState)
-    → ((count < most) × (RoundFront 0 now.lanes later behind ⊎ QuietFront now later behind)) ⊎ ((count ≡ most) × NamesFront rounds now later behind) → LanesMove 0 now.lanes later behind
-later_moves rounds now most count later behind (inl (few, inl front)) = front_moves 0 now.lanes later behind front
-later_moves rounds now most count later behind (inl (few, inr quiet)) =
-    subst (λ (l : List SettleEntry). LanesMove 0 now.lanes l behind) (sym quiet.is)
-    (moves_on 0 now.lanes quiet.between behind (round_entries 0 quiet.steps) quiet.later (round_moves_lanes 0 now.lanes quiet.steps quiet.between quiet.made)
-    (ticked_moves 0 quiet.between now.marks quiet.later behind quiet.ticks))
-later_moves rounds now most count later behind (inr (all, names)) =
-    subst (λ (l : List LaneState). LanesMove 0 now.lanes later l) (sym names.lanes) (nothing_moves 0 now.lanes later (λ k. names_said k rounds now later behind names))
-
 pub begun_moves : (start : List LaneState) (part : List SettleEntry) (behind : List LaneState) → SettleFront start part behind → LanesMove 0 start part behind
 begun_moves start part behind at =
-    subst (λ (l : List SettleEntry). LanesMove 0 start l behind) (sym at.is)
-    (moves_on 0 start at.now.lanes behind (entries_of at.rounds) at.later (rounds_move_lanes (begin start) at.rounds at.now at.run)
-    (later_moves at.rounds at.now (most_rounds start) (length at.rounds) at.later behind at.front))
+    front_leads disks (LanesMove 0) leads fronts (record {
+      round = λ w part v front. front_moves 0 w part v front;
+      ticks = λ w m part v front. ticked_moves 0 w m part v front;
+    }) ends start part behind at
 
 -- and so it stays reached
 reached_along : (s : LaneState) (events : List DiskEvent) (t : LaneState) → IsReached s → Run LaneStep s events t → IsReached t

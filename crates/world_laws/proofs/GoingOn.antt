@@ -5,7 +5,7 @@ use Rattle.runs.specs.Run.{Run, run_append, run_push}
 use Rattle.disk_model.specs.LaneState.{LaneState}
 use Rattle.world_laws.specs.Begun.{NamesFront, QuietFront, RoundFront, TickFront}
 use Rattle.world_laws.specs.Rounds.{LaneRound, MakeRound, are_quiet, is_quiet}
-use Rattle.world_laws.specs.Settle.{GoesOn, IsLast, SettleEntry, SettleRound, Settled, Settling, TicksBehind, begin, entries_of, left_over, most_rounds, pending_on, round_entries, tick_entries}
+use Rattle.world_laws.specs.Settle.{GoesOn, IsLast, SettleEntry, SettleRound, Settled, Settling, TicksBehind, begin, entries_of_rounds, left_over, most_rounds, pending_on, round_entries, tick_entries}
 use Rattle.world_laws.specs.Ticks.{TickLanes, marked, no_marks, some_get_ticks}
 use Rattle.world_laws.specs.Lines.{LineBegins, LineMoves}
 use Rattle.world_laws.specs.Lines as script
@@ -42,14 +42,14 @@ nothing_gone start had quiet fresh = record {
 }
 
 -- ONE MORE ROUND at the end
-entries_more : (rounds : List SettleRound) (round : SettleRound) → entries_of (rounds ++ round ∷ []) ≡ entries_of rounds ++ round.entries
+entries_more : (rounds : List SettleRound) (round : SettleRound) → entries_of_rounds (rounds ++ round ∷ []) ≡ entries_of_rounds rounds ++ round.entries
 entries_more [] round = nil round.entries
   where
     nil : (l : List SettleEntry) → l ++ [] ≡ l
     nil [] = refl
     nil (x ∷ l) = ap (λ (m : List SettleEntry). x ∷ m) (nil l)
 entries_more (first ∷ rounds) round =
-    ap (λ (l : List SettleEntry). first.entries ++ l) (entries_more rounds round) ∙ sym (append_assoc first.entries (entries_of rounds) round.entries)
+    ap (λ (l : List SettleEntry). first.entries ++ l) (entries_more rounds round) ∙ sym (append_assoc first.entries (entries_of_rounds rounds) round.entries)
 
 one_counted : (count many long : ℕ) → many ≡ count → long ≡ many + 1 → long ≡ count + 1
 one_counted count many long one two = omega (arith, one, two)
@@ -155,7 +155,7 @@ settled start w m v count entries part later had have quiet marks some gone few 
           no_tick = no_tick;
         });
         is = ap₂ (λ (x y : List SettleEntry). x ++ y) gone.leaves (ap₂ (λ (x y : List SettleEntry). x ++ (y ++ Settled ∷ [])) up.leaves none)
-            ∙ sym (append_assoc (entries_of gone.rounds) (round_entries 0 up.steps) (Settled ∷ []));
+            ∙ sym (append_assoc (entries_of_rounds gone.rounds) (round_entries 0 up.steps) (Settled ∷ []));
       });
       run = run_append WorldStep start w v entries (part ++ (later ++ Settled ∷ [])) gone.moves
           (run_append WorldStep w m v part (later ++ Settled ∷ []) up.run (run_append WorldStep m v v later (Settled ∷ []) ticks.run (v, refl, refl)));
@@ -179,7 +179,7 @@ run_out start w count entries part had quiet gone most named =
         run = subst (λ (l : List SettleRound). Run GoesOn (begin start.lanes) l gone.settling) at.is gone.run;
         most = ap (λ (l : List SettleRound). length l) (sym at.is) ∙ gone.many ∙ most;
         lanes = sym gone.lanes;
-        is = ap₂ (λ (x y : List SettleEntry). x ++ y) (gone.leaves ∙ ap entries_of at.is) left;
+        is = ap₂ (λ (x y : List SettleEntry). x ++ y) (gone.leaves ∙ ap entries_of_rounds at.is) left;
       });
       run = run_append WorldStep start w w entries part gone.moves (names_run (length w.lanes) w quiet part named);
     }

@@ -4,10 +4,10 @@ use Rattle.std.specs.List.{count_by}
 use Rattle.runs.specs.Run.{Run}
 use Rattle.vio_io.specs.Causes.{count_after, last_count, next_count}
 use Rattle.disk_law.specs.ListState.{ImageState}
-use Rattle.disk_model.specs.DiskEvent.{Asks, Desc, DiskEvent, Done, Finished, Misplaced, Moved, OnWire, Published, Rests, Stored, Turns, Works}
+use Rattle.disk_model.specs.DiskEvent.{Asks, Desc, DiskEvent, Done, Finished, Misplaced, Moved, OnWire, Published, Calms, Stored, Switches, Works}
 use Rattle.disk_model.specs.LaneState.{LaneState}
-use Rattle.world_laws.specs.Settle.{OfLane, SettleEntry, Settled, Unsettled}
-use Rattle.world_laws.specs.World.{CalledOnce, FaultsAfter, LaneMoves, WorldState, WorldStep}
+use Rattle.world_laws.specs.Settle.{OfLane, SettleEntry}
+use Rattle.world_laws.specs.World.{CalledOnce, LaneMoves, WorldState, WorldStep}
 use Rattle.world_laws.proofs.Counted.{count_more}
 use Rattle.world_laws.specs.Failures.{in_entry, is_failed_store, is_flush, is_store, is_store_that}
 
@@ -42,14 +42,13 @@ module _ (count : ImageState → ℕ) (says : ℕ → Bool → Bool) (counts : C
   event_counts s i (Works (Stored operation block n failed)) t j moves = counts operation failed i j moves.1
   event_counts s i (Works (Finished slot status)) t j moves = ap count moves.1
   event_counts s i (Works Misplaced) t j moves = ap count moves.1
-  event_counts s i (Turns event) t j moves = ap count moves.1
-  event_counts s i (Rests event) t j moves = ap count moves.1
+  event_counts s i (Switches event) t j moves = ap count moves.1
+  event_counts s i (Calms event) t j moves = ap count moves.1
 
   entry_counts : (w : WorldState) (entry : SettleEntry) (v : WorldState) → WorldStep w entry v
       → count v.image ≡ count_after (cond (in_entry (is_store_that says) entry) 1 0) (count w.image)
   entry_counts w (OfLane k event) v step = event_counts step.lane w.image event step.after v.image step.moves
-  entry_counts w Settled v step = ap (λ (x : WorldState). count x.image) step
-  entry_counts w (Unsettled k) v step = ap (λ (x : WorldState). count x.image) step
+  entry_counts w _ v step = ap (λ (x : WorldState). count x.image) step
 
   -- A RUN
   run_counts : (w : WorldState) (entries : List SettleEntry) (v : WorldState) → Run WorldStep w entries v

@@ -6,10 +6,11 @@ use Rattle.ldc_queue.specs.declared.end.End.{End}
 use Rattle.ldc_queue.specs.declared.end.End.TheVariants.{A, B}
 use Rattle.disk_model.specs.WireAt.{IsUp}
 use Rattle.disk_model.specs.WireEvent.{Blocked, Idle}
-use Rattle.disk_model.specs.DiskEvent.{DiskEvent, Off, OnWire, Turns}
+use Rattle.disk_model.specs.DiskEvent.{DiskEvent, Off, OnWire, Switches}
 use Rattle.disk_model.specs.LaneState.{LaneState, fresh}
 use Rattle.disk_model.specs.LaneStep.{LaneStep}
 use Rattle.disk_model.specs.Reached.{IsReached}
+use Rattle.lane_kinds.proofs.Sums.{and_left, and_right, both_true}
 use Rattle.lane_laws.specs.Remaining.{remaining}
 use Rattle.lane_laws.proofs.CalmEnds.{calm_are_idle, calm_are_still, calm_have_finished}
 use Rattle.lane_laws.proofs.StepFalls.{step_falls}
@@ -19,33 +20,21 @@ use Rattle.world_laws.specs.Ended.{IsStillBehind}
 use Rattle.world_laws.specs.Rounds.{LaneRound, MakesRound, is_calm, is_quiet}
 use Rattle.world_laws.specs.Sums.{IsUnforged}
 
-pub and_left : (a b : Bool) → (a && b) ≡ true → a ≡ true
-and_left true b is = refl
-and_left false b is = is
-
-pub and_right : (a b : Bool) → (a && b) ≡ true → b ≡ true
-and_right true b is = is
-and_right false b is = absurd (cc is)
-
-pub both_true : (a b : Bool) → a ≡ true → b ≡ true → (a && b) ≡ true
-both_true true b one two = two
-both_true false b one two = one
-
 -- CALM, as a test and as a condition
-off_calm : (e : End) → IsStep e (Turns Off) → IsCalm e (Turns Off)
+off_calm : (e : End) → IsStep e (Switches Off) → IsCalm e (Switches Off)
 off_calm A own = absurd own
 off_calm B own = tt
 
 calm_is : (e : End) (event : DiskEvent) → IsStep e event → is_calm event ≡ true → IsCalm e event
 calm_is e (OnWire (Idle d)) own now = own
 calm_is e (OnWire (Blocked d)) own now = own
-calm_is e (Turns Off) own now = off_calm e own
+calm_is e (Switches Off) own now = off_calm e own
 calm_is e _ own now = absurd (cc now)
 
 is_calm_where : (e : End) (event : DiskEvent) → IsCalm e event → is_calm event ≡ true
 is_calm_where e (OnWire (Idle d)) calm = refl
 is_calm_where e (OnWire (Blocked d)) calm = refl
-is_calm_where B (Turns Off) calm = refl
+is_calm_where B (Switches Off) calm = refl
 is_calm_where e _ calm = absurd calm
 
 pub reached_on : (s : LaneState) (event : DiskEvent) (t : LaneState) → IsReached s → LaneStep s event t → IsReached t

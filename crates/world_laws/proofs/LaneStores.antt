@@ -5,7 +5,7 @@ use Rattle.runs.specs.Run.{Run}
 use Rattle.vdisk_msg.specs.declared.desc.DiskDesc.{DiskDesc}
 use Rattle.disk_law.specs.ListState.{ImageState}
 use Rattle.disk_model.specs.DiskLog.{after, nothing_yet}
-use Rattle.disk_model.specs.DiskEvent.{Asks, Desc, DiskEvent, Done, Finished, Misplaced, Moved, OnWire, Published, Rests, Stored, Turns, Works}
+use Rattle.disk_model.specs.DiskEvent.{Asks, Desc, DiskEvent, Done, Finished, Misplaced, Moved, OnWire, Published, Calms, Stored, Switches, Works}
 use Rattle.disk_model.specs.LaneState.{IsShape, LaneState, Shape, fresh}
 use Rattle.disk_model.specs.LaneStep.{LaneStep, ServerWorks}
 use Rattle.disk_model.specs.Served.{Served}
@@ -94,5 +94,5 @@ moves_around shape events s (Works (Desc slot bytes)) t i j store sound run move
 moves_around shape events s (Works (Moved unit fault)) t i j store sound run moves told room = still shape i j store told moves.1
 moves_around shape events s (Works (Finished slot status)) t i j store sound run moves told room = still shape i j store told moves.1
 moves_around shape events s (Works Misplaced) t i j store sound run moves told room = still shape i j store told moves.1
-moves_around shape events s (Turns event) t i j store sound run moves told room = still shape i j store told moves.1
-moves_around shape events s (Rests event) t i j store sound run moves told room = still shape i j store told moves.1
+moves_around shape events s (Switches event) t i j store sound run moves told room = still shape i j store told moves.1
+moves_around shape events s (Calms event) t i j store sound run moves told room = still shape i j store told moves.1

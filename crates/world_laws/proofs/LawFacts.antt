@@ -9,7 +9,7 @@ use Rattle.disk_model.specs.DiskLog.{DiskLog, after, nothing_yet}
 use Rattle.disk_model.specs.May.{May}
 use Rattle.disk_model.specs.RingLog.{Done as IsDone}
 use Rattle.disk_model.specs.WorkLog.{ClientCounts}
-use Rattle.disk_model.specs.DiskEvent.{Asks, Desc, DiskEvent, Done, Finished, Misplaced, Moved, OnWire, Published, Rests, Stored, Turns, Worked, Works}
+use Rattle.disk_model.specs.DiskEvent.{Asks, Desc, DiskEvent, Done, Finished, Misplaced, Moved, OnWire, Published, Calms, Stored, Switches, Worked, Works}
 use Rattle.disk_model.specs.LaneState.{IsShape, LaneState, Shape, fresh}
 use Rattle.disk_model.specs.LaneStep.{LaneStep}
 use Rattle.lane_laws.proofs.RingAlong.{run_status}
@@ -49,8 +49,8 @@ slot_at : (shape : Shape) → IsShape shape → (events : List DiskEvent) (s : L
 slot_at shape sound events s (Works event) t run step clean = slot_worked shape sound events s event t run step clean
 slot_at shape sound events s (OnWire event) t run step clean = tt
 slot_at shape sound events s (Asks event) t run step clean = tt
-slot_at shape sound events s (Turns event) t run step clean = tt
-slot_at shape sound events s (Rests event) t run step clean = tt
+slot_at shape sound events s (Switches event) t run step clean = tt
+slot_at shape sound events s (Calms event) t run step clean = tt
 
 facts_at : (shape : Shape) → IsShape shape → OfEachRun Facts shape
 facts_at shape sound events s event t run step =

@@ -1,46 +1,50 @@
 -- Each disk that the part of a line names as left over is one of the world's.
-use Rattle.std.proofs.Common.{◌≡◌, ℕ, ◌+◌, ◌<◌, ◌≤◌, ◌⊎◌, inl, inr, Bool, true, false, List, [], ◌∷◌, ◌++◌, length, replicate, sym, ap, ◌∙◌, subst, arith}
+use Rattle.std.proofs.Common.{◌≡◌, ℕ, ◌+◌, ◌<◌, ◌≤◌, inl, inr, Bool, true, false, List, [], ◌∷◌, ◌++◌, length, replicate, sym, ap, ◌∙◌, subst, arith}
 use Rattle.std.specs.Prelude.{◌&&◌, if◌then◌else◌, ⊤}
 use Rattle.runs.specs.Run.{Run}
 use Rattle.disk_model.specs.WireEvent.{Idle}
-use Rattle.disk_model.specs.DiskEvent.{DiskEvent, Off, OnWire, Turns}
+use Rattle.disk_model.specs.DiskEvent.{DiskEvent, Off, OnWire, Switches}
 use Rattle.disk_model.specs.LaneState.{LaneState}
-use Rattle.world_laws.proofs.Moving.{part_moves, rounds_move_lanes}
-use Rattle.world_laws.specs.Begun.{NamesFront, NoMore, QuietFront, RoundFront, SettleFront, TickFront}
-use Rattle.world_laws.specs.Rounds.{LaneRound, are_quiet, is_quiet}
-use Rattle.world_laws.specs.Settle.{GoesOn, OfLane, SettleEntry, SettlePart, SettleRound, Settled, Settling, TicksBehind, Unsettled, begin, entries_of, entry_of, left_over, most_rounds, round_entries, tick_entries}
+use Rattle.lane_kinds.proofs.Leading.{front_leads, part_leads}
+use Rattle.lane_kinds.specs.Laws.{Ends, Leads}
+use Rattle.world_laws.proofs.FrontMoving.{front_moves, ticked_moves}
+use Rattle.world_laws.proofs.Moving.{round_moves_lanes, ticks_move_lanes}
+use Rattle.world_laws.specs.Along.{LanesMove}
+use Rattle.world_laws.specs.Begun.{NoMore, RoundFront, SettleFront, TickFront, fronts}
+use Rattle.world_laws.specs.Rounds.{LaneRound, is_quiet}
+use Rattle.world_laws.specs.Settle.{OfLane, SettleEntry, SettlePart, Unsettled, disks, entry_of, left_over, round_entries, tick_entries}
 use Rattle.world_laws.specs.Ticks.{gets_tick, tick, waits_on}
 use Rattle.world_laws.proofs.Along.{many_stay}
 use Rattle.world_laws.proofs.LaneLists.{many_moved}
-use Rattle.world_laws.specs.Lines.{AreFirstSteps, AreSteps, Asked, BeginsPart, Calls, Line, LineBegins, LineStep, Nothing, OneEntry, PartOf, Rounds, Settles, Steps, Turn, turn, turns_of}
+use Rattle.world_laws.specs.Lines.{AreSteps, Asked, BeginsPart, Calls, Line, LineBegins, LineStep, Nothing, OneEntry, PartOf, Rounds, Settles, Steps, EndTurn, turn, turns_of}
 use Rattle.world_laws.specs.Lines as script
 use Rattle.world_laws.specs.World.{WorldState}
 
 -- WHAT A PART NAMES as left over stands below this number
 abbrev pub NamesBelow : ℕ → List SettleEntry → Type 0
 NamesBelow n [] = ⊤
-NamesBelow n (OfLane k event ∷ part) = NamesBelow n part
-NamesBelow n (Settled ∷ part) = NamesBelow n part
 NamesBelow n (Unsettled k ∷ part) = (k < n) × NamesBelow n part
+NamesBelow n (x ∷ part) = NamesBelow n part
+
+-- over so many lanes
+abbrev Below : ℕ → List LaneState → List SettleEntry → List LaneState → Type 0
+Below n lanes part behind = length lanes ≡ n → NamesBelow n part × (length behind ≡ n)
 
 module _ (n : ℕ) where
   both_below : (one two : List SettleEntry) → NamesBelow n one → NamesBelow n two → NamesBelow n (one ++ two)
   both_below [] two first second = second
-  both_below (OfLane k event ∷ one) two first second = both_below one two first second
-  both_below (Settled ∷ one) two first second = both_below one two first second
   both_below (Unsettled k ∷ one) two first second = (first.0, both_below one two first.1 second)
+  both_below (x ∷ one) two first second = both_below one two first second
 
   front_below : (one two : List SettleEntry) → NamesBelow n (one ++ two) → NamesBelow n one
   front_below [] two below = tt
-  front_below (OfLane k event ∷ one) two below = front_below one two below
-  front_below (Settled ∷ one) two below = front_below one two below
   front_below (Unsettled k ∷ one) two below = (below.0, front_below one two below.1)
+  front_below (x ∷ one) two below = front_below one two below
 
   pub named_below : (before : List SettleEntry) (k : ℕ) (behind : List SettleEntry) → NamesBelow n (before ++ Unsettled k ∷ behind) → k < n
   named_below [] k behind below = below.0
-  named_below (OfLane j event ∷ before) k behind below = named_below before k behind below
-  named_below (Settled ∷ before) k behind below = named_below before k behind below
   named_below (Unsettled j ∷ before) k behind below = named_below before k behind below.1
+  named_below (x ∷ before) k behind below = named_below before k behind below
 
   as_is : (one two : List SettleEntry) → one ≡ two → NamesBelow n two → NamesBelow n one
   as_is one two is below = subst (λ (l : List SettleEntry). NamesBelow n l) (sym is) below
@@ -51,7 +55,7 @@ module _ (n : ℕ) where
   -- STEPS AND TICKS name none
   entry_below : (k : ℕ) (event : DiskEvent) → NamesBelow n (entry_of k event)
   entry_below k (OnWire (Idle e)) = tt
-  entry_below k (Turns Off) = tt
+  entry_below k (Switches Off) = tt
   entry_below k event = tt
 
   pair_below : (k : ℕ) (r : LaneRound) → NamesBelow n (entry_of k r.client ++ entry_of k r.server)
@@ -71,25 +75,11 @@ module _ (n : ℕ) where
   ticks_below k (s ∷ lanes) (had ∷ marks) =
       both_below (if gets_tick s had then OfLane k tick ∷ [] else []) (tick_entries (k + 1) lanes marks) (tick_below (gets_tick s had) k) (ticks_below (k + 1) lanes marks)
 
-  goes_below : (quiet : Bool) (w : Settling) (steps : List LaneRound) (between : List LaneState) (entries : List SettleEntry) (v : Settling) → TicksBehind quiet w steps between entries v
-      → NamesBelow n entries
-  goes_below false w steps between entries v behind = as_is entries (round_entries 0 steps) behind.1 (round_below 0 steps)
-  goes_below true w steps between entries v behind =
-      as_is entries (round_entries 0 steps ++ tick_entries 0 between w.marks) behind.3
-      (both_below (round_entries 0 steps) (tick_entries 0 between w.marks) (round_below 0 steps) (ticks_below 0 between w.marks))
-
-  rounds_below : (w : Settling) (rounds : List SettleRound) (v : Settling) → Run GoesOn w rounds v → NamesBelow n (entries_of rounds)
-  rounds_below w [] v run = tt
-  rounds_below w (round ∷ rounds) v run =
-      both_below round.entries (entries_of rounds) (goes_below (are_quiet round.steps) w round.steps run.1.between round.entries run.0 run.1.behind) (rounds_below run.0 rounds v run.2)
-
-  steps_below : (turns : List Turn) (part : List SettleEntry) → AreSteps turns part → NamesBelow n part
+  steps_below : (turns : List EndTurn) (part : List SettleEntry) → AreSteps turns part → NamesBelow n part
   steps_below [] [] steps = tt
   steps_below (next ∷ turns) (OfLane k event ∷ part) steps = steps_below turns part steps.2
   steps_below [] (entry ∷ part) steps = absurd steps
-  steps_below (next ∷ turns) [] steps = absurd steps
-  steps_below (next ∷ turns) (Settled ∷ part) steps = absurd steps
-  steps_below (next ∷ turns) (Unsettled k ∷ part) steps = absurd steps
+  steps_below (next ∷ turns) _ steps = absurd steps
 
   -- WHAT IS LEFT OVER is one of the lanes
   name_below : (c : Bool) (k : ℕ) → k < n → NamesBelow n (if c then [] else Unsettled k ∷ [])
@@ -106,23 +96,7 @@ module _ (n : ℕ) where
   all_below : (steps : List LaneRound) (lanes : List LaneState) → length lanes ≡ n → NamesBelow n (left_over 0 steps lanes)
   all_below steps lanes long = left_below 0 steps lanes (omega (arith, long))
 
-  names_below : (rounds : List SettleRound) (now : Settling) (part : List SettleEntry) (behind : List LaneState) → length now.lanes ≡ n → NamesFront rounds now part behind → NamesBelow n part
-  names_below rounds now part behind long names =
-      front_below part names.unnamed (as_is (part ++ names.unnamed) (left_over 0 names.last.steps now.lanes) names.is (all_below names.last.steps now.lanes long))
-
-  -- A SETTLE
-  settle_below : (start : List LaneState) (part : List SettleEntry) (behind : List LaneState) → length start ≡ n → SettlePart start part behind → NamesBelow n part
-  settle_below start part behind long (inl at) =
-      as_is part (entries_of at.rounds ++ round_entries 0 at.steps ++ Settled ∷ []) at.is
-      (both_below (entries_of at.rounds ++ round_entries 0 at.steps) (Settled ∷ [])
-      (both_below (entries_of at.rounds) (round_entries 0 at.steps) (rounds_below (begin start) at.rounds at.now at.run) (round_below 0 at.steps)) tt)
-  settle_below start part behind long (inr out) =
-      let many = many_moved 0 start part behind (part_moves start part behind (inr out)) in
-      as_is part (entries_of (out.rounds ++ out.last ∷ []) ++ left_over 0 out.last.steps behind) out.is
-      (both_below (entries_of (out.rounds ++ out.last ∷ [])) (left_over 0 out.last.steps behind)
-      (rounds_below (begin start) (out.rounds ++ out.last ∷ []) out.now out.run) (all_below out.last.steps behind (many ∙ long)))
-
-  -- AND A FRONT OF IT
+  -- FRONTS of a round and of ticks
   begun_below : (k : ℕ) (lanes : List LaneState) (part : List SettleEntry) (behind : List LaneState) → RoundFront k lanes part behind → NamesBelow n part
   begun_below k [] part behind none = none_below [] part behind none
   begun_below k (s ∷ lanes) part behind (inl none) = none_below (s ∷ lanes) part behind none
@@ -140,20 +114,39 @@ module _ (n : ℕ) where
       as_is part ((if gets_tick s had then OfLane k tick ∷ [] else []) ++ made.later) made.is
       (both_below (if gets_tick s had then OfLane k tick ∷ [] else []) made.later (tick_below (gets_tick s had) k) (ticked_below (k + 1) lanes marks made.later made.others made.more))
 
-  later_below : (rounds : List SettleRound) (now : Settling) (most count : ℕ) (later : List SettleEntry) (behind : List LaneState) → length now.lanes ≡ n
-      → ((count < most) × (RoundFront 0 now.lanes later behind ⊎ QuietFront now later behind)) ⊎ ((count ≡ most) × NamesFront rounds now later behind) → NamesBelow n later
-  later_below rounds now most count later behind long (inl (few, inl front)) = begun_below 0 now.lanes later behind front
-  later_below rounds now most count later behind long (inl (few, inr quiet)) =
-      as_is later (round_entries 0 quiet.steps ++ quiet.later) quiet.is
-      (both_below (round_entries 0 quiet.steps) quiet.later (round_below 0 quiet.steps) (ticked_below 0 quiet.between now.marks quiet.later behind quiet.ticks))
-  later_below rounds now most count later behind long (inr (all, names)) = names_below rounds now later behind long names
+  -- A SETTLE
+  both_named : (lanes between behind : List LaneState) (one two : List SettleEntry) → Below n lanes one between → Below n between two behind → Below n lanes (one ++ two) behind
+  both_named lanes between behind one two first second long =
+      let before = first long in
+      let rest = second before.1 in
+      (both_below one two before.0 rest.0, rest.1)
+
+  as_many : (lanes : List LaneState) (part : List SettleEntry) (behind : List LaneState) → NamesBelow n part → LanesMove 0 lanes part behind → Below n lanes part behind
+  as_many lanes part behind below moves long = (below, many_moved 0 lanes part behind moves ∙ long)
+
+  leads : Leads disks (Below n)
+  leads = record {
+    none = λ w long. (tt, long);
+    both = both_named;
+    round = λ w r v made. as_many w (round_entries 0 r) v (round_below 0 r) (round_moves_lanes 0 w r v made);
+    ticks = λ w m v ticks. as_many w (tick_entries 0 w m) v (ticks_below 0 w m) (ticks_move_lanes 0 w m v ticks);
+  }
+
+  ends : Ends disks (Below n)
+  ends = record {
+    answer = λ w long. (tt, long);
+    names = λ r w part more is long. (front_below part more (as_is (part ++ more) (left_over 0 r w) is (all_below r w long)), long);
+  }
+
+  settle_below : (start : List LaneState) (part : List SettleEntry) (behind : List LaneState) → length start ≡ n → SettlePart start part behind → NamesBelow n part
+  settle_below start part behind long settle = (part_leads disks (Below n) leads ends start part behind settle long).0
 
   settling_below : (start : List LaneState) (part : List SettleEntry) (behind : List LaneState) → length start ≡ n → SettleFront start part behind → NamesBelow n part
   settling_below start part behind long at =
-      let many = many_moved 0 start (entries_of at.rounds) at.now.lanes (rounds_move_lanes (begin start) at.rounds at.now at.run) in
-      as_is part (entries_of at.rounds ++ at.later) at.is
-      (both_below (entries_of at.rounds) at.later (rounds_below (begin start) at.rounds at.now at.run)
-      (later_below at.rounds at.now (most_rounds start) (length at.rounds) at.later behind (many ∙ long) at.front))
+      (front_leads disks (Below n) leads fronts (record {
+        round = λ w part v front. as_many w part v (begun_below 0 w part v front) (front_moves 0 w part v front);
+        ticks = λ w m part v front. as_many w part v (ticked_below 0 w m part v front) (ticked_moves 0 w m part v front);
+      }) ends start part behind at long).0
 
   -- A LINE, and a front of it
   one_below : (k : ℕ) (Answers : DiskEvent → Type 0) (part : List SettleEntry) → OneEntry k Answers part → NamesBelow n part
@@ -180,14 +173,14 @@ module _ (n : ℕ) where
   lines_many w [] v run = ap (λ (x : WorldState). length x.lanes) (sym run)
   lines_many w (line ∷ lines) v run = lines_many run.0 lines v run.2 ∙ many_stay w line.1 run.0 run.1.run
 
-  pub lines_below : (w : WorldState) (lines : List (Line × List SettleEntry)) (v : WorldState) → length w.lanes ≡ n → Run LineStep w lines v → NamesBelow n (script.entries_of lines)
+  pub lines_below : (w : WorldState) (lines : List (Line × List SettleEntry)) (v : WorldState) → length w.lanes ≡ n → Run LineStep w lines v → NamesBelow n (script.entries_of_lines lines)
   lines_below w [] v long run = tt
   lines_below w (line ∷ lines) v long run =
-      both_below line.1 (script.entries_of lines) (line_below line.0 w.lanes line.1 run.0.lanes long run.1.part_of)
+      both_below line.1 (script.entries_of_lines lines) (line_below line.0 w.lanes line.1 run.0.lanes long run.1.part_of)
       (lines_below run.0 lines v (many_stay w line.1 run.0 run.1.run ∙ long) run.2)
 
   pub cut_below : (w : WorldState) (lines : List (Line × List SettleEntry)) (v : WorldState) (line : Line) (part : List SettleEntry) (u : WorldState) → length w.lanes ≡ n
-      → Run LineStep w lines v → LineBegins v line part u → NamesBelow n (script.entries_of lines ++ part)
+      → Run LineStep w lines v → LineBegins v line part u → NamesBelow n (script.entries_of_lines lines ++ part)
   cut_below w lines v line part u long run begun =
-      both_below (script.entries_of lines) part (lines_below w lines v long run)
+      both_below (script.entries_of_lines lines) part (lines_below w lines v long run)
       (begins_below line v.lanes part u.lanes (lines_many w lines v run ∙ long) begun.begins)

@@ -1,39 +1,41 @@
 -- What holds of each step of an end, of a tick, and of what may come of a script's requests and calls, holds of each event in a line's part.
-use Rattle.std.proofs.Common.{◌≡◌, ℕ, ◌+◌, ◌<◌, ◌⊎◌, inl, inr, Bool, true, false, List, [], ◌∷◌, ◌++◌, length, replicate, refl, sym, subst}
+use Rattle.std.proofs.Common.{◌≡◌, ℕ, ◌+◌, inl, inr, Bool, true, false, List, [], ◌∷◌, ◌++◌, length, replicate, refl, sym, subst}
 use Rattle.std.specs.Prelude.{◌&&◌, if◌then◌else◌, ⊤}
-use Rattle.runs.specs.Run.{Run}
 use Rattle.ldc_queue.specs.declared.end.End.{End}
 use Rattle.ldc_queue.specs.declared.end.End.TheVariants.{A, B}
 use Rattle.vdisk_msg.specs.declared.request.Request.{Request}
 use Rattle.disk_model.specs.WireEvent.{Idle}
-use Rattle.disk_model.specs.DiskEvent.{DiskEvent, Off, OnWire, Turns}
+use Rattle.disk_model.specs.DiskEvent.{DiskEvent, Off, OnWire, Switches}
 use Rattle.disk_model.specs.LaneState.{LaneState}
+use Rattle.lane_kinds.proofs.Leading.{front_leads, part_leads}
+use Rattle.lane_kinds.specs.Laws.{Ends, Leads}
 use Rattle.lane_laws.specs.CalmEnds.{IsStep}
-use Rattle.world_laws.specs.Begun.{NamesFront, NoMore, QuietFront, RoundFront, SettleFront, TickFront}
-use Rattle.world_laws.specs.Rounds.{LaneRound, MakeRound, are_quiet, is_quiet}
-use Rattle.world_laws.specs.Settle.{GoesOn, OfLane, SettleEntry, SettlePart, SettleRound, Settled, Settling, TicksBehind, Unsettled, begin, entries_of, entry_of, left_over, most_rounds, round_entries, tick_entries}
+use Rattle.world_laws.specs.Begun.{NoMore, RoundFront, SettleFront, TickFront, fronts}
+use Rattle.world_laws.specs.Rounds.{LaneRound, MakeRound, is_quiet}
+use Rattle.world_laws.specs.Settle.{OfLane, SettleEntry, SettlePart, Unsettled, disks, entry_of, left_over, round_entries, tick_entries}
 use Rattle.world_laws.specs.Ticks.{gets_tick, tick, waits_on}
-use Rattle.world_laws.specs.Lines.{AnswersCall, AnswersRequest, AreFirstSteps, AreSteps, Asked, BeginsPart, Call, Calls, Line, Nothing, OneEntry, PartOf, Rounds, Settles, Steps, Turn, turn, turns_of}
+use Rattle.world_laws.specs.Lines.{AnswersCall, AnswersRequest, AreFirstSteps, AreSteps, Asked, BeginsPart, Call, Calls, Line, Nothing, OneEntry, PartOf, Rounds, Settles, Steps, EndTurn, turn, turns_of}
 
 -- EACH EVENT in a part
 abbrev pub AllEvents : (DiskEvent → Type 0) → List SettleEntry → Type 0
 AllEvents P [] = ⊤
 AllEvents P (OfLane k event ∷ part) = P event × AllEvents P part
-AllEvents P (Settled ∷ part) = AllEvents P part
-AllEvents P (Unsettled k ∷ part) = AllEvents P part
+AllEvents P (x ∷ part) = AllEvents P part
+
+-- whatever it leads from and to
+abbrev Hold : (DiskEvent → Type 0) → List LaneState → List SettleEntry → List LaneState → Type 0
+Hold P lanes part behind = AllEvents P part
 
 module _ (P : DiskEvent → Type 0) where
   all_both : (one two : List SettleEntry) → AllEvents P one → AllEvents P two → AllEvents P (one ++ two)
   all_both [] two first second = second
   all_both (OfLane k event ∷ one) two first second = (first.0, all_both one two first.1 second)
-  all_both (Settled ∷ one) two first second = all_both one two first second
-  all_both (Unsettled k ∷ one) two first second = all_both one two first second
+  all_both (x ∷ one) two first second = all_both one two first second
 
   all_front : (one two : List SettleEntry) → AllEvents P (one ++ two) → AllEvents P one
   all_front [] two all = tt
   all_front (OfLane k event ∷ one) two all = (all.0, all_front one two all.1)
-  all_front (Settled ∷ one) two all = all_front one two all
-  all_front (Unsettled k ∷ one) two all = all_front one two all
+  all_front (x ∷ one) two all = all_front one two all
 
   all_of : (one two : List SettleEntry) → one ≡ two → AllEvents P two → AllEvents P one
   all_of one two is all = subst (λ (l : List SettleEntry). AllEvents P l) (sym is) all
@@ -43,7 +45,7 @@ module _ (P : DiskEvent → Type 0) where
 
   entry_all : (k : ℕ) (event : DiskEvent) → P event → AllEvents P (entry_of k event)
   entry_all k (OnWire (Idle e)) holds = tt
-  entry_all k (Turns Off) holds = tt
+  entry_all k (Switches Off) holds = tt
   entry_all k event holds = (holds, tt)
 
   name_all : (c : Bool) (k : ℕ) → AllEvents P (if c then [] else Unsettled k ∷ [])
@@ -57,21 +59,15 @@ module _ (P : DiskEvent → Type 0) where
       all_both (if is_quiet r && (if waits_on s then false else true) then [] else Unsettled k ∷ []) (left_over (k + 1) steps lanes)
       (name_all (is_quiet r && (if waits_on s then false else true)) k) (left_all (k + 1) steps lanes)
 
-  names_all : (rounds : List SettleRound) (now : Settling) (part : List SettleEntry) (behind : List LaneState) → NamesFront rounds now part behind → AllEvents P part
-  names_all rounds now part behind names =
-      all_front part names.unnamed (all_of (part ++ names.unnamed) (left_over 0 names.last.steps now.lanes) names.is (left_all 0 names.last.steps now.lanes))
-
   -- STEPS
   module _ (each_step : (e : End) (event : DiskEvent) → IsStep e event → P event) where
-    steps_all : (turns : List Turn) (part : List SettleEntry) → AreSteps turns part → AllEvents P part
+    steps_all : (turns : List EndTurn) (part : List SettleEntry) → AreSteps turns part → AllEvents P part
     steps_all [] [] steps = tt
     steps_all (next ∷ turns) (OfLane k event ∷ part) steps = (each_step next.side event steps.1, steps_all turns part steps.2)
     steps_all [] (entry ∷ part) steps = absurd steps
-    steps_all (next ∷ turns) [] steps = absurd steps
-    steps_all (next ∷ turns) (Settled ∷ part) steps = absurd steps
-    steps_all (next ∷ turns) (Unsettled k ∷ part) steps = absurd steps
+    steps_all (next ∷ turns) _ steps = absurd steps
 
-    first_all : (turns : List Turn) (part : List SettleEntry) → AreFirstSteps turns part → AllEvents P part
+    first_all : (turns : List EndTurn) (part : List SettleEntry) → AreFirstSteps turns part → AllEvents P part
     first_all turns part first = steps_all first.made part first.steps
 
     round_all : (k : ℕ) (lanes : List LaneState) (rounds : List LaneRound) (behind : List LaneState) → MakeRound lanes rounds behind → AllEvents P (round_entries k rounds)
@@ -117,40 +113,29 @@ module _ (P : DiskEvent → Type 0) where
           (all_both (if gets_tick s had then OfLane k tick ∷ [] else []) made.later (tick_all (gets_tick s had) k) (ticked_all (k + 1) lanes marks made.later made.others made.more))
 
       -- A SETTLE
-      goes_all : (quiet : Bool) (w : Settling) (steps : List LaneRound) (between : List LaneState) (entries : List SettleEntry) (v : Settling) → MakeRound w.lanes steps between
-          → TicksBehind quiet w steps between entries v → AllEvents P entries
-      goes_all false w steps between entries v made behind = all_of entries (round_entries 0 steps) behind.1 (round_all 0 w.lanes steps between made)
-      goes_all true w steps between entries v made behind =
-          all_of entries (round_entries 0 steps ++ tick_entries 0 between w.marks) behind.3
-          (all_both (round_entries 0 steps) (tick_entries 0 between w.marks) (round_all 0 w.lanes steps between made) (ticks_all 0 between w.marks))
+      leads : Leads disks (Hold P)
+      leads = record {
+        none = λ w. tt;
+        both = λ w m v one two first second. all_both one two first second;
+        round = λ w r v made. round_all 0 w r v made;
+        ticks = λ w m v made. ticks_all 0 w m;
+      }
 
-      rounds_all : (w : Settling) (rounds : List SettleRound) (v : Settling) → Run GoesOn w rounds v → AllEvents P (entries_of rounds)
-      rounds_all w [] v run = tt
-      rounds_all w (round ∷ rounds) v run =
-          all_both round.entries (entries_of rounds) (goes_all (are_quiet round.steps) w round.steps run.1.between round.entries run.0 run.1.made run.1.behind) (rounds_all run.0 rounds v run.2)
+      ends : Ends disks (Hold P)
+      ends = record {
+        answer = λ w. tt;
+        names = λ r w part more is. all_front part more (all_of (part ++ more) (left_over 0 r w) is (left_all 0 r w));
+      }
 
       settle_all : (start : List LaneState) (part : List SettleEntry) (behind : List LaneState) → SettlePart start part behind → AllEvents P part
-      settle_all start part behind (inl at) =
-          all_of part (entries_of at.rounds ++ round_entries 0 at.steps ++ Settled ∷ []) at.is
-          (all_both (entries_of at.rounds ++ round_entries 0 at.steps) (Settled ∷ [])
-          (all_both (entries_of at.rounds) (round_entries 0 at.steps) (rounds_all (begin start) at.rounds at.now at.run) (round_all 0 at.now.lanes at.steps behind at.last.made)) tt)
-      settle_all start part behind (inr out) =
-          all_of part (entries_of (out.rounds ++ out.last ∷ []) ++ left_over 0 out.last.steps behind) out.is
-          (all_both (entries_of (out.rounds ++ out.last ∷ [])) (left_over 0 out.last.steps behind) (rounds_all (begin start) (out.rounds ++ out.last ∷ []) out.now out.run) (left_all 0 out.last.steps behind))
-
-      later_all : (rounds : List SettleRound) (now : Settling) (most count : ℕ) (later : List SettleEntry) (behind : List LaneState)
-          → ((count < most) × (RoundFront 0 now.lanes later behind ⊎ QuietFront now later behind)) ⊎ ((count ≡ most) × NamesFront rounds now later behind) → AllEvents P later
-      later_all rounds now most count later behind (inl (few, inl front)) = begun_all 0 now.lanes later behind front
-      later_all rounds now most count later behind (inl (few, inr quiet)) =
-          all_of later (round_entries 0 quiet.steps ++ quiet.later) quiet.is
-          (all_both (round_entries 0 quiet.steps) quiet.later (round_all 0 now.lanes quiet.steps quiet.between quiet.made) (ticked_all 0 quiet.between now.marks quiet.later behind quiet.ticks))
-      later_all rounds now most count later behind (inr (all, names)) = names_all rounds now later behind names
+      settle_all start part behind settle = part_leads disks (Hold P) leads ends start part behind settle
 
       settling_all : (start : List LaneState) (part : List SettleEntry) (behind : List LaneState) → SettleFront start part behind → AllEvents P part
       settling_all start part behind at =
-          all_of part (entries_of at.rounds ++ at.later) at.is
-          (all_both (entries_of at.rounds) at.later (rounds_all (begin start) at.rounds at.now at.run)
-          (later_all at.rounds at.now (most_rounds start) (length at.rounds) at.later behind at.front))
+          front_leads disks (Hold P) leads fronts (record {
+            round = λ w part v front. begun_all 0 w part v front;
+            ticks = λ w m part v front. ticked_all 0 w m part v front;
+          }) ends start part behind at
 
       -- A LINE
       one_all : (k : ℕ) (Answers : DiskEvent → Type 0) (part : List SettleEntry) → ((event : DiskEvent) → Answers event → P event) → OneEntry k Answers part → AllEvents P part

@@ -13,12 +13,12 @@ use Rattle.vio_tag.specs.declared.message.Message.{Message}
 use Rattle.vio_tag.specs.declared.message.MsgBody.{MsgBody}
 use Rattle.vio_tag.specs.declared.message.MsgBody.TheVariants.{DringData}
 use Rattle.vio_tag.specs.declared.message.TagFault.{TagFault}
-use Rattle.lane_laws.specs.Rules.{Faults, Goes, GoesOpen, ShakeTake, shake_take, sid_fault}
+use Rattle.lane_laws.specs.Rules.{Faults, Goes, GoesOpen, HandshakeTake, handshake_take, sid_fault}
 use Rattle.disk_model.specs.WireEvent.{Blocked, ByRestart, ByScript, ByStep, ByTick, Declines, Giver, Idle, Injected, Joined, Lost, Poked, Reset, Sent, Took, WireEvent, giver}
 use Rattle.disk_model.specs.ClientRule.{client_rule}
 use Rattle.disk_model.specs.ClientState.{ClientSession, ClientState, slot_in}
 use Rattle.disk_model.specs.ClientTaking as taking
-use Rattle.disk_model.specs.DiskEvent.{Accepted, Admitted, Asks, Calm, CalmReset, CalmRestart, CalmStart, CalmStop, CalmTick, Desc, DiskEvent, Done, Finished, Full, Misplaced, Moved, Off, OnWire, Published, Refused, Rests, Started, Stopped, Stored, Switched, Turns, Worked, Works}
+use Rattle.disk_model.specs.DiskEvent.{Accepted, Admitted, Asks, Calm, CalmReset, CalmRestart, CalmStart, CalmStop, CalmTick, Desc, DiskEvent, Done, Finished, Full, Misplaced, Moved, Off, OnWire, Published, Refused, Calms, Started, Stopped, Stored, Switched, Switches, Worked, Works}
 use Rattle.disk_model.specs.LaneState.{LaneState}
 use Rattle.disk_model.specs.LaneStep.{EndOnWire, LaneStep, ResetBy, RestStep, TurnStep, WireStep, WorkStep}
 use Rattle.disk_model.specs.Ranges.{is_other, range_length}
@@ -42,14 +42,14 @@ next_if : (n : ℕ) (b : Bool) (one other : taking.ClientTake) → KeepsNext n o
 next_if n true one other first second = first
 next_if n false one other first second = second
 
-next_shake : (s : ClientState) (take : ShakeTake) → KeepsNext s.next_id (taking.by_handshake s take)
-next_shake s (Goes h) = refl
-next_shake s (GoesOpen h) = refl
-next_shake s (Faults cause) = tt
+next_handshake : (s : ClientState) (take : HandshakeTake) → KeepsNext s.next_id (taking.by_handshake s take)
+next_handshake s (Goes h) = refl
+next_handshake s (GoesOpen h) = refl
+next_handshake s (Faults cause) = tt
 
 next_ack : (s : ClientState) (session : ClientSession) (ident start end : ℕ) → KeepsNext s.next_id (taking.takes_ack s session ident start end)
 next_ack s session ident start end =
-    next_if s.next_id (is_other s.shake.draft.ident_own ident) (taking.Resets (the_cause.Ident s.shake.draft.ident_own ident)) _ tt
+    next_if s.next_id (is_other s.handshake.draft.ident_own ident) (taking.Resets (the_cause.Ident s.handshake.draft.ident_own ident)) _ tt
     (next_if s.next_id (is_other (slot_in s session.acked) start) (taking.Resets (the_cause.Slot (slot_in s session.acked) start)) _ tt
     (next_if s.next_id (nat_lt end s.slots && nat_le (session.acked + range_length s.slots start end) session.announced)
     (taking.GoesOn (taking.acknowledged s session (range_length s.slots start end))) (taking.Resets (the_cause.RangeEnd end)) refl tt))
@@ -57,16 +57,16 @@ next_ack s session ident start end =
 next_in : (s : ClientState) (session : ClientSession) (message : Message) (subtype : Subtype) (b : MsgBody) → KeepsNext s.next_id (taking.in_session s session message subtype b)
 next_in s session message Ack (DringData seq ident start end state) = next_ack s session ident start end
 next_in s session message Nack (DringData seq ident start end state) = tt
-next_in s session message _ _ = next_shake s (shake_take s.shake message)
+next_in s session message _ _ = next_handshake s (handshake_take s.handshake message)
 
 next_or : (n : ℕ) (fault : Option Cause) (rest : taking.ClientTake) → KeepsNext n rest → KeepsNext n (taking.sid_first fault rest)
 next_or n None rest keeps = keeps
 next_or n (Some cause) rest keeps = tt
 
 next_hears : (s : ClientState) (session : Option ClientSession) (message : Message) → KeepsNext s.next_id (taking.hears_message s session message)
-next_hears s None message = next_shake s (shake_take s.shake message)
+next_hears s None message = next_handshake s (handshake_take s.handshake message)
 next_hears s (Some session) message =
-    next_or s.next_id (sid_fault s.shake.sid message.sid) (taking.in_session s session message message.subtype message.body) (next_in s session message message.subtype message.body)
+    next_or s.next_id (sid_fault s.handshake.sid message.sid) (taking.in_session s session message message.subtype message.body) (next_in s session message message.subtype message.body)
 
 next_reads : (s : ClientState) (decoded : Result Message TagFault) → KeepsNext s.next_id (taking.reads s decoded)
 next_reads s (Ok message) = next_hears s s.session message
@@ -168,8 +168,8 @@ pub next_is : (s : LaneState) (event : DiskEvent) (t : LaneState) → LaneStep s
 next_is s (OnWire event) t step = next_on_wire s event t step
 next_is s (Asks event) t step = next_asks s event t step
 next_is s (Works event) t step = next_works s event t step
-next_is s (Turns event) t step = next_turns s event t step
-next_is s (Rests event) t step = next_rests s event t step
+next_is s (Switches event) t step = next_turns s event t step
+next_is s (Calms event) t step = next_rests s event t step
 
 -- AND OF ALL LANES, where one is set
 set_here : (new old rest : ℕ) → (new + rest) + old ≡ (old + rest) + new

@@ -2,7 +2,7 @@
 use Rattle.std.proofs.Common.{◌≡◌, ℕ, Bool, List, [], ◌∷◌, slice_get, slice_set, Some, refl, sym, ap, ap₂, ◌∙◌, subst}
 use Rattle.runs.specs.Run.{Run}
 use Rattle.disk_law.specs.ListState.{ImageState}
-use Rattle.disk_model.specs.DiskEvent.{Asks, Desc, DiskEvent, Done, Finished, Misplaced, Moved, Off, OnWire, Published, Rests, Stored, Turns, Works}
+use Rattle.disk_model.specs.DiskEvent.{Asks, Desc, DiskEvent, Done, Finished, Misplaced, Moved, Off, OnWire, Published, Calms, Stored, Switches, Works}
 use Rattle.disk_model.specs.LaneState.{LaneState}
 use Rattle.disk_model.specs.LaneStep.{LaneStep}
 use Rattle.disk_model.specs.WireEvent.{Idle}
@@ -29,7 +29,7 @@ stays w k lane after v there same lanes image =
 pub idle_stays : (w : WorldState) (k : ℕ) (e : End) (v : WorldState) → OneMoves w k (OnWire (Idle e)) v → v ≡ w
 idle_stays w k e v at = stays w k at.lane at.after v at.there (idles e at.lane at.after at.moves.0) at.lanes at.moves.1
 
-pub off_stays : (w : WorldState) (k : ℕ) (v : WorldState) → OneMoves w k (Turns Off) v → v ≡ w
+pub off_stays : (w : WorldState) (k : ℕ) (v : WorldState) → OneMoves w k (Switches Off) v → v ≡ w
 off_stays w k v at = stays w k at.lane at.after v at.there at.moves.0.1 at.lanes at.moves.1
 
 -- A STEP RUNS THE WORLD by what it leaves
@@ -38,7 +38,7 @@ one_run w k event v at = (v, at, refl)
 
 pub step_run : (w : WorldState) (k : ℕ) (event : DiskEvent) (v : WorldState) → OneMoves w k event v → Run WorldStep w (entry_of k event) v
 step_run w k (OnWire (Idle e)) v at = sym (idle_stays w k e v at)
-step_run w k (Turns Off) v at = sym (off_stays w k v at)
+step_run w k (Switches Off) v at = sym (off_stays w k v at)
 step_run w k event v at = one_run w k event v at
 
 pub made_run : (k : ℕ) (side : End) (w : WorldState) (entries : List SettleEntry) (calm : Bool) (v : WorldState) → LaneMade k side w entries calm v → Run WorldStep w entries v

@@ -1,18 +1,20 @@
 -- Each lane is run by what the part of a settle says happened to it: a step that leaves no entry left the lane as it was.
-use Rattle.std.proofs.Common.{◌≡◌, ℕ, ◌+◌, ◌≤◌, ◌<◌, inl, inr, Bool, true, false, List, [], ◌∷◌, ◌++◌, refl, sym, ap, ◌∙◌, subst, arith}
+use Rattle.std.proofs.Common.{◌≡◌, ℕ, ◌+◌, ◌≤◌, ◌<◌, Bool, true, false, List, [], ◌∷◌, ◌++◌, refl, sym, ap, ◌∙◌, subst, arith}
 use Rattle.std.proofs.lemmas.Bool.{eq-eqb, eqb-true}
 use Rattle.std.proofs.lemmas.List.{append_assoc}
 use Rattle.std.specs.Prelude.{◌&&◌, ◌==◌, if◌then◌else◌}
 use Rattle.runs.specs.Run.{Run, run_append}
 use Rattle.disk_model.specs.WireEvent.{Idle}
-use Rattle.disk_model.specs.DiskEvent.{DiskEvent, Off, OnWire, Turns}
+use Rattle.disk_model.specs.DiskEvent.{DiskEvent, Off, OnWire, Switches}
 use Rattle.disk_model.specs.LaneState.{LaneState}
 use Rattle.disk_model.specs.LaneStep.{LaneStep}
+use Rattle.lane_kinds.proofs.Leading.{part_leads, rounds_lead}
+use Rattle.lane_kinds.specs.Laws.{Ends, Leads}
 use Rattle.lane_laws.proofs.StepFalls.{idles}
 use Rattle.world_laws.proofs.RoundCounts.{tick_entry}
 use Rattle.world_laws.specs.Along.{LanesMove, event_at, happened}
-use Rattle.world_laws.specs.Rounds.{LaneRound, MakeRound, MakesRound, are_quiet, is_quiet}
-use Rattle.world_laws.specs.Settle.{GoesOn, OfLane, SettleEntry, SettlePart, SettleRound, Settled, Settling, TicksBehind, Unsettled, begin, entries_of, entry_of, left_over, round_entries, tick_entries}
+use Rattle.world_laws.specs.Rounds.{LaneRound, MakeRound, MakesRound, is_quiet}
+use Rattle.world_laws.specs.Settle.{GoesOn, OfLane, SettleEntry, SettlePart, SettleRound, Settled, Settling, Unsettled, disks, entries_of_rounds, entry_of, left_over, round_entries, tick_entries}
 use Rattle.world_laws.specs.Ticks.{TickLanes, TicksWhere, gets_tick, tick, waits_on}
 
 pub happened_both : (k : ℕ) (before behind : List SettleEntry) → happened k (before ++ behind) ≡ happened k before ++ happened k behind
@@ -62,7 +64,7 @@ one_below j event k less = other_lane (j == k) j k event (eqb-true j k) less
 
 pub entry_below : (j : ℕ) (event : DiskEvent) → IsBelow (j + 1) (entry_of j event)
 entry_below j (OnWire (Idle e)) k less = refl
-entry_below j (Turns Off) k less = refl
+entry_below j (Switches Off) k less = refl
 entry_below j event k less = one_below j event k less
 
 pub both_below : (j : ℕ) (one two : List SettleEntry) → IsBelow j one → IsBelow j two → IsBelow j (one ++ two)
@@ -78,7 +80,7 @@ one_above j event k less = before_lane (j == k) j k event (eqb-true j k) less
 
 pub entry_above : (j : ℕ) (event : DiskEvent) (k : ℕ) → k < j → happened k (entry_of j event) ≡ []
 entry_above j (OnWire (Idle e)) k less = refl
-entry_above j (Turns Off) k less = refl
+entry_above j (Switches Off) k less = refl
 entry_above j event k less = one_above j event k less
 
 pub below_next : (j k : ℕ) → k < j → k < j + 1
@@ -105,7 +107,7 @@ one_run j s event t step = subst (λ (l : List DiskEvent). Run LaneStep s l t) (
 
 pub step_run : (j : ℕ) (s : LaneState) (event : DiskEvent) (t : LaneState) → LaneStep s event t → Run LaneStep s (happened j (entry_of j event)) t
 step_run j s (OnWire (Idle e)) t step = sym (idles e s t step)
-step_run j s (Turns Off) t step = sym step.1
+step_run j s (Switches Off) t step = sym step.1
 step_run j s event t step = one_run j s event t step
 
 pub round_run : (j : ℕ) (s : LaneState) (r : LaneRound) (t : LaneState) → MakesRound s r t → Run LaneStep s (happened j (entry_of j r.client ++ entry_of j r.server)) t
@@ -184,31 +186,29 @@ pub nothing_moves : (j : ℕ) (lanes : List LaneState) (part : List SettleEntry)
 nothing_moves j [] part none = tt
 nothing_moves j (s ∷ lanes) part none = (subst (λ (l : List DiskEvent). Run LaneStep s l s) (sym (none j)) refl, nothing_moves (j + 1) lanes part none)
 
--- ALL ROUNDS
-goes_moves : (quiet : Bool) (w : Settling) (steps : List LaneRound) (between : List LaneState) (entries : List SettleEntry) (v : Settling) → MakeRound w.lanes steps between
-    → TicksBehind quiet w steps between entries v → LanesMove 0 w.lanes entries v.lanes
-goes_moves false w steps between entries v made behind =
-    subst (λ (l : List SettleEntry). LanesMove 0 w.lanes l v.lanes) (sym behind.1)
-    (subst (λ (l : List LaneState). LanesMove 0 w.lanes (round_entries 0 steps) l) (sym (ap (λ (x : Settling). x.lanes) behind.0)) (round_moves_lanes 0 w.lanes steps between made))
-goes_moves true w steps between entries v made behind =
-    subst (λ (l : List SettleEntry). LanesMove 0 w.lanes l v.lanes) (sym behind.3)
-    (moves_on 0 w.lanes between v.lanes (round_entries 0 steps) (tick_entries 0 between w.marks) (round_moves_lanes 0 w.lanes steps between made)
-    (ticks_move_lanes 0 between w.marks v.lanes behind.1))
+front_empty : (one two : List DiskEvent) → one ++ two ≡ [] → one ≡ []
+front_empty [] two is = refl
+front_empty (x ∷ one) two is = absurd (cc is)
 
-pub rounds_move_lanes : (w : Settling) (rounds : List SettleRound) (v : Settling) → Run GoesOn w rounds v → LanesMove 0 w.lanes (entries_of rounds) v.lanes
-rounds_move_lanes w [] v run = subst (λ (x : Settling). LanesMove 0 w.lanes [] x.lanes) run (stay 0 w.lanes)
-rounds_move_lanes w (round ∷ rounds) v run =
-    moves_on 0 w.lanes run.0.lanes v.lanes round.entries (entries_of rounds)
-    (goes_moves (are_quiet round.steps) w round.steps run.1.between round.entries run.0 run.1.made run.1.behind) (rounds_move_lanes run.0 rounds v run.2)
+-- nor do the first of those that are left over
+names_none : (k : ℕ) (steps : List LaneRound) (lanes : List LaneState) (part more : List SettleEntry) → part ++ more ≡ left_over 0 steps lanes → happened k part ≡ []
+names_none k steps lanes part more is =
+    front_empty (happened k part) (happened k more) (sym (happened_both k part more) ∙ ap (happened k) is ∙ left_none k 0 steps lanes)
+
+-- ALL ROUNDS
+pub leads : Leads disks (LanesMove 0)
+leads = record {
+  none = stay 0;
+  both = λ w m v one two first second. moves_on 0 w m v one two first second;
+  round = λ w r v made. round_moves_lanes 0 w r v made;
+  ticks = λ w m v ticks. ticks_move_lanes 0 w m v ticks;
+}
+
+pub ends : Ends disks (LanesMove 0)
+ends = record { answer = settled_moves 0; names = λ r w part more is. nothing_moves 0 w part (λ k. names_none k r w part more is) }
+
+pub rounds_move_lanes : (w : Settling) (rounds : List SettleRound) (v : Settling) → Run GoesOn w rounds v → LanesMove 0 w.lanes (entries_of_rounds rounds) v.lanes
+rounds_move_lanes w rounds v run = rounds_lead disks (LanesMove 0) leads w rounds v run
 
 pub part_moves : (start : List LaneState) (part : List SettleEntry) (behind : List LaneState) → SettlePart start part behind → LanesMove 0 start part behind
-part_moves start part behind (inl at) =
-    subst (λ (l : List SettleEntry). LanesMove 0 start l behind) (sym at.is)
-    (moves_on 0 start behind behind (entries_of at.rounds ++ round_entries 0 at.steps) (Settled ∷ [])
-    (moves_on 0 start at.now.lanes behind (entries_of at.rounds) (round_entries 0 at.steps) (rounds_move_lanes (begin start) at.rounds at.now at.run)
-    (round_moves_lanes 0 at.now.lanes at.steps behind at.last.made)) (settled_moves 0 behind))
-part_moves start part behind (inr out) =
-    subst (λ (l : List SettleEntry). LanesMove 0 start l behind) (sym out.is)
-    (moves_on 0 start behind behind (entries_of (out.rounds ++ out.last ∷ [])) (left_over 0 out.last.steps behind)
-    (subst (λ (l : List LaneState). LanesMove 0 start (entries_of (out.rounds ++ out.last ∷ [])) l) (sym out.lanes)
-    (rounds_move_lanes (begin start) (out.rounds ++ out.last ∷ []) out.now out.run)) (nothing_moves 0 behind (left_over 0 out.last.steps behind) (λ k. left_none k 0 out.last.steps behind)))
+part_moves start part behind settle = part_leads disks (LanesMove 0) leads ends start part behind settle

@@ -9,7 +9,7 @@ use Rattle.vdisk_msg.specs.declared.request.Request.{Request}
 use Rattle.vdisk_msg.specs.declared.request.Request.TheVariants.{Flush, Read, Write}
 use Rattle.vdisk_msg.specs.Requested.{block_of, size_of}
 use Rattle.vdisk_msg.specs.Requests.{operation_of}
-use Rattle.disk_model.specs.DiskEvent.{Accepted, Asks, Desc, DiskEvent, Done, Finished, Full, Misplaced, Moved, Off, OnWire, Published, Refused, Rests, Started, Stopped, Stored, Turns, Works}
+use Rattle.disk_model.specs.DiskEvent.{Accepted, Asks, Desc, DiskEvent, Done, Finished, Full, Misplaced, Moved, Off, OnWire, Published, Refused, Calms, Started, Stopped, Stored, Switches, Works}
 use Rattle.disk_model.specs.LaneState.{IsShape, LaneState, Shape, fresh}
 use Rattle.disk_model.specs.LaneStep.{LaneStep}
 use Rattle.disk_model.specs.ServerState.{Work}
@@ -28,7 +28,7 @@ use Rattle.lane_laws.proofs.LaneRuns.{before_of, run_contents}
 use Rattle.lane_laws.proofs.ServerChanges.{ServesNow, serves_now}
 use Rattle.lane_laws.proofs.Standing.{Before}
 use Rattle.world_laws.specs.Along.{happened}
-use Rattle.world_laws.specs.Settle.{OfLane, SettleEntry, Settled, Unsettled}
+use Rattle.world_laws.specs.Settle.{OfLane, SettleEntry}
 use Rattle.world_laws.specs.NamesNo.{IsApart, NamesNo, NamesNot}
 use Rattle.world_laws.specs.Stays.{StaysAt}
 use Rattle.world_laws.proofs.ImageKeeping.{byte_before, byte_behind}
@@ -59,7 +59,7 @@ NamesNoOf place first [] = ⊤
 NamesNoOf place first (event ∷ events) = NamesNotOf place first event × NamesNoOf place first events
 
 apart_behind : (place first : ℕ) (l : DiskLog) (event : DiskEvent) → NamesNotOf place first event → AllApart place first l.work.issued → AllApart place first (after l event).work.issued
-apart_behind place first l (OnWire event) named all = subst (AllApart place first) (sym (wired_keeps l.shape.slots l.talk l.work event).issued) all
+apart_behind place first l (OnWire event) named all = subst (AllApart place first) (sym (wired_keeps l.shape.slots l.transcript l.work event).issued) all
 apart_behind place first l (Asks (Accepted id request)) named all = apart_push place first l.work.issued request all named
 apart_behind place first l (Asks (Full request)) named all = all
 apart_behind place first l (Asks (Refused why request)) named all = all
@@ -70,10 +70,10 @@ apart_behind place first l (Works (Moved unit fault)) named all = all
 apart_behind place first l (Works (Stored operation block count failed)) named all = all
 apart_behind place first l (Works (Finished slot status)) named all = all
 apart_behind place first l (Works Misplaced) named all = all
-apart_behind place first l (Turns Stopped) named all = all
-apart_behind place first l (Turns Started) named all = all
-apart_behind place first l (Turns Off) named all = all
-apart_behind place first l (Rests event) named all = all
+apart_behind place first l (Switches Stopped) named all = all
+apart_behind place first l (Switches Started) named all = all
+apart_behind place first l (Switches Off) named all = all
+apart_behind place first l (Calms event) named all = all
 
 issued_apart : (place first : ℕ) (l : DiskLog) (events : List DiskEvent) → NamesNoOf place first events → AllApart place first l.work.issued → AllApart place first (log_of after l events).work.issued
 issued_apart place first l [] named all = all
@@ -92,16 +92,15 @@ names_at shapes place k j shape event true same there named more later =
     names_one (Asks (Refused why request)) named = tt
     names_one (OnWire event) named = tt
     names_one (Works event) named = tt
-    names_one (Turns event) named = tt
-    names_one (Rests event) named = tt
+    names_one (Switches event) named = tt
+    names_one (Calms event) named = tt
 
 pub names_of : (shapes : List Shape) (place k : ℕ) (shape : Shape) (entries : List SettleEntry) → slice_get shapes k ≡ Some shape → NamesNo shapes place entries
     → NamesNoOf place shape.first (happened k entries)
 names_of shapes place k shape [] there named = tt
 names_of shapes place k shape (OfLane j event ∷ entries) there named =
     names_at shapes place k j shape event (j == k) (eqb-true j k) there named.0 (happened k entries) (names_of shapes place k shape entries there named.1)
-names_of shapes place k shape (Settled ∷ entries) there named = names_of shapes place k shape entries there named.1
-names_of shapes place k shape (Unsettled j ∷ entries) there named = names_of shapes place k shape entries there named.1
+names_of shapes place k shape (x ∷ entries) there named = names_of shapes place k shape entries there named.1
 
 -- THE REQUEST of a unit that is stored was accepted
 record OfRequest (s : LaneState) (l : DiskLog) (work : Work) : Type 0 where

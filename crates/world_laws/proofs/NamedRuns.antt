@@ -5,7 +5,7 @@ use Rattle.runs.specs.Run.{Run}
 use Rattle.disk_model.specs.WireLog.{WireLog}
 use Rattle.disk_law.specs.ListState.{ImageState}
 use Rattle.disk_model.specs.DiskLog.{after, nothing_yet}
-use Rattle.disk_model.specs.DiskEvent.{Asks, Desc, DiskEvent, Done, Finished, Misplaced, Moved, OnWire, Published, Rests, Stored, Turns, Works}
+use Rattle.disk_model.specs.DiskEvent.{Asks, Desc, DiskEvent, Done, Finished, Misplaced, Moved, OnWire, Published, Calms, Stored, Switches, Works}
 use Rattle.disk_model.specs.LaneState.{IsShape, LaneState, Shape, fresh}
 use Rattle.disk_model.specs.LaneStep.{LaneStep}
 use Rattle.disk_model.specs.Served.{Served}
@@ -14,7 +14,7 @@ use Rattle.lane_laws.proofs.RingRuns.{before as clean_before}
 use Rattle.lane_laws.proofs.LaneRuns.{run_contents}
 use Rattle.world_laws.specs.Along.{happened}
 use Rattle.world_laws.specs.Rounds.{Each}
-use Rattle.world_laws.specs.Settle.{OfLane, SettleEntry, Settled, Unsettled}
+use Rattle.world_laws.specs.Settle.{OfLane, SettleEntry}
 use Rattle.world_laws.specs.Sums.{IsUnforged}
 use Rattle.world_laws.proofs.Along.{lane_step}
 use Rattle.world_laws.proofs.LaneLists.{each_there}
@@ -60,8 +60,8 @@ moves_byte place shape events s (Works (Desc slot bytes)) t i j store sound run 
 moves_byte place shape events s (Works (Moved unit fault)) t i j store sound run unforged named moves told room = still place i j store told moves.1
 moves_byte place shape events s (Works (Finished slot status)) t i j store sound run unforged named moves told room = still place i j store told moves.1
 moves_byte place shape events s (Works Misplaced) t i j store sound run unforged named moves told room = still place i j store told moves.1
-moves_byte place shape events s (Turns event) t i j store sound run unforged named moves told room = still place i j store told moves.1
-moves_byte place shape events s (Rests event) t i j store sound run unforged named moves told room = still place i j store told moves.1
+moves_byte place shape events s (Switches event) t i j store sound run unforged named moves told room = still place i j store told moves.1
+moves_byte place shape events s (Calms event) t i j store sound run unforged named moves told room = still place i j store told moves.1
 
 -- the byte stays after another event
 byte_on : (place : ℕ) (first : List ℕ) (told now : Option (List ℕ)) → (before : StaysAt place first told) → StaysAt place before.now now → StaysAt place first now
@@ -94,12 +94,9 @@ module _ (shapes : List Shape) (image : ImageState) (first : List ℕ) (place : 
       → KeepsByte (past ++ entry ∷ []) v
   byte_step past w (OfLane k event) v run step keeps = λ unforged named.
       lane_byte past w k event v run step (lane_at shapes image past w k event v world run step) keeps unforged (names_front shapes place past (OfLane k event) named)
-  byte_step past w Settled v run step keeps = λ unforged named.
+  byte_step past w entry v run step keeps = λ unforged named.
       subst (λ (x : WorldState). StaysAt place first x.image.told) (sym step)
-      (keeps (subst (λ (x : WorldState). Each IsUnforged x.lanes) step unforged) (names_front shapes place past Settled named))
-  byte_step past w (Unsettled k) v run step keeps = λ unforged named.
-      subst (λ (x : WorldState). StaysAt place first x.image.told) (sym step)
-      (keeps (subst (λ (x : WorldState). Each IsUnforged x.lanes) step unforged) (names_front shapes place past (Unsettled k) named))
+      (keeps (subst (λ (x : WorldState). Each IsUnforged x.lanes) step unforged) (names_front shapes place past entry named))
 
   pub stays_at : (entries : List SettleEntry) (w : WorldState) → Run WorldStep (fresh_world shapes image) entries w → Each IsUnforged w.lanes → NamesNo shapes place entries
       → StaysAt place first w.image.told

@@ -1,17 +1,18 @@
 -- Where the rounds of a settle ran out some lane is named: one that wasn't quiet in the last of them, or one that had its tick after it.
-use Rattle.std.proofs.Common.{◌≡◌, ℕ, ◌+◌, ◌≤◌, Bool, true, false, List, [], ◌∷◌, ◌++◌, length, refl, sym, ◌∙◌, subst, arith, length-append}
+use Rattle.std.proofs.Common.{◌≡◌, ℕ, ◌+◌, ◌≤◌, Bool, true, false, List, [], ◌∷◌, ◌++◌, length, refl, ◌∙◌, arith, length-append}
 use Rattle.std.specs.Prelude.{◌&&◌, ◌||◌, if◌then◌else◌}
-use Rattle.runs.specs.Run.{run_split}
 use Rattle.disk_model.specs.ClientState.{is_finished}
 use Rattle.disk_model.specs.LaneState.{LaneState}
 use Rattle.disk_model.specs.LaneStep.{LaneStep}
 use Rattle.disk_model.specs.Reached.{IsReached}
+use Rattle.lane_kinds.proofs.Naming as kind
+use Rattle.lane_kinds.specs.Laws.{Names}
 use Rattle.lane_laws.specs.TickBegins.{TickBegins}
-use Rattle.world_laws.proofs.Behind.{Stands, rounds_stand}
+use Rattle.world_laws.proofs.Behind.{Stands, begins, keeps}
 use Rattle.world_laws.proofs.LaneTicks.{tick_at, waits_where}
 use Rattle.world_laws.proofs.Together.{gets_where, rounds_reached}
 use Rattle.world_laws.specs.Rounds.{Each, LaneRound, MakeRound, are_quiet, is_quiet}
-use Rattle.world_laws.specs.Settle.{GoesOn, RunsOut, SettleEntry, Settling, TicksBehind, Unsettled, begin, left_over}
+use Rattle.world_laws.specs.Settle.{RunsOut, SettleEntry, Unsettled, disks, left_over}
 use Rattle.world_laws.specs.Ticks.{TickLanes, TicksWhere, gets_tick, some_get_ticks, tick, waits_on}
 
 abbrev pub named : ℕ → Bool → Bool → List SettleEntry
@@ -72,19 +73,13 @@ ticked_named j (s ∷ lanes) (r ∷ rounds) (t ∷ between) (had ∷ marks) (u �
     tick_here j (gets_tick t had) had (is_quiet r) t u (some_get_ticks between marks) (left_over (j + 1) rounds behind) all.0 refl ticks.0 some
     (λ more. ticked_named (j + 1) lanes rounds between marks behind all.1 made.1 ticks.1 more)
 
--- THE LAST of the rounds
-last_names : (quiet : Bool) (w : Settling) (steps : List LaneRound) (between : List LaneState) (entries : List SettleEntry) (v : Settling) → Each IsReached w.lanes
-    → MakeRound w.lanes steps between → are_quiet steps ≡ quiet → TicksBehind quiet w steps between entries v → 1 ≤ length (left_over 0 steps v.lanes)
-last_names false w steps between entries v reached made loud behind =
-    subst (λ (x : Settling). 1 ≤ length (left_over 0 steps x.lanes)) (sym behind.0) (loud_named 0 w.lanes steps between made loud)
-last_names true w steps between entries v reached made quiet behind =
-    ticked_named 0 w.lanes steps between w.marks v.lanes (rounds_reached w.lanes steps between reached made) made behind.1 behind.0
+-- THE NAMES
+names : Names disks Stands
+names = record {
+  loud = λ w r v made loud. loud_named 0 w r v made loud;
+  ticked = λ w m r v u at made ticks some. ticked_named 0 w r v m u (rounds_reached w r v at.reached made) made ticks some;
+}
 
 pub out_names : (start : List LaneState) (part : List SettleEntry) (behind : List LaneState) (out : RunsOut start part behind) → Each IsReached start
     → 1 ≤ length (left_over 0 out.last.steps behind)
-out_names start part behind out reached =
-    let parts = run_split GoesOn (begin start) out.now out.rounds (out.last ∷ []) out.run in
-    let at : Stands parts.0 = rounds_stand start out.rounds parts.0 reached parts.1 in
-    subst (λ (l : List LaneState). 1 ≤ length (left_over 0 out.last.steps l)) (sym out.lanes)
-    (subst (λ (x : Settling). 1 ≤ length (left_over 0 out.last.steps x.lanes)) parts.2.2
-    (last_names (are_quiet out.last.steps) parts.0 out.last.steps parts.2.1.between out.last.entries parts.2.0 at.reached parts.2.1.made refl parts.2.1.behind))
+out_names start part behind out reached = kind.out_names disks Stands keeps names start part behind out (begins start reached)

@@ -3,9 +3,9 @@ use Rattle.std.proofs.Common.{◌≡◌, ℕ, Bool, true, false, List, [], ◌�
 use Rattle.runs.specs.Run.{Run}
 use Rattle.vio_io.specs.Causes.{next_count}
 use Rattle.disk_law.specs.ListState.{ImageState}
-use Rattle.disk_model.specs.DiskEvent.{Asks, Desc, DiskEvent, Done, Finished, Misplaced, Moved, OnWire, Published, Rests, Stored, Turns, Works}
+use Rattle.disk_model.specs.DiskEvent.{Asks, Desc, DiskEvent, Done, Finished, Misplaced, Moved, OnWire, Published, Calms, Stored, Switches, Works}
 use Rattle.disk_model.specs.LaneState.{LaneState}
-use Rattle.world_laws.specs.Settle.{OfLane, SettleEntry, Settled, Unsettled}
+use Rattle.world_laws.specs.Settle.{OfLane, SettleEntry}
 use Rattle.world_laws.specs.Lines.{Line, LineStep}
 use Rattle.world_laws.specs.World.{FaultsAfter, LaneMoves, WorldState, WorldStep}
 
@@ -35,16 +35,15 @@ event_before s i (Works (Moved unit fault)) t j moves none = same_faults i j mov
 event_before s i (Works (Stored operation block count failed)) t j moves none = call_before failed i.faults j.faults moves.1.faults none
 event_before s i (Works (Finished slot status)) t j moves none = same_faults i j moves.1 none
 event_before s i (Works Misplaced) t j moves none = same_faults i j moves.1 none
-event_before s i (Turns event) t j moves none = same_faults i j moves.1 none
-event_before s i (Rests event) t j moves none = same_faults i j moves.1 none
+event_before s i (Switches event) t j moves none = same_faults i j moves.1 none
+event_before s i (Calms event) t j moves none = same_faults i j moves.1 none
 
 same_world : (w v : WorldState) → v ≡ w → v.image.faults ≡ 0 → w.image.faults ≡ 0
 same_world w v is none = sym (ap (λ (x : WorldState). x.image.faults) is) ∙ none
 
 entry_before : (w : WorldState) (x : SettleEntry) (v : WorldState) → WorldStep w x v → v.image.faults ≡ 0 → w.image.faults ≡ 0
 entry_before w (OfLane k event) v step none = event_before step.lane w.image event step.after v.image step.moves none
-entry_before w Settled v step none = same_world w v step none
-entry_before w (Unsettled k) v step none = same_world w v step none
+entry_before w _ v step none = same_world w v step none
 
 -- entries, and lines, one after another
 pub part_before : (w : WorldState) (part : List SettleEntry) (v : WorldState) → Run WorldStep w part v → v.image.faults ≡ 0 → w.image.faults ≡ 0

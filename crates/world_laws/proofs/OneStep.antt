@@ -14,7 +14,7 @@ use Rattle.disk_model.specs.WireEvent.{Blocked, ByStep, Declines, Idle, Injected
 use Rattle.disk_law.specs.ListState.{ImageState}
 use Rattle.disk_model.specs.DiskLog.{after, nothing_yet}
 use Rattle.disk_model.specs.ClientState.{ClientState}
-use Rattle.disk_model.specs.DiskEvent.{Asks, Desc, DiskEvent, Done, Finished, Misplaced, Moved, Off, OnWire, Published, Rests, Started, Stopped, Stored, Turns, Works}
+use Rattle.disk_model.specs.DiskEvent.{Asks, Desc, DiskEvent, Done, Finished, Misplaced, Moved, Off, OnWire, Published, Calms, Started, Stopped, Stored, Switches, Works}
 use Rattle.disk_model.specs.LaneState.{LaneState, NearCounts, Shape}
 use Rattle.disk_model.specs.LaneStep.{EndOnWire, LaneStep, WireStep, near_on_wire}
 use Rattle.disk_model.specs.Served.{Served}
@@ -34,7 +34,7 @@ use Rattle.lane_laws.specs.CalmEnds.{IsStep, IsWireStep, StepKeeps}
 use Rattle.world_laws.specs.Settle.{OfLane}
 use Rattle.world_laws.specs.World.{LaneMoves}
 use Rattle.world_laws.proofs.NoFaults.{fault_free}
-use Rattle.world_laws.proofs.Regions.{IsFirst, behind_after, end_of, front_given, given_same, region_after, region_long, region_room}
+use Rattle.world_laws.proofs.Regions.{IsFirstShape, behind_after, end_of, front_given, given_same, region_after, region_long, region_room}
 use Rattle.world_laws.proofs.Undisturbed.{Silent, Stands, Undisturbed, all_at, blocks_at, silent_on, undisturbed_on}
 use Rattle.world_laws.specs.Plain.{Plain, complete, completion, given}
 use Rattle.world_laws.specs.Shown.{is_shown}
@@ -65,7 +65,7 @@ pub record Over (shape : Shape) (p : Plain) (s : LaneState) (i : ImageState) : T
   pub stands : Stands shape p s store
 
 -- by an event that is no call of the store the image stays
-quietly : (shape : Shape) (p : Plain) (s : LaneState) (event : DiskEvent) (t : LaneState) (i j : ImageState) → IsFirst shape → (over : Over shape p s i) → j ≡ i
+quietly : (shape : Shape) (p : Plain) (s : LaneState) (event : DiskEvent) (t : LaneState) (i j : ImageState) → IsFirstShape shape → (over : Over shape p s i) → j ≡ i
     → is_shown (OfLane 0 event) ≡ false → Silent shape p s event t over.store over.store → Went shape p event t j
 quietly shape p s event t i j front over same hidden silent = inl (record {
   hidden = hidden;
@@ -93,7 +93,7 @@ only_wire : (e : End) (s : LaneState) (event : WireEvent) (t : LaneState) → En
 only_wire e s event t step near hidden = record { failed = end_failed e s event t step; near = end_near e s event t step ∙ near; hidden = hidden }
 
 -- an end resets itself after a loss alone, and nothing was lost
-never_resets : (shape : Shape) (p : Plain) (s : LaneState) (store : List ℕ) (d : End) (cause : Cause) (packet : Option (List ℕ)) (lost : ℕ) (t : LaneState) → IsFirst shape → Stands shape p s store
+never_resets : (shape : Shape) (p : Plain) (s : LaneState) (store : List ℕ) (d : End) (cause : Cause) (packet : Option (List ℕ)) (lost : ℕ) (t : LaneState) → IsFirstShape shape → Stands shape p s store
     → giver cause ≡ ByStep → LaneStep s (OnWire (Reset d cause packet lost)) t → ⊥
 never_resets shape p s store d cause packet lost t front stands by step =
     let at = stands.lane in
@@ -101,7 +101,7 @@ never_resets shape p s store d cause packet lost t front stands by step =
     let never : true ≡ false = sym lossy ∙ at.whole in
     absurd (cc never)
 
-wire_facts : (shape : Shape) (p : Plain) (s : LaneState) (store : List ℕ) (e : End) (event : WireEvent) (t : LaneState) → IsFirst shape → Stands shape p s store → IsWireStep e event
+wire_facts : (shape : Shape) (p : Plain) (s : LaneState) (store : List ℕ) (e : End) (event : WireEvent) (t : LaneState) → IsFirstShape shape → Stands shape p s store → IsWireStep e event
     → WireStep s event t → OnlyWire s event t
 wire_facts shape p s store e (Joined d lost) t front stands own step = only_wire d s (Joined d lost) t step refl refl
 wire_facts shape p s store e (Took d packet opens) t front stands own step = only_wire d s (Took d packet opens) t step refl refl
@@ -114,7 +114,7 @@ wire_facts shape p s store e (Injected d packet) t front stands own step = absur
 wire_facts shape p s store e (Poked d at bytes) t front stands own step = absurd own
 wire_facts shape p s store e (Declines d) t front stands own step = absurd own
 
-wire_silent : (shape : Shape) (p : Plain) (s : LaneState) (store : List ℕ) (e : End) (event : WireEvent) (t : LaneState) → IsFirst shape → Stands shape p s store → IsWireStep e event
+wire_silent : (shape : Shape) (p : Plain) (s : LaneState) (store : List ℕ) (e : End) (event : WireEvent) (t : LaneState) → IsFirstShape shape → Stands shape p s store → IsWireStep e event
     → WireStep s event t → Silent shape p s (OnWire event) t store store
 wire_silent shape p s store e event t front stands own step =
     let only = wire_facts shape p s store e event t front stands own step in
@@ -123,8 +123,8 @@ wire_silent shape p s store e event t front stands own step =
       keeps = step_keeps s e (OnWire event) t step own;
       well = only.failed ∙ stands.lane.well;
       early = ap (λ (n : NearCounts). n.m) only.near ∙ stands.lane.early;
-      done = λ l. (wired_keeps l.shape.slots l.talk l.work event).done;
-      issued = λ l. (wired_keeps l.shape.slots l.talk l.work event).issued;
+      done = λ l. (wired_keeps l.shape.slots l.transcript l.work event).done;
+      issued = λ l. (wired_keeps l.shape.slots l.transcript l.work event).issued;
       content = refl;
       image = refl;
       behind = refl;
@@ -215,11 +215,11 @@ store_told : (work : Option Work) (s : ServerState) (block : ℕ) (gave store : 
 store_told None s block gave store told does = told_same store told does
 store_told (Some work) s block gave store told does = unit_told work.progress s block gave store told does
 
-room_in : (shape : Shape) (p : Plain) (s : LaneState) (bytes : List ℕ) → IsFirst shape → Undisturbed shape p.completed s → length (region_of shape bytes) ≡ 512 * s.client.blocks
+room_in : (shape : Shape) (p : Plain) (s : LaneState) (bytes : List ℕ) → IsFirstShape shape → Undisturbed shape p.completed s → length (region_of shape bytes) ≡ 512 * s.client.blocks
     → end_of shape ≤ length bytes
 room_in shape p s bytes front at long = region_room shape bytes front.sound (long ∙ ap (λ (n : ℕ). 512 * n) (blocks_at shape p.completed s front.sound at))
 
-stored_silent : (shape : Shape) (p : Plain) (s : LaneState) (operation block count : ℕ) (t : LaneState) (store new : List ℕ) → IsFirst shape → Stands shape p s store
+stored_silent : (shape : Shape) (p : Plain) (s : LaneState) (operation block count : ℕ) (t : LaneState) (store new : List ℕ) → IsFirstShape shape → Stands shape p s store
     → Served s (Some store) (Works (Stored operation block count false)) t (Some new) → Silent shape p s (Works (Stored operation block count false)) t store new
 stored_silent shape p s operation block count t store new front stands step =
     let event : DiskEvent = Works (Stored operation block count false) in
@@ -241,7 +241,7 @@ stored_silent shape p s operation block count t store new front stands step =
       behind = (run_around shape at.events s event t store new front.sound at.run unforged well room step).behind;
     }
 
-stored_well : (shape : Shape) (p : Plain) (s : LaneState) (operation block count : ℕ) (t : LaneState) (i j : ImageState) → IsFirst shape → Over shape p s i
+stored_well : (shape : Shape) (p : Plain) (s : LaneState) (operation block count : ℕ) (t : LaneState) (i j : ImageState) → IsFirstShape shape → Over shape p s i
     → Served s i.told (Works (Stored operation block count false)) t j.told → Went shape p (Works (Stored operation block count false)) t j
 stored_well shape p s operation block count t i j front over step =
     let event : DiskEvent = Works (Stored operation block count false) in
@@ -255,7 +255,7 @@ stored_well shape p s operation block count t i j front over step =
       stands = silent_on shape p s event t over.store tells.bytes front over.stands (stored_silent shape p s operation block count t over.store tells.bytes front over.stands to);
     })
 
-stored_on : (failed : Bool) (shape : Shape) (p : Plain) (s : LaneState) (operation block count : ℕ) (t : LaneState) (i j : ImageState) → IsFirst shape → Over shape p s i
+stored_on : (failed : Bool) (shape : Shape) (p : Plain) (s : LaneState) (operation block count : ℕ) (t : LaneState) (i j : ImageState) → IsFirstShape shape → Over shape p s i
     → failed ≡ false → Served s i.told (Works (Stored operation block count failed)) t j.told → Went shape p (Works (Stored operation block count failed)) t j
 stored_on true shape p s operation block count t i j front over well step = absurd (cc well)
 stored_on false shape p s operation block count t i j front over well step = stored_well shape p s operation block count t i j front over step
@@ -287,7 +287,7 @@ record AtDone (shape : Shape) (p : Plain) (s : LaneState) (id operation status :
   early : t.near.m ≡ 0
   zero_status : status ≡ 0
 
-at_done : (shape : Shape) (p : Plain) (s : LaneState) (store : List ℕ) (id operation status : ℕ) (bytes : List ℕ) (t : LaneState) → IsFirst shape → Stands shape p s store
+at_done : (shape : Shape) (p : Plain) (s : LaneState) (store : List ℕ) (id operation status : ℕ) (bytes : List ℕ) (t : LaneState) → IsFirstShape shape → Stands shape p s store
     → (step : LaneStep s (Works (Done id operation status bytes)) t) → AtDone shape p s id operation status bytes t step.step.request (drop 1 s.client.pending)
 at_done shape p s store id operation status bytes t front stands step =
     let event : DiskEvent = Works (Done id operation status bytes) in
@@ -299,7 +299,7 @@ at_done shape p s store id operation status bytes t front stands step =
     record {
       split = front_split s.client.pending step.step.request step.step.front;
       rest = ap (λ (c : ClientState). c.pending) step.step.is;
-      id_is = (stands_step s l event t all.talks all.stands step).may.once.next ∙ at.done;
+      id_is = (stands_step s l event t all.transcripts all.stands step).may.once.next ∙ at.done;
       operation_is = step.step.operation_is;
       keeps = keeps;
       well = well;
@@ -307,7 +307,7 @@ at_done shape p s store id operation status bytes t front stands step =
       zero_status = run_done_zero shape at.events s id operation status bytes t front.sound at.run step (keeps.forged ∙ at.unforged) well;
     }
 
-done_gives : (shape : Shape) (p : Plain) (s : LaneState) (store : List ℕ) (id operation status : ℕ) (bytes : List ℕ) (t : LaneState) (request : Request) (behind : List Request) → IsFirst shape
+done_gives : (shape : Shape) (p : Plain) (s : LaneState) (store : List ℕ) (id operation status : ℕ) (bytes : List ℕ) (t : LaneState) (request : Request) (behind : List Request) → IsFirstShape shape
     → Stands shape p s store → LaneStep s (Works (Done id operation status bytes)) t → AtDone shape p s id operation status bytes t request behind → defect shape.blocks request ≡ None
     → bytes ≡ given p.content request
 done_gives shape p s store id operation status bytes t request behind front stands step known admitted =
@@ -320,7 +320,7 @@ done_gives shape p s store id operation status bytes t request behind front stan
     let long : length content ≡ 512 * shape.blocks = region_long shape p.content (room_in shape p s p.content front at stands.near.content_long) in
     front_given shape.blocks content request behind bytes long admitted early ∙ given_same shape p.content request front admitted
 
-done_stands : (shape : Shape) (p : Plain) (s : LaneState) (store : List ℕ) (id operation status : ℕ) (bytes : List ℕ) (t : LaneState) (request : Request) (behind : List Request) → IsFirst shape
+done_stands : (shape : Shape) (p : Plain) (s : LaneState) (store : List ℕ) (id operation status : ℕ) (bytes : List ℕ) (t : LaneState) (request : Request) (behind : List Request) → IsFirstShape shape
     → Stands shape p s store → LaneStep s (Works (Done id operation status bytes)) t → AtDone shape p s id operation status bytes t request behind
     → AreSound shape.blocks (request ∷ behind) → Stands shape (complete p request behind) t store
 done_stands shape p s store id operation status bytes t request behind front stands step known sound =
@@ -339,7 +339,7 @@ done_stands shape p s store id operation status bytes t request behind front sta
       behind = stands.behind ∙ sym (behind_after shape p.content request front room sound.0);
     }
 
-done_on : (shape : Shape) (p : Plain) (s : LaneState) (id operation status : ℕ) (bytes : List ℕ) (t : LaneState) (i j : ImageState) → IsFirst shape → Over shape p s i
+done_on : (shape : Shape) (p : Plain) (s : LaneState) (id operation status : ℕ) (bytes : List ℕ) (t : LaneState) (i j : ImageState) → IsFirstShape shape → Over shape p s i
     → LaneStep s (Works (Done id operation status bytes)) t → j ≡ i → Went shape p (Works (Done id operation status bytes)) t j
 done_on shape p s id operation status bytes t i j front over step same =
     let request = step.step.request in
@@ -363,13 +363,13 @@ done_on shape p s id operation status bytes t i j front over step same =
 never_off : (shape : Shape) (p : Plain) (s : LaneState) (store : List ℕ) → Stands shape p s store → s.stopped ≡ true → ⊥
 never_off shape p s store stands stopped = let never : true ≡ false = sym stopped ∙ stands.lane.runs in absurd (cc never)
 
-wire_went : (shape : Shape) (p : Plain) (s : LaneState) (e : End) (event : WireEvent) (t : LaneState) (i j : ImageState) → IsFirst shape → Over shape p s i → IsWireStep e event
+wire_went : (shape : Shape) (p : Plain) (s : LaneState) (e : End) (event : WireEvent) (t : LaneState) (i j : ImageState) → IsFirstShape shape → Over shape p s i → IsWireStep e event
     → WireStep s event t → j ≡ i → Went shape p (OnWire event) t j
 wire_went shape p s e event t i j front over own step same =
     quietly shape p s (OnWire event) t i j front over same (wire_facts shape p s over.store e event t front over.stands own step).hidden
     (wire_silent shape p s over.store e event t front over.stands own step)
 
-pub one_step : (shape : Shape) (p : Plain) (s : LaneState) (e : End) (event : DiskEvent) (t : LaneState) (i j : ImageState) → IsFirst shape → Over shape p s i → IsStep e event
+pub one_step : (shape : Shape) (p : Plain) (s : LaneState) (e : End) (event : DiskEvent) (t : LaneState) (i j : ImageState) → IsFirstShape shape → Over shape p s i → IsStep e event
     → LaneMoves s i event t j → j.faults ≡ 0 → Went shape p event t j
 one_step shape p s e (OnWire event) t i j front over own moves well = wire_went shape p s e event t i j front over own moves.0 moves.1
 one_step shape p s e (Works (Published id)) t i j front over own moves well =
@@ -384,12 +384,12 @@ one_step shape p s e (Works (Stored operation block count failed)) t i j front o
 one_step shape p s e (Works (Finished slot status)) t i j front over own moves well =
     quietly shape p s (Works (Finished slot status)) t i j front over moves.1 refl (finished_silent shape p s over.store slot status t over.stands moves.0)
 one_step shape p s e (Works Misplaced) t i j front over own moves well = absurd moves.0
-one_step shape p s e (Turns Off) t i j front over own moves well = absurd (never_off shape p s over.store over.stands moves.0.0)
-one_step shape p s A (Turns Stopped) t i j front over own moves well = absurd own
-one_step shape p s B (Turns Stopped) t i j front over own moves well = absurd own
-one_step shape p s A (Turns Started) t i j front over own moves well = absurd own
-one_step shape p s B (Turns Started) t i j front over own moves well = absurd own
+one_step shape p s e (Switches Off) t i j front over own moves well = absurd (never_off shape p s over.store over.stands moves.0.0)
+one_step shape p s A (Switches Stopped) t i j front over own moves well = absurd own
+one_step shape p s B (Switches Stopped) t i j front over own moves well = absurd own
+one_step shape p s A (Switches Started) t i j front over own moves well = absurd own
+one_step shape p s B (Switches Started) t i j front over own moves well = absurd own
 one_step shape p s A (Asks event) t i j front over own moves well = absurd own
 one_step shape p s B (Asks event) t i j front over own moves well = absurd own
-one_step shape p s A (Rests event) t i j front over own moves well = absurd own
-one_step shape p s B (Rests event) t i j front over own moves well = absurd own
+one_step shape p s A (Calms event) t i j front over own moves well = absurd own
+one_step shape p s B (Calms event) t i j front over own moves well = absurd own

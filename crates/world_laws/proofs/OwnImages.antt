@@ -5,7 +5,7 @@ use Rattle.std.proofs.lemmas.Bool.{eq-eqb, eqb-false, eqb-true}
 use Rattle.std.specs.Prelude.{◌==◌, if◌then◌else◌}
 use Rattle.runs.specs.Run.{Run, run_push}
 use Rattle.disk_law.specs.ListState.{ImageState}
-use Rattle.disk_model.specs.DiskEvent.{Asks, Desc, DiskEvent, Done, Finished, Misplaced, Moved, OnWire, Published, Rests, Stored, Turns, Works}
+use Rattle.disk_model.specs.DiskEvent.{Asks, Desc, DiskEvent, Done, Finished, Misplaced, Moved, OnWire, Published, Calms, Stored, Switches, Works}
 use Rattle.disk_model.specs.LaneState.{IsShape, LaneState, Shape, fresh}
 use Rattle.disk_model.specs.LaneStep.{LaneStep}
 use Rattle.disk_model.specs.Served.{Served}
@@ -15,7 +15,7 @@ use Rattle.lane_laws.proofs.LaneRuns.{failed_before}
 use Rattle.lane_laws.proofs.RegionRuns.{run_served}
 use Rattle.world_laws.proofs.Moving.{happened_both}
 use Rattle.world_laws.specs.Along.{happened}
-use Rattle.world_laws.specs.Settle.{OfLane, SettleEntry, Settled, Unsettled}
+use Rattle.world_laws.specs.Settle.{OfLane, SettleEntry}
 use Rattle.world_laws.proofs.Along.{fresh_there, lane_step}
 use Rattle.world_laws.proofs.LaneLists.{get_set_other, get_set_same}
 use Rattle.world_laws.specs.World.{IsWorld, LaneMoves, OneMoves, WorldState, WorldStep, blocks_in, fresh_world}
@@ -54,8 +54,8 @@ own_step shape events s (Works (Desc slot bytes)) t i j store now sound run move
 own_step shape events s (Works (Moved unit fault)) t i j store now sound run moves told told_now room unforged well = ap (region_of shape) (still i j store now told told_now moves.1)
 own_step shape events s (Works (Finished slot status)) t i j store now sound run moves told told_now room unforged well = ap (region_of shape) (still i j store now told told_now moves.1)
 own_step shape events s (Works Misplaced) t i j store now sound run moves told told_now room unforged well = ap (region_of shape) (still i j store now told told_now moves.1)
-own_step shape events s (Turns event) t i j store now sound run moves told told_now room unforged well = ap (region_of shape) (still i j store now told told_now moves.1)
-own_step shape events s (Rests event) t i j store now sound run moves told told_now room unforged well = ap (region_of shape) (still i j store now told told_now moves.1)
+own_step shape events s (Switches event) t i j store now sound run moves told told_now room unforged well = ap (region_of shape) (still i j store now told told_now moves.1)
+own_step shape events s (Calms event) t i j store now sound run moves told told_now room unforged well = ap (region_of shape) (still i j store now told told_now moves.1)
 
 -- the run so far, and one more step
 own_push : (shape : Shape) (first : List ℕ) (events : List DiskEvent) (s : LaneState) (event : DiskEvent) (t : LaneState) (told later : Option (List ℕ)) (now : List ℕ)
@@ -148,8 +148,7 @@ module _ (shapes : List Shape) (image : ImageState) (first : List ℕ) (k : ℕ)
   image_step : (past : List SettleEntry) (w : WorldState) (entry : SettleEntry) (v : WorldState) → Run WorldStep (fresh_world shapes image) past w → WorldStep w entry v → HasImage past w
       → HasImage (past ++ entry ∷ []) v
   image_step past w (OfLane j event) v run step has = event_own past w j event v run step has (j == k) refl
-  image_step past w Settled v run step has = answer_own past w Settled v refl step has
-  image_step past w (Unsettled j) v run step has = answer_own past w (Unsettled j) v refl step has
+  image_step past w x v run step has = answer_own past w x v refl step has
 
   first_own : HasImage [] (fresh_world shapes image)
   first_own = λ s now unforged well.

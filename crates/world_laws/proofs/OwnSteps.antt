@@ -6,13 +6,13 @@ use Rattle.ldc_queue.specs.declared.end.End.{End}
 use Rattle.ldc_queue.specs.declared.end.End.TheVariants.{A, B}
 use Rattle.disk_model.specs.WireEvent.{Idle}
 use Rattle.disk_model.specs.ClientState.{is_finished}
-use Rattle.disk_model.specs.DiskEvent.{DiskEvent, Off, OnWire, Turns}
+use Rattle.disk_model.specs.DiskEvent.{DiskEvent, Off, OnWire, Switches}
 use Rattle.disk_model.specs.LaneState.{LaneState}
 use Rattle.disk_model.specs.Reached.{IsReached}
 use Rattle.lane_laws.specs.CalmEnds.{IsStep, StepKeeps}
 use Rattle.world_laws.proofs.LaneRounds.{quiet_finished, round_keeps, round_reached}
 use Rattle.world_laws.specs.Rounds.{LaneRound, MakeRound, MakesRound, are_quiet, is_quiet}
-use Rattle.world_laws.specs.Settle.{GoesOn, OfLane, SettleEntry, SettleRound, Settled, Settles, Settling, TicksBehind, begin, entries_of, entry_of, round_entries}
+use Rattle.world_laws.specs.Settle.{GoesOn, OfLane, SettleEntry, SettleRound, Settled, Settles, Settling, TicksBehind, begin, entries_of_rounds, entry_of, round_entries}
 use Rattle.world_laws.specs.Ticks.{some_get_ticks}
 
 -- ENTRIES of steps of the ends of lane 0
@@ -35,7 +35,7 @@ own_append (x ∷ one) two first second = (first.0, own_append one two first.1 s
 
 own_entry : (e : End) (event : DiskEvent) → IsStep e event → AreOwn (entry_of 0 event)
 own_entry e (OnWire (Idle d)) own = tt
-own_entry e (Turns Off) own = tt
+own_entry e (Switches Off) own = tt
 own_entry e _ own = (record { number = refl; side = e; own = own }, tt)
 
 round_own : (s : LaneState) (r : LaneRound) (t : LaneState) → MakesRound s r t → AreOwn (round_entries 0 (r ∷ []))
@@ -134,12 +134,12 @@ goes_on s w round v alone on =
       own = subst AreOwn (sym (plain.entries_are ∙ ap (round_entries 0) one.steps_are)) (round_own s one.round one.behind one.made);
     }
 
-rounds_on : (s : LaneState) (w : Settling) (rounds : List SettleRound) (v : Settling) → Alone s w → Run GoesOn w rounds v → WentOn (entries_of rounds) v
+rounds_on : (s : LaneState) (w : Settling) (rounds : List SettleRound) (v : Settling) → Alone s w → Run GoesOn w rounds v → WentOn (entries_of_rounds rounds) v
 rounds_on s w [] v alone run = subst (WentOn []) run (record { lane = s; alone = alone; own = tt })
 rounds_on s w (round ∷ rounds) v alone run =
     let first : WentOn round.entries run.0 = goes_on s w round run.0 alone run.1 in
-    let rest : WentOn (entries_of rounds) v = rounds_on first.lane run.0 rounds v first.alone run.2 in
-    record { lane = rest.lane; alone = rest.alone; own = own_append round.entries (entries_of rounds) first.own rest.own }
+    let rest : WentOn (entries_of_rounds rounds) v = rounds_on first.lane run.0 rounds v first.alone run.2 in
+    record { lane = rest.lane; alone = rest.alone; own = own_append round.entries (entries_of_rounds rounds) first.own rest.own }
 
 -- THE PART
 pub record OwnPart (part : List SettleEntry) : Type 0 where
@@ -149,14 +149,14 @@ pub record OwnPart (part : List SettleEntry) : Type 0 where
 
 pub settle_own : (s : LaneState) (part : List SettleEntry) (behind : List LaneState) → IsWhole s → Settles (s ∷ []) part behind → OwnPart part
 settle_own s part behind whole settles =
-    let went : WentOn (entries_of settles.rounds) settles.now =
+    let went : WentOn (entries_of_rounds settles.rounds) settles.now =
     rounds_on s (begin (s ∷ [])) settles.rounds settles.now (record { lanes = refl; marks = refl; whole = whole }) settles.run in
     let one : OneRound went.lane settles.steps behind =
     one_round went.lane settles.steps behind (subst (λ (l : List LaneState). MakeRound l settles.steps behind) went.alone.lanes settles.last.made) in
     let last : AreOwn (round_entries 0 settles.steps) =
     subst AreOwn (sym (ap (round_entries 0) one.steps_are)) (round_own went.lane one.round one.behind one.made) in
     record {
-      steps = entries_of settles.rounds ++ round_entries 0 settles.steps;
-      own = own_append (entries_of settles.rounds) (round_entries 0 settles.steps) went.own last;
+      steps = entries_of_rounds settles.rounds ++ round_entries 0 settles.steps;
+      own = own_append (entries_of_rounds settles.rounds) (round_entries 0 settles.steps) went.own last;
       is = settles.is;
     }

@@ -17,7 +17,7 @@ use Rattle.lane_laws.specs.NearContent.{PendingPuts}
 use Rattle.world_laws.specs.Plain.{given}
 
 -- A DISK that begins the image
-pub record IsFirst (shape : Shape) : Type 0 where
+pub record IsFirstShape (shape : Shape) : Type 0 where
   pub sound : IsShape shape
   pub place : shape.first ≡ 0
 
@@ -46,7 +46,7 @@ pub region_long : (shape : Shape) (bytes : List ℕ) → end_of shape ≤ length
 region_long shape bytes room = length-range_at (512 * shape.first) (512 * shape.blocks) bytes (omega (arith, room))
 
 -- A REQUEST on the bytes of the image is one on the region, and leaves what lies after the disk
-pub region_after : (shape : Shape) (content : List ℕ) (request : Request) → IsFirst shape → end_of shape ≤ length content → defect shape.blocks request ≡ None
+pub region_after : (shape : Shape) (content : List ℕ) (request : Request) → IsFirstShape shape → end_of shape ≤ length content → defect shape.blocks request ≡ None
     → region_of shape (after_request content request) ≡ after_request (region_of shape content) request
 region_after shape content (Read block count) front room admitted = refl
 region_after shape content (Write block count fill) front room admitted =
@@ -58,7 +58,7 @@ region_after shape content (Write block count fill) front room admitted =
     ∙ range_at-put_at_part (512 * block) (512 * shape.first) (512 * shape.blocks) (written fill count) content (omega (arith, fits.2, long)) (omega (arith, room))
 region_after shape content Flush front room admitted = refl
 
-pub behind_after : (shape : Shape) (content : List ℕ) (request : Request) → IsFirst shape → end_of shape ≤ length content → defect shape.blocks request ≡ None
+pub behind_after : (shape : Shape) (content : List ℕ) (request : Request) → IsFirstShape shape → end_of shape ≤ length content → defect shape.blocks request ≡ None
     → drop (end_of shape) (after_request content request) ≡ drop (end_of shape) content
 behind_after shape content (Read block count) front room admitted = refl
 behind_after shape content (Write block count fill) front room admitted =
@@ -68,7 +68,7 @@ behind_after shape content (Write block count fill) front room admitted =
     drop-put_at (512 * block) (end_of shape) (written fill count) content (omega (arith, fits.2, long, first)) (omega (arith, fits.2, long, first, room))
 behind_after shape content Flush front room admitted = refl
 
-pub given_same : (shape : Shape) (content : List ℕ) (request : Request) → IsFirst shape → defect shape.blocks request ≡ None → given (region_of shape content) request ≡ given content request
+pub given_same : (shape : Shape) (content : List ℕ) (request : Request) → IsFirstShape shape → defect shape.blocks request ≡ None → given (region_of shape content) request ≡ given content request
 given_same shape content (Read block count) front admitted =
     let fits = admitted_blocks shape.blocks block count admitted in
     let first = front.place in
@@ -92,7 +92,7 @@ same_blocks : (blocks : ℕ) (one other : List ℕ) → length one ≡ 512 * blo
 same_blocks blocks one other one_long other_long same =
     sym (take_all (512 * blocks) one (omega (arith, one_long))) ∙ fronts_same blocks one other same ∙ take_all (512 * blocks) other (omega (arith, other_long))
 
-pub same_image : (shape : Shape) (one other : List ℕ) → IsFirst shape → region_of shape one ≡ region_of shape other → drop (end_of shape) one ≡ drop (end_of shape) other → one ≡ other
+pub same_image : (shape : Shape) (one other : List ℕ) → IsFirstShape shape → region_of shape one ≡ region_of shape other → drop (end_of shape) one ≡ drop (end_of shape) other → one ≡ other
 same_image shape one other front region behind =
     let first = front.place in
     let none : 512 * shape.first ≡ 0 = omega (arith, first) in

@@ -6,7 +6,7 @@ use Rattle.ldc_queue.specs.declared.end.End.TheVariants.{A, B}
 use Rattle.disk_model.specs.WireEvent.{Blocked, ByRestart, ByScript, ByStep, ByTick, Declines, Giver, Idle, Injected, Joined, Lost, Poked, Reset, Sent, Took, WireEvent, giver}
 use Rattle.disk_model.specs.WireLog.{WireLog, wire_moved}
 use Rattle.vio_tag.specs.declared.cause.Cause.{Cause}
-use Rattle.disk_model.specs.DiskEvent.{Asks, CalmReset, CalmRestart, CalmStart, CalmStop, CalmTick, Desc, DiskEvent, Done, Finished, Misplaced, Moved, Off, OnWire, Published, Rests, Started, Stopped, Stored, Turns, Worked, Works, Calm}
+use Rattle.disk_model.specs.DiskEvent.{Asks, CalmReset, CalmRestart, CalmStart, CalmStop, CalmTick, Desc, DiskEvent, Done, Finished, Misplaced, Moved, Off, OnWire, Published, Calms, Started, Stopped, Stored, Switches, Worked, Works, Calm}
 use Rattle.disk_model.specs.LaneState.{LaneState}
 use Rattle.disk_model.specs.LaneStep.{EndOnWire, LaneStep, ResetBy}
 use Rattle.world_laws.specs.Sums.{IsUnforged}
@@ -24,7 +24,7 @@ IsHonest _ = ⊤
 
 -- all but a stop
 abbrev pub KeepsOn : DiskEvent → Type 0
-KeepsOn (Turns Stopped) = ⊥
+KeepsOn (Switches Stopped) = ⊥
 KeepsOn _ = ⊤
 
 -- WHAT AN EVENT ON THE WIRE does to the wire, and that it stops nothing
@@ -90,7 +90,7 @@ work_leaves s (Stored operation block count failed) t step = record { wire = ap 
 work_leaves s (Finished slot status) t step = record { wire = ap (λ (x : LaneState). x.wire) step.1.is; stopped = ap (λ (x : LaneState). x.stopped) step.1.is }
 work_leaves s Misplaced t step = absurd step
 
-rest_leaves : (s : LaneState) (event : Calm) (t : LaneState) → LaneStep s (Rests event) t → LeavesBoth s t
+rest_leaves : (s : LaneState) (event : Calm) (t : LaneState) → LaneStep s (Calms event) t → LeavesBoth s t
 rest_leaves s CalmTick t step = as_it_was s t step.1
 rest_leaves s CalmStop t step = as_it_was s t step.1
 rest_leaves s CalmStart t step = as_it_was s t step.1
@@ -103,17 +103,17 @@ pub stays_unforged : (s : LaneState) (event : DiskEvent) (t : LaneState) → IsH
 stays_unforged s (OnWire event) t honest step clean = ap (λ (w : WireLog). w.forged) (wire_only s event t step).wire ∙ moved_forged s.wire event honest ∙ clean
 stays_unforged s (Asks event) t honest step clean = ap (λ (x : LaneState). x.wire.forged) step.1 ∙ clean
 stays_unforged s (Works event) t honest step clean = ap (λ (w : WireLog). w.forged) (work_leaves s event t step).wire ∙ clean
-stays_unforged s (Turns Stopped) t honest step clean = ap (λ (x : LaneState). x.wire.forged) step.1 ∙ clean
-stays_unforged s (Turns Started) t honest step clean = ap (λ (x : LaneState). x.wire.forged) step.1 ∙ clean
-stays_unforged s (Turns Off) t honest step clean = ap (λ (x : LaneState). x.wire.forged) step.1 ∙ clean
-stays_unforged s (Rests event) t honest step clean = ap (λ (w : WireLog). w.forged) (rest_leaves s event t step).wire ∙ clean
+stays_unforged s (Switches Stopped) t honest step clean = ap (λ (x : LaneState). x.wire.forged) step.1 ∙ clean
+stays_unforged s (Switches Started) t honest step clean = ap (λ (x : LaneState). x.wire.forged) step.1 ∙ clean
+stays_unforged s (Switches Off) t honest step clean = ap (λ (x : LaneState). x.wire.forged) step.1 ∙ clean
+stays_unforged s (Calms event) t honest step clean = ap (λ (w : WireLog). w.forged) (rest_leaves s event t step).wire ∙ clean
 
 -- AND EACH BUT A STOP leaves its server running
 pub stays_running : (s : LaneState) (event : DiskEvent) (t : LaneState) → KeepsOn event → LaneStep s event t → IsRunning s → IsRunning t
 stays_running s (OnWire event) t on step runs = (wire_only s event t step).stopped ∙ runs
 stays_running s (Asks event) t on step runs = ap (λ (x : LaneState). x.stopped) step.1 ∙ runs
 stays_running s (Works event) t on step runs = (work_leaves s event t step).stopped ∙ runs
-stays_running s (Turns Stopped) t on step runs = absurd on
-stays_running s (Turns Started) t on step runs = ap (λ (x : LaneState). x.stopped) step.1
-stays_running s (Turns Off) t on step runs = ap (λ (x : LaneState). x.stopped) step.1 ∙ runs
-stays_running s (Rests event) t on step runs = (rest_leaves s event t step).stopped ∙ runs
+stays_running s (Switches Stopped) t on step runs = absurd on
+stays_running s (Switches Started) t on step runs = ap (λ (x : LaneState). x.stopped) step.1
+stays_running s (Switches Off) t on step runs = ap (λ (x : LaneState). x.stopped) step.1 ∙ runs
+stays_running s (Calms event) t on step runs = (rest_leaves s event t step).stopped ∙ runs

@@ -7,7 +7,7 @@ use Rattle.disk_law.specs.ListState.{ImageState}
 use Rattle.disk_law.specs.ListStep as plain
 use Rattle.disk_model.specs.DiskLog.{DiskLog, after, nothing_yet}
 use Rattle.disk_model.specs.RequestLaws.{AdmissionAt, IsNext, OnceAt}
-use Rattle.disk_model.specs.DiskEvent.{Accepted, Asks, Desc, DiskEvent, Done, Finished, Full, Misplaced, Moved, OnWire, Published, Refused, Rests, Stored, Turns, Works}
+use Rattle.disk_model.specs.DiskEvent.{Accepted, Asks, Desc, DiskEvent, Done, Finished, Full, Misplaced, Moved, OnWire, Published, Refused, Calms, Stored, Switches, Works}
 use Rattle.disk_model.specs.LaneState.{IsShape, LaneState, Shape, fresh}
 use Rattle.disk_model.specs.LaneStep.{LaneStep}
 use Rattle.lane_laws.proofs.ClientInSession.{shape_of}
@@ -40,10 +40,10 @@ done_of (Works (Moved unit fault)) id operation status bytes is = absurd (cc is)
 done_of (Works (Stored o block count failed)) id operation status bytes is = absurd (cc is)
 done_of (Works (Finished slot s)) id operation status bytes is = absurd (cc is)
 done_of (Works Misplaced) id operation status bytes is = absurd (cc is)
-done_of (Turns event) id operation status bytes is = absurd (cc is)
-done_of (Rests event) id operation status bytes is = absurd (cc is)
+done_of (Switches event) id operation status bytes is = absurd (cc is)
+done_of (Calms event) id operation status bytes is = absurd (cc is)
 
-once_here : (l : DiskLog) (event : DiskEvent) (before : List plain.DiskEvent) (id operation status : ℕ) (bytes : List ℕ) → request_event event ≡ Some (plain.Done id operation status bytes)
+once_here : (l : DiskLog) (event : DiskEvent) (before : List plain.ListEvent) (id operation status : ℕ) (bytes : List ℕ) → request_event event ≡ Some (plain.Done id operation status bytes)
     → l.work.issued ≡ issued before → l.work.done ≡ length (completed before) → OnceAt l event → CompletesNext before id operation
 once_here l event before id operation status bytes is issued_is done_is at =
     let next : IsNext l.work id operation = subst (λ (e : DiskEvent). OnceAt l e) (done_of event id operation status bytes is) at in
@@ -61,27 +61,27 @@ room_for i d n m x y one two three less = omega (arith, one, two, three, less)
 no_room : (i d n m x y : ℕ) → i ≡ n → d ≡ m → x ≡ y → i - d ≡ x → n - m ≡ y
 no_room i d n m x y one two three full = omega (arith, one, two, three, full)
 
-admitted_here : (blocks slots : ℕ) (l : DiskLog) (before : List plain.DiskEvent) → l.shape.blocks ≡ blocks → l.shape.slots ≡ slots → l.work.issued ≡ issued before
-    → l.work.done ≡ length (completed before) → (event : DiskEvent) (seen : plain.DiskEvent) → request_event event ≡ Some seen → AdmissionAt l event → Admits blocks slots before seen
+admitted_here : (blocks slots : ℕ) (l : DiskLog) (before : List plain.ListEvent) → l.shape.blocks ≡ blocks → l.shape.slots ≡ slots → l.work.issued ≡ issued before
+    → l.work.done ≡ length (completed before) → (event : DiskEvent) (seen : plain.ListEvent) → request_event event ≡ Some seen → AdmissionAt l event → Admits blocks slots before seen
 admitted_here blocks slots l before blocks_are slots_are issued_is done_is (Asks (Accepted id request)) seen is at =
     let same : plain.Accepted id request ≡ seen = cc is in
-    subst (λ (e : plain.DiskEvent). Admits blocks slots before e) same (
+    subst (λ (e : plain.ListEvent). Admits blocks slots before e) same (
       subst (λ (b : ℕ). defect b request ≡ None) blocks_are at.0,
       room_for (length l.work.issued) l.work.done (length (issued before)) (length (completed before)) l.shape.slots slots (ap (λ (r : List Request). length r) issued_is) done_is slots_are at.1,
       at.2 ∙ ap (λ (r : List Request). length r) issued_is,
     )
 admitted_here blocks slots l before blocks_are slots_are issued_is done_is (Asks (Full request)) seen is at =
     let same : plain.Full request ≡ seen = cc is in
-    subst (λ (e : plain.DiskEvent). Admits blocks slots before e) same (
+    subst (λ (e : plain.ListEvent). Admits blocks slots before e) same (
       subst (λ (b : ℕ). defect b request ≡ None) blocks_are at.0,
       no_room (length l.work.issued) l.work.done (length (issued before)) (length (completed before)) l.shape.slots slots (ap (λ (r : List Request). length r) issued_is) done_is slots_are at.1,
     )
 admitted_here blocks slots l before blocks_are slots_are issued_is done_is (Asks (Refused why request)) seen is at =
     let same : plain.Refused why request ≡ seen = cc is in
-    subst (λ (e : plain.DiskEvent). Admits blocks slots before e) same (subst (λ (b : ℕ). defect b request ≡ Some why) blocks_are at)
+    subst (λ (e : plain.ListEvent). Admits blocks slots before e) same (subst (λ (b : ℕ). defect b request ≡ Some why) blocks_are at)
 admitted_here blocks slots l before blocks_are slots_are issued_is done_is (Works (Done id operation status bytes)) seen is at =
     let same : plain.Done id operation status bytes ≡ seen = cc is in
-    subst (λ (e : plain.DiskEvent). Admits blocks slots before e) same tt
+    subst (λ (e : plain.ListEvent). Admits blocks slots before e) same tt
 admitted_here blocks slots l before blocks_are slots_are issued_is done_is (OnWire event) seen is at = absurd (cc is)
 admitted_here blocks slots l before blocks_are slots_are issued_is done_is (Works (Published id)) seen is at = absurd (cc is)
 admitted_here blocks slots l before blocks_are slots_are issued_is done_is (Works (Desc slot bytes)) seen is at = absurd (cc is)
@@ -89,22 +89,22 @@ admitted_here blocks slots l before blocks_are slots_are issued_is done_is (Work
 admitted_here blocks slots l before blocks_are slots_are issued_is done_is (Works (Stored operation block count failed)) seen is at = absurd (cc is)
 admitted_here blocks slots l before blocks_are slots_are issued_is done_is (Works (Finished slot status)) seen is at = absurd (cc is)
 admitted_here blocks slots l before blocks_are slots_are issued_is done_is (Works Misplaced) seen is at = absurd (cc is)
-admitted_here blocks slots l before blocks_are slots_are issued_is done_is (Turns event) seen is at = absurd (cc is)
-admitted_here blocks slots l before blocks_are slots_are issued_is done_is (Rests event) seen is at = absurd (cc is)
+admitted_here blocks slots l before blocks_are slots_are issued_is done_is (Switches event) seen is at = absurd (cc is)
+admitted_here blocks slots l before blocks_are slots_are issued_is done_is (Calms event) seen is at = absurd (cc is)
 
 -- WHERE THE EVENT STANDS in a lawful run
-lawful_here : (May : DiskLog → DiskEvent → Type 0) (shape : Shape) (events : List DiskEvent) (before : List plain.DiskEvent) (seen : plain.DiskEvent)
+lawful_here : (May : DiskLog → DiskEvent → Type 0) (shape : Shape) (events : List DiskEvent) (before : List plain.ListEvent) (seen : plain.ListEvent)
     (found : ComesOf request_event events before seen) → Lawful May after (nothing_yet shape) events → May (log_of after (nothing_yet shape) found.front) found.one
 lawful_here May shape events before seen found lawful =
     (lawful_split May after (nothing_yet shape) found.front (found.one ∷ found.rest) (subst (λ (es : List DiskEvent). Lawful May after (nothing_yet shape) es) found.is lawful)).1.0
 
-issued_at : (shape : Shape) (events : List DiskEvent) (before : List plain.DiskEvent) (seen : plain.DiskEvent) (found : ComesOf request_event events before seen)
+issued_at : (shape : Shape) (events : List DiskEvent) (before : List plain.ListEvent) (seen : plain.ListEvent) (found : ComesOf request_event events before seen)
     → (log_of after (nothing_yet shape) found.front).work.issued ≡ issued before
 issued_at shape events before seen found = issued_behind shape found.front ∙ ap issued found.so_far
 
-done_at : (shape : Shape) (events : List DiskEvent) (before : List plain.DiskEvent) (seen : plain.DiskEvent) (found : ComesOf request_event events before seen)
+done_at : (shape : Shape) (events : List DiskEvent) (before : List plain.ListEvent) (seen : plain.ListEvent) (found : ComesOf request_event events before seen)
     → (log_of after (nothing_yet shape) found.front).work.done ≡ length (completed before)
-done_at shape events before seen found = done_behind shape found.front ∙ ap (λ (es : List plain.DiskEvent). length (completed es)) found.so_far
+done_at shape events before seen found = done_behind shape found.front ∙ ap (λ (es : List plain.ListEvent). length (completed es)) found.so_far
 
 -- A LANE
 pub lane_completes : (shape : Shape) (events : List DiskEvent) (s : LaneState) → IsShape shape → Run LaneStep (fresh shape) events s → CompletesOnceInOrder (requests_of events)

@@ -7,10 +7,10 @@ use Rattle.disk_law.specs.Issued.{completed, issued}
 use Rattle.disk_law.specs.ListStep as plain
 use Rattle.disk_model.specs.DiskLog.{DiskLog, after, nothing_yet}
 use Rattle.disk_model.specs.WorkLog.{WorkLog, after_work, work_wired}
-use Rattle.disk_model.specs.DiskEvent.{Accepted, Asks, Desc, DiskEvent, Done, Finished, Full, Misplaced, Moved, Off, OnWire, Published, Refused, Rests, Started, Stopped, Stored, Turns, Works}
+use Rattle.disk_model.specs.DiskEvent.{Accepted, Asks, Desc, DiskEvent, Done, Finished, Full, Misplaced, Moved, Off, OnWire, Published, Refused, Calms, Started, Stopped, Stored, Switches, Works}
 use Rattle.disk_model.specs.LaneState.{IsShape, LaneState, Shape, fresh}
 use Rattle.disk_model.specs.LaneStep.{LaneStep}
-use Rattle.disk_model.specs.TalkLog.{TalkLog}
+use Rattle.disk_model.specs.TranscriptLog.{TranscriptLog}
 use Rattle.disk_model.specs.WireEvent.{Blocked, Declines, Idle, Injected, Joined, Lost, Poked, Reset, Sent, Took, WireEvent}
 use Rattle.ldc_queue.specs.declared.end.End.TheVariants.{A, B}
 use Rattle.lane_laws.proofs.AgreementRuns.{run_agrees}
@@ -19,7 +19,7 @@ use Rattle.world_laws.proofs.Filtered.{one_more}
 use Rattle.world_laws.specs.Requests.{request_event, requests_of}
 
 -- WHAT IS COUNTED, one list after another
-pub issued_both : (before behind : List plain.DiskEvent) → issued (before ++ behind) ≡ issued before ++ issued behind
+pub issued_both : (before behind : List plain.ListEvent) → issued (before ++ behind) ≡ issued before ++ issued behind
 issued_both [] behind = refl
 issued_both (plain.Accepted id request ∷ before) behind = ap (λ (l : List Request). request ∷ l) (issued_both before behind)
 issued_both (plain.Full request ∷ before) behind = issued_both before behind
@@ -27,7 +27,7 @@ issued_both (plain.Refused why request ∷ before) behind = issued_both before b
 issued_both (plain.Done id operation status bytes ∷ before) behind = issued_both before behind
 issued_both (plain.Rested ∷ before) behind = issued_both before behind
 
-pub completed_both : (before behind : List plain.DiskEvent) → length (completed (before ++ behind)) ≡ length (completed before) + length (completed behind)
+pub completed_both : (before behind : List plain.ListEvent) → length (completed (before ++ behind)) ≡ length (completed before) + length (completed behind)
 completed_both [] behind = omega (arith)
 completed_both (plain.Accepted id request ∷ before) behind = completed_both before behind
 completed_both (plain.Full request ∷ before) behind = completed_both before behind
@@ -36,7 +36,7 @@ completed_both (plain.Done id operation status bytes ∷ before) behind = let re
 completed_both (plain.Rested ∷ before) behind = completed_both before behind
 
 -- ONE EVENT
-record Counts (l m : WorkLog) (es : List plain.DiskEvent) : Type 0 where
+record Counts (l m : WorkLog) (es : List plain.ListEvent) : Type 0 where
   pub issued_is : m.issued ≡ l.issued ++ issued es
   pub done_is : m.done ≡ l.done + length (completed es)
 
@@ -47,42 +47,42 @@ nothing_more (request ∷ requests) = ap (λ (l : List Request). request ∷ l) 
 same_counts : (l m : WorkLog) → m.issued ≡ l.issued → m.done ≡ l.done → Counts l m []
 same_counts l m one two = record { issued_is = one ∙ nothing_more l.issued; done_is = omega (arith, two) }
 
-wired_counts : (slots : ℕ) (talk : TalkLog) (l : WorkLog) (event : WireEvent) → Counts l (work_wired slots talk l event) []
-wired_counts slots talk l (Joined A lost) = same_counts l (work_wired slots talk l (Joined A lost)) refl refl
-wired_counts slots talk l (Joined B lost) = same_counts l (work_wired slots talk l (Joined B lost)) refl refl
-wired_counts slots talk l (Reset A cause packet lost) = same_counts l (work_wired slots talk l (Reset A cause packet lost)) refl refl
-wired_counts slots talk l (Reset B cause packet lost) = same_counts l (work_wired slots talk l (Reset B cause packet lost)) refl refl
-wired_counts slots talk l (Took A packet opens) = same_counts l (work_wired slots talk l (Took A packet opens)) refl refl
-wired_counts slots talk l (Took B packet opens) = same_counts l (work_wired slots talk l (Took B packet opens)) refl refl
-wired_counts slots talk l (Sent A packet opens) = same_counts l (work_wired slots talk l (Sent A packet opens)) refl refl
-wired_counts slots talk l (Sent B packet opens) = same_counts l (work_wired slots talk l (Sent B packet opens)) refl refl
-wired_counts slots talk l (Idle e) = same_counts l l refl refl
-wired_counts slots talk l (Blocked e) = same_counts l l refl refl
-wired_counts slots talk l (Lost e packet) = same_counts l l refl refl
-wired_counts slots talk l (Injected e packet) = same_counts l l refl refl
-wired_counts slots talk l (Poked e at bytes) = same_counts l l refl refl
-wired_counts slots talk l (Declines d) = same_counts l l refl refl
+wired_counts : (slots : ℕ) (transcript : TranscriptLog) (l : WorkLog) (event : WireEvent) → Counts l (work_wired slots transcript l event) []
+wired_counts slots transcript l (Joined A lost) = same_counts l (work_wired slots transcript l (Joined A lost)) refl refl
+wired_counts slots transcript l (Joined B lost) = same_counts l (work_wired slots transcript l (Joined B lost)) refl refl
+wired_counts slots transcript l (Reset A cause packet lost) = same_counts l (work_wired slots transcript l (Reset A cause packet lost)) refl refl
+wired_counts slots transcript l (Reset B cause packet lost) = same_counts l (work_wired slots transcript l (Reset B cause packet lost)) refl refl
+wired_counts slots transcript l (Took A packet opens) = same_counts l (work_wired slots transcript l (Took A packet opens)) refl refl
+wired_counts slots transcript l (Took B packet opens) = same_counts l (work_wired slots transcript l (Took B packet opens)) refl refl
+wired_counts slots transcript l (Sent A packet opens) = same_counts l (work_wired slots transcript l (Sent A packet opens)) refl refl
+wired_counts slots transcript l (Sent B packet opens) = same_counts l (work_wired slots transcript l (Sent B packet opens)) refl refl
+wired_counts slots transcript l (Idle e) = same_counts l l refl refl
+wired_counts slots transcript l (Blocked e) = same_counts l l refl refl
+wired_counts slots transcript l (Lost e packet) = same_counts l l refl refl
+wired_counts slots transcript l (Injected e packet) = same_counts l l refl refl
+wired_counts slots transcript l (Poked e at bytes) = same_counts l l refl refl
+wired_counts slots transcript l (Declines d) = same_counts l l refl refl
 
-one_counts : (blocks slots : ℕ) (talk : TalkLog) (l : WorkLog) (event : DiskEvent) → Counts l (after_work blocks slots talk l event) (requests_of (event ∷ []))
-one_counts blocks slots talk l (OnWire event) = wired_counts slots talk l event
-one_counts blocks slots talk l (Asks (Accepted id request)) = record { issued_is = refl; done_is = omega (arith) }
-one_counts blocks slots talk l (Asks (Full request)) = record { issued_is = nothing_more l.issued; done_is = omega (arith) }
-one_counts blocks slots talk l (Asks (Refused why request)) = record { issued_is = nothing_more l.issued; done_is = omega (arith) }
-one_counts blocks slots talk l (Works (Published id)) = same_counts l (after_work blocks slots talk l (Works (Published id))) refl refl
-one_counts blocks slots talk l (Works (Done id operation status bytes)) = record { issued_is = nothing_more l.issued; done_is = omega (arith) }
-one_counts blocks slots talk l (Works (Desc slot bytes)) = same_counts l (after_work blocks slots talk l (Works (Desc slot bytes))) refl refl
-one_counts blocks slots talk l (Works (Moved unit fault)) = same_counts l (after_work blocks slots talk l (Works (Moved unit fault))) refl refl
-one_counts blocks slots talk l (Works (Stored operation block count failed)) =
-    same_counts l (after_work blocks slots talk l (Works (Stored operation block count failed))) refl refl
-one_counts blocks slots talk l (Works (Finished slot status)) = same_counts l (after_work blocks slots talk l (Works (Finished slot status))) refl refl
-one_counts blocks slots talk l (Works Misplaced) = same_counts l l refl refl
-one_counts blocks slots talk l (Turns Stopped) = same_counts l (after_work blocks slots talk l (Turns Stopped)) refl refl
-one_counts blocks slots talk l (Turns Started) = same_counts l (after_work blocks slots talk l (Turns Started)) refl refl
-one_counts blocks slots talk l (Turns Off) = same_counts l l refl refl
-one_counts blocks slots talk l (Rests event) = same_counts l l refl refl
+one_counts : (blocks slots : ℕ) (transcript : TranscriptLog) (l : WorkLog) (event : DiskEvent) → Counts l (after_work blocks slots transcript l event) (requests_of (event ∷ []))
+one_counts blocks slots transcript l (OnWire event) = wired_counts slots transcript l event
+one_counts blocks slots transcript l (Asks (Accepted id request)) = record { issued_is = refl; done_is = omega (arith) }
+one_counts blocks slots transcript l (Asks (Full request)) = record { issued_is = nothing_more l.issued; done_is = omega (arith) }
+one_counts blocks slots transcript l (Asks (Refused why request)) = record { issued_is = nothing_more l.issued; done_is = omega (arith) }
+one_counts blocks slots transcript l (Works (Published id)) = same_counts l (after_work blocks slots transcript l (Works (Published id))) refl refl
+one_counts blocks slots transcript l (Works (Done id operation status bytes)) = record { issued_is = nothing_more l.issued; done_is = omega (arith) }
+one_counts blocks slots transcript l (Works (Desc slot bytes)) = same_counts l (after_work blocks slots transcript l (Works (Desc slot bytes))) refl refl
+one_counts blocks slots transcript l (Works (Moved unit fault)) = same_counts l (after_work blocks slots transcript l (Works (Moved unit fault))) refl refl
+one_counts blocks slots transcript l (Works (Stored operation block count failed)) =
+    same_counts l (after_work blocks slots transcript l (Works (Stored operation block count failed))) refl refl
+one_counts blocks slots transcript l (Works (Finished slot status)) = same_counts l (after_work blocks slots transcript l (Works (Finished slot status))) refl refl
+one_counts blocks slots transcript l (Works Misplaced) = same_counts l l refl refl
+one_counts blocks slots transcript l (Switches Stopped) = same_counts l (after_work blocks slots transcript l (Switches Stopped)) refl refl
+one_counts blocks slots transcript l (Switches Started) = same_counts l (after_work blocks slots transcript l (Switches Started)) refl refl
+one_counts blocks slots transcript l (Switches Off) = same_counts l l refl refl
+one_counts blocks slots transcript l (Calms event) = same_counts l l refl refl
 
 -- MORE OF THEM
-both_count : (l m n : WorkLog) (one two : List plain.DiskEvent) → Counts l m one → Counts m n two → Counts l n (one ++ two)
+both_count : (l m n : WorkLog) (one two : List plain.ListEvent) → Counts l m one → Counts m n two → Counts l n (one ++ two)
 both_count l m n one two first second =
     let longer = completed_both one two in
     let before = first.done_is in
@@ -95,9 +95,9 @@ both_count l m n one two first second =
 log_counts : (l : DiskLog) (events : List DiskEvent) → Counts l.work (log_of after l events).work (requests_of events)
 log_counts l [] = same_counts l.work l.work refl refl
 log_counts l (event ∷ events) =
-    subst (λ (es : List plain.DiskEvent). Counts l.work (log_of after (after l event) events).work es) (sym (one_more (request_event event) (requests_of events)))
+    subst (λ (es : List plain.ListEvent). Counts l.work (log_of after (after l event) events).work es) (sym (one_more (request_event event) (requests_of events)))
     (both_count l.work (after l event).work (log_of after (after l event) events).work (requests_of (event ∷ [])) (requests_of events)
-    (one_counts l.shape.blocks l.shape.slots l.talk l.work event) (log_counts (after l event) events))
+    (one_counts l.shape.blocks l.shape.slots l.transcript l.work event) (log_counts (after l event) events))
 
 -- FROM THE FRESH LOG ON
 pub issued_behind : (shape : Shape) (events : List DiskEvent) → (log_of after (nothing_yet shape) events).work.issued ≡ issued (requests_of events)

@@ -6,7 +6,7 @@ use Rattle.std.specs.Prelude.{◌&&◌, ◌||◌, ◌==◌, if◌then◌else◌}
 use Rattle.ldc_queue.specs.declared.end.End.{End}
 use Rattle.ldc_queue.specs.declared.end.End.TheVariants.{A, B}
 use Rattle.disk_model.specs.WireEvent.{Blocked, Idle}
-use Rattle.disk_model.specs.DiskEvent.{DiskEvent, Off, OnWire, Turns}
+use Rattle.disk_model.specs.DiskEvent.{DiskEvent, Off, OnWire, Switches}
 use Rattle.disk_model.specs.LaneState.{LaneState}
 use Rattle.lane_laws.specs.CalmEnds.{IsStep}
 use Rattle.world_laws.proofs.Counts.{blocked_both, blocked_in, moves_both}
@@ -25,14 +25,14 @@ bounded c = omega (arith)
 alone : (n : ℕ) → n + 0 ≤ n
 alone n = omega (arith)
 
-step_blocked : (k : ℕ) (e : End) (j : ℕ) (d : End) (event : DiskEvent) → IsStep d event → blocked_in k e (entry_of j event) ≤ once ((j == k) && is_end d e)
+pub step_blocked : (k : ℕ) (e : End) (j : ℕ) (d : End) (event : DiskEvent) → IsStep d event → blocked_in k e (entry_of j event) ≤ once ((j == k) && is_end d e)
 step_blocked k e j d (OnWire (Idle f)) own = omega (arith)
-step_blocked k e j d (Turns Off) own = omega (arith)
+step_blocked k e j d (Switches Off) own = omega (arith)
 step_blocked k e j d (OnWire (Blocked f)) own =
     subst (λ (x : End). once ((j == k) && is_end f e) + 0 ≤ once ((j == k) && is_end x e)) own (alone (once ((j == k) && is_end f e)))
 step_blocked k e j d _ own = omega (arith)
 
-one_end : (c : Bool) (e : End) → once (c && is_end A e) + once (c && is_end B e) ≤ once c
+pub one_end : (c : Bool) (e : End) → once (c && is_end A e) + once (c && is_end B e) ≤ once c
 one_end true A = omega (arith)
 one_end true B = omega (arith)
 one_end false A = omega (arith)
@@ -91,7 +91,7 @@ round_blocked k e j _ _ _ made = absurd made
 step_moves : (j : ℕ) (event : DiskEvent) → is_calm event ≡ false → 1 ≤ moves_in (entry_of j event)
 step_moves j (OnWire (Idle e)) loud = absurd (cc loud)
 step_moves j (OnWire (Blocked e)) loud = absurd (cc loud)
-step_moves j (Turns Off) loud = absurd (cc loud)
+step_moves j (Switches Off) loud = absurd (cc loud)
 step_moves j _ loud = omega (arith)
 
 joined : (all front a b c : ℕ) → all ≡ front + c → front ≡ a + b → all ≡ a + (b + c)

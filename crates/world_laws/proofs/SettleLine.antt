@@ -9,14 +9,14 @@ use Rattle.disk_model.specs.LaneState.{LaneState, Shape}
 use Rattle.world_laws.proofs.Falling.{ends_settled}
 use Rattle.world_laws.proofs.SettledLanes.{settled_lanes}
 use Rattle.world_laws.specs.Ended.{LanesEnd}
-use Rattle.world_laws.specs.Settle.{OfLane, SettleEntry, SettlePart, Settled, Settles, Unsettled}
+use Rattle.world_laws.specs.Settle.{OfLane, SettleEntry, SettlePart, Settled, Settles}
 use Rattle.world_laws.specs.Lines.{LineMoves}
 use Rattle.world_laws.specs.Lines as line
 use Rattle.world_laws.specs.World.{LaneMoves, OneMoves, WorldState, WorldStep}
 use Rattle.world_laws.proofs.NoFaults.{part_before}
 use Rattle.world_laws.proofs.OneStep.{Over, one_step}
 use Rattle.world_laws.proofs.OwnSteps.{AreOwn, IsWhole, OwnPart, settle_own}
-use Rattle.world_laws.proofs.Regions.{IsFirst}
+use Rattle.world_laws.proofs.Regions.{IsFirstShape}
 use Rattle.world_laws.proofs.Undisturbed.{Stands, reached, rested_image}
 use Rattle.world_laws.specs.Plain.{Plain, complete, complete_all, completion, completions, plain_line, plain_shows}
 use Rattle.world_laws.specs.Shown.{is_shown, shown, shown_if}
@@ -28,7 +28,7 @@ pub record Beside (shape : Shape) (p : Plain) (w : WorldState) : Type 0 where
   pub over : Over shape p lane w.image
 
 -- after a line moreover the image has the content
-pub record Rests (shape : Shape) (p : Plain) (w : WorldState) : Type 0 where
+pub record RestsAt (shape : Shape) (p : Plain) (w : WorldState) : Type 0 where
   pub beside : Beside shape p w
   pub told : w.image.told ≡ Some p.content
 
@@ -87,7 +87,7 @@ reached_done shape p request behind x steps v front is rest = record {
   ends = rest.ends ∙ sym (ap (complete_all p) front);
 }
 
-own_steps : (shape : Shape) (p : Plain) (w : WorldState) (steps : List SettleEntry) (v : WorldState) → IsFirst shape → Beside shape p w → AreOwn steps → Run WorldStep w steps v
+own_steps : (shape : Shape) (p : Plain) (w : WorldState) (steps : List SettleEntry) (v : WorldState) → IsFirstShape shape → Beside shape p w → AreOwn steps → Run WorldStep w steps v
     → v.image.faults ≡ 0 → Reaches shape p steps v
 own_steps shape p w [] v front beside own run well = subst (Reaches shape p []) run (reached_none shape p w beside)
 own_steps shape p w (OfLane k event ∷ steps) v front beside own run well =
@@ -104,8 +104,7 @@ own_steps shape p w (OfLane k event ∷ steps) v front beside own run well =
           let next : Beside shape after run.0 = record { lane = one.behind; lanes = lanes; over = record { store = done.store; told = done.told; stands = done.stands } } in
           reached_done shape p done.request done.behind (OfLane k event) steps v done.front (entry ∙ done.is) (own_steps shape after run.0 steps v front next own.1 run.2 well)
     ]
-own_steps shape p w (Settled ∷ steps) v front beside own run well = absurd own.0
-own_steps shape p w (Unsettled k ∷ steps) v front beside own run well = absurd own.0
+own_steps shape p w (x ∷ steps) v front beside own run well = absurd own.0
 
 -- BEHIND THE SETTLE the lane is finished: nothing waits
 nothing_waits : (there : Bool) (pending : List Request) → (there && is_nothing pending) ≡ true → pending ≡ []
@@ -118,7 +117,7 @@ shown_append [] two = refl
 shown_append (x ∷ one) two =
     ap (λ (xs : List SettleEntry). shown_if (is_shown x) x ++ xs) (shown_append one two) ∙ sym (append_assoc (shown_if (is_shown x) x) (shown one) (shown two))
 
-is_whole : (shape : Shape) (p : Plain) (s : LaneState) (store : List ℕ) → IsFirst shape → Stands shape p s store → IsWhole s
+is_whole : (shape : Shape) (p : Plain) (s : LaneState) (store : List ℕ) → IsFirstShape shape → Stands shape p s store → IsWhole s
 is_whole shape p s store front stands =
     let at = stands.lane in
     record { reached = reached shape p.completed s front.sound at; unforged = at.unforged; whole = at.whole; runs = at.runs }
@@ -126,10 +125,10 @@ is_whole shape p s store front stands =
 -- A LINE that shows what it shows of the plain list, and leads to its next state
 pub record LineIsPlain (shape : Shape) (p : Plain) (l : line.Line) (part : List SettleEntry) (v : WorldState) : Type 0 where
   pub shows : shown part ≡ plain_shows shape p l
-  pub rests : Rests shape (plain_line shape p l) v
+  pub rests : RestsAt shape (plain_line shape p l) v
 
 -- what is reached where nothing waits any more
-settled_plain : (shape : Shape) (p : Plain) (steps : List SettleEntry) (part : List SettleEntry) (v : WorldState) → IsFirst shape → part ≡ steps ++ Settled ∷ [] → (all : Reaches shape p steps v)
+settled_plain : (shape : Shape) (p : Plain) (steps : List SettleEntry) (part : List SettleEntry) (v : WorldState) → IsFirstShape shape → part ≡ steps ++ Settled ∷ [] → (all : Reaches shape p steps v)
     → all.plain.waiting ≡ [] → LineIsPlain shape p line.Settles part v
 settled_plain shape p steps part v front is all none =
     let over = all.beside.over in
@@ -140,7 +139,7 @@ settled_plain shape p steps part v front is all none =
     over.told ∙ ap (λ (xs : List ℕ). Some xs) (rested_image shape all.plain all.beside.lane over.store front over.stands none) in
     record {
       shows = ap shown is ∙ shown_append steps (Settled ∷ []) ∙ ap (λ (xs : List SettleEntry). xs ++ Settled ∷ []) shows;
-      rests = subst (λ (q : Plain). Rests shape q v) ends (record { beside = all.beside; told = told });
+      rests = subst (λ (q : Plain). RestsAt shape q v) ends (record { beside = all.beside; told = told });
     }
 
 -- the answer of a settle changes nothing
@@ -148,7 +147,7 @@ before_answer : (w : WorldState) (steps : List SettleEntry) (v : WorldState) →
 before_answer w [] v run = sym run.1 ∙ run.2
 before_answer w (x ∷ steps) v run = (run.0, run.1, before_answer run.0 steps v run.2)
 
-settle_moves : (shape : Shape) (p : Plain) (w : WorldState) (part : List SettleEntry) (v : WorldState) → IsFirst shape → (beside : Beside shape p w)
+settle_moves : (shape : Shape) (p : Plain) (w : WorldState) (part : List SettleEntry) (v : WorldState) → IsFirstShape shape → (beside : Beside shape p w)
     → Settles (beside.lane ∷ []) part v.lanes → Run WorldStep w part v → v.image.faults ≡ 0 → LineIsPlain shape p line.Settles part v
 settle_moves shape p w part v front beside settles run well =
     let whole = is_whole shape p beside.lane beside.over.store front beside.over.stands in
@@ -165,7 +164,7 @@ settle_moves shape p w part v front beside settles run well =
 one_few : 1 ≤ 8
 one_few = omega (arith)
 
-pub settles_line : (shape : Shape) (p : Plain) (w : WorldState) (part : List SettleEntry) (v : WorldState) → IsFirst shape → Rests shape p w → LineMoves w line.Settles part v
+pub settles_line : (shape : Shape) (p : Plain) (w : WorldState) (part : List SettleEntry) (v : WorldState) → IsFirstShape shape → RestsAt shape p w → LineMoves w line.Settles part v
     → v.image.faults ≡ 0 → LineIsPlain shape p line.Settles part v
 settles_line shape p w part v front rests moves well =
     let beside = rests.beside in

@@ -9,7 +9,7 @@ use Rattle.disk_model.specs.DiskLog.{DiskLog, after, nothing_yet}
 use Rattle.disk_model.specs.RequestLaws.{carried_count}
 use Rattle.disk_model.specs.RequestLaws as request_laws
 use Rattle.disk_model.specs.RingLog.{Done as IsDone}
-use Rattle.disk_model.specs.DiskEvent.{Asks, Desc, DiskEvent, Done, Finished, Misplaced, Moved, OnWire, Published, Rests, Stored, Turns, Worked, Works}
+use Rattle.disk_model.specs.DiskEvent.{Asks, Desc, DiskEvent, Done, Finished, Misplaced, Moved, OnWire, Published, Calms, Stored, Switches, Worked, Works}
 use Rattle.disk_model.specs.LaneState.{IsShape, LaneState, Shape, fresh}
 use Rattle.disk_model.specs.LaneStep.{LaneStep}
 use Rattle.lane_laws.proofs.RingRuns.{before}
@@ -45,8 +45,8 @@ event_status : (l : DiskLog) (event : DiskEvent) → Facts l event → l.wire.fo
 event_status l (Works event) facts clean tells = worked_status l event facts clean tells
 event_status l (OnWire event) facts clean tells = tt
 event_status l (Asks event) facts clean tells = tt
-event_status l (Turns event) facts clean tells = tt
-event_status l (Rests event) facts clean tells = tt
+event_status l (Switches event) facts clean tells = tt
+event_status l (Calms event) facts clean tells = tt
 
 -- ALONG A RUN
 status_along : (l : DiskLog) (events : List DiskEvent) → Lawful Facts after l events → (l.wire.forged ≡ false → LogTells l) → Lawful StatusAt after l events

@@ -17,7 +17,7 @@ use Rattle.disk_model.specs.RequestLaws.{Admits}
 use Rattle.disk_model.specs.RingLog.{Accepted as IsAccepted, Done as IsDone, Free, Ready, SlotLog, Zeros, cleared_if, fetched_at, finished_at, freed_at, published_at}
 use Rattle.disk_model.specs.WorkLaws.{FetchesRequest, FinishesPiece, InClient, InServer, Owes, Unforged}
 use Rattle.disk_model.specs.WorkLog.{ClientCounts, ServerCounts, WorkLog, change_server, moved_rest, opened_counts, rest_of, stored_rest}
-use Rattle.disk_model.specs.DiskEvent.{Accepted, Admitted, Asks, Desc, DiskEvent, Done, Finished, Full, Misplaced, Moved, Off, OnWire, Published, Refused, Rests, Started, Stopped, Stored, Switched, Turns, Worked, Works}
+use Rattle.disk_model.specs.DiskEvent.{Accepted, Admitted, Asks, Desc, DiskEvent, Done, Finished, Full, Misplaced, Moved, Off, OnWire, Published, Refused, Calms, Started, Stopped, Stored, Switched, Switches, Worked, Works}
 use Rattle.disk_model.specs.LaneState.{Shape}
 use Rattle.world_laws.proofs.LawFacts.{Facts}
 use Rattle.world_laws.specs.Statuses.{TellsStore}
@@ -223,7 +223,7 @@ work_tells l (Finished slot status) facts unforged tells = record {
 }
 work_tells l Misplaced facts unforged tells = record { issued = tells.issued; owed = tells.owed; ring = tells.ring }
 
-turn_tells : (l : DiskLog) (event : Switched) → LogTells l → LogTells (after l (Turns event))
+turn_tells : (l : DiskLog) (event : Switched) → LogTells l → LogTells (after l (Switches event))
 turn_tells l Stopped tells = record { issued = tells.issued; owed = tt; ring = tells.ring }
 turn_tells l Started tells = record { issued = tells.issued; owed = tells.owed; ring = tells.ring }
 turn_tells l Off tells = record { issued = tells.issued; owed = tells.owed; ring = tells.ring }
@@ -232,8 +232,8 @@ pub event_tells : (l : DiskLog) (event : DiskEvent) → Facts l event → l.wire
 event_tells l (OnWire event) facts clean tells = wire_tells l event tells
 event_tells l (Asks event) facts clean tells = asked_tells l event facts.may.admission tells
 event_tells l (Works event) facts clean tells = work_tells l event facts (facts.may.unforged_work clean) tells
-event_tells l (Turns event) facts clean tells = turn_tells l event tells
-event_tells l (Rests event) facts clean tells = record { issued = tells.issued; owed = tells.owed; ring = tells.ring }
+event_tells l (Switches event) facts clean tells = turn_tells l event tells
+event_tells l (Calms event) facts clean tells = record { issued = tells.issued; owed = tells.owed; ring = tells.ring }
 
 -- BEFORE ANYTHING HAPPENED
 none_issued : (blocks : ℕ) → WithoutDefect blocks []

@@ -7,7 +7,7 @@ use Rattle.ldc_queue.specs.declared.end.End.TheVariants.{A}
 use Rattle.vio_tag.specs.declared.cause.Cause.TheVariants as the_cause
 use Rattle.disk_model.specs.WireEvent.{Reset}
 use Rattle.disk_model.specs.ClientState.{is_finished}
-use Rattle.disk_model.specs.DiskEvent.{CalmTick, DiskEvent, OnWire, Rests}
+use Rattle.disk_model.specs.DiskEvent.{CalmTick, DiskEvent, OnWire, Calms}
 use Rattle.disk_model.specs.LaneState.{LaneState}
 use Rattle.world_laws.proofs.LaneTicks.{waits_where}
 use Rattle.world_laws.proofs.Together.{gets_where}
@@ -115,7 +115,7 @@ finished_not b one two = sym one ∙ two
 pub is_tick : (w : WorldState) (k : ℕ) (event : DiskEvent) (v : WorldState) (moves : OneMoves w k event v) → AnswersCall Ticks event → is_finished moves.lane.client ≡ false → event ≡ tick
 is_tick w k (OnWire (Reset A the_cause.Tick packet lost)) v at answers unfinished =
     ap₂ (λ (p : Option (List ℕ)) (l : ℕ). OnWire (Reset A the_cause.Tick p l)) at.moves.0.1.0 at.moves.0.1.1
-is_tick w k (Rests CalmTick) v at answers unfinished = let never : true ≡ false = finished_not (is_finished at.lane.client) at.moves.0.0 unfinished in absurd (cc never)
+is_tick w k (Calms CalmTick) v at answers unfinished = let never : true ≡ false = finished_not (is_finished at.lane.client) at.moves.0.0 unfinished in absurd (cc never)
 is_tick w k _ v at answers unfinished = absurd answers
 
 pub gets_unfinished : (lane : LaneState) (had : Bool) → gets_tick lane had ≡ true → is_finished lane.client ≡ false

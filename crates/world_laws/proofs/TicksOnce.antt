@@ -1,20 +1,21 @@
 -- In one settle each lane gets one tick at most, and no tick comes from a step.
-use Rattle.std.proofs.Common.{◌≡◌, ℕ, ◌+◌, ◌≤◌, ◌<◌, inl, inr, Bool, true, false, List, [], ◌∷◌, ◌++◌, refl, sym, ap, ◌∙◌, subst, arith}
+use Rattle.std.proofs.Common.{◌≡◌, ℕ, ◌+◌, ◌≤◌, ◌<◌, Bool, true, false, List, [], ◌∷◌, ◌++◌, refl, arith}
 use Rattle.std.proofs.lemmas.Bool.{eqb-true}
 use Rattle.std.specs.Prelude.{◌&&◌, ◌||◌, ◌==◌, if◌then◌else◌}
-use Rattle.runs.specs.Run.{Run}
 use Rattle.ldc_queue.specs.declared.end.End.{End}
 use Rattle.ldc_queue.specs.declared.end.End.TheVariants.{A, B}
 use Rattle.vio_tag.specs.declared.cause.Cause.TheVariants as the_cause
 use Rattle.disk_model.specs.WireEvent.{Idle, Reset}
-use Rattle.disk_model.specs.DiskEvent.{DiskEvent, Off, OnWire, Turns}
+use Rattle.disk_model.specs.DiskEvent.{DiskEvent, Off, OnWire, Switches}
 use Rattle.disk_model.specs.LaneState.{LaneState}
+use Rattle.lane_kinds.proofs.Counting.{part_counted, settles_counted}
+use Rattle.lane_kinds.specs.Laws.{Counts}
 use Rattle.lane_laws.specs.CalmEnds.{IsStep}
 use Rattle.world_laws.proofs.Counts.{ticks_both}
 use Rattle.world_laws.proofs.RoundCounts.{once, tick_entry}
 use Rattle.world_laws.specs.Moves.{ticks_in}
-use Rattle.world_laws.specs.Rounds.{LaneRound, MakeRound, are_quiet, is_quiet}
-use Rattle.world_laws.specs.Settle.{GoesOn, SettleEntry, SettlePart, SettleRound, Settled, Settles, Settling, TicksBehind, Unsettled, begin, entries_of, entry_of, left_over, round_entries, tick_entries}
+use Rattle.world_laws.specs.Rounds.{LaneRound, MakeRound, is_quiet}
+use Rattle.world_laws.specs.Settle.{SettleEntry, SettlePart, Settles, Unsettled, disks, entry_of, left_over, round_entries, tick_entries}
 use Rattle.world_laws.specs.Ticks.{TickLanes, gets_tick, marked, no_marks, waits_on}
 
 -- A STEP is no tick
@@ -24,7 +25,7 @@ never_ticks false = omega (arith)
 
 step_ticks : (k j : ℕ) (e : End) (event : DiskEvent) → IsStep e event → ticks_in k (entry_of j event) ≤ 0
 step_ticks k j e (OnWire (Idle d)) own = omega (arith)
-step_ticks k j e (Turns Off) own = omega (arith)
+step_ticks k j e (Switches Off) own = omega (arith)
 step_ticks k j e (OnWire (Reset d the_cause.Tick packet lost)) own = absurd (cc own.1)
 step_ticks k j e _ own = never_ticks (j == k)
 
@@ -81,7 +82,7 @@ no_tick : (c : Bool) → 0 ≡ once (c && false)
 no_tick true = refl
 no_tick false = refl
 
-entry_ticks : (k j : ℕ) (get : Bool) → ticks_in k (tick_entry j get) ≡ once ((j == k) && get)
+pub entry_ticks : (k j : ℕ) (get : Bool) → ticks_in k (tick_entry j get) ≡ once ((j == k) && get)
 entry_ticks k j true = with_nothing (once ((j == k) && true))
 entry_ticks k j false = no_tick (j == k)
 
@@ -98,37 +99,7 @@ ticks_mark k j (s ∷ lanes) (had ∷ marks) (t ∷ behind) made =
     (ticks_mark k (j + 1) lanes marks behind made.1)
 ticks_mark k j _ _ _ made = absurd made
 
--- ALONG THE ROUNDS
-still_marked : (a n : ℕ) → a ≤ 0 → a + n ≡ n
-still_marked a n none = omega (arith, none)
-
-with_ticks : (all a b mark new : ℕ) → all ≡ a + b → a ≤ 0 → b + mark ≡ new → all + mark ≡ new
-with_ticks all a b mark new sum none more = omega (arith, sum, none, more)
-
-goes_ticks : (k : ℕ) (quiet : Bool) (w : Settling) (steps : List LaneRound) (between : List LaneState) (entries : List SettleEntry) (v : Settling) → MakeRound w.lanes steps between
-    → TicksBehind quiet w steps between entries v → ticks_in k entries + mark_at k 0 w.marks ≡ mark_at k 0 v.marks
-goes_ticks k false w steps between entries v made behind =
-    subst (λ (x : Settling). ticks_in k entries + mark_at k 0 w.marks ≡ mark_at k 0 x.marks) (sym behind.0)
-    (subst (λ (l : List SettleEntry). ticks_in k l + mark_at k 0 w.marks ≡ mark_at k 0 w.marks) (sym behind.1)
-    (still_marked (ticks_in k (round_entries 0 steps)) (mark_at k 0 w.marks) (round_ticks k 0 w.lanes steps between made)))
-goes_ticks k true w steps between entries v made behind =
-    subst (λ (l : List Bool). ticks_in k entries + mark_at k 0 w.marks ≡ mark_at k 0 l) (sym behind.2)
-    (subst (λ (l : List SettleEntry). ticks_in k l + mark_at k 0 w.marks ≡ mark_at k 0 (marked between w.marks)) (sym behind.3)
-    (with_ticks (ticks_in k (round_entries 0 steps ++ tick_entries 0 between w.marks)) (ticks_in k (round_entries 0 steps)) (ticks_in k (tick_entries 0 between w.marks)) (mark_at k 0 w.marks)
-    (mark_at k 0 (marked between w.marks)) (ticks_both k (round_entries 0 steps) (tick_entries 0 between w.marks)) (round_ticks k 0 w.lanes steps between made)
-    (ticks_mark k 0 between w.marks v.lanes behind.1)))
-
-both_rounds : (all one rest a b c : ℕ) → all ≡ one + rest → one + a ≡ b → rest + b ≡ c → all + a ≡ c
-both_rounds all one rest a b c sum first second = omega (arith, sum, first, second)
-
-rounds_tick : (k : ℕ) (w : Settling) (rounds : List SettleRound) (v : Settling) → Run GoesOn w rounds v → ticks_in k (entries_of rounds) + mark_at k 0 w.marks ≡ mark_at k 0 v.marks
-rounds_tick k w [] v run = subst (λ (x : Settling). 0 + mark_at k 0 w.marks ≡ mark_at k 0 x.marks) run (still_marked 0 (mark_at k 0 w.marks) (omega (arith)))
-rounds_tick k w (round ∷ rounds) v run =
-    both_rounds (ticks_in k (round.entries ++ entries_of rounds)) (ticks_in k round.entries) (ticks_in k (entries_of rounds)) (mark_at k 0 w.marks) (mark_at k 0 run.0.marks)
-    (mark_at k 0 v.marks) (ticks_both k round.entries (entries_of rounds))
-    (goes_ticks k (are_quiet round.steps) w round.steps run.1.between round.entries run.0 run.1.made run.1.behind) (rounds_tick k run.0 rounds v run.2)
-
--- THE PART
+-- NAMES are no ticks, and none is marked as a settle begins
 name_ticks : (k j : ℕ) (c : Bool) → ticks_in k (if c then [] else Unsettled j ∷ []) ≤ 0
 name_ticks k j true = omega (arith)
 name_ticks k j false = omega (arith)
@@ -144,10 +115,6 @@ left_ticks k j (r ∷ steps) (s ∷ lanes) =
     (ticks_in k (left_over (j + 1) steps lanes)) (ticks_both k (if is_quiet r && (if waits_on s then false else true) then [] else Unsettled j ∷ []) (left_over (j + 1) steps lanes))
     (name_ticks k j (is_quiet r && (if waits_on s then false else true))) (left_ticks k (j + 1) steps lanes)
 
-no_more_ticks : (all rounds last mark new : ℕ) → all ≡ rounds + last → rounds + mark ≡ new → new ≤ 1 → last ≤ 0 → all ≤ 1
-no_more_ticks all rounds last mark new sum some most none = omega (arith, sum, some, most, none)
-
--- where it settles, a lane's ticks in the part are its mark
 first_none : (c : Bool) (rest : ℕ) → rest ≡ 0 → once (c && false) + rest ≡ 0
 first_none true rest none = omega (arith, none)
 first_none false rest none = omega (arith, none)
@@ -156,26 +123,19 @@ none_marked : (k j : ℕ) (lanes : List LaneState) → mark_at k j (no_marks lan
 none_marked k j [] = refl
 none_marked k j (s ∷ lanes) = first_none (j == k) (mark_at k (j + 1) (no_marks lanes)) (none_marked k (j + 1) lanes)
 
-all_are_marked : (all front rounds last answer mark new : ℕ) → all ≡ front + answer → front ≡ rounds + last → rounds + mark ≡ new → mark ≡ 0 → last ≤ 0 → answer ≡ 0 → all ≡ new
-all_are_marked all front rounds last answer mark new sum first some fresh none nothing = omega (arith, sum, first, some, fresh, none, nothing)
+pub counts : (k : ℕ) → Counts disks (ticks_in k) (mark_at k 0)
+counts k = record {
+  both = ticks_both k;
+  round = λ w r v made. round_ticks k 0 w r v made;
+  ticks = λ w m v ticks. ticks_mark k 0 w m v ticks;
+  unmarked = none_marked k 0;
+  most = mark_most k 0;
+  answer = refl;
+  names = left_ticks k 0;
+}
 
 pub settles_ticks : (start : List LaneState) (part : List SettleEntry) (behind : List LaneState) (k : ℕ) (at : Settles start part behind) → ticks_in k part ≡ mark_at k 0 at.now.marks
-settles_ticks start part behind k at =
-    ap (ticks_in k) at.is
-    ∙ all_are_marked (ticks_in k (entries_of at.rounds ++ round_entries 0 at.steps ++ Settled ∷ [])) (ticks_in k (entries_of at.rounds ++ round_entries 0 at.steps))
-    (ticks_in k (entries_of at.rounds)) (ticks_in k (round_entries 0 at.steps)) (ticks_in k (Settled ∷ [])) (mark_at k 0 (no_marks start)) (mark_at k 0 at.now.marks)
-    (ticks_both k (entries_of at.rounds ++ round_entries 0 at.steps) (Settled ∷ [])) (ticks_both k (entries_of at.rounds) (round_entries 0 at.steps))
-    (rounds_tick k (begin start) at.rounds at.now at.run) (none_marked k 0 start) (round_ticks k 0 at.now.lanes at.steps behind at.last.made) refl
-
-same_most : (a b : ℕ) → a ≡ b → b ≤ 1 → a ≤ 1
-same_most a b is most = omega (arith, is, most)
+settles_ticks start part behind k at = settles_counted disks (ticks_in k) (mark_at k 0) (counts k) start part behind at
 
 pub part_ticks : (start : List LaneState) (part : List SettleEntry) (behind : List LaneState) (k : ℕ) → SettlePart start part behind → ticks_in k part ≤ 1
-part_ticks start part behind k (inl at) =
-    same_most (ticks_in k part) (mark_at k 0 at.now.marks) (settles_ticks start part behind k at) (mark_most k 0 at.now.marks)
-part_ticks start part behind k (inr out) =
-    subst (λ (l : List SettleEntry). ticks_in k l ≤ 1) (sym out.is)
-    (no_more_ticks (ticks_in k (entries_of (out.rounds ++ out.last ∷ []) ++ left_over 0 out.last.steps behind)) (ticks_in k (entries_of (out.rounds ++ out.last ∷ [])))
-    (ticks_in k (left_over 0 out.last.steps behind)) (mark_at k 0 (no_marks start)) (mark_at k 0 out.now.marks)
-    (ticks_both k (entries_of (out.rounds ++ out.last ∷ [])) (left_over 0 out.last.steps behind)) (rounds_tick k (begin start) (out.rounds ++ out.last ∷ []) out.now out.run)
-    (mark_most k 0 out.now.marks) (left_ticks k 0 out.last.steps behind))
+part_ticks start part behind k settle = part_counted disks (ticks_in k) (mark_at k 0) (counts k) start part behind settle

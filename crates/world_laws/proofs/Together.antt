@@ -1,11 +1,13 @@
 -- The lanes together: a round, and the ticks after it, lower what remains on all of them, where nobody forged one.
-use Rattle.std.proofs.Common.{◌≡◌, ℕ, ◌+◌, ◌*◌, ◌≤◌, ◌<◌, ◌⊎◌, inl, inr, Bool, true, false, List, [], ◌∷◌, length, refl, sym, ap, ◌∙◌, subst, arith}
-use Rattle.std.specs.Prelude.{◌&&◌, ◌||◌, if◌then◌else◌}
+use Rattle.std.proofs.Common.{◌≡◌, ℕ, ◌+◌, ◌*◌, ◌≤◌, inl, inr, Bool, true, false, List, [], ◌∷◌, length, refl, sym, ap, ◌∙◌, subst, arith}
+use Rattle.std.specs.Prelude.{if◌then◌else◌}
 use Rattle.disk_model.specs.LaneState.{LaneState}
 use Rattle.disk_model.specs.Reached.{IsReached}
+use Rattle.lane_kinds.proofs.Sums.{and_left, and_right, both_lower, both_unless}
+use Rattle.lane_kinds.specs.Laws.{Lowers, LowersUnless}
 use Rattle.lane_laws.proofs.LaneBound.{remains_most}
 use Rattle.lane_laws.specs.Remaining.{remaining}
-use Rattle.world_laws.proofs.LaneRounds.{and_left, and_right, both_true, reached_on, round_falls, round_keeps, round_reached}
+use Rattle.world_laws.proofs.LaneRounds.{reached_on, round_falls, round_keeps, round_reached}
 use Rattle.world_laws.proofs.LaneTicks.{tick_at, tick_falls}
 use Rattle.world_laws.specs.Rounds.{Each, LaneRound, MakeRound, MakesRound, are_quiet, is_quiet}
 use Rattle.world_laws.specs.Settle.{pending_on}
@@ -22,16 +24,6 @@ pub rounds_clean : (lanes : List LaneState) (rounds : List LaneRound) (behind : 
 rounds_clean [] [] [] all made = tt
 rounds_clean (s ∷ lanes) (r ∷ rounds) (t ∷ behind) all made = ((round_keeps s r t made.0).forged ∙ all.0, rounds_clean lanes rounds behind all.1 made.1)
 rounds_clean _ _ _ all made = absurd made
-
--- a number falls, or this is so and it doesn't rise
-abbrev pub Lowers : Bool → ℕ → ℕ → Type 0
-Lowers b n m = ((b ≡ true) × (m ≤ n)) ⊎ (m < n)
-
-both_lower : (one two : Bool) (a b c d : ℕ) → Lowers one a b → Lowers two c d → Lowers (one && two) (a + c) (b + d)
-both_lower one two a b c d (inl first) (inl second) = inl (both_true one two first.0 second.0, omega (arith, first.1, second.1))
-both_lower one two a b c d (inl first) (inr second) = inr (omega (arith, first.1, second))
-both_lower one two a b c d (inr first) (inl second) = inr (omega (arith, first, second.1))
-both_lower one two a b c d (inr first) (inr second) = inr (omega (arith, first, second))
 
 pub rounds_fall : (lanes : List LaneState) (rounds : List LaneRound) (behind : List LaneState) → Each IsReached lanes → Each IsUnforged lanes → MakeRound lanes rounds behind
     → Lowers (are_quiet rounds) (remaining_on lanes) (remaining_on behind)
@@ -64,20 +56,6 @@ ticks_clean [] [] [] all clean ticks = tt
 ticks_clean (s ∷ lanes) (had ∷ marks) (t ∷ behind) all clean ticks = (lane_clean (gets_tick s had) s t all.0 clean.0 ticks.0, ticks_clean lanes marks behind all.1 clean.1 ticks.1)
 ticks_clean _ _ _ all clean ticks = absurd ticks
 
--- it falls, or none of them gets a tick
-abbrev pub LowersUnless : Bool → ℕ → ℕ → Type 0
-LowersUnless b n m = ((b ≡ false) × (m ≤ n)) ⊎ (m < n)
-
-both_false : (a b : Bool) → a ≡ false → b ≡ false → (a || b) ≡ false
-both_false true b one two = one
-both_false false b one two = two
-
-both_unless : (one two : Bool) (a b c d : ℕ) → LowersUnless one a b → LowersUnless two c d → LowersUnless (one || two) (a + c) (b + d)
-both_unless one two a b c d (inl first) (inl second) = inl (both_false one two first.0 second.0, omega (arith, first.1, second.1))
-both_unless one two a b c d (inl first) (inr second) = inr (omega (arith, first.1, second))
-both_unless one two a b c d (inr first) (inl second) = inr (omega (arith, first, second.1))
-both_unless one two a b c d (inr first) (inr second) = inr (omega (arith, first, second))
-
 same_remains : (s t : LaneState) → t ≡ s → remaining t ≤ remaining s
 same_remains s t is = omega (arith, ap remaining is)
 
@@ -86,7 +64,7 @@ lane_unless : (get had : Bool) (s : LaneState) (r : LaneRound) (t u : LaneState)
 lane_unless true had s r t u at clean made quiet gets step = inr (tick_falls s r t u at clean made quiet (gets_where had (waits_on t) gets).1 step)
 lane_unless false had s r t u at clean made quiet gets same = inl (refl, same_remains t u same)
 
-ticked_lanes : (lanes : List LaneState) (rounds : List LaneRound) (between : List LaneState) (marks : List Bool) (behind : List LaneState) → Each IsReached lanes → Each IsUnforged lanes
+pub ticked_lanes : (lanes : List LaneState) (rounds : List LaneRound) (between : List LaneState) (marks : List Bool) (behind : List LaneState) → Each IsReached lanes → Each IsUnforged lanes
     → MakeRound lanes rounds between → are_quiet rounds ≡ true → TickLanes between marks behind → LowersUnless (some_get_ticks between marks) (remaining_on between) (remaining_on behind)
 ticked_lanes [] [] [] [] [] all clean made quiet ticks = inl (refl, omega (arith))
 ticked_lanes (s ∷ lanes) (r ∷ rounds) (t ∷ between) (had ∷ marks) (u ∷ behind) all clean made quiet ticks =
@@ -101,15 +79,6 @@ ticked_lanes (s ∷ lanes) [] between marks behind all clean made quiet ticks = 
 ticked_lanes (s ∷ lanes) (r ∷ rounds) [] marks behind all clean made quiet ticks = absurd made
 ticked_lanes (s ∷ lanes) (r ∷ rounds) (t ∷ between) [] behind all clean made quiet ticks = absurd ticks
 ticked_lanes (s ∷ lanes) (r ∷ rounds) (t ∷ between) (had ∷ marks) [] all clean made quiet ticks = absurd ticks
-
-lowered : (b : Bool) (n m : ℕ) → b ≡ true → LowersUnless b n m → m < n
-lowered b n m some (inl none) = let never : true ≡ false = sym some ∙ none.0 in absurd (cc never)
-lowered b n m some (inr less) = less
-
-pub ticks_fall : (lanes : List LaneState) (rounds : List LaneRound) (between : List LaneState) (marks : List Bool) (behind : List LaneState) → Each IsReached lanes → Each IsUnforged lanes
-    → MakeRound lanes rounds between → are_quiet rounds ≡ true → TickLanes between marks behind → some_get_ticks between marks ≡ true → remaining_on behind < remaining_on between
-ticks_fall lanes rounds between marks behind all clean made quiet ticks some =
-    lowered (some_get_ticks between marks) (remaining_on between) (remaining_on behind) some (ticked_lanes lanes rounds between marks behind all clean made quiet ticks)
 
 -- THE BOUND
 lane_sum : (a b n p q : ℕ) → a ≤ 69 + 32 * p → b ≤ 69 * n + 32 * q → a + b ≤ 69 * (n + 1) + 32 * (p + q)

@@ -16,7 +16,7 @@ use Rattle.lane_laws.specs.Near.{IsNear}
 use Rattle.lane_laws.proofs.CarriedRuns.{AllStand, all_step}
 use Rattle.lane_laws.proofs.ReachedFacts.{all_behind}
 use Rattle.lane_laws.specs.CalmEnds.{StepKeeps}
-use Rattle.world_laws.proofs.Regions.{IsFirst, end_of, same_image}
+use Rattle.world_laws.proofs.Regions.{IsFirstShape, end_of, same_image}
 use Rattle.world_laws.specs.Plain.{Plain}
 
 -- A LANE THAT NOBODY DISTURBS, with how many of its requests were completed
@@ -87,7 +87,7 @@ pub record Stands (shape : Shape) (p : Plain) (s : LaneState) (store : List ℕ)
   pub behind : drop (end_of shape) store ≡ drop (end_of shape) p.content
 
 -- where nothing waits the image has the content
-pub rested_image : (shape : Shape) (p : Plain) (s : LaneState) (store : List ℕ) → IsFirst shape → Stands shape p s store → p.waiting ≡ [] → store ≡ p.content
+pub rested_image : (shape : Shape) (p : Plain) (s : LaneState) (store : List ℕ) → IsFirstShape shape → Stands shape p s store → p.waiting ≡ [] → store ≡ p.content
 rested_image shape p s store front stands nothing =
     let at = stands.lane in
     same_image shape store p.content front
@@ -105,7 +105,7 @@ pub record Silent (shape : Shape) (p : Plain) (s : LaneState) (event : DiskEvent
   pub image : ImageStep s event t (region_of shape store) (region_of shape new)
   pub behind : drop (end_of shape) new ≡ drop (end_of shape) store
 
-pub silent_on : (shape : Shape) (p : Plain) (s : LaneState) (event : DiskEvent) (t : LaneState) (store new : List ℕ) → IsFirst shape → Stands shape p s store
+pub silent_on : (shape : Shape) (p : Plain) (s : LaneState) (event : DiskEvent) (t : LaneState) (store new : List ℕ) → IsFirstShape shape → Stands shape p s store
     → Silent shape p s event t store new → Stands shape p t new
 silent_on shape p s event t store new front stands silent =
     let at = stands.lane in

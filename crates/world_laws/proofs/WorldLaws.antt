@@ -15,7 +15,7 @@ use Rattle.disk_model.specs.LaneState.{IsShape, LaneState, Shape, fresh}
 use Rattle.disk_model.specs.LaneStep.{LaneStep}
 use Rattle.world_laws.specs.Along.{event_at, happened}
 use Rattle.world_laws.specs.Rounds.{Each}
-use Rattle.world_laws.specs.Settle.{OfLane, SettleEntry, Settled, Unsettled}
+use Rattle.world_laws.specs.Settle.{OfLane, SettleEntry}
 use Rattle.world_laws.specs.Sums.{IsUnforged}
 use Rattle.world_laws.proofs.Along.{lane_step, lanes_run, many_stay}
 use Rattle.world_laws.proofs.LaneLists.{each_set, each_there, is_there}
@@ -113,8 +113,7 @@ entry_well w (OfLane k event) v step well all =
     subst (Each NeverFailed) (sym step.lanes)
     (each_set NeverFailed w.lanes k step.after all
     (failed_stays step.lane event step.after (lane_step step.lane w.image event step.after v.image step.moves) well (each_there NeverFailed w.lanes k step.lane all step.there)))
-entry_well w Settled v step well all = subst (λ (x : WorldState). Each NeverFailed x.lanes) (sym step) all
-entry_well w (Unsettled k) v step well all = subst (λ (x : WorldState). Each NeverFailed x.lanes) (sym step) all
+entry_well w _ v step well all = subst (λ (x : WorldState). Each NeverFailed x.lanes) (sym step) all
 
 run_well : (w : WorldState) (entries : List SettleEntry) (v : WorldState) → Run WorldStep w entries v → count_by (in_entry is_failed_store) entries ≡ 0 → Each NeverFailed w.lanes → Each NeverFailed v.lanes
 run_well w [] v run none all = subst (λ (x : WorldState). Each NeverFailed x.lanes) run all

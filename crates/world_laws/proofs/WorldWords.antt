@@ -15,7 +15,7 @@ use Rattle.disk_model.specs.DiskEvent.{DiskEvent}
 use Rattle.disk_model.specs.LaneState.{IsShape, LaneState, Shape, fresh}
 use Rattle.disk_model.specs.LaneStep.{LaneStep}
 use Rattle.lane_laws.proofs.OneSession.{one_session}
-use Rattle.lane_laws.proofs.UpRuns.{both_up}
+use Rattle.lane_laws.proofs.HeardFront.{both_up}
 use Rattle.lane_laws.specs.OneSession.{AreOneSession}
 use Rattle.lane_laws.proofs.AgreementRuns.{run_agrees}
 use Rattle.lane_laws.proofs.EveryRun.{every_run}
@@ -23,7 +23,7 @@ use Rattle.world_laws.specs.Along.{happened}
 use Rattle.world_laws.specs.Settle.{OfLane, SettleEntry, Unsettled}
 use Rattle.world_laws.proofs.Along.{lane_at, lane_step, lanes_run, shape_at}
 use Rattle.world_laws.proofs.LaneLists.{is_there}
-use Rattle.world_laws.specs.Lines.{Line, LineBegins, LineStep, entries_of}
+use Rattle.world_laws.specs.Lines.{Line, LineBegins, LineStep, entries_of_lines}
 use Rattle.world_laws.specs.World.{AreShapes, WorldState, WorldStep, fresh_world}
 use Rattle.world_laws.proofs.EventWords.{event_words}
 use Rattle.world_laws.proofs.LeftOver.{NamesBelow, cut_below, lines_below, named_below}
@@ -82,14 +82,14 @@ entry_words shapes image entries w before k event behind are run is =
 
 -- WHAT A SCRIPT'S SETTLES leave over
 pub unsettled_within : (shapes : List Shape) (image : ImageState) (lines : List (Line × List SettleEntry)) (w : WorldState) (before : List SettleEntry) (k : ℕ) (behind : List SettleEntry)
-    → Run LineStep (fresh_world shapes image) lines w → before ++ Unsettled k ∷ behind ≡ entries_of lines → k < length shapes
+    → Run LineStep (fresh_world shapes image) lines w → before ++ Unsettled k ∷ behind ≡ entries_of_lines lines → k < length shapes
 unsettled_within shapes image lines w before k behind run is =
     named_below (length shapes) before k behind
     (subst (NamesBelow (length shapes)) (sym is) (lines_below (length shapes) (fresh_world shapes image) lines w (length-map shapes fresh) run))
 
 pub begun_within : (shapes : List Shape) (image : ImageState) (lines : List (Line × List SettleEntry)) (w : WorldState) (line : Line) (part : List SettleEntry) (v : WorldState)
     (before : List SettleEntry) (k : ℕ) (behind : List SettleEntry) → Run LineStep (fresh_world shapes image) lines w → LineBegins w line part v
-    → before ++ Unsettled k ∷ behind ≡ entries_of lines ++ part → k < length shapes
+    → before ++ Unsettled k ∷ behind ≡ entries_of_lines lines ++ part → k < length shapes
 begun_within shapes image lines w line part v before k behind run begun is =
     named_below (length shapes) before k behind
     (subst (NamesBelow (length shapes)) (sym is) (cut_below (length shapes) (fresh_world shapes image) lines w line part v (length-map shapes fresh) run begun))
@@ -117,7 +117,7 @@ lane_up shapes image entries w k s are run there clean client server =
 
 pub lane_one : (shapes : List Shape) (image : ImageState) (entries : List SettleEntry) (w : WorldState) (k : ℕ) (s : LaneState) → AreShapes 0 shapes
     → Run WorldStep (fresh_world shapes image) entries w → slice_get w.lanes k ≡ Some s → s.wire.forged ≡ false → is_some s.client.session ≡ true → is_some s.server.session ≡ true
-    → AreOneSession s.client.shake s.server.shake
+    → AreOneSession s.client.handshake s.server.handshake
 lane_one shapes image entries w k s are run there clean client server =
     let lane = lane_in shapes image entries w k s run there in
     one_session lane.shape (happened k entries) s (lane.sound are) lane.run clean client server

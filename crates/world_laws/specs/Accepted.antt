@@ -2,7 +2,7 @@
 use Rattle.std.specs.Prelude.{ℕ, ◌+◌, List, [], ◌∷◌}
 use Rattle.disk_model.specs.DiskEvent.{Accepted, Asks, DiskEvent}
 use Rattle.disk_model.specs.LaneState.{LaneState}
-use Rattle.world_laws.specs.Settle.{OfLane, SettleEntry, Settled, Unsettled}
+use Rattle.world_laws.specs.Settle.{OfLane, SettleEntry}
 
 abbrev pub accepts : DiskEvent → ℕ
 accepts (Asks (Accepted id request)) = 1
@@ -12,8 +12,7 @@ accepts _ = 0
 abbrev pub accepted_in : List SettleEntry → ℕ
 accepted_in [] = 0
 accepted_in (OfLane k event ∷ entries) = accepts event + accepted_in entries
-accepted_in (Settled ∷ entries) = accepted_in entries
-accepted_in (Unsettled k ∷ entries) = accepted_in entries
+accepted_in (x ∷ entries) = accepted_in entries
 
 -- the sum of the next ids of lanes
 abbrev pub next_ids : List LaneState → ℕ

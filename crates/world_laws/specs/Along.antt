@@ -4,12 +4,11 @@ use Rattle.runs.specs.Run.{Run}
 use Rattle.disk_model.specs.DiskEvent.{DiskEvent}
 use Rattle.disk_model.specs.LaneState.{LaneState}
 use Rattle.disk_model.specs.LaneStep.{LaneStep}
-use Rattle.world_laws.specs.Settle.{OfLane, SettleEntry, Settled, Unsettled}
+use Rattle.world_laws.specs.Settle.{OfLane, SettleEntry}
 
 abbrev pub event_at : ℕ → SettleEntry → List DiskEvent
 event_at k (OfLane j event) = if j == k then event ∷ [] else []
-event_at k Settled = []
-event_at k (Unsettled j) = []
+event_at k _ = []
 
 abbrev pub happened : ℕ → List SettleEntry → List DiskEvent
 happened k [] = []

@@ -1,13 +1,13 @@
 -- A front of a settle's part, where memory is wanted: each step that was made is in it, and no other.
-use Rattle.std.specs.Prelude.{◌≡◌, ◌⊎◌, ℕ, ◌+◌, ◌<◌, Bool, true, if◌then◌else◌, List, [], ◌∷◌, ◌++◌, length}
-use Rattle.runs.specs.Run.{Run}
+use Rattle.std.specs.Prelude.{◌≡◌, ◌⊎◌, ℕ, ◌+◌, Bool, if◌then◌else◌, List, [], ◌∷◌, ◌++◌}
+use Rattle.lane_kinds.specs.Fronts as front
 use Rattle.ldc_queue.specs.declared.end.End.TheVariants.{A}
 use Rattle.disk_model.specs.DiskEvent.{DiskEvent}
 use Rattle.disk_model.specs.LaneState.{LaneState}
 use Rattle.disk_model.specs.LaneStep.{LaneStep}
 use Rattle.lane_laws.specs.CalmEnds.{IsStep}
-use Rattle.world_laws.specs.Rounds.{LaneRound, MakeRound, MakesRound, are_quiet}
-use Rattle.world_laws.specs.Settle.{GoesOn, OfLane, SettleEntry, SettleRound, Settling, begin, entries_of, entry_of, left_over, most_rounds, round_entries}
+use Rattle.world_laws.specs.Rounds.{LaneRound, MakesRound}
+use Rattle.world_laws.specs.Settle.{OfLane, SettleEntry, SettleRound, Settling, disks, entry_of}
 use Rattle.world_laws.specs.Ticks.{TicksWhere, gets_tick, tick}
 
 -- no more was made
@@ -56,32 +56,15 @@ TickFront j (s ∷ lanes) (had ∷ marks) part behind =
     NoMore (s ∷ lanes) part behind ⊎ TickMade (TickFront (j + 1) lanes marks) j (gets_tick s had) s part behind
 TickFront j lanes marks part behind = NoMore lanes part behind
 
--- after a round in which all lanes were quiet; where none gets a tick, only the answer is wanting
-pub record QuietFront (now : Settling) (part : List SettleEntry) (behind : List LaneState) : Type 0 where
-  pub steps : List LaneRound
-  pub between : List LaneState
-  pub made : MakeRound now.lanes steps between
-  pub quiet : are_quiet steps ≡ true
-  pub later : List SettleEntry
-  pub ticks : TickFront 0 between now.marks later behind
-  pub is : part ≡ round_entries 0 steps ++ later
+-- A FRONT OF A SETTLE of disks
+abbrev pub fronts : front.Fronts (List LaneState) (List Bool) SettleEntry
+fronts = record { OfRound = RoundFront 0; OfTicks = TickFront 0 }
 
--- where the rounds ran out, some of the lanes that are left over are named
-pub record NamesFront (rounds : List SettleRound) (now : Settling) (part : List SettleEntry) (behind : List LaneState) : Type 0 where
-  pub before : List SettleRound
-  pub last : SettleRound
-  pub is_last : rounds ≡ before ++ last ∷ []
-  pub unnamed : List SettleEntry
-  pub is : part ++ unnamed ≡ left_over 0 last.steps now.lanes
-  pub lanes : behind ≡ now.lanes
+abbrev pub QuietFront : Settling → List SettleEntry → List LaneState → Type 0
+QuietFront = front.QuietFront disks fronts
 
--- A FRONT OF THE PART
-pub record SettleFront (start : List LaneState) (part : List SettleEntry) (behind : List LaneState) : Type 0 where
-  pub rounds : List SettleRound
-  pub now : Settling
-  pub run : Run GoesOn (begin start) rounds now
-  pub later : List SettleEntry
-  pub front :
-      ((length rounds < most_rounds start) × (RoundFront 0 now.lanes later behind ⊎ QuietFront now later behind))
-      ⊎ ((length rounds ≡ most_rounds start) × NamesFront rounds now later behind)
-  pub is : part ≡ entries_of rounds ++ later
+abbrev pub NamesFront : List SettleRound → Settling → List SettleEntry → List LaneState → Type 0
+NamesFront = front.NamesFront disks
+
+abbrev pub SettleFront : List LaneState → List SettleEntry → List LaneState → Type 0
+SettleFront = front.SettleFront disks fronts

@@ -2,7 +2,7 @@
 use Rattle.std.specs.Prelude.{◌≡◌, ℕ, Bool, List, [], ◌∷◌, ◌++◌, length, map, take}
 use Rattle.runs.specs.Run.{Run}
 use Rattle.world_laws.specs.Rounds.{is_quiet}
-use Rattle.world_laws.specs.Settle.{GoesOn, SettleEntry, SettleRound, Settling, begin, entries_of}
+use Rattle.world_laws.specs.Settle.{GoesOn, SettleEntry, SettleRound, Settling, begin, entries_of_rounds}
 use Rattle.world_laws.specs.World.{WorldState, WorldStep}
 
 -- which lanes were quiet in the last of these rounds
@@ -17,5 +17,5 @@ pub record GoneOn (start : WorldState) (count : ℕ) (entries : List SettleEntry
   pub lanes : settling.lanes ≡ now.lanes
   pub marks : settling.marks ≡ take (length now.lanes) had
   pub last : LastQuiet rounds (take (length now.lanes) quiet)
-  pub leaves : entries ≡ entries_of rounds
+  pub leaves : entries ≡ entries_of_rounds rounds
   pub moves : Run WorldStep start entries now

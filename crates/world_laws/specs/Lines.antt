@@ -6,7 +6,7 @@ use Rattle.ldc_queue.specs.declared.end.End.TheVariants.{A, B}
 use Rattle.vdisk_msg.specs.declared.request.Request.{Request}
 use Rattle.vio_tag.specs.declared.cause.Cause.TheVariants as the_cause
 use Rattle.disk_model.specs.WireEvent.{Declines, Lost, NothingLost, Reset}
-use Rattle.disk_model.specs.DiskEvent.{Accepted, Asks, CalmReset, CalmRestart, CalmStart, CalmStop, CalmTick, DiskEvent, Full, OnWire, Refused, Rests, Started, Stopped, Turns}
+use Rattle.disk_model.specs.DiskEvent.{Accepted, Asks, CalmReset, CalmRestart, CalmStart, CalmStop, CalmTick, DiskEvent, Full, OnWire, Refused, Calms, Started, Stopped, Switches}
 use Rattle.disk_model.specs.LaneState.{LaneState}
 use Rattle.lane_laws.specs.CalmEnds.{IsStep}
 use Rattle.world_laws.specs.Begun.{SettleFront}
@@ -42,17 +42,17 @@ AnswersRequest request _ = ⊥
 
 abbrev pub AnswersCall : Call → DiskEvent → Type 0
 AnswersCall (Resets e) (OnWire (Reset d the_cause.Asked packet lost)) = d ≡ e
-AnswersCall (Resets e) (Rests (CalmReset d)) = d ≡ e
+AnswersCall (Resets e) (Calms (CalmReset d)) = d ≡ e
 AnswersCall Restarts (OnWire (Reset B the_cause.Restart packet lost)) = ⊤
-AnswersCall Restarts (Rests CalmRestart) = ⊤
-AnswersCall Stops (Turns Stopped) = ⊤
-AnswersCall Stops (Rests CalmStop) = ⊤
-AnswersCall Starts (Turns Started) = ⊤
-AnswersCall Starts (Rests CalmStart) = ⊤
+AnswersCall Restarts (Calms CalmRestart) = ⊤
+AnswersCall Stops (Switches Stopped) = ⊤
+AnswersCall Stops (Calms CalmStop) = ⊤
+AnswersCall Starts (Switches Started) = ⊤
+AnswersCall Starts (Calms CalmStart) = ⊤
 AnswersCall (Loses e) (OnWire (Lost d packet)) = d ≡ e
 AnswersCall (Loses e) (OnWire (Declines (NothingLost d))) = d ≡ e
 AnswersCall Ticks (OnWire (Reset A the_cause.Tick packet lost)) = ⊤
-AnswersCall Ticks (Rests CalmTick) = ⊤
+AnswersCall Ticks (Calms CalmTick) = ⊤
 AnswersCall call _ = ⊥
 
 -- one event of one lane
@@ -62,32 +62,32 @@ pub record OneEntry (k : ℕ) (Answers : DiskEvent → Type 0) (part : List Sett
   pub is : part ≡ OfLane k event ∷ []
 
 -- STEPS, by whose turn it is: a lane's number and its end
-pub record Turn : Type 0 where
+pub record EndTurn : Type 0 where
   pub lane : ℕ
   pub side : End
 
-abbrev pub turn : ℕ → End → Turn
+abbrev pub turn : ℕ → End → EndTurn
 turn k e = record { lane = k; side = e }
 
 -- those of a round over so many lanes, from this number on: the client's turn, and then the server's
-abbrev pub round_turns : ℕ → ℕ → List Turn
+abbrev pub round_turns : ℕ → ℕ → List EndTurn
 round_turns k zero = []
 round_turns k (suc many) = turn k A ∷ turn k B ∷ round_turns (k + 1) many
 
-abbrev pub turns_of : ℕ → ℕ → List Turn
+abbrev pub turns_of : ℕ → ℕ → List EndTurn
 turns_of zero many = []
 turns_of (suc count) many = round_turns 0 many ++ turns_of count many
 
 -- each turn gave the entry of a step, in their order
-abbrev pub AreSteps : List Turn → List SettleEntry → Type 0
+abbrev pub AreSteps : List EndTurn → List SettleEntry → Type 0
 AreSteps [] [] = ⊤
 AreSteps (next ∷ turns) (OfLane k event ∷ part) = (k ≡ next.lane) × IsStep next.side event × AreSteps turns part
 AreSteps _ _ = ⊥
 
 -- and so far a front of them
-pub record AreFirstSteps (turns : List Turn) (part : List SettleEntry) : Type 0 where
-  pub made : List Turn
-  pub left : List Turn
+pub record AreFirstSteps (turns : List EndTurn) (part : List SettleEntry) : Type 0 where
+  pub made : List EndTurn
+  pub left : List EndTurn
   pub turns_are : turns ≡ made ++ left
   pub steps : AreSteps made part
 
@@ -124,5 +124,5 @@ abbrev pub LineStep : WorldState → Line × List SettleEntry → WorldState →
 LineStep w line v = LineMoves w line.0 line.1 v
 
 -- the journal of a script: the parts of its lines, one after the other
-abbrev pub entries_of : List (Line × List SettleEntry) → List SettleEntry
-entries_of lines = flat_map (λ (line : Line × List SettleEntry). line.1) lines
+abbrev pub entries_of_lines : List (Line × List SettleEntry) → List SettleEntry
+entries_of_lines lines = flat_map (λ (line : Line × List SettleEntry). line.1) lines

@@ -1,22 +1,22 @@
 -- Counts over the part of a settle: entries that are steps other than Blocked, or ticks; how often an end found no room with nothing but
 -- Blocked between; and how many ticks a lane got.
-use Rattle.std.specs.Prelude.{ℕ, ◌+◌, ◌≤◌, Bool, true, false, ◌&&◌, ◌==◌, if◌then◌else◌, List, [], ◌∷◌, ⊤}
+use Rattle.std.specs.Prelude.{ℕ, ◌+◌, Bool, true, false, ◌&&◌, ◌==◌, if◌then◌else◌, List}
 use Rattle.ldc_queue.specs.declared.end.End.{End}
 use Rattle.ldc_queue.specs.declared.end.End.TheVariants.{A, B}
 use Rattle.vio_tag.specs.declared.cause.Cause.TheVariants as the_cause
 use Rattle.disk_model.specs.WireEvent.{Blocked, Reset}
 use Rattle.disk_model.specs.DiskEvent.{DiskEvent, OnWire}
-use Rattle.world_laws.specs.Settle.{OfLane, SettleEntry, Settled, Unsettled}
+use Rattle.lane_kinds.specs.Stuck as ends
+use Rattle.lane_kinds.specs.Stuck.{sum_over}
+use Rattle.world_laws.specs.Settle.{OfLane, SettleEntry}
 
 abbrev pub moves : SettleEntry → ℕ
 moves (OfLane j (OnWire (Blocked e))) = 0
 moves (OfLane j event) = 1
-moves Settled = 0
-moves (Unsettled j) = 0
+moves _ = 0
 
 abbrev pub moves_in : List SettleEntry → ℕ
-moves_in [] = 0
-moves_in (x ∷ part) = moves x + moves_in part
+moves_in part = sum_over moves part
 
 -- how often this end of this lane found no room since the last entry that isn't Blocked
 abbrev pub is_end : End → End → Bool
@@ -29,8 +29,7 @@ stuck k e n (OfLane j (OnWire (Blocked d))) = if (j == k) && is_end d e then n +
 stuck k e n _ = 0
 
 abbrev pub NeverThree : ℕ → End → ℕ → List SettleEntry → Type 0
-NeverThree k e n [] = ⊤
-NeverThree k e n (x ∷ part) = (stuck k e n x ≤ 2) × NeverThree k e (stuck k e n x) part
+NeverThree k e n part = ends.NeverThree (stuck k e) n part
 
 -- the ticks of this lane
 abbrev pub is_tick : DiskEvent → Bool
@@ -39,9 +38,7 @@ is_tick _ = false
 
 abbrev pub ticks : ℕ → SettleEntry → ℕ
 ticks k (OfLane j event) = if (j == k) && is_tick event then 1 else 0
-ticks k Settled = 0
-ticks k (Unsettled j) = 0
+ticks k _ = 0
 
 abbrev pub ticks_in : ℕ → List SettleEntry → ℕ
-ticks_in k [] = 0
-ticks_in k (x ∷ part) = ticks k x + ticks_in k part
+ticks_in k part = sum_over (ticks k) part

@@ -5,12 +5,12 @@ use Rattle.disk_law.specs.ListStep as plain
 use Rattle.disk_model.specs.DiskEvent.{Accepted, Asks, DiskEvent, Done, Full, Refused, Works}
 
 -- WHAT IS A REQUEST'S: what came of it as it was asked, and its completion
-abbrev pub request_event : DiskEvent → Option plain.DiskEvent
+abbrev pub request_event : DiskEvent → Option plain.ListEvent
 request_event (Asks (Accepted id request)) = Some (plain.Accepted id request)
 request_event (Asks (Full request)) = Some (plain.Full request)
 request_event (Asks (Refused why request)) = Some (plain.Refused why request)
 request_event (Works (Done id operation status bytes)) = Some (plain.Done id operation status bytes)
 request_event _ = None
 
-abbrev pub requests_of : List DiskEvent → List plain.DiskEvent
+abbrev pub requests_of : List DiskEvent → List plain.ListEvent
 requests_of events = filter_map request_event events

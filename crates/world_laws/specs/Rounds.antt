@@ -2,7 +2,7 @@
 use Rattle.std.specs.Prelude.{Bool, true, false, ◌&&◌, List, [], ◌∷◌, ⊤}
 use Rattle.ldc_queue.specs.declared.end.End.TheVariants.{A, B}
 use Rattle.disk_model.specs.WireEvent.{Blocked, Idle}
-use Rattle.disk_model.specs.DiskEvent.{DiskEvent, Off, OnWire, Turns}
+use Rattle.disk_model.specs.DiskEvent.{DiskEvent, Off, OnWire, Switches}
 use Rattle.disk_model.specs.LaneState.{LaneState}
 use Rattle.disk_model.specs.LaneStep.{LaneStep}
 use Rattle.lane_laws.specs.CalmEnds.{IsStep}
@@ -29,7 +29,7 @@ MakeRound _ _ _ = ⊥
 abbrev pub is_calm : DiskEvent → Bool
 is_calm (OnWire (Idle e)) = true
 is_calm (OnWire (Blocked e)) = true
-is_calm (Turns Off) = true
+is_calm (Switches Off) = true
 is_calm _ = false
 
 abbrev pub is_quiet : LaneRound → Bool

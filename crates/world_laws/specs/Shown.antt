@@ -2,7 +2,7 @@
 use Rattle.std.specs.Prelude.{Bool, true, false, List, [], ◌∷◌, ◌++◌}
 use Rattle.disk_model.specs.WireEvent.{Reset}
 use Rattle.disk_model.specs.DiskEvent.{Asks, Done, Full, OnWire, Refused, Works}
-use Rattle.world_laws.specs.Settle.{OfLane, SettleEntry, Settled, Unsettled}
+use Rattle.world_laws.specs.Settle.{OfLane, SettleEntry}
 
 -- a request that doesn't wait, a completion, a reset of an end, and the answer of a settle
 abbrev pub is_shown : SettleEntry → Bool
@@ -11,8 +11,7 @@ is_shown (OfLane k (Asks (Refused why request))) = true
 is_shown (OfLane k (Works (Done id operation status bytes))) = true
 is_shown (OfLane k (OnWire (Reset e cause packet lost))) = true
 is_shown (OfLane k event) = false
-is_shown Settled = true
-is_shown (Unsettled k) = true
+is_shown _ = true
 
 abbrev pub shown_if : Bool → SettleEntry → List SettleEntry
 shown_if true x = x ∷ []

@@ -6,7 +6,7 @@ use Rattle.disk_model.specs.DiskEvent.{DiskEvent, Stored, Works}
 use Rattle.disk_model.specs.LaneState.{IsShape, LaneState, Shape, fresh}
 use Rattle.disk_model.specs.LaneStep.{LaneStep}
 use Rattle.disk_model.specs.Served.{Served}
-use Rattle.world_laws.specs.Settle.{OfLane, SettleEntry, Settled, Unsettled}
+use Rattle.world_laws.specs.Settle.{OfLane, SettleEntry}
 
 pub record WorldState : Type 0 where
   pub lanes : List LaneState
@@ -40,8 +40,7 @@ pub record OneMoves (w : WorldState) (k : ℕ) (event : DiskEvent) (v : WorldSta
 -- AN ENTRY of the journal: an event of a lane, or that a settle ended
 abbrev pub WorldStep : WorldState → SettleEntry → WorldState → Type 0
 WorldStep w (OfLane k event) v = OneMoves w k event v
-WorldStep w Settled v = v ≡ w
-WorldStep w (Unsettled k) v = v ≡ w
+WorldStep w _ v = v ≡ w
 
 -- the disks of a world stand in its image one after another, from this block on
 abbrev pub AreShapes : ℕ → List Shape → Type 0

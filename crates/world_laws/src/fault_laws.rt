@@ -58,8 +58,8 @@ pub fn failed_completions_are_counted()
 {}
 
 /// In a world the image's count of calls is that of the start, and one higher for each call of a store that its journal
-/// tells, of any lane; and its count of flushes is one higher for each that flushes. So nothing else calls it, and each
-/// flush that is told reached it: also where somebody forges packets and memory and where the store fails.
+/// tells, of any lane; and its count of flushes is one higher for each that flushes. So it is called and flushed as often
+/// as that is told: also where somebody forges packets and memory and where the store fails.
 pub fn calls_of_the_image_are_told()
     ensures calls { (w : WorldState) (entries : List SettleEntry) (v : WorldState)
         → Run WorldStep w entries v → v.image.calls ≡ count_after (count_by (in_entry is_store) entries) w.image.calls }

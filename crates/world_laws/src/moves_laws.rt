@@ -6,7 +6,7 @@ ghost use Rattle.disk_law.specs.ListState.{ImageState};
 ghost use Rattle.disk_model.specs.LaneState.{Shape};
 ghost use Rattle.world_laws.specs.Settle.{SettleEntry};
 ghost use Rattle.world_laws.specs.WorldAlong.{LanesRun};
-ghost use Rattle.world_laws.specs.Lines.{Line, LineStep, entries_of};
+ghost use Rattle.world_laws.specs.Lines.{Line, LineStep, entries_of_lines};
 ghost use Rattle.world_laws.specs.World.{WorldState, WorldStep, fresh_world};
 
 /// Each lane of a world is run by what the journal says happened to it: other lanes' events leave it as it is.
@@ -19,5 +19,5 @@ pub fn each_lane_runs_by_its_events()
 /// the other.
 pub fn a_script_runs_a_world_by_its_parts()
     ensures { (w : WorldState) (lines : List (Line × List SettleEntry)) (v : WorldState)
-        → Run LineStep w lines v → Run WorldStep w (entries_of lines) v }
+        → Run LineStep w lines v → Run WorldStep w (entries_of_lines lines) v }
 {}

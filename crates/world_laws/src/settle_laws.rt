@@ -5,7 +5,7 @@ ghost use Rattle.runs.specs.Run.{Run};
 ghost use Rattle.ldc_queue.specs.declared.end.End.{End};
 ghost use Rattle.ldc_queue.specs.declared.end.End.TheVariants.{A, B};
 ghost use Rattle.disk_model.specs.WireEvent.{Idle};
-ghost use Rattle.disk_model.specs.DiskEvent.{Off, OnWire, Turns};
+ghost use Rattle.disk_model.specs.DiskEvent.{Off, OnWire, Switches};
 ghost use Rattle.disk_model.specs.LaneState.{LaneState};
 ghost use Rattle.disk_model.specs.LaneStep.{LaneStep};
 ghost use Rattle.disk_model.specs.Reached.{IsReached};
@@ -89,6 +89,6 @@ pub fn lanes_at_rest_settle_at_once()
     ensures none { Settles [] (Settled ∷ []) [] }
     ensures rest { (s : LaneState) → LaneStep s (OnWire (Idle A)) s → LaneStep s (OnWire (Idle B)) s
         → waits_on s ≡ false → Settles (s ∷ []) (Settled ∷ []) (s ∷ []) }
-    ensures off { (s : LaneState) → LaneStep s (OnWire (Idle A)) s → LaneStep s (Turns Off) s
+    ensures off { (s : LaneState) → LaneStep s (OnWire (Idle A)) s → LaneStep s (Switches Off) s
         → waits_on s ≡ false → Settles (s ∷ []) (Settled ∷ []) (s ∷ []) }
 {}

@@ -14,7 +14,7 @@ ghost use Rattle.disk_model.specs.LaneState.{LaneState, Shape};
 ghost use Rattle.lane_laws.specs.OneSession.{AreOneSession};
 ghost use Rattle.world_laws.specs.Along.{happened};
 ghost use Rattle.world_laws.specs.Settle.{OfLane, SettleEntry, Unsettled};
-ghost use Rattle.world_laws.specs.Lines.{Line, LineBegins, LineStep, entries_of};
+ghost use Rattle.world_laws.specs.Lines.{Line, LineBegins, LineStep, entries_of_lines};
 ghost use Rattle.world_laws.specs.World.{AreShapes, fresh_world, WorldState, WorldStep};
 ghost use Rattle.world_laws.specs.Words.{HasWords};
 
@@ -35,12 +35,12 @@ pub fn events_have_their_words()
     ensures unsettled { (shapes : List Shape) (image : ImageState) (lines : List (Line × List SettleEntry))
         (w : WorldState) (before : List SettleEntry) (k : ℕ) (behind : List SettleEntry)
         → Run LineStep (fresh_world shapes image) lines w
-        → before ++ Unsettled k ∷ behind ≡ entries_of lines → k < length shapes }
+        → before ++ Unsettled k ∷ behind ≡ entries_of_lines lines → k < length shapes }
     ensures unsettled_begun { (shapes : List Shape) (image : ImageState) (lines : List (Line × List SettleEntry))
         (w : WorldState) (line : Line) (part : List SettleEntry) (v : WorldState)
         (before : List SettleEntry) (k : ℕ) (behind : List SettleEntry)
         → Run LineStep (fresh_world shapes image) lines w → LineBegins w line part v
-        → before ++ Unsettled k ∷ behind ≡ entries_of lines ++ part → k < length shapes }
+        → before ++ Unsettled k ∷ behind ≡ entries_of_lines lines ++ part → k < length shapes }
 {}
 
 /// Along every run of a world, also where somebody forges packets and memory and where the store fails: what its
@@ -65,5 +65,5 @@ pub fn lanes_are_lawful()
         (k : ℕ) (s : LaneState)
         → AreShapes 0 shapes → Run WorldStep (fresh_world shapes image) entries w → slice_get w.lanes k ≡ Some s
         → s.wire.forged ≡ false → is_some s.client.session ≡ true → is_some s.server.session ≡ true
-        → AreOneSession s.client.shake s.server.shake }
+        → AreOneSession s.client.handshake s.server.handshake }
 {}

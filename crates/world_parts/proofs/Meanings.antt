@@ -4,7 +4,7 @@ use Rattle.std.specs.Prelude.{⊤}
 use Rattle.std.proofs.lemmas.Bool.{eqb-true}
 use Rattle.vdisk_msg.specs.declared.request.Request.{Request}
 use Rattle.world_laws.specs.WireEvent.{Declined, Declines, NothingLost}
-use Rattle.world_laws.specs.DiskEvent.{Asks, Calm, CalmReset, CalmRestart, CalmStart, CalmStop, CalmTick, DiskEvent, Full, OnWire, Refused, Rests}
+use Rattle.world_laws.specs.DiskEvent.{Asks, Calm, CalmReset, CalmRestart, CalmStart, CalmStop, CalmTick, DiskEvent, Full, OnWire, Refused, Calms}
 use Rattle.ldc_queue.specs.declared.end.End.{End}
 use Rattle.ldc_queue.specs.declared.end.End.TheVariants.{B}
 use Rattle.world_laws.specs.Settle.{OfLane, SettleEntry, Settled, Unsettled}
@@ -16,8 +16,9 @@ use Rattle.domain_script.specs.declared.event.Side.TheVariants.{Client, Server}
 use Rattle.ldom_entries.specs.declared.entry.Entry.{Entry}
 use Rattle.ldom_entries.specs.declared.entry.Who.{Who}
 use Rattle.ldom_entries.specs.declared.entry.Who.TheVariants.{Lane as OfWhole, End as OfEnd}
-use Rattle.ldom_journal.specs.DiskEvents.{defect_of}
-use Rattle.ldom_journal.specs.LaneEvents.{AtClient, AtLane, AtServer, AtWire, ChangesNothing, LeavesNothing, LeavesOver, Meaning, NoRoomFor, Refuses, called_event, end_of, if_so, is_end, is_same, lane_number, meaning, meant, of_client, of_server, world_event}
+use Rattle.ldom_report.specs.DiskEvents.{defect_of}
+use Rattle.ldom_report.specs.LaneEvents.{AtClient, AtLane, AtServer, AtWire, ChangesNothing, LeavesNothing, LeavesOver, Meaning, NoRoomFor, Refuses, end_of, lane_number, meaning}
+use Rattle.world_parts.specs.WorldEvents.{called_event, if_so, is_end, is_same, meant, of_client, of_server, world_event}
 
 -- the number of the lane of whom an entry is about
 abbrev pub number_of : Who → ℕ
@@ -35,7 +36,7 @@ Holds P (NoRoomFor (OfEnd e)) = ⊤
 Holds P (Refuses (OfWhole (Disk k)) why) = (request : Request) → P (OfLane k (Asks (Refused (defect_of why) request)))
 Holds P (Refuses (OfEnd e) why) = ⊤
 Holds P (ChangesNothing who) =
-    ((calm : Calm) → P (OfLane (number_of who) (Rests calm)))
+    ((calm : Calm) → P (OfLane (number_of who) (Calms calm)))
     × ((d : Declined) → P (OfLane (number_of who) (OnWire (Declines d))))
 Holds P (LeavesOver (OfWhole (Disk k))) = P (Unsettled k)
 Holds P (LeavesOver (OfEnd e)) = ⊤
@@ -73,11 +74,11 @@ end_has P j e name event holds =
 
 called_has : (P : SettleEntry → Type 0) (j : ℕ) (call : Call) (who : Who) → Holds P (ChangesNothing who)
     → Has P (called_event j call who)
-called_has P j Stops (OfWhole (Disk k)) holds = if_has P (j == k) (OfLane k (Rests CalmStop)) (holds.0 CalmStop)
-called_has P j Starts (OfWhole (Disk k)) holds = if_has P (j == k) (OfLane k (Rests CalmStart)) (holds.0 CalmStart)
-called_has P j Ticks (OfWhole (Disk k)) holds = if_has P (j == k) (OfLane k (Rests CalmTick)) (holds.0 CalmTick)
-called_has P j (Resets e) (OfEnd name) holds = end_has P j e name (Rests (CalmReset e)) (holds.0 (CalmReset e))
-called_has P j Restarts (OfEnd name) holds = end_has P j B name (Rests CalmRestart) (holds.0 CalmRestart)
+called_has P j Stops (OfWhole (Disk k)) holds = if_has P (j == k) (OfLane k (Calms CalmStop)) (holds.0 CalmStop)
+called_has P j Starts (OfWhole (Disk k)) holds = if_has P (j == k) (OfLane k (Calms CalmStart)) (holds.0 CalmStart)
+called_has P j Ticks (OfWhole (Disk k)) holds = if_has P (j == k) (OfLane k (Calms CalmTick)) (holds.0 CalmTick)
+called_has P j (Resets e) (OfEnd name) holds = end_has P j e name (Calms (CalmReset e)) (holds.0 (CalmReset e))
+called_has P j Restarts (OfEnd name) holds = end_has P j B name (Calms CalmRestart) (holds.0 CalmRestart)
 called_has P j (Loses e) (OfEnd name) holds =
     end_has P j e name (OnWire (Declines (NothingLost e))) (holds.1 (NothingLost e))
 called_has P j call who holds = tt

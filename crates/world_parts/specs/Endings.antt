@@ -2,8 +2,8 @@
 use Rattle.std.specs.Prelude.{◌≡◌, List, [], None, ⊤}
 use Rattle.world_laws.specs.World.{WorldState}
 use Rattle.ldom_entries.specs.declared.entry.Entry.{Entry}
-use Rattle.ldom_journal.specs.declared.status.Status.{Status}
-use Rattle.ldom_journal.specs.declared.status.Status.TheVariants as status
+use Rattle.ldom_report.specs.declared.status.Status.{Status}
+use Rattle.ldom_report.specs.declared.status.Status.TheVariants as status
 use Rattle.world_parts.specs.Script.{FitsScript, ScriptParts, journal_of}
 
 pub data Ending : Type 0 where
@@ -25,8 +25,8 @@ EndsSo Whole parts = parts.cut ≡ None
 EndsSo MayBeCut parts = ⊤
 EndsSo NotBegun parts = journal_of parts ≡ []
 
--- THE JOURNAL of a run is the parts of its lines, one after another: after want of memory the last may be cut off, and
--- without a world there is none.
+-- THE JOURNAL of a run is the parts of its lines, one after another: after want of memory the last may be a front of
+-- one, and where no image was attached there is none.
 pub record JournalIs (how : Ending) (s : WorldState) (parts : ScriptParts) (journal : List Entry) (t : WorldState) : Type 0 where
   pub is : journal_of parts ≡ journal
   pub fits : FitsScript 0 s parts t

@@ -1,3 +1,4 @@
+pub mod WorldEvents
 pub mod Parts
 pub mod Declared
 pub mod Lines

@@ -2,7 +2,7 @@
 use Rattle.std.specs.Prelude.{◌≡◌, ℕ, ◌<◌, List, ⊤}
 use Rattle.std.specs.List.{flat_map}
 use Rattle.vdisk_msg.specs.Fills.{IsRequest}
-use Rattle.disk_law.specs.ListStep.{DiskEvent}
+use Rattle.disk_law.specs.ListStep.{ListEvent}
 use Rattle.domain_script.specs.declared.event.Event.{Event}
 use Rattle.domain_script.specs.declared.event.Event.TheVariants as event
 use Rattle.domain_script.specs.declared.event.Side.TheVariants.{Server}
@@ -10,10 +10,10 @@ use Rattle.domain_script.specs.Limits.{AreTurns}
 use Rattle.world_laws.specs.Settle.{SettleEntry}
 use Rattle.world_laws.specs.Lines.{Asked, Calls, Line, LineBegins, LineMoves, Loses, Nothing, Resets, Restarts, Rounds, Settles, Starts, Steps, Stops, Ticks}
 use Rattle.world_laws.specs.World.{WorldState}
-use Rattle.ldom_journal.specs.DiskEvents.{happened}
-use Rattle.ldom_journal.specs.LaneEvents.{end_of, lane_number}
+use Rattle.ldom_report.specs.DiskEvents.{happened_to}
+use Rattle.ldom_report.specs.LaneEvents.{end_of, lane_number}
 use Rattle.ldom_entries.specs.declared.entry.Entry.{Entry}
-use Rattle.world_parts.specs.Parts.{Says}
+use Rattle.world_parts.specs.Parts.{PartSays}
 
 -- what an event asks of a world
 abbrev pub line_of : Event → Line
@@ -45,17 +45,17 @@ IsForDisks many (event.Tick lane) = lane_number lane < many
 IsForDisks many other = ⊤
 
 -- A LINE with its part of the journal leads a world from one state to another
-pub record LineStep (w : WorldState) (line : Event × List Entry) (v : WorldState) : Type 0 where
+pub record EventStep (w : WorldState) (line : Event × List Entry) (v : WorldState) : Type 0 where
   pub entries : List SettleEntry
-  pub says : Says (line_of line.0) line.1 entries
+  pub says : PartSays (line_of line.0) line.1 entries
   pub moves : LineMoves w (line_of line.0) entries v
 
 -- and one with the steps of its part that were made before memory was wanted
 pub record LineStarts (w : WorldState) (line : Event × List Entry) (v : WorldState) : Type 0 where
   pub entries : List SettleEntry
-  pub says : Says (line_of line.0) line.1 entries
+  pub says : PartSays (line_of line.0) line.1 entries
   pub begins : LineBegins w (line_of line.0) entries v
 
 -- what lines with their parts say of the requests of the disk x
-abbrev pub all_happened : ℕ → List (Event × List Entry) → List DiskEvent
-all_happened x lines = flat_map (λ l. happened x l.0 l.1) lines
+abbrev pub all_happened : ℕ → List (Event × List Entry) → List ListEvent
+all_happened x lines = flat_map (λ l. happened_to x l.0 l.1) lines

@@ -2,7 +2,7 @@
 use Rattle.std.specs.Prelude.{◌≡◌, ℕ, Bool, List, [], ◌∷◌, ◌++◌, map, Some}
 use Rattle.ldc_queue.specs.declared.end.End.{End}
 use Rattle.world_laws.specs.DiskEvent.{DiskEvent}
-use Rattle.ldom_journal.specs.LaneEvents.{world_event}
+use Rattle.world_parts.specs.WorldEvents.{world_event}
 use Rattle.ldom_entries.specs.declared.entry.Entry.{Entry}
 use Rattle.world_laws.specs.CalmEnds.{IsStep}
 use Rattle.world_laws.specs.Rounds.{is_calm}
@@ -11,14 +11,14 @@ use Rattle.world_laws.specs.Lines.{Line, LineBegins, LineMoves}
 use Rattle.world_laws.specs.World.{OneMoves, WorldState}
 
 -- these entries of a journal, in the part of this line, are these of the lanes
-abbrev pub Says : Line → List Entry → List SettleEntry → Type 0
-Says line part entries = map (world_event line) part ≡ map Some entries
+abbrev pub PartSays : Line → List Entry → List SettleEntry → Type 0
+PartSays line part entries = map (world_event line) part ≡ map Some entries
 
 -- A JOURNAL GREW by entries that say this
 pub record Adds (line : Line) (old new : List Entry) (entries : List SettleEntry) : Type 0 where
   pub part : List Entry
   pub grew : new ≡ old ++ part
-  pub says : Says line part entries
+  pub says : PartSays line part entries
 
 -- by exactly the part of this line, which led the world from one state to another,
 pub record Fits (w : WorldState) (line : Line) (old new : List Entry) (v : WorldState) : Type 0 where

@@ -4,12 +4,12 @@ use Rattle.std.specs.List.{flat_map}
 use Rattle.runs.specs.Run.{Run}
 use Rattle.domain_script.specs.declared.event.Event.{Event}
 use Rattle.world_laws.specs.World.{WorldState}
-use Rattle.ldom_journal.specs.LinesEnd.{most_entries}
+use Rattle.ldom_report.specs.LinesEnd.{most_entries}
 use Rattle.ldom_entries.specs.declared.entry.Entry.{Entry}
-use Rattle.world_parts.specs.Lines.{LineStarts, LineStep}
+use Rattle.world_parts.specs.Lines.{LineStarts, EventStep}
 
 -- THE LINES that were taken up, each with its part of the journal: those that gave all of it; and after them the one,
--- if any, that want of memory cut off, with what it gave
+-- if any, at which the run ended early, with what it gave: for want of memory, or as no image could be attached
 pub record ScriptParts : Type 0 where
   pub whole : List (Event × List Entry)
   pub cut : Option (Event × List Entry)
@@ -48,6 +48,6 @@ LastStarts w (Some last) v = LineStarts w last v
 -- AFTER SO MANY ENTRIES the lines lead the world from one state to another, one after the other.
 pub record FitsScript (entries : ℕ) (s : WorldState) (parts : ScriptParts) (t : WorldState) : Type 0 where
   pub middle : WorldState
-  pub run : Run LineStep s parts.whole middle
+  pub run : Run EventStep s parts.whole middle
   pub last : LastStarts middle parts.cut t
   pub begin_below : BeginBelow entries (all_lines parts)

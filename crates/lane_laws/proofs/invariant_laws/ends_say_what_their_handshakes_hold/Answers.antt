@@ -1,4 +1,4 @@
-use Rattle.lane_laws.proofs.LaneUttering.{client_said, server_said}
+use Rattle.lane_laws.proofs.Speaking.{client_said, server_said}
 use Rattle.lane_laws.proofs.invariant_laws.ends_say_what_their_handshakes_hold.Goals as goal
 
 pub returns-clause-client : goal.returns-clause-client

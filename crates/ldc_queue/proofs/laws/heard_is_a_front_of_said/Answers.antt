@@ -1,5 +1,5 @@
-use Rattle.ldc_queue.specs.QueueLog.{nothing_yet, talk_of}
-use Rattle.ldc_queue.specs.Talk.{numbered_heard, numbered_said}
+use Rattle.ldc_queue.specs.QueueLog.{nothing_yet, transcript_of}
+use Rattle.ldc_queue.specs.Transcript.{numbered_heard, numbered_said}
 use Rattle.ldc_queue.specs.Wire.{peer_of}
 use Rattle.ldc_queue.proofs.Messages.{messages_front}
 use Rattle.ldc_queue.proofs.Streams.{heard_front, stream_begins, stream_run, stream_step}
@@ -19,4 +19,4 @@ returns-clause-packets c = heard_front
 
 pub returns-clause-messages : goal.returns-clause-messages
 returns-clause-messages c =
-    λ l e s up. messages_front (numbered_heard (talk_of e l)) (numbered_said (talk_of (peer_of e) l)) (heard_front l e s up)
+    λ l e s up. messages_front (numbered_heard (transcript_of e l)) (numbered_said (transcript_of (peer_of e) l)) (heard_front l e s up)

@@ -1,5 +1,5 @@
 use Rattle.std.proofs.Common.{◌∙◌, arith}
-use Rattle.domain_script.specs.LinesState.{to_come}
+use Rattle.script_reader.specs.LinesState.{to_come}
 use Rattle.ldom_dump.proofs.DumpLemmas.{so_far_fault, so_far_packet}
 use Rattle.ldom_dump.proofs.lines.dump_lines.Goals as goal
 

@@ -1,7 +1,6 @@
-use Rattle.std.proofs.Common.{◌≡◌, ◌*◌, ◌∙◌, [], ℕ, None, Option, List, refl, ap, subst, sym}
-use Rattle.disk_law.specs.ListState.{ImageState}
+use Rattle.std.proofs.Common.{◌≡◌, ◌*◌, ◌∙◌, [], ℕ, None, refl, ap, subst}
 use Rattle.ldom_entries.specs.JournalState.{JournalState}
-use Rattle.script_laws.specs.Replayed.{attach_status, start_of}
+use Rattle.script_laws.specs.Replayed.{attach_status}
 use Rattle.vio_io.specs.declared.host.AttachFault.TheVariants.{Memory}
 use Rattle.world_parts.specs.Declared.{as_image, blocks_of}
 use Rattle.script_laws.proofs.Assembly.{replayed_as, replayed_refused}

@@ -1,7 +1,7 @@
 use Rattle.std.proofs.Common.{◌∙◌, refl, subst, sym}
 use Rattle.domain_script.specs.Declarations.{AreDisks}
 use Rattle.domain_script.specs.NamesState.{NamesState}
-use Rattle.domain_script.specs.LinesState.{to_come}
+use Rattle.script_reader.specs.LinesState.{to_come}
 use Rattle.script_laws.proofs.ReadLemmas.{opens, opens_more, read_disks}
 use Rattle.ldom_replay.proofs.run.read_opening.Goals as goal
 

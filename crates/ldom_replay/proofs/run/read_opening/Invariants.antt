@@ -1,6 +1,6 @@
 use Rattle.std.proofs.Common.{◌≡◌, ◌-◌, ◌≤◌}
-use Rattle.domain_script.specs.declared.lines.LinesStop.TheVariants.{Going}
-use Rattle.domain_script.specs.LinesState.{to_come}
+use Rattle.script_reader.specs.declared.lines.LinesStop.TheVariants.{Going}
+use Rattle.script_reader.specs.LinesState.{to_come}
 use Rattle.script_laws.proofs.ReadLemmas.{OpensSoFar}
 use Rattle.ldom_replay.proofs.run.read_opening.Given as goal
 

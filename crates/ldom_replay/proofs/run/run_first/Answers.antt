@@ -1,9 +1,9 @@
 use Rattle.std.proofs.Common.{◌∙◌, List, Option, IfSome, subst, sym}
-use Rattle.domain_script.specs.LinesState.{to_come}
+use Rattle.script_reader.specs.LinesState.{to_come}
 use Rattle.domain_script.specs.declared.event.Event.{Event}
 use Rattle.ldom_entries.specs.declared.entry.Entry.{Entry}
-use Rattle.ldom_journal.specs.declared.status.Status.TheVariants as status
-use Rattle.ldom_journal.specs.Stops.{stop_lines, stop_status}
+use Rattle.ldom_report.specs.declared.status.Status.TheVariants as status
+use Rattle.ldom_report.specs.Stops.{stop_lines, stop_status}
 use Rattle.script_laws.specs.Going.{RunsAll}
 use Rattle.script_laws.specs.Opening.{Opened}
 use Rattle.world_parts.specs.Lines.{IsForDisks, line_of}
@@ -11,7 +11,7 @@ use Rattle.world_parts.specs.Parts.{Fits, FitsSoFar}
 use Rattle.domain_script.specs.Spells.{IsDeclared}
 use Rattle.script_laws.proofs.LineCases.{for_declared}
 use Rattle.script_laws.proofs.Assembly.{runs_all, runs_first_cut, runs_none_more}
-use Rattle.ldom_journal.proofs.StopLemmas.{readers_of}
+use Rattle.ldom_report.proofs.StopLemmas.{readers_of}
 use Rattle.ldom_replay.proofs.run.run_first.Goals as goal
 
 pub returns-in-None-clause-runs : goal.returns-in-None-clause-runs

@@ -1,16 +1,16 @@
 use Rattle.std.proofs.Common.{◌≡◌, ◌∙◌, List, length, ap, refl, subst, sym}
 use Rattle.ldom_entries.specs.JournalState.{JournalState}
-use Rattle.ldom_journal.specs.declared.status.Status.{Status}
+use Rattle.ldom_report.specs.declared.status.Status.{Status}
 use Rattle.script_laws.specs.Going.{RunsLines}
-use Rattle.domain_script.specs.LinesState.{to_come}
-use Rattle.ldom_journal.specs.Stops.{stop_lines, stop_status}
+use Rattle.script_reader.specs.LinesState.{to_come}
+use Rattle.ldom_report.specs.Stops.{stop_lines, stop_status}
 use Rattle.script_laws.proofs.ReadLemmas.{same_disks, still_ended}
 use Rattle.script_laws.proofs.LineCases.{for_declared}
 use Rattle.world_parts.specs.Lines.{IsForDisks, line_of}
 use Rattle.world_parts.specs.Parts.{Fits, FitsSoFar}
 use Rattle.domain_script.specs.declared.event.DiskDecl.{DiskDecl}
 use Rattle.script_laws.proofs.RunLemmas.{runs_cut, runs_more, runs_none, runs_stop}
-use Rattle.ldom_journal.proofs.StopLemmas.{readers_of}
+use Rattle.ldom_report.proofs.StopLemmas.{readers_of}
 use Rattle.ldom_replay.proofs.run.run_lines.Goals as goal
 
 pub loop-stop-init : goal.loop-stop-init

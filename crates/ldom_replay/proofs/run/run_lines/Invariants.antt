@@ -1,7 +1,7 @@
 use Rattle.std.proofs.Common.{◌≡◌, ◌-◌, ◌≤◌, true, length}
-use Rattle.domain_script.specs.declared.lines.LinesStop.TheVariants.{Going}
-use Rattle.domain_script.specs.LinesState.{to_come}
-use Rattle.ldom_journal.specs.Report.{accepted_count}
+use Rattle.script_reader.specs.declared.lines.LinesStop.TheVariants.{Going}
+use Rattle.script_reader.specs.LinesState.{to_come}
+use Rattle.ldom_report.specs.Report.{accepted_count}
 use Rattle.world_laws.specs.Issued.{issued_on}
 use Rattle.script_laws.proofs.RunLemmas.{RunsSoFar}
 use Rattle.ldom_replay.proofs.run.run_lines.Given as goal

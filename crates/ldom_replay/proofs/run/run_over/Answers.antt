@@ -1,10 +1,8 @@
-use Rattle.std.proofs.Common.{◌≡◌, ◌*◌, ◌≤◌, [], ℕ, List, length, map, None, Some, Option, IfSome, refl, rules, arith, subst, sym, ap, ◌∙◌}
+use Rattle.std.proofs.Common.{◌≡◌, ◌*◌, ◌≤◌, [], ℕ, List, length, None, Some, Option, IfSome, rules, arith, subst, ap, ◌∙◌}
 use Rattle.disk_law.specs.ListState.{ImageState}
 use Rattle.ldom_entries.specs.JournalState.{JournalState}
-use Rattle.ldom_journal.specs.declared.status.Status.TheVariants as status
-use Rattle.script_laws.specs.Replayed.{start_of}
-use Rattle.world_laws.specs.LaneState.{LaneState, fresh}
-use Rattle.world_laws.specs.World.{WorldState}
+use Rattle.ldom_report.specs.declared.status.Status.TheVariants as status
+use Rattle.world_laws.specs.LaneState.{LaneState}
 use Rattle.world_laws.specs.Issued.{issued_on}
 use Rattle.world_parts.specs.Declared.{as_image, blocks_of, shapes_of}
 use Rattle.ldom_replay.proofs.Beginning.{as_many, none_issued, same_world}

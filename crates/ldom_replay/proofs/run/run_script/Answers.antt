@@ -1,11 +1,12 @@
 use Rattle.std.proofs.Common.{List, [], ℕ, ◌*◌, ◌∙◌, Option, None, arith, refl, ap, rules, subst}
-use Rattle.domain_script.specs.LinesState.{LinesState, to_come}
+use Rattle.domain_script.specs.ScriptEvents.{no_names}
+use Rattle.script_reader.specs.LinesState.{LinesState, to_come}
 use Rattle.ldom_entries.specs.JournalState.{JournalState}
-use Rattle.ldom_journal.specs.declared.status.Status.{Status}
-use Rattle.ldom_journal.specs.declared.status.Status.TheVariants as status
-use Rattle.ldom_journal.specs.declared.stop.Stop.{Stop}
-use Rattle.ldom_journal.specs.Stops.{stop_lines, stop_status}
-use Rattle.ldom_journal.proofs.StopLemmas.{done_at_end, readers_of}
+use Rattle.ldom_report.specs.declared.status.Status.{Status}
+use Rattle.ldom_report.specs.declared.status.Status.TheVariants as status
+use Rattle.ldom_report.specs.declared.stop.Stop.{Stop}
+use Rattle.ldom_report.specs.Stops.{stop_lines, stop_status}
+use Rattle.ldom_report.proofs.StopLemmas.{done_at_end, readers_of}
 use Rattle.script_laws.specs.Opening.{Opens, OpensAndStops}
 use Rattle.script_laws.proofs.Assembly.{from_start, replayed_as, replayed_none, replayed_unattached}
 use Rattle.world_parts.specs.Declared.{as_image, blocks_of}
@@ -15,9 +16,13 @@ use Rattle.ldom_replay.proofs.run.run_script.Goals as goal
 
 pub returns-in-Err-clause-replayed : goal.returns-in-Err-clause-replayed
 returns-in-Err-clause-replayed g c =
-    replayed_as (as_image g.H.Disk.Store.content g.H.Disk.Store.faults g.H.Disk.Store.calls g.H.Disk.Store.flushes) (g.S.Source.left c.args.source.now) (g.S.Source.left c.args.source.now) (g.H.Host.gives c.args.host.now c.args.name.now) status.NoMemory status.NoMemory 0 0 c.new-in-Err.result c.new-in-Err.result [] c.new-in-Err-2.result.entries None None None None
-    refl refl refl (ap (λ (j : JournalState). j.entries) c.new-in-Err-2.ensures) refl refl
-    (replayed_none (as_image g.H.Disk.Store.content g.H.Disk.Store.faults g.H.Disk.Store.calls g.H.Disk.Store.flushes) (g.S.Source.left c.args.source.now) (g.S.Source.left c.args.source.now) (g.H.Host.gives c.args.host.now c.args.name.now) c.new-in-Err.result c.new-in-Err.ensures refl)
+    let seen = as_image g.H.Disk.Store.content g.H.Disk.Store.faults g.H.Disk.Store.calls g.H.Disk.Store.flushes in
+    let left = g.S.Source.left c.args.source.now in
+    let gives = g.H.Host.gives c.args.host.now c.args.name.now in
+    replayed_as seen left left gives status.NoMemory c.without_memory.result.status 0 c.without_memory.result.lines no_names c.without_memory.result.names
+    [] c.without_memory.result.journal.entries None c.without_memory.result.image None c.without_memory.result.lanes
+    c.without_memory.ensures.status c.without_memory.ensures.lines c.without_memory.ensures.names c.without_memory.ensures.journal c.without_memory.ensures.image c.without_memory.ensures.lanes
+    (replayed_none seen left left gives no_names refl refl)
 
 pub returns-in_default : goal.returns-in_default
 returns-in_default g c =

@@ -1,13 +1,12 @@
-use Rattle.std.proofs.Common.{◌≡◌, ◌∙◌, ℕ, List, Option, Some, ap}
-use Rattle.disk_law.specs.ListState.{ImageState}
+use Rattle.std.proofs.Common.{◌≡◌, ◌∙◌, Some, ap}
 use Rattle.ldom_entries.specs.JournalState.{JournalState}
-use Rattle.ldom_journal.specs.declared.status.Status.{Status}
-use Rattle.ldom_journal.specs.Stops.{stop_lines, stop_status}
-use Rattle.ldom_journal.proofs.StopLemmas.{readers_of}
+use Rattle.ldom_report.specs.declared.status.Status.{Status}
+use Rattle.ldom_report.specs.Stops.{stop_lines, stop_status}
+use Rattle.ldom_report.proofs.StopLemmas.{readers_of}
 use Rattle.script_laws.specs.Replayed.{ended_status}
 use Rattle.script_laws.proofs.Assembly.{replayed_as, replayed_of}
 use Rattle.script_laws.proofs.Sizes.{sized_as, sized_run}
-use Rattle.world_parts.specs.Declared.{as_image, image_of}
+use Rattle.world_parts.specs.Declared.{as_image}
 use Rattle.ldom_replay.proofs.Beginning.{finished}
 use Rattle.ldom_replay.proofs.run.run_world.Goals as goal
 

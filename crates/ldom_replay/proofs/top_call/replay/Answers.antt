@@ -1,9 +1,9 @@
-use Rattle.std.proofs.Common.{◌≡◌, ℕ, ◌*◌, ◌^◌, ◌<◌, ◌≤◌, [], List, length, map, replicate, Option, Some, IfSome, ap, subst, sym, ◌∙◌, refl}
+use Rattle.std.proofs.Common.{◌≡◌, ℕ, ◌*◌, ◌^◌, ◌<◌, ◌≤◌, [], List, length, map, replicate, codes, Option, Some, IfSome, ap, subst, sym, ◌∙◌, refl}
 use Rattle.std.specs.String.{string_bytes}
 use Rattle.disk_law.specs.Issued.{CompletesOnceInOrder}
 use Rattle.ldom_entries.specs.JournalState.{JournalState}
 use Rattle.ldom_entries.specs.declared.entry.Entry.{Entry}
-use Rattle.ldom_journal.specs.DiskEvents.{history}
+use Rattle.ldom_report.specs.DiskEvents.{history}
 use Rattle.script_laws.proofs.Completeness.{all_zero, completes, never, still}
 use Rattle.std.proofs.lemmas.List.Elements.{All-nil}
 use Rattle.script_laws.specs.Clean.{EndsClean}
@@ -11,20 +11,31 @@ use Rattle.script_laws.specs.Counts.{counts}
 use Rattle.script_laws.specs.Failures.{SucceedOrFail, SucceedsOrFails, failed_count}
 use Rattle.script_laws.specs.Outcomes.{RunsScript}
 use Rattle.world_parts.specs.Declared.{as_image, blocks_of}
-use Rattle.ldom_replay.proofs.Commands.{as_asked, one_asked}
+use Rattle.ldom_words.specs.Words.{AsksSample}
+use Rattle.ldom_sample.specs.Sample.{sample_text}
+use Rattle.ldom_replay.proofs.Commands.{as_asked, no_sample_too, one_asked, one_sample}
 use Rattle.ldom_replay.proofs.Holding.{all_otherwise, gave_as, gave_none}
 use Rattle.script_laws.proofs.MoreFacts.{others_told}
 use Rattle.script_laws.proofs.RunFacts.{admits, calls, failures, flushes, headline, none_once, once, said_otherwise, statuses, worded}
 use Rattle.script_laws.specs.Stored.{flush_count, stored_count}
 use Rattle.script_laws.proofs.WholeScript.{runs_plainly, runs_whole}
-use Rattle.ldom_journal.specs.declared.status.Mode.{Mode}
-use Rattle.ldom_journal.specs.declared.status.Mode.TheVariants as mode
+use Rattle.ldom_report.specs.declared.status.Mode.{Mode}
+use Rattle.ldom_report.specs.declared.status.Mode.TheVariants as mode
+use Rattle.ldom_replay.proofs.Sampled.{not_read, sample_clean}
 use Rattle.ldom_replay.specs.Asking.{AsksFor, IsCommand}
+use Rattle.ldom_replay.specs.Sampled.{RunsSample}
 use Rattle.ldom_replay.specs.declared.command.Command.{Command}
 use Rattle.ldom_replay.proofs.top_call.replay.Goals as goal
 
 pub report_run-requires-clause-words : goal.report_run-requires-clause-words
 report_run-requires-clause-words g c = worded _ _ _ _ _ _ _ _ _ _ c.run_script.ensures.replayed
+
+pub run_sample-requires : goal.run_sample-requires
+run_sample-requires g c =
+    (subst (λ (x : Command). IsCommand (map string_bytes c.args.words.now) (Some x)) c.in-Some-Sample.field-0-is c.in-Some-Sample.ensures).below
+
+pub report_run-requires-in-Some-Sample-clause-words : goal.report_run-requires-in-Some-Sample-clause-words
+report_run-requires-in-Some-Sample-clause-words g c = worded _ _ _ _ _ _ _ _ _ _ c.run_sample.ensures.replayed.replayed
 
 pub returns-in-Some-Script-clause-runs : goal.returns-in-Some-Script-clause-runs
 returns-in-Some-Script-clause-runs g c shown image asks =
@@ -55,9 +66,91 @@ returns-in-Some-Script-clause-runs g c shown image asks =
       reports = c.report_run.ensures.reports;
     }))
 
+pub returns-in-Some-Script-clause-samples : goal.returns-in-Some-Script-clause-samples
+returns-in-Some-Script-clause-samples g c number asks =
+    let words : List (List ℕ) = map string_bytes c.args.words.now in
+    let own : AsksFor c.in-Some-Script.mode words c.in-Some-Script.image.now = subst (λ (x : Command). IsCommand words (Some x)) c.in-Some-Script.field-0-is c.in-Some-Script.ensures in
+    absurd (no_sample_too words c.in-Some-Script.mode c.in-Some-Script.image.now number own asks)
+
+pub returns-in-Some-Script-clause-samples_whole : goal.returns-in-Some-Script-clause-samples_whole
+returns-in-Some-Script-clause-samples_whole g c number asks host sink store =
+    let words : List (List ℕ) = map string_bytes c.args.words.now in
+    let own : AsksFor c.in-Some-Script.mode words c.in-Some-Script.image.now = subst (λ (x : Command). IsCommand words (Some x)) c.in-Some-Script.field-0-is c.in-Some-Script.ensures in
+    absurd (no_sample_too words c.in-Some-Script.mode c.in-Some-Script.image.now number own asks)
+
+pub returns-in-Some-Sample-clause-samples : goal.returns-in-Some-Sample-clause-samples
+returns-in-Some-Sample-clause-samples g c number asks =
+    let words : List (List ℕ) = map string_bytes c.args.words.now in
+    let own : AsksSample words c.in-Some-Sample.number = subst (λ (x : Command). IsCommand words (Some x)) c.in-Some-Sample.field-0-is c.in-Some-Sample.ensures in
+    let same : number ≡ c.in-Some-Sample.number = one_sample words c.in-Some-Sample.number number own asks in
+    let run = c.run_sample.ensures.replayed in
+    let seen = as_image g.H.Disk.Store.content g.H.Disk.Store.faults g.H.Disk.Store.calls g.H.Disk.Store.flushes in
+    let gives = g.H.Host.gives c.args.host.now (codes "-") in
+    let old = g.K.Sink.written c.args.out.now in
+    let new = g.K.Sink.written c.report_run-in-Some-Sample.new.out in
+    let before = counts (g.S.Source.faults c.args.script.now) (g.H.Host.faults c.args.host.now) (g.K.Sink.faults c.args.out.now) in
+    let now = counts (g.S.Source.faults c.args.script.now) (g.H.Host.faults c.run_sample.new.host) (g.K.Sink.faults c.report_run-in-Some-Sample.new.out) in
+    subst (λ (n : ℕ). RunsSample n seen g.H.Disk.Store.size gives c.report_run-in-Some-Sample.result.status c.report_run-in-Some-Sample.result.journal.entries c.report_run-in-Some-Sample.result.image
+    c.report_run-in-Some-Sample.result.lanes old new before now) (sym same) (record {
+      left = run.left;
+      runs = all_otherwise (λ (j : JournalState) d l. RunsScript mode.EndOnly seen g.H.Disk.Store.size (Some (sample_text c.in-Some-Sample.number)) run.left gives c.report_run-in-Some-Sample.result.status
+          j.entries d l old new before now) c.run_sample.result.journal c.report_run-in-Some-Sample.result.journal c.run_sample.result.image c.report_run-in-Some-Sample.result.image c.run_sample.result.lanes c.report_run-in-Some-Sample.result.lanes
+          c.report_run-in-Some-Sample.ensures.journal c.report_run-in-Some-Sample.ensures.image c.report_run-in-Some-Sample.ensures.lanes
+          (record {
+            ran = c.run_sample.result.status;
+            told = record { source = not_read c.run_sample.result.status _ _ c.run_sample.ensures.source refl; host = c.run_sample.ensures.host };
+            lines = c.run_sample.result.lines;
+            names = c.run_sample.result.names;
+            replayed = run.replayed;
+            admits = admits _ _ _ _ _ _ _ _ _ _ run.replayed;
+            sized = c.run_sample.ensures.sized;
+            headline = headline _ _ _ _ _ _ _ _ _ _ run.replayed g.H.Disk.Store.size c.run_sample.ensures.sized;
+            whole = λ done. runs_whole _ _ _ _ _ _ _ _ _ _ _ _ _ run.replayed _ c.report_run-in-Some-Sample.ensures.reports done;
+            others = others_told _ _ _ _ _ _ _ _ _ _ run.replayed g.H.Disk.Store.size c.run_sample.ensures.sized;
+            reports = c.report_run-in-Some-Sample.ensures.reports;
+          });
+    })
+
+pub returns-in-Some-Sample-clause-samples_whole : goal.returns-in-Some-Sample-clause-samples_whole
+returns-in-Some-Sample-clause-samples_whole g c number asks host sink store =
+    subst (λ (j : JournalState). EndsClean c.report_run-in-Some-Sample.result.status j.entries) (sym c.report_run-in-Some-Sample.ensures.journal)
+    (completes _ _ _ _ _ _ _ _ _ _ c.run_sample.ensures.replayed.replayed c.report_run-in-Some-Sample.result.status (g.K.Sink.written c.args.out.now) (g.K.Sink.written c.report_run-in-Some-Sample.new.out) _
+    (sample_text c.in-Some-Sample.number) c.report_run-in-Some-Sample.ensures.reports refl (sample_clean c.in-Some-Sample.number)
+    (λ ran. c.run_sample.ensures.source ran) (λ ran. still _ _ host (c.run_sample.ensures.host.cause ran)) (λ told ran. still _ _ sink (c.report_run-in-Some-Sample.ensures.sink_fault told ran))
+    (subst (λ (i : Option g.row.H-Disk.Denot). IfSome i (λ disk. g.H.Disk.Store.faults disk ≡ 0)) c.report_run-in-Some-Sample.ensures.image store)
+    g.H.Disk.Store.size c.run_sample.ensures.sized (codes "-") (λ is n. g.met.H.Host.dash c.args.host.now n) (λ other. absurd (other refl)))
+
+pub returns-in-Some-Sample-clause-runs : goal.returns-in-Some-Sample-clause-runs
+returns-in-Some-Sample-clause-runs g c shown image asks =
+    let words : List (List ℕ) = map string_bytes c.args.words.now in
+    let own : AsksSample words c.in-Some-Sample.number = subst (λ (x : Command). IsCommand words (Some x)) c.in-Some-Sample.field-0-is c.in-Some-Sample.ensures in
+    absurd (no_sample_too words shown image c.in-Some-Sample.number asks own)
+
+pub returns-in-Some-Sample-clause-quiet : goal.returns-in-Some-Sample-clause-quiet
+returns-in-Some-Sample-clause-quiet g c image asks bytes content disk events known quiet gives done =
+    let words : List (List ℕ) = map string_bytes c.args.words.now in
+    let own : AsksSample words c.in-Some-Sample.number = subst (λ (x : Command). IsCommand words (Some x)) c.in-Some-Sample.field-0-is c.in-Some-Sample.ensures in
+    absurd (no_sample_too words mode.Run image c.in-Some-Sample.number asks own)
+
+pub returns-in-Some-Sample-clause-complete : goal.returns-in-Some-Sample-clause-complete
+returns-in-Some-Sample-clause-complete g c shown image asks bytes known clean still_all store long =
+    let words : List (List ℕ) = map string_bytes c.args.words.now in
+    let own : AsksSample words c.in-Some-Sample.number = subst (λ (x : Command). IsCommand words (Some x)) c.in-Some-Sample.field-0-is c.in-Some-Sample.ensures in
+    absurd (no_sample_too words shown image c.in-Some-Sample.number asks own)
+
+pub returns-in-Some-Sample-clause-infallible : goal.returns-in-Some-Sample-clause-infallible
+returns-in-Some-Sample-clause-infallible g c shown image asks bytes known clean source host disk long written =
+    let words : List (List ℕ) = map string_bytes c.args.words.now in
+    let own : AsksSample words c.in-Some-Sample.number = subst (λ (x : Command). IsCommand words (Some x)) c.in-Some-Sample.field-0-is c.in-Some-Sample.ensures in
+    absurd (no_sample_too words shown image c.in-Some-Sample.number asks own)
+
 pub returns-in-Some-Script-clause-once : goal.returns-in-Some-Script-clause-once
 returns-in-Some-Script-clause-once g c disk =
     subst (λ (j : JournalState). CompletesOnceInOrder (history disk j.entries)) (sym c.report_run.ensures.journal) (once _ _ _ _ _ _ _ _ _ _ c.run_script.ensures.replayed disk)
+
+pub returns-in-Some-Sample-clause-once : goal.returns-in-Some-Sample-clause-once
+returns-in-Some-Sample-clause-once g c disk =
+    subst (λ (j : JournalState). CompletesOnceInOrder (history disk j.entries)) (sym c.report_run-in-Some-Sample.ensures.journal) (once _ _ _ _ _ _ _ _ _ _ c.run_sample.ensures.replayed.replayed disk)
 
 pub returns-in-Some-Dump-clause-once : goal.returns-in-Some-Dump-clause-once
 returns-in-Some-Dump-clause-once g c disk =
@@ -71,6 +164,10 @@ pub returns-in-Some-Script-clause-statuses : goal.returns-in-Some-Script-clause-
 returns-in-Some-Script-clause-statuses g c =
     subst (λ (j : JournalState). SucceedOrFail j.entries) (sym c.report_run.ensures.journal) (statuses _ _ _ _ _ _ _ _ _ _ c.run_script.ensures.replayed)
 
+pub returns-in-Some-Sample-clause-statuses : goal.returns-in-Some-Sample-clause-statuses
+returns-in-Some-Sample-clause-statuses g c =
+    subst (λ (j : JournalState). SucceedOrFail j.entries) (sym c.report_run-in-Some-Sample.ensures.journal) (statuses _ _ _ _ _ _ _ _ _ _ c.run_sample.ensures.replayed.replayed)
+
 pub returns-in-Some-Dump-clause-statuses : goal.returns-in-Some-Dump-clause-statuses
 returns-in-Some-Dump-clause-statuses g c = subst (λ (l : List Entry). SucceedOrFail l) (sym (ap (λ (j : JournalState). j.entries) c.report_dump.ensures.journal)) (All-nil SucceedsOrFails)
 
@@ -83,17 +180,35 @@ returns-in-Some-Script-clause-failures g c =
     c.report_run.ensures.journal c.report_run.ensures.image
     (failures _ _ _ _ _ _ _ _ _ _ c.run_script.ensures.replayed (subst (λ (j : JournalState). length j.entries < 2 ^ 63) c.report_run.ensures.journal c.report_run.ensures.small))
 
+pub returns-in-Some-Sample-clause-failures : goal.returns-in-Some-Sample-clause-failures
+returns-in-Some-Sample-clause-failures g c =
+    said_otherwise (λ (j : JournalState) d. IfSome d (λ image. failed_count j.entries ≤ g.H.Disk.Store.faults image)) c.run_sample.result.journal c.report_run-in-Some-Sample.result.journal c.run_sample.result.image c.report_run-in-Some-Sample.result.image
+    c.report_run-in-Some-Sample.ensures.journal c.report_run-in-Some-Sample.ensures.image
+    (failures _ _ _ _ _ _ _ _ _ _ c.run_sample.ensures.replayed.replayed (subst (λ (j : JournalState). length j.entries < 2 ^ 63) c.report_run-in-Some-Sample.ensures.journal c.report_run-in-Some-Sample.ensures.small))
+
 pub returns-in-Some-Script-clause-calls : goal.returns-in-Some-Script-clause-calls
 returns-in-Some-Script-clause-calls g c =
     said_otherwise (λ (j : JournalState) d. IfSome d (λ image. g.H.Disk.Store.calls image ≡ stored_count j.entries)) c.run_script.result.journal c.report_run.result.journal c.run_script.result.image c.report_run.result.image
     c.report_run.ensures.journal c.report_run.ensures.image
     (calls _ _ _ _ _ _ _ _ _ _ c.run_script.ensures.replayed (subst (λ (j : JournalState). length j.entries < 2 ^ 63) c.report_run.ensures.journal c.report_run.ensures.small))
 
+pub returns-in-Some-Sample-clause-calls : goal.returns-in-Some-Sample-clause-calls
+returns-in-Some-Sample-clause-calls g c =
+    said_otherwise (λ (j : JournalState) d. IfSome d (λ image. g.H.Disk.Store.calls image ≡ stored_count j.entries)) c.run_sample.result.journal c.report_run-in-Some-Sample.result.journal c.run_sample.result.image c.report_run-in-Some-Sample.result.image
+    c.report_run-in-Some-Sample.ensures.journal c.report_run-in-Some-Sample.ensures.image
+    (calls _ _ _ _ _ _ _ _ _ _ c.run_sample.ensures.replayed.replayed (subst (λ (j : JournalState). length j.entries < 2 ^ 63) c.report_run-in-Some-Sample.ensures.journal c.report_run-in-Some-Sample.ensures.small))
+
 pub returns-in-Some-Script-clause-flushes : goal.returns-in-Some-Script-clause-flushes
 returns-in-Some-Script-clause-flushes g c =
     said_otherwise (λ (j : JournalState) d. IfSome d (λ image. g.H.Disk.Store.flushes image ≡ flush_count j.entries)) c.run_script.result.journal c.report_run.result.journal c.run_script.result.image c.report_run.result.image
     c.report_run.ensures.journal c.report_run.ensures.image
     (flushes _ _ _ _ _ _ _ _ _ _ c.run_script.ensures.replayed (subst (λ (j : JournalState). length j.entries < 2 ^ 63) c.report_run.ensures.journal c.report_run.ensures.small))
+
+pub returns-in-Some-Sample-clause-flushes : goal.returns-in-Some-Sample-clause-flushes
+returns-in-Some-Sample-clause-flushes g c =
+    said_otherwise (λ (j : JournalState) d. IfSome d (λ image. g.H.Disk.Store.flushes image ≡ flush_count j.entries)) c.run_sample.result.journal c.report_run-in-Some-Sample.result.journal c.run_sample.result.image c.report_run-in-Some-Sample.result.image
+    c.report_run-in-Some-Sample.ensures.journal c.report_run-in-Some-Sample.ensures.image
+    (flushes _ _ _ _ _ _ _ _ _ _ c.run_sample.ensures.replayed.replayed (subst (λ (j : JournalState). length j.entries < 2 ^ 63) c.report_run-in-Some-Sample.ensures.journal c.report_run-in-Some-Sample.ensures.small))
 
 pub returns-in-Some-Script-clause-quiet : goal.returns-in-Some-Script-clause-quiet
 returns-in-Some-Script-clause-quiet g c image asks bytes content disk events known quiet gives done =
@@ -128,6 +243,9 @@ returns-in-Some-Dump-clause-dumps_whole g c words bytes known whole source sink 
 
 pub returns-in-Some-Script-clause-image : goal.returns-in-Some-Script-clause-image
 returns-in-Some-Script-clause-image g c = gave_as _ _ c.run_script.result.image c.report_run.result.image c.report_run.ensures.image c.run_script.ensures.image
+
+pub returns-in-Some-Sample-clause-image : goal.returns-in-Some-Sample-clause-image
+returns-in-Some-Sample-clause-image g c = gave_as _ _ c.run_sample.result.image c.report_run-in-Some-Sample.result.image c.report_run-in-Some-Sample.ensures.image c.run_sample.ensures.image
 
 pub returns-in-Some-Dump-clause-image : goal.returns-in-Some-Dump-clause-image
 returns-in-Some-Dump-clause-image g c = gave_none _ _ c.report_dump.result.image c.report_dump.ensures.none.0 refl

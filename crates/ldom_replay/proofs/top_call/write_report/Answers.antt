@@ -1,11 +1,11 @@
 use Rattle.std.proofs.Common.{rules, ◌≡◌, List, ℕ, ◌++◌, sym, subst}
 use Rattle.std.proofs.KnownBytes.{Appends-trans}
 use Rattle.std.specs.Io.KnownBytes.{Appends}
-use Rattle.ldom_journal.specs.EntryText.{report_entries}
+use Rattle.ldom_report.specs.EntryText.{report_entries}
 use Rattle.gathered_text.specs.Gathered.{WroteFront}
-use Rattle.ldom_journal.specs.Report.{last_line, report}
+use Rattle.ldom_report.specs.Report.{last_line, report}
 use Rattle.gathered_text.proofs.GatheredText.{on_err_then, on_ok_then, wrote_front_appended, wrote_front_of_more}
-use Rattle.ldom_journal.proofs.ReportLines.{report_parts}
+use Rattle.ldom_report.proofs.ReportLines.{report_parts}
 use Rattle.ldom_replay.proofs.top_call.write_report.Goals as goal
 
 pub returns-in_err-write_text-clause-err : goal.returns-in_err-write_text-clause-err

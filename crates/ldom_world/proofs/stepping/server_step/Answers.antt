@@ -4,9 +4,8 @@ use Rattle.ldom_world.proofs.stepping.server_step.Goals as goal
 
 pub returns-clause-steps : goal.returns-clause-steps
 returns-clause-steps g c =
-    server_steps c.args.lane.now c.step_server_into-runs.new.self g.D.Store.content g.D.Store.faults g.D.Store.calls
-    g.D.Store.flushes c.args.image.now c.step_server_into-runs.new.store
-    c.args.in_settle c.args.disk (answered c.step_server_into-runs.result c.step_server_into-runs.new.out)
+    server_steps c.args.lane.now c.step_server_into-runs.new.self g.D.Store c.args.image.now
+    c.step_server_into-runs.new.store c.args.in_settle c.args.disk
+    (answered c.step_server_into-runs.result c.step_server_into-runs.new.out)
     c.args.journal.now c.leave_server.new.journal c.leave_server.result
-    c.step_server_into-runs.ensures.step c.step_server_into-runs.ensures.store c.step_server_into-runs.ensures.calls
-    c.step_server_into-runs.ensures.flushes c.leave_server.ensures.leaves
+    c.step_server_into-runs.ensures.step c.step_server_into-runs.ensures.store c.leave_server.ensures.leaves

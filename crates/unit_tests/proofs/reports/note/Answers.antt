@@ -1,6 +1,6 @@
 use Rattle.std.proofs.Common.{◌≡◌, All, List, [], ◌∷◌, ◌++◌, subst, sym, ap, ◌∙◌}
 use Rattle.std.proofs.lemmas.List.Elements.{All-append, All-cons, All-nil}
-use Rattle.ldom_journal.specs.HasWords.{HasWords}
+use Rattle.ldom_report.specs.HasWords.{HasWords}
 use Rattle.unit_tests.proofs.reports.note.Goals as goal
 
 abbrev put_last : {A : Type 0} → A → List A → List A

@@ -13,13 +13,13 @@ invariant_of-self c =
     let kept : List ℕ = c.keep_blocks-rest.new.kept.items in
     let rest : List ℕ = c.keep_blocks-rest.result.now in
     let room : c.self.inside.room ≡ c.args.self.now.room = ap (λ (s : BytesState). s.room) c.self.view_is in
-    let all : c.give_back.new.kept.items ≡ kept ++ rest = c.give_back.ensures.items ∙ c.in-Ok.ensures.items in
-    let long : length c.give_back.new.kept.items ≡ length kept + length rest = ap length all ∙ length-append kept rest in
+    let all : c.extend_from_slice.new.self.items ≡ kept ++ rest = c.in-Ok.ensures.items in
+    let long : length c.extend_from_slice.new.self.items ≡ length kept + length rest = ap length all ∙ length-append kept rest in
     record {
       kept = subst (AreKept lengths) (sym all) (kept_behind lengths kept rest e.kept);
       plain = omega (arith, e.plain, long);
       small = omega (arith, i.small, e.count, room, c.requires);
-      room = c.give_back.ensures.room;
+      room = omega (arith, i.room, e.room, e.long, long, room, c.requires, c.extend_from_slice.ensures.capacity);
       length_room = omega (arith, i.length_room, e.count, e.length_room, room, c.requires);
     }
 
@@ -29,7 +29,7 @@ returns-clause-items c =
     let lengths : List ℕ = c.keep_blocks-rest.new.lengths.items in
     let kept : List ℕ = c.keep_blocks-rest.new.kept.items in
     let rest : List ℕ = c.keep_blocks-rest.result.now in
-    ap (unpacked lengths) (c.give_back.ensures.items ∙ c.in-Ok.ensures.items)
+    ap (unpacked lengths) c.in-Ok.ensures.items
     ∙ unpacked_behind lengths kept rest e.kept
     ∙ e.items
     ∙ ap (λ (s : BytesState). s.items ++ c.args.bytes.now) c.self.view_is

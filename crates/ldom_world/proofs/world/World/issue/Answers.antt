@@ -1,5 +1,5 @@
 use Rattle.std.proofs.Common.{List, ap, ◌∙◌}
-use Rattle.ldom_journal.specs.Report.{accepted_count}
+use Rattle.ldom_report.specs.Report.{accepted_count}
 use Rattle.ldom_entries.specs.declared.entry.Entry.{Entry}
 use Rattle.ldom_world.proofs.Lifting.{few_issued}
 use Rattle.ldom_world.proofs.Opened.{answer_agrees, lane_there, request_fits}

@@ -1,5 +1,5 @@
 use Rattle.std.proofs.Common.{◌≡◌}
-use Rattle.ldom_journal.specs.Report.{accepted_count}
+use Rattle.ldom_report.specs.Report.{accepted_count}
 use Rattle.ldom_world.specs.SettleParts.{NamesAdd}
 use Rattle.ldom_world.proofs.world.World.name_left.Given as goal
 

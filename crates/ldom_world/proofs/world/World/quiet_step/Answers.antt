@@ -1,5 +1,5 @@
 use Rattle.std.proofs.Common.{true}
-use Rattle.ldom_journal.specs.LaneEvents.{end_of}
+use Rattle.ldom_report.specs.LaneEvents.{end_of}
 use Rattle.ldom_world.proofs.Lifting.{makes_quiet_step, quiet_step_agrees, steps_many}
 use Rattle.ldom_world.proofs.world.World.quiet_step.Goals as goal
 

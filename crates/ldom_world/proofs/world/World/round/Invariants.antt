@@ -1,6 +1,6 @@
 use Rattle.std.proofs.Common.{◌≡◌, length}
 use Rattle.world_laws.specs.Lines.{round_turns}
-use Rattle.ldom_journal.specs.Report.{accepted_count}
+use Rattle.ldom_report.specs.Report.{accepted_count}
 use Rattle.ldom_world.specs.TurnsMade.{TurnsMade}
 use Rattle.world_laws.specs.Issued.{issued_on}
 use Rattle.ldom_world.proofs.world.World.round.Given as goal

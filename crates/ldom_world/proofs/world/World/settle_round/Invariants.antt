@@ -1,5 +1,5 @@
 use Rattle.std.proofs.Common.{◌≡◌, length, take}
-use Rattle.ldom_journal.specs.Report.{accepted_count}
+use Rattle.ldom_report.specs.Report.{accepted_count}
 use Rattle.ldom_world.specs.SettleParts.{RoundAdds}
 use Rattle.world_laws.specs.Issued.{issued_on}
 use Rattle.world_laws.specs.RoundMade.{all_true}

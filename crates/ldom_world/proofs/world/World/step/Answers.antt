@@ -1,4 +1,4 @@
-use Rattle.ldom_journal.specs.LaneEvents.{end_of}
+use Rattle.ldom_report.specs.LaneEvents.{end_of}
 use Rattle.ldom_world.proofs.Lifting.{makes_step, step_agrees, steps_many}
 use Rattle.std.proofs.Common.{false}
 use Rattle.ldom_world.proofs.world.World.step.Goals as goal

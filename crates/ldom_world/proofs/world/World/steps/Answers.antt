@@ -1,4 +1,4 @@
-use Rattle.ldom_journal.specs.LaneEvents.{end_of}
+use Rattle.ldom_report.specs.LaneEvents.{end_of}
 use Rattle.ldom_world.proofs.Turning.{at_error, steps_want}
 use Rattle.ldom_world.proofs.world.World.steps.Goals as goal
 

@@ -1,7 +1,7 @@
 use Rattle.std.proofs.Common.{◌≡◌, length, replicate}
 use Rattle.world_laws.specs.Lines.{turn}
-use Rattle.ldom_journal.specs.LaneEvents.{end_of}
-use Rattle.ldom_journal.specs.Report.{accepted_count}
+use Rattle.ldom_report.specs.LaneEvents.{end_of}
+use Rattle.ldom_report.specs.Report.{accepted_count}
 use Rattle.ldom_world.specs.TurnsMade.{TurnsMade}
 use Rattle.world_laws.specs.Issued.{issued_on}
 use Rattle.ldom_world.proofs.world.World.steps.Given as goal

@@ -1,5 +1,5 @@
 use Rattle.std.proofs.Common.{◌≡◌, length}
-use Rattle.ldom_journal.specs.Report.{accepted_count}
+use Rattle.ldom_report.specs.Report.{accepted_count}
 use Rattle.ldom_world.specs.SettleParts.{TicksAdd}
 use Rattle.world_laws.specs.Issued.{issued_on}
 use Rattle.ldom_world.proofs.world.World.tick_lanes.Given as goal

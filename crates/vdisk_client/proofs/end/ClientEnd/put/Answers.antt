@@ -15,5 +15,5 @@ returns-in-Sent-clause-put c =
     (put_sent (the_view c.self.inside) c.note_put-opens.new.self c.send.new.self c.args.channel.now c.send.new.channel c.args.memory.now c.note_put-opens.new.memory c.in-Sent.packet c.note_put-opens.result
     c.in-Sent.ensures
     (subst (λ (b : Bool). c.note_put-opens.new.self ≡ noted (kind_after b c.send.new.self (is_announcing c.self.inside.session)) (record (the_view c.self.inside) { link = c.send.new.self })) c.is_up-was_up.ensures c.note_put-opens.ensures.state)
-    (subst (λ (b : Bool). c.note_put-opens.result ≡ put_opens (kind_after b c.send.new.self (is_announcing c.self.inside.session)) c.self.inside.shake) c.is_up-was_up.ensures c.note_put-opens.ensures.opens)
+    (subst (λ (b : Bool). c.note_put-opens.result ≡ put_opens (kind_after b c.send.new.self (is_announcing c.self.inside.session)) c.self.inside.handshake) c.is_up-was_up.ensures c.note_put-opens.ensures.opens)
     c.note_put-opens.ensures.memory)

@@ -5,7 +5,7 @@ use Rattle.descriptor_work.specs.declared.work.Work.{Work as KeptWork}
 use Rattle.descriptor_work.specs.Calling.{reach_over}
 use Rattle.descriptor_work.specs.Fields.{work_with}
 use Rattle.vdisk_server.specs.Fields.{ring_session, state_of, work_of}
-use Rattle.vdisk_server.proofs.StoreSteps.{in_channel, in_leaves, in_serves, leaves_calls, leaves_flushes, leaves_store, leaves_within, on_channel, on_serves, on_store, piece_steps}
+use Rattle.vdisk_server.proofs.StoreSteps.{in_channel, in_leaves, in_serves, leaves_store, leaves_within, on_channel, on_serves, piece_steps}
 use Rattle.vdisk_server.proofs.end.ServerEnd.serve.Goals as goal
 
 pub returns-in-Flushes-clause-step : goal.returns-in-Flushes-clause-step
@@ -21,11 +21,6 @@ pub returns-in-Flushes-clause-channel : goal.returns-in-Flushes-clause-channel
 returns-in-Flushes-clause-channel g c =
     on_channel 0 (work_with c.in-Some.work []) (g.D.Store.content c.args.store.now) c.flush.new.out (work_with c.flush.new.self []) (g.D.Store.content c.flush.new.store) c.args.channel.now
     (c.flush.ensures.piece 0 [])
-
-pub returns-in-Flushes-clause-store : goal.returns-in-Flushes-clause-store
-returns-in-Flushes-clause-store g c =
-    on_store 0 (work_with c.in-Some.work []) (g.D.Store.content c.args.store.now) c.flush.new.out (work_with c.flush.new.self []) (g.D.Store.content c.flush.new.store)
-    c.args.store.now c.flush.new.store (c.flush.ensures.piece 0 [])
 
 pub returns-in-Flushes-clause-within : goal.returns-in-Flushes-clause-within
 returns-in-Flushes-clause-within g c = c.flush.ensures.within c.args.self.now.region.blocks
@@ -55,19 +50,7 @@ returns-in-Gathers-clause-channel g c =
 
 pub returns-in-Gathers-clause-store : goal.returns-in-Gathers-clause-store
 returns-in-Gathers-clause-store g c =
-    leaves_store c.gather_unit.new.out c.args.store.now
-    (in_leaves (work_with c.in-Some.work c.args.self.now.unit) (reach_over c.args.channel.now c.args.table.now c.args.memory.now) c.gather_unit.new.out
-    (work_with c.gather_unit.new.self c.gather_unit.new.buffer) c.args.memory.now c.gather_unit.ensures.piece)
-
-pub returns-in-Gathers-clause-calls : goal.returns-in-Gathers-clause-calls
-returns-in-Gathers-clause-calls g c =
-    leaves_calls c.gather_unit.new.out (g.D.Store.calls c.args.store.now) (g.D.Store.faults c.args.store.now)
-    (in_leaves (work_with c.in-Some.work c.args.self.now.unit) (reach_over c.args.channel.now c.args.table.now c.args.memory.now) c.gather_unit.new.out
-    (work_with c.gather_unit.new.self c.gather_unit.new.buffer) c.args.memory.now c.gather_unit.ensures.piece)
-
-pub returns-in-Gathers-clause-flushes : goal.returns-in-Gathers-clause-flushes
-returns-in-Gathers-clause-flushes g c =
-    leaves_flushes c.gather_unit.new.out (g.D.Store.flushes c.args.store.now)
+    leaves_store g.D.Store c.gather_unit.new.out c.args.store.now
     (in_leaves (work_with c.in-Some.work c.args.self.now.unit) (reach_over c.args.channel.now c.args.table.now c.args.memory.now) c.gather_unit.new.out
     (work_with c.gather_unit.new.self c.gather_unit.new.buffer) c.args.memory.now c.gather_unit.ensures.piece)
 

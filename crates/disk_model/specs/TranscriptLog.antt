@@ -1,0 +1,53 @@
+-- What each end said and heard since it last began anew: the packets that it put and took, newest first.
+use Rattle.std.specs.Prelude.{ℕ, ◌+◌, Bool, true, false, nat_eq, ◌&&◌, List, [], ◌∷◌}
+use Rattle.ldc_packet.specs.Spelling.{ctrl_at, type_at}
+use Rattle.ldc_queue.specs.declared.end.End.{End}
+use Rattle.ldc_queue.specs.declared.end.End.TheVariants.{A, B}
+use Rattle.ldc_queue.specs.Transcript.{Heard, Said, Turn}
+use Rattle.disk_model.specs.WireEvent.{Blocked, Declines, Idle, Injected, Joined, Lost, Poked, Reset, Sent, Took, WireEvent}
+
+pub record TranscriptLog : Type 0 where
+  pub client : List Turn
+  pub server : List Turn
+  -- how often the client's link came up, which is how many sessions it began
+  pub links : ℕ
+
+abbrev pub nothing_said : TranscriptLog
+nothing_said = record { client = []; server = []; links = 0 }
+
+abbrev pub transcript_of : End → TranscriptLog → List Turn
+transcript_of A l = l.client
+transcript_of B l = l.server
+
+-- RDX, with which the client's link is up as it is put
+abbrev pub is_rdx : List ℕ → Bool
+is_rdx packet = nat_eq (type_at packet) 1 && nat_eq (ctrl_at packet) 4
+
+abbrev pub more_if : Bool → ℕ → ℕ
+more_if true n = n + 1
+more_if false n = n
+
+abbrev pub silenced : End → TranscriptLog → TranscriptLog
+silenced A l = record l { client = [] }
+silenced B l = record l { server = [] }
+
+abbrev pub hears : End → List ℕ → TranscriptLog → TranscriptLog
+hears A packet l = record l { client = Heard packet ∷ l.client }
+hears B packet l = record l { server = Heard packet ∷ l.server }
+
+abbrev pub says : End → List ℕ → TranscriptLog → TranscriptLog
+says A packet l = record l { client = Said packet ∷ l.client; links = more_if (is_rdx packet) l.links }
+says B packet l = record l { server = Said packet ∷ l.server }
+
+-- After one more event. A packet that a reset carries was never heard.
+abbrev pub transcript_moved : TranscriptLog → WireEvent → TranscriptLog
+transcript_moved l (Joined e lost) = silenced e l
+transcript_moved l (Reset e cause packet lost) = silenced e l
+transcript_moved l (Took e packet opens) = hears e packet l
+transcript_moved l (Sent e packet opens) = says e packet l
+transcript_moved l (Idle e) = l
+transcript_moved l (Blocked e) = l
+transcript_moved l (Lost e packet) = l
+transcript_moved l (Injected e packet) = l
+transcript_moved l (Poked e at bytes) = l
+transcript_moved l (Declines d) = l

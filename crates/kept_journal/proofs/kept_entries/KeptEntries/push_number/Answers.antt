@@ -1,6 +1,0 @@
-use Rattle.std.proofs.Common.{arith}
-use Rattle.kept_journal.proofs.Decoding.{kept_more}
-use Rattle.kept_journal.proofs.kept_entries.KeptEntries.push_number.Goals as goal
-
-pub invariant_of-self : goal.invariant_of-self
-invariant_of-self c = search (arith, kept_more)

@@ -1,0 +1,348 @@
+-- Counts over the part of a settle of a list of lanes: what moves, ticks, how often an end finds no room; and the
+-- names of those left over.
+use Rattle.std.proofs.Common.{◌≡◌, ℕ, ◌+◌, ◌≤◌, ◌<◌, Bool, true, false, List, [], ◌∷◌, ◌++◌, length, refl, sym, ap, ◌∙◌, arith}
+use Rattle.std.proofs.lemmas.Bool.{eqb-true}
+use Rattle.std.specs.Prelude.{◌&&◌, ◌||◌, ◌==◌, if◌then◌else◌}
+use Rattle.lane_kinds.proofs.Finishing.{IsWhole, lanes_keep}
+use Rattle.lane_kinds.proofs.Lanes.{as_many}
+use Rattle.lane_kinds.proofs.Stuck.{sum_both}
+use Rattle.lane_kinds.specs.Both.{Ignores}
+use Rattle.lane_kinds.specs.LaneCounts.{LaneMoves, LaneTicks, LaneUnsticks, TickWaits, mark_at, once}
+use Rattle.lane_kinds.specs.Lanes.{EachMarked, EachStep, Entries, LaneKind, LaneRests, MakeRound, MakeTurns, StepOf, TickAll, TicksIf, all_calm, are_still, gets_tick, lanes_of, left_names, marked, round_entries, some_tick, tick_entries, turn_entries, unmarked}
+use Rattle.lane_kinds.specs.Laws.{Counts, Moves, Names, Unsticks}
+use Rattle.lane_kinds.specs.Stuck.{sum_over}
+use Rattle.runs.specs.Run.{Run}
+
+-- NUMBERS
+first_some : (all a b : ℕ) → all ≡ a + b → 1 ≤ a → 1 ≤ all
+first_some all a b sum some = omega (arith, sum, some)
+
+second_some : (all a b : ℕ) → all ≡ a + b → 1 ≤ b → 1 ≤ all
+second_some all a b sum some = omega (arith, sum, some)
+
+none_of_two : (all a b : ℕ) → all ≡ a + b → a ≤ 0 → b ≤ 0 → all ≤ 0
+none_of_two all a b sum one two = omega (arith, sum, one, two)
+
+alone_some : (n : ℕ) → 1 ≤ n → 1 ≤ n + 0
+alone_some n some = omega (arith, some)
+
+alone_none : (n : ℕ) → n ≡ 0 → n + 0 ≤ 0
+alone_none n none = omega (arith, none)
+
+below_next : (j k : ℕ) → k < j → k < j + 1
+below_next j k less = omega (arith, less)
+
+not_there : (c : Bool) (a j k : ℕ) → (c ≡ true → j ≡ k) → k < j → a ≤ once c → a ≤ 0
+not_there true a j k same less few = absurd (omega (arith, same refl, less))
+not_there false a j k same less few = few
+
+one_here : (c : Bool) (a b d j k : ℕ) → a ≡ b + d → b ≤ once c → (c ≡ true → j ≡ k) → (k < j + 1 → d ≤ 0) → d ≤ 1 → a ≤ 1
+one_here true a b d j k is one same none few = omega (arith, is, one, none (omega (arith, same refl)))
+one_here false a b d j k is one same none few = omega (arith, is, one, few)
+
+-- WHAT MOVES
+module _ {S V E : Type 0} (K : LaneKind S V) (N : Entries V E) (moves : E → ℕ) (laws : LaneMoves K N moves) where
+  loud_event : (silent : Bool) (k : ℕ) (event : V) → K.is_silent event ≡ silent → K.is_calm event ≡ false → 1 ≤ sum_over moves (if silent then [] else N.of_lane k event ∷ [])
+  loud_event true k event is loud = let never : true ≡ false = sym (laws.silent_calm event is) ∙ loud in absurd (cc never)
+  loud_event false k event is loud = alone_some (moves (N.of_lane k event)) (laws.loud k event loud)
+
+  loud_one : (calm : Bool) (all a b : ℕ) (more : Bool) → all ≡ a + b → (calm && more) ≡ false → (calm ≡ false → 1 ≤ a) → (more ≡ false → 1 ≤ b) → 1 ≤ all
+  loud_one true all a b more sum loud one rest = second_some all a b sum (rest loud)
+  loud_one false all a b more sum loud one rest = first_some all a b sum (one refl)
+
+  turn_moves : (k : ℕ) (events : List V) → all_calm K events ≡ false → 1 ≤ sum_over moves (turn_entries K N k events)
+  turn_moves k [] loud = absurd (cc loud)
+  turn_moves k (event ∷ events) loud =
+      loud_one (K.is_calm event) (sum_over moves (turn_entries K N k (event ∷ events))) (sum_over moves (if K.is_silent event then [] else N.of_lane k event ∷ []))
+      (sum_over moves (turn_entries K N k events)) (all_calm K events) (sum_both moves (if K.is_silent event then [] else N.of_lane k event ∷ []) (turn_entries K N k events)) loud
+      (λ here. loud_event (K.is_silent event) k event refl here) (λ more. turn_moves k events more)
+
+  round_moves : (k : ℕ) (turns : List (List V)) → are_still K turns ≡ false → 1 ≤ sum_over moves (round_entries K N k turns)
+  round_moves k [] loud = absurd (cc loud)
+  round_moves k (r ∷ turns) loud =
+      loud_one (all_calm K r) (sum_over moves (round_entries K N k (r ∷ turns))) (sum_over moves (turn_entries K N k r)) (sum_over moves (round_entries K N (k + 1) turns)) (are_still K turns)
+      (sum_both moves (turn_entries K N k r) (round_entries K N (k + 1) turns)) loud (λ here. turn_moves k r here) (λ more. round_moves (k + 1) turns more)
+
+  some_one : (get : Bool) (all a b : ℕ) (more : Bool) → all ≡ a + b → (get || more) ≡ true → (get ≡ true → 1 ≤ a) → (more ≡ true → 1 ≤ b) → 1 ≤ all
+  some_one true all a b more sum some one rest = first_some all a b sum (one refl)
+  some_one false all a b more sum some one rest = second_some all a b sum (rest some)
+
+  tick_moves : (get : Bool) (k : ℕ) (s : S) → get ≡ true → 1 ≤ sum_over moves (if get then N.of_lane k (K.tick s) ∷ [] else [])
+  tick_moves true k s is = alone_some (moves (N.of_lane k (K.tick s))) (laws.tick k s)
+  tick_moves false k s is = absurd (cc is)
+
+  ticks_move : (k : ℕ) (lanes : List S) (marks : List Bool) → some_tick K lanes marks ≡ true → 1 ≤ sum_over moves (tick_entries K N k lanes marks)
+  ticks_move k [] marks some = absurd (cc some)
+  ticks_move k (s ∷ lanes) [] some = absurd (cc some)
+  ticks_move k (s ∷ lanes) (had ∷ marks) some =
+      some_one (gets_tick K s had) (sum_over moves (tick_entries K N k (s ∷ lanes) (had ∷ marks))) (sum_over moves (if gets_tick K s had then N.of_lane k (K.tick s) ∷ [] else []))
+      (sum_over moves (tick_entries K N (k + 1) lanes marks)) (some_tick K lanes marks)
+      (sum_both moves (if gets_tick K s had then N.of_lane k (K.tick s) ∷ [] else []) (tick_entries K N (k + 1) lanes marks)) some (λ here. tick_moves (gets_tick K s had) k s here)
+      (λ more. ticks_move (k + 1) lanes marks more)
+
+  pub lanes_move : Moves (lanes_of K N) (sum_over moves)
+  lanes_move = record { both = sum_both moves; round = round_moves 0; ticks = ticks_move 0 }
+
+-- TICKS
+module _ {S V E : Type 0} (K : LaneKind S V) (N : Entries V E) (ticks : ℕ → E → ℕ) (laws : LaneTicks K N ticks) where
+  event_none : (silent : Bool) (k j : ℕ) (event : V) → K.IsStep event → sum_over (ticks k) (if silent then [] else N.of_lane j event ∷ []) ≤ 0
+  event_none true k j event own = omega (arith)
+  event_none false k j event own = alone_none (ticks k (N.of_lane j event)) (laws.step k j event own)
+
+  turn_none : (k j : ℕ) (events : List V) → EachStep K events → sum_over (ticks k) (turn_entries K N j events) ≤ 0
+  turn_none k j [] steps = omega (arith)
+  turn_none k j (event ∷ events) steps =
+      none_of_two (sum_over (ticks k) (turn_entries K N j (event ∷ events))) (sum_over (ticks k) (if K.is_silent event then [] else N.of_lane j event ∷ []))
+      (sum_over (ticks k) (turn_entries K N j events)) (sum_both (ticks k) (if K.is_silent event then [] else N.of_lane j event ∷ []) (turn_entries K N j events))
+      (event_none (K.is_silent event) k j event steps.0) (turn_none k j events steps.1)
+
+  round_none : (k j : ℕ) (lanes : List S) (turns : List (List V)) (behind : List S) → MakeTurns K j lanes turns behind → sum_over (ticks k) (round_entries K N j turns) ≤ 0
+  round_none k j lanes [] behind made = omega (arith)
+  round_none k j lanes (r ∷ turns) behind made =
+      none_of_two (sum_over (ticks k) (round_entries K N j (r ∷ turns))) (sum_over (ticks k) (turn_entries K N j r)) (sum_over (ticks k) (round_entries K N (j + 1) turns))
+      (sum_both (ticks k) (turn_entries K N j r) (round_entries K N (j + 1) turns)) (turn_none k j r (laws.turn_steps r made.1.of_turn)) (round_none k (j + 1) made.0 turns behind made.2)
+
+  -- a tick marks its lane, which had no mark
+  tick_counts : (c had waits : Bool) → once (c && (if had then false else waits)) + once (c && had) ≡ once (c && (had || (if had then false else waits)))
+  tick_counts true true waits = omega (arith)
+  tick_counts true false true = omega (arith)
+  tick_counts true false false = omega (arith)
+  tick_counts false had waits = omega (arith)
+
+  with_true : (c : Bool) → once c ≡ once (c && true)
+  with_true true = refl
+  with_true false = refl
+
+  with_false : (c : Bool) → 0 ≡ once (c && false)
+  with_false true = refl
+  with_false false = refl
+
+  alone : (n m : ℕ) → n ≡ m → n + 0 ≡ m
+  alone n m is = omega (arith, is)
+
+  tick_is : (get : Bool) (k j : ℕ) (s : S) → sum_over (ticks k) (if get then N.of_lane j (K.tick s) ∷ [] else []) ≡ once ((j == k) && get)
+  tick_is true k j s = alone (ticks k (N.of_lane j (K.tick s))) (once ((j == k) && true)) (laws.tick k j s ∙ with_true (j == k))
+  tick_is false k j s = with_false (j == k)
+
+  lane_ticks : (all one rest x mark marks new more : ℕ) → all ≡ one + rest → one ≡ x → x + mark ≡ new → rest + marks ≡ more → all + (mark + marks) ≡ new + more
+  lane_ticks all one rest x mark marks new more sum few here others = omega (arith, sum, few, here, others)
+
+  ticks_mark : (k j : ℕ) (lanes : List S) (marks : List Bool) (behind : List S) → TickAll K lanes marks behind
+      → sum_over (ticks k) (tick_entries K N j lanes marks) + mark_at k j marks ≡ mark_at k j (marked K lanes marks)
+  ticks_mark k j [] [] [] made = omega (arith)
+  ticks_mark k j (s ∷ lanes) (had ∷ marks) (t ∷ behind) made =
+      lane_ticks (sum_over (ticks k) (tick_entries K N j (s ∷ lanes) (had ∷ marks))) (sum_over (ticks k) (if gets_tick K s had then N.of_lane j (K.tick s) ∷ [] else []))
+      (sum_over (ticks k) (tick_entries K N (j + 1) lanes marks)) (once ((j == k) && gets_tick K s had)) (once ((j == k) && had)) (mark_at k (j + 1) marks)
+      (once ((j == k) && (had || gets_tick K s had))) (mark_at k (j + 1) (marked K lanes marks))
+      (sum_both (ticks k) (if gets_tick K s had then N.of_lane j (K.tick s) ∷ [] else []) (tick_entries K N (j + 1) lanes marks)) (tick_is (gets_tick K s had) k j s)
+      (tick_counts (j == k) had (K.waits_on s)) (ticks_mark k (j + 1) lanes marks behind made.1)
+  ticks_mark k j _ _ _ made = absurd made
+
+  -- one mark at most
+  first_none : (c : Bool) (rest : ℕ) → rest ≡ 0 → once (c && false) + rest ≡ 0
+  first_none true rest none = omega (arith, none)
+  first_none false rest none = omega (arith, none)
+
+  none_marked : (k j : ℕ) (lanes : List S) → mark_at k j (unmarked lanes) ≡ 0
+  none_marked k j [] = refl
+  none_marked k j (s ∷ lanes) = first_none (j == k) (mark_at k (j + 1) (unmarked lanes)) (none_marked k (j + 1) lanes)
+
+  no_mark : (c had : Bool) (rest j k : ℕ) → (c ≡ true → j ≡ k) → k < j → rest ≤ 0 → once (c && had) + rest ≤ 0
+  no_mark true had rest j k same less none = absurd (omega (arith, same refl, less))
+  no_mark false had rest j k same less none = omega (arith, none)
+
+  no_marks_behind : (k j : ℕ) (marks : List Bool) → k < j → mark_at k j marks ≤ 0
+  no_marks_behind k j [] less = omega (arith)
+  no_marks_behind k j (had ∷ marks) less = no_mark (j == k) had (mark_at k (j + 1) marks) j k (eqb-true j k) less (no_marks_behind k (j + 1) marks (below_next j k less))
+
+  one_mark : (c had : Bool) (rest j k : ℕ) → (c ≡ true → j ≡ k) → (k < j + 1 → rest ≤ 0) → rest ≤ 1 → once (c && had) + rest ≤ 1
+  one_mark true true rest j k same none few = omega (arith, none (omega (arith, same refl)))
+  one_mark true false rest j k same none few = omega (arith, few)
+  one_mark false had rest j k same none few = omega (arith, few)
+
+  mark_most : (k j : ℕ) (marks : List Bool) → mark_at k j marks ≤ 1
+  mark_most k j [] = omega (arith)
+  mark_most k j (had ∷ marks) = one_mark (j == k) had (mark_at k (j + 1) marks) j k (eqb-true j k) (λ less. no_marks_behind k (j + 1) marks less) (mark_most k (j + 1) marks)
+
+  name_none : (k j : ℕ) (c : Bool) → sum_over (ticks k) (if c then [] else N.left_over j ∷ []) ≤ 0
+  name_none k j true = omega (arith)
+  name_none k j false = alone_none (ticks k (N.left_over j)) (laws.left k j)
+
+  names_none : (k j : ℕ) (turns : List (List V)) (lanes : List S) → sum_over (ticks k) (left_names K N j turns lanes) ≤ 0
+  names_none k j [] lanes = omega (arith)
+  names_none k j (r ∷ turns) [] = omega (arith)
+  names_none k j (r ∷ turns) (s ∷ lanes) =
+      let name = all_calm K r && (if K.waits_on s then false else true) in
+      none_of_two (sum_over (ticks k) (left_names K N j (r ∷ turns) (s ∷ lanes))) (sum_over (ticks k) (if name then [] else N.left_over j ∷ []))
+      (sum_over (ticks k) (left_names K N (j + 1) turns lanes)) (sum_both (ticks k) (if name then [] else N.left_over j ∷ []) (left_names K N (j + 1) turns lanes)) (name_none k j name)
+      (names_none k (j + 1) turns lanes)
+
+  answer_is : (n : ℕ) → n ≡ 0 → n + 0 ≡ 0
+  answer_is n none = omega (arith, none)
+
+  pub lanes_tick : (k : ℕ) → Counts (lanes_of K N) (sum_over (ticks k)) (mark_at k 0)
+  lanes_tick k = record {
+    both = sum_both (ticks k);
+    round = λ w r v made. round_none k 0 w r v made.turns_made;
+    ticks = λ w m v made. ticks_mark k 0 w m v made;
+    unmarked = none_marked k 0;
+    most = mark_most k 0;
+    answer = answer_is (ticks k N.settled) (laws.answer k);
+    names = names_none k 0;
+  }
+
+-- AN END THAT FINDS NO ROOM
+module _ {S V E : Type 0} (K : LaneKind S V) (N : Entries V E) (k : ℕ) (stuck : ℕ → E → ℕ) (blocked moves : E → ℕ) (laws : LaneUnsticks K N k stuck blocked moves) where
+  none_behind : (j : ℕ) (lanes : List S) (turns : List (List V)) (behind : List S) → k < j → MakeTurns K j lanes turns behind → sum_over blocked (round_entries K N j turns) ≤ 0
+  none_behind j lanes [] behind less made = omega (arith)
+  none_behind j lanes (r ∷ turns) behind less made =
+      none_of_two (sum_over blocked (round_entries K N j (r ∷ turns))) (sum_over blocked (turn_entries K N j r)) (sum_over blocked (round_entries K N (j + 1) turns))
+      (sum_both blocked (turn_entries K N j r) (round_entries K N (j + 1) turns))
+      (not_there (j == k) (sum_over blocked (turn_entries K N j r)) j k (eqb-true j k) less (laws.turn j r made.1.of_turn))
+      (none_behind (j + 1) made.0 turns behind (below_next j k less) made.2)
+
+  round_once : (j : ℕ) (lanes : List S) (turns : List (List V)) (behind : List S) → MakeTurns K j lanes turns behind → sum_over blocked (round_entries K N j turns) ≤ 1
+  round_once j lanes [] behind made = omega (arith)
+  round_once j lanes (r ∷ turns) behind made =
+      one_here (j == k) (sum_over blocked (round_entries K N j (r ∷ turns))) (sum_over blocked (turn_entries K N j r)) (sum_over blocked (round_entries K N (j + 1) turns)) j k
+      (sum_both blocked (turn_entries K N j r) (round_entries K N (j + 1) turns)) (laws.turn j r made.1.of_turn) (eqb-true j k)
+      (λ less. none_behind (j + 1) made.0 turns behind less made.2) (round_once (j + 1) made.0 turns behind made.2)
+
+  tick_free : (get : Bool) (j : ℕ) (s : S) → sum_over blocked (if get then N.of_lane j (K.tick s) ∷ [] else []) ≤ 0
+  tick_free true j s = alone_none (blocked (N.of_lane j (K.tick s))) (laws.tick j s)
+  tick_free false j s = omega (arith)
+
+  ticks_free : (j : ℕ) (lanes : List S) (marks : List Bool) → sum_over blocked (tick_entries K N j lanes marks) ≤ 0
+  ticks_free j [] marks = omega (arith)
+  ticks_free j (s ∷ lanes) [] = omega (arith)
+  ticks_free j (s ∷ lanes) (had ∷ marks) =
+      none_of_two (sum_over blocked (tick_entries K N j (s ∷ lanes) (had ∷ marks))) (sum_over blocked (if gets_tick K s had then N.of_lane j (K.tick s) ∷ [] else []))
+      (sum_over blocked (tick_entries K N (j + 1) lanes marks)) (sum_both blocked (if gets_tick K s had then N.of_lane j (K.tick s) ∷ [] else []) (tick_entries K N (j + 1) lanes marks))
+      (tick_free (gets_tick K s had) j s) (ticks_free (j + 1) lanes marks)
+
+  name_free : (j : ℕ) (c : Bool) → sum_over blocked (if c then [] else N.left_over j ∷ []) ≤ 0
+  name_free j true = omega (arith)
+  name_free j false = alone_none (blocked (N.left_over j)) (laws.left j)
+
+  names_free : (j : ℕ) (turns : List (List V)) (lanes : List S) → sum_over blocked (left_names K N j turns lanes) ≤ 0
+  names_free j [] lanes = omega (arith)
+  names_free j (r ∷ turns) [] = omega (arith)
+  names_free j (r ∷ turns) (s ∷ lanes) =
+      let name = all_calm K r && (if K.waits_on s then false else true) in
+      none_of_two (sum_over blocked (left_names K N j (r ∷ turns) (s ∷ lanes))) (sum_over blocked (if name then [] else N.left_over j ∷ []))
+      (sum_over blocked (left_names K N (j + 1) turns lanes)) (sum_both blocked (if name then [] else N.left_over j ∷ []) (left_names K N (j + 1) turns lanes)) (name_free j name)
+      (names_free (j + 1) turns lanes)
+
+  pub lanes_unstick : Unsticks (lanes_of K N) stuck blocked moves
+  lanes_unstick = record {
+    most = laws.most;
+    or_none = laws.or_none;
+    moving = lanes_move K N moves laws.moving;
+    round = λ w r v made. round_once 0 w r v made.turns_made;
+    ticks = ticks_free 0;
+    names = names_free 0;
+    answer = laws.answer;
+  }
+
+-- NAMES
+module _ {S V E : Type 0} (K : LaneKind S V) (N : Entries V E) where
+  loud_here : (quiet waits more : Bool) (x : E) (rest : List E) → (quiet && more) ≡ false → (more ≡ false → 1 ≤ length rest)
+      → 1 ≤ length ((if quiet && (if waits then false else true) then [] else x ∷ []) ++ rest)
+  loud_here false waits more x rest loud others = omega (arith)
+  loud_here true true more x rest loud others = omega (arith)
+  loud_here true false more x rest loud others = others loud
+
+  loud_named : (k : ℕ) (turns : List (List V)) (lanes : List S) → length turns ≡ length lanes → are_still K turns ≡ false → 1 ≤ length (left_names K N k turns lanes)
+  loud_named k [] lanes long loud = absurd (cc loud)
+  loud_named k (r ∷ turns) [] long loud = absurd (omega (arith, long))
+  loud_named k (r ∷ turns) (s ∷ lanes) long loud =
+      loud_here (all_calm K r) (K.waits_on s) (are_still K turns) (N.left_over k) (left_names K N (k + 1) turns lanes) loud (λ more. loud_named (k + 1) turns lanes (omega (arith, long)) more)
+
+  run_many : (k : ℕ) (lanes : List S) (events : List V) (behind : List S) → Run (StepOf K k) lanes events behind → length behind ≡ length lanes
+  run_many k lanes [] behind run = ap (λ (l : List S). length l) (sym run)
+  run_many k lanes (event ∷ events) behind run = run_many k run.0 events behind run.2 ∙ as_many K 0 k lanes event run.0 run.1.step
+
+  turns_many : (k : ℕ) (lanes : List S) (turns : List (List V)) (behind : List S) → MakeTurns K k lanes turns behind → length behind ≡ length lanes
+  turns_many k lanes [] behind made = ap (λ (l : List S). length l) (sym made)
+  turns_many k lanes (r ∷ turns) behind made = turns_many (k + 1) made.0 turns behind made.2 ∙ run_many k lanes r made.0 made.1.run
+
+  round_many : (lanes : List S) (turns : List (List V)) (behind : List S) → MakeRound K lanes turns behind → length turns ≡ length behind
+  round_many lanes turns behind made = made.many ∙ sym (turns_many 0 lanes turns behind made.turns_made)
+
+  module _ (Reached Unforged Lossless : S → Type 0) (laws : LaneRests K Reached Unforged Lossless) (waits : TickWaits K Reached) where
+    named_where : (quiet waiting : Bool) (x : E) (rest : List E) → waiting ≡ true → 1 ≤ length ((if quiet && (if waiting then false else true) then [] else x ∷ []) ++ rest)
+    named_where true true x rest is = omega (arith)
+    named_where false true x rest is = omega (arith)
+    named_where quiet false x rest is = absurd (cc is)
+
+    named_later : (c : Bool) (x : E) (rest : List E) → 1 ≤ length rest → 1 ≤ length ((if c then [] else x ∷ []) ++ rest)
+    named_later true x rest some = some
+    named_later false x rest some = omega (arith)
+
+    gets_where : (had waiting : Bool) → (if had then false else waiting) ≡ true → waiting ≡ true
+    gets_where true waiting gets = absurd (cc gets)
+    gets_where false waiting gets = gets
+
+    tick_here : (get had quiet more : Bool) (s t : S) (x : E) (rest : List E) → Reached s → gets_tick K s had ≡ get → TicksIf K get s t → (get || more) ≡ true → (more ≡ true → 1 ≤ length rest)
+        → 1 ≤ length ((if quiet && (if K.waits_on t then false else true) then [] else x ∷ []) ++ rest)
+    tick_here true had quiet more s t x rest at gets step some others = named_where quiet (K.waits_on t) x rest (waits s t at (gets_where had (K.waits_on s) gets) step)
+    tick_here false had quiet more s t x rest at gets same some others = named_later (quiet && (if K.waits_on t then false else true)) x rest (others some)
+
+    ticked_named : (k : ℕ) (turns : List (List V)) (between : List S) (marks : List Bool) (behind : List S) → EachMarked (IsWhole K Reached Unforged Lossless laws) between marks
+        → length turns ≡ length between → TickAll K between marks behind → some_tick K between marks ≡ true → 1 ≤ length (left_names K N k turns behind)
+    ticked_named k turns [] marks behind at long ticks some = absurd (cc some)
+    ticked_named k turns (s ∷ between) [] behind at long ticks some = absurd (cc some)
+    ticked_named k turns (s ∷ between) (had ∷ marks) [] at long ticks some = absurd ticks
+    ticked_named k [] (s ∷ between) (had ∷ marks) (t ∷ behind) at long ticks some = absurd (omega (arith, long))
+    ticked_named k (r ∷ turns) (s ∷ between) (had ∷ marks) (t ∷ behind) at long ticks some =
+        tick_here (gets_tick K s had) had (all_calm K r) (some_tick K between marks) s t (N.left_over k) (left_names K N (k + 1) turns behind) at.0.reached refl ticks.0 some
+        (λ more. ticked_named (k + 1) turns between marks behind at.1 (omega (arith, long)) ticks.1 more)
+
+    pub lanes_name : Names (lanes_of K N) (EachMarked (IsWhole K Reached Unforged Lossless laws))
+    lanes_name = record {
+      loud = λ w r v made loud. loud_named 0 r v (round_many w r v made) loud;
+      ticked = λ w m r v u at made ticks some. ticked_named 0 r v m u ((lanes_keep K Reached Unforged Lossless laws N).round w m r v at made) (round_many w r v made) ticks some;
+    }
+
+-- AND WHAT COUNTS NOTHING of another kind's lanes
+module _ {S V E : Type 0} (K : LaneKind S V) (N : Entries V E) (count : E → ℕ) (events_none : (j : ℕ) (event : V) → count (N.of_lane j event) ≡ 0) (left_none : (j : ℕ) → count (N.left_over j) ≡ 0) where
+  ignored : (c : Bool) (x : E) → count x ≡ 0 → sum_over count (if c then [] else x ∷ []) ≤ 0
+  ignored true x none = omega (arith)
+  ignored false x none = alone_none (count x) none
+
+  turn_ignored : (j : ℕ) (events : List V) → sum_over count (turn_entries K N j events) ≤ 0
+  turn_ignored j [] = omega (arith)
+  turn_ignored j (event ∷ events) =
+      none_of_two (sum_over count (turn_entries K N j (event ∷ events))) (sum_over count (if K.is_silent event then [] else N.of_lane j event ∷ []))
+      (sum_over count (turn_entries K N j events)) (sum_both count (if K.is_silent event then [] else N.of_lane j event ∷ []) (turn_entries K N j events))
+      (ignored (K.is_silent event) (N.of_lane j event) (events_none j event)) (turn_ignored j events)
+
+  round_ignored : (j : ℕ) (turns : List (List V)) → sum_over count (round_entries K N j turns) ≤ 0
+  round_ignored j [] = omega (arith)
+  round_ignored j (r ∷ turns) =
+      none_of_two (sum_over count (round_entries K N j (r ∷ turns))) (sum_over count (turn_entries K N j r)) (sum_over count (round_entries K N (j + 1) turns))
+      (sum_both count (turn_entries K N j r) (round_entries K N (j + 1) turns)) (turn_ignored j r) (round_ignored (j + 1) turns)
+
+  tick_ignored : (get : Bool) (j : ℕ) (s : S) → sum_over count (if get then N.of_lane j (K.tick s) ∷ [] else []) ≤ 0
+  tick_ignored true j s = alone_none (count (N.of_lane j (K.tick s))) (events_none j (K.tick s))
+  tick_ignored false j s = omega (arith)
+
+  ticks_ignored : (j : ℕ) (lanes : List S) (marks : List Bool) → sum_over count (tick_entries K N j lanes marks) ≤ 0
+  ticks_ignored j [] marks = omega (arith)
+  ticks_ignored j (s ∷ lanes) [] = omega (arith)
+  ticks_ignored j (s ∷ lanes) (had ∷ marks) =
+      none_of_two (sum_over count (tick_entries K N j (s ∷ lanes) (had ∷ marks))) (sum_over count (if gets_tick K s had then N.of_lane j (K.tick s) ∷ [] else []))
+      (sum_over count (tick_entries K N (j + 1) lanes marks)) (sum_both count (if gets_tick K s had then N.of_lane j (K.tick s) ∷ [] else []) (tick_entries K N (j + 1) lanes marks))
+      (tick_ignored (gets_tick K s had) j s) (ticks_ignored (j + 1) lanes marks)
+
+  names_ignored : (j : ℕ) (turns : List (List V)) (lanes : List S) → sum_over count (left_names K N j turns lanes) ≤ 0
+  names_ignored j [] lanes = omega (arith)
+  names_ignored j (r ∷ turns) [] = omega (arith)
+  names_ignored j (r ∷ turns) (s ∷ lanes) =
+      let name = all_calm K r && (if K.waits_on s then false else true) in
+      none_of_two (sum_over count (left_names K N j (r ∷ turns) (s ∷ lanes))) (sum_over count (if name then [] else N.left_over j ∷ []))
+      (sum_over count (left_names K N (j + 1) turns lanes)) (sum_both count (if name then [] else N.left_over j ∷ []) (left_names K N (j + 1) turns lanes))
+      (ignored name (N.left_over j) (left_none j)) (names_ignored (j + 1) turns lanes)
+
+  pub lanes_ignore : Ignores (lanes_of K N) (sum_over count)
+  lanes_ignore = record { round = round_ignored 0; ticks = ticks_ignored 0; names = names_ignored 0 }

@@ -1,0 +1,12 @@
+pub mod Sums
+pub mod Standing
+pub mod Falling
+pub mod Leading
+pub mod Counting
+pub mod Naming
+pub mod Stuck
+pub mod Both
+pub mod Lanes
+pub mod Finishing
+pub mod Moving
+pub mod LaneCounts

@@ -1,0 +1,388 @@
+-- Each step of a disk's client is a move of an end that begins.
+use Rattle.std.proofs.Common.{◌≡◌, ℕ, ◌+◌, ◌-◌, ◌≤◌, ◌<◌, ◌⊎◌, inl, inr, Bool, true, false, Option, Some, None, List, [], ◌∷◌, length, drop, refl, sym, ap, ◌∙◌, subst, arith, length-drop}
+use Rattle.std.specs.Prelude.{◌&&◌, ◌||◌, is_some, is_none, not, nat_le, nat_lt, if◌then◌else◌, Result, Ok, Err}
+use Rattle.std.proofs.lemmas.Bool.{leb-true}
+use Rattle.ldc_link.specs.declared.phase.LinkPhase.{LinkPhase}
+use Rattle.ldc_link.specs.declared.phase.LinkPhase.TheVariants as phase
+use Rattle.ldc_link.specs.declared.phase.Role.TheVariants.{Initiator}
+use Rattle.ldc_link.specs.LinkState.{LinkState, cleared, is_established, is_up, offered}
+use Rattle.ldc_link.specs.Putting.{behind_put, left_behind_put, owes, owes_control}
+use Rattle.ldc_link.specs.Taking.{Heard, LinkTake, TakesBytes, Unheard}
+use Rattle.ldc_packet.specs.declared.packet.Subtype.{Subtype}
+use Rattle.ldc_packet.specs.declared.packet.Subtype.TheVariants.{Ack, Nack}
+use Rattle.ldc_queue.specs.Messages.{is_empty}
+use Rattle.vio_tag.proofs.Canonical.{length_canonical}
+use Rattle.vio_tag.specs.declared.cause.Cause.{Cause}
+use Rattle.vio_tag.specs.declared.cause.Cause.TheVariants as the_cause
+use Rattle.vio_tag.specs.declared.message.Message.{Message}
+use Rattle.vio_tag.specs.declared.message.MsgBody.{MsgBody}
+use Rattle.vio_tag.specs.declared.message.MsgBody.TheVariants.{DringData}
+use Rattle.vio_tag.specs.declared.message.TagFault.{TagFault}
+use Rattle.vio_tag.specs.Decoding.{Decodes}
+use Rattle.vio_tag.specs.Spelling.{canonical}
+use Rattle.vio_handshake.specs.Rules.{Faults, Goes, GoesOpen, HandshakeTake, fault_or, handshake_hear, handshake_take, sid_fault}
+use Rattle.disk_model.specs.ClientPutting.{announced, announcement, announcing, client_holds, client_kind, client_opens, client_put, holding, is_announcing, opened_if, session_behind}
+use Rattle.disk_model.specs.ClientRule.{Announces, ClientRule, Completes, Publishes, Puts, Says, Takes, client_rule}
+use Rattle.disk_model.specs.ClientState.{ClientSession, ClientState, joined_client, slot_in}
+use Rattle.disk_model.specs.ClientStep.{ClientAdmits, ClientCompletes, ClientFails, ClientPublishes, ClientSends}
+use Rattle.disk_model.specs.ClientTaking.{ClientTake, ClientTakes, GoesOn, HearsLink, HearsWhole, Resets, acknowledged, by_handshake, hears_message, in_session, reads, sid_first, takes_ack}
+use Rattle.disk_model.specs.DiskEvent.{Accepted, Admitted, Full, Refused}
+use Rattle.disk_model.specs.EndPuts.{ending, kind_in, put_opens}
+use Rattle.disk_model.specs.Offering.{client_offer}
+use Rattle.disk_model.specs.Ranges.{is_other, range_length}
+use Rattle.disk_model.specs.Seeing.{Seen}
+use Rattle.channel_laws.specs.EndCore.{holds}
+use Rattle.channel_laws.specs.EndStep.{DecodedFails, EndBegins, EndFails, EndHears, EndSays, EndStays, EndWaits, HandshakeTakes, HearsOwn, Holding, Holds, HoldsOn, HoldsOwed, HoldsOwn, IsOwn, KeepsOwn, LinkFails, MayTake, WholeFails}
+use Rattle.channel_laws.specs.EndStep as core
+use Rattle.lane_laws.proofs.ClientHolding.{client_held, not_own}
+use Rattle.lane_laws.proofs.Awake.{up_empty}
+use Rattle.lane_laws.proofs.OpenRuns.{behind_open}
+use Rattle.lane_laws.proofs.RemainingClientHears.{takes_calm}
+use Rattle.lane_laws.proofs.Ruling.{client_may}
+use Rattle.lane_laws.proofs.Sharing.{in_order, infos_few}
+use Rattle.lane_laws.specs.Budget.{infos_left, one_if}
+use Rattle.lane_laws.specs.ChannelEnds.{client_core}
+use Rattle.lane_laws.specs.RuleFacts.{ClientMay}
+use Rattle.lane_laws.specs.Sound.{ClientSound, CountsInOrder, InOrder}
+
+-- IT BEGINS
+pub client_begins : (s t : ClientState) → t ≡ joined_client s → EndBegins (client_core s) (client_core t)
+client_begins s t is = subst (λ (x : ClientState). EndBegins (client_core s) (client_core x)) (sym is) (record { link = refl; handshake = refl; offer = refl; closed = refl; more = refl })
+
+-- never more INFO than the ring has slots
+pub infos_most : (s : ClientState) → ClientSound s → infos_left s.slots s.session ≤ 256
+infos_most s sound = omega (arith, infos_few s.slots (length s.pending) s.session sound.counts, sound.slots)
+
+-- IT TAKES a packet, where its rule is to take it
+not_some : (o : Option Message) → is_some o ≡ false → o ≡ None
+not_some None is = refl
+not_some (Some message) is = absurd (cc is)
+
+none_is : (o : Option ClientSession) → is_some o ≡ false → is_none o ≡ true
+none_is None is = refl
+none_is (Some session) is = absurd (cc is)
+
+neither : (a b c d : Bool) → (a || b || (c && d)) ≡ false → (b ≡ false) × (c ≡ true → d ≡ false)
+neither true b c d is = absurd (cc is)
+neither false true c d is = absurd (cc is)
+neither false false true true is = absurd (cc is)
+neither false false true false is = (refl, λ closed. refl)
+neither false false false d is = (refl, λ closed. absurd (cc closed))
+
+client_may_take : (s : ClientState) (at : Seen) (packet : List ℕ) → client_rule s at ≡ Takes packet → MayTake (client_core s)
+client_may_take s at packet rule =
+    let free = neither (owes_control s.link) (is_some s.handshake.owed) (is_none s.session) (owes s.link) (takes_calm s at packet rule) in
+    record { owed = not_some s.handshake.owed free.0; quiet = λ closed. free.1 (none_is s.session closed) }
+
+-- what it comes to by a message: it goes on with the link behind it, or resets itself
+record TookTo (s : ClientState) (k : LinkState) (t : ClientState) : Type 0 where
+  link : t.link ≡ k
+  blocks : t.blocks ≡ s.blocks
+  slots : t.slots ≡ s.slots
+  own : is_announcing t.session ≡ is_announcing s.session
+
+abbrev Hears : ClientState → Message → ClientState → Type 0
+Hears s message t =
+    HandshakeTakes Initiator (is_some s.session) (handshake_take s.handshake message) false (client_core t)
+    ⊎ HearsOwn s.handshake (is_some s.session) message false (client_core t)
+
+abbrev Fails : ClientState → Message → Cause → Type 0
+Fails s message cause = (handshake_take s.handshake message ≡ Faults cause) ⊎ IsOwn s.handshake (is_some s.session) message
+
+abbrev Comes : ClientState → LinkState → Message → ClientTake → Type 0
+Comes s k message (GoesOn t) = TookTo s k t × Hears s message t
+Comes s k message (Resets cause) = Fails s message cause
+
+by_handshake_comes : (s : ClientState) (k : LinkState) (message : Message) (take : HandshakeTake) → handshake_take s.handshake message ≡ take
+    → Comes s k message (by_handshake (record s { link = k }) take)
+by_handshake_comes s k message (Goes h) is = (
+  record { link = refl; blocks = refl; slots = refl; own = refl },
+  inl (subst (λ (x : HandshakeTake). HandshakeTakes Initiator (is_some s.session) x false (client_core (record s { link = k; handshake = h }))) (sym is) (refl, refl, refl)),
+)
+by_handshake_comes s k message (GoesOpen h) is = (
+  record { link = refl; blocks = refl; slots = refl; own = refl },
+  inl (subst (λ (x : HandshakeTake). HandshakeTakes Initiator (is_some s.session) x false (client_core (record s { link = k; handshake = h }))) (sym is) (refl, refl, refl)),
+)
+by_handshake_comes s k message (Faults cause) is = inl is
+
+if_comes : (s : ClientState) (k : LinkState) (message : Message) (b : Bool) (x y : ClientTake) → Comes s k message x → Comes s k message y
+    → Comes s k message (if b then x else y)
+if_comes s k message true x y one other = one
+if_comes s k message false x y one other = other
+
+by_ack_comes : (s : ClientState) (k : LinkState) (message : Message) (session : ClientSession) (ident start end : ℕ) → s.session ≡ Some session
+    → IsOwn s.handshake (is_some s.session) message → Comes s k message (takes_ack (record s { link = k }) session ident start end)
+by_ack_comes s k message session ident start end is own =
+    if_comes s k message (is_other s.handshake.draft.ident_own ident) (Resets (the_cause.Ident s.handshake.draft.ident_own ident)) _ (inr own)
+    (if_comes s k message (is_other (slot_in s session.acked) start) (Resets (the_cause.Slot (slot_in s session.acked) start)) _ (inr own)
+    (if_comes s k message (nat_lt end s.slots && nat_le (session.acked + range_length s.slots start end) session.announced)
+    (GoesOn (acknowledged (record s { link = k }) session (range_length s.slots start end))) (Resets (the_cause.RangeEnd end))
+    (record { link = refl; blocks = refl; slots = refl; own = ap is_announcing (sym is) }, inr (own, refl, refl, ap is_some (sym is)))
+    (inr own)))
+
+by_session_comes : (s : ClientState) (k : LinkState) (message : Message) (session : ClientSession) (subtype : Subtype) (body : MsgBody) → s.session ≡ Some session
+    → message.body ≡ body → sid_fault s.handshake.sid message.sid ≡ None → Comes s k message (in_session (record s { link = k }) session message subtype body)
+by_session_comes s k message session Ack (DringData seq ident start end state) is body sid =
+    by_ack_comes s k message session ident start end is (record { opened = ap is_some is; sid = sid; body = subst core.IsOfSession (sym body) tt })
+by_session_comes s k message session Nack (DringData seq ident start end state) is body sid =
+    inr (record { opened = ap is_some is; sid = sid; body = subst core.IsOfSession (sym body) tt })
+by_session_comes s k message session _ _ is body sid = by_handshake_comes s k message (handshake_take s.handshake message) refl
+
+by_sid_comes : (s : ClientState) (k : LinkState) (message : Message) (session : ClientSession) (fault : Option Cause) → s.session ≡ Some session
+    → sid_fault s.handshake.sid message.sid ≡ fault
+    → Comes s k message (sid_first fault (in_session (record s { link = k }) session message message.subtype message.body))
+by_sid_comes s k message session None is sid = by_session_comes s k message session message.subtype message.body is refl sid
+by_sid_comes s k message session (Some cause) is sid =
+    inl (ap (λ (f : Option Cause). fault_or f (handshake_hear s.handshake message.subtype message.sid message.body)) sid)
+
+by_message_comes : (s : ClientState) (k : LinkState) (message : Message) (open_one : Option ClientSession) → s.session ≡ open_one
+    → Comes s k message (hears_message (record s { link = k }) open_one message)
+by_message_comes s k message None is = by_handshake_comes s k message (handshake_take s.handshake message) refl
+by_message_comes s k message (Some session) is = by_sid_comes s k message session (sid_fault s.handshake.sid message.sid) is refl
+
+-- it goes on
+abbrev HearsTo : ClientState → LinkState → Option (List ℕ) → ClientState → Type 0
+HearsTo s k whole t = TookTo s (cleared k) t × core.HearsWhole Initiator s.handshake (is_some s.session) whole false (client_core t)
+
+pub cleared_is : (k : LinkState) → k.whole ≡ None → k ≡ cleared k
+cleared_is k none = ap (λ (w : Option (List ℕ)). record k { whole = w }) none
+
+goes_decoded : (s t : ClientState) (k : LinkState) (bytes : List ℕ) (d : Result Message TagFault) → Decodes bytes d → GoesOn t ≡ reads (record s { link = cleared k }) d
+    → HearsTo s k (Some bytes) t
+goes_decoded s t k bytes (Ok message) decodes is =
+    let comes : Comes s (cleared k) message (GoesOn t) = subst (Comes s (cleared k) message) (sym is) (by_message_comes s (cleared k) message s.session refl) in
+    (comes.0, (Ok message, decodes, comes.1))
+goes_decoded s t k bytes (Err fault) decodes is = absurd (cc is)
+
+goes_whole : (s t : ClientState) (k : LinkState) (whole : Option (List ℕ)) → k.whole ≡ whole → HearsWhole (record s { link = k }) whole (GoesOn t) → HearsTo s k whole t
+goes_whole s t k None none is =
+    let same : t ≡ record s { link = k } = cc is in
+    subst (HearsTo s k None) (sym same) (record { link = cleared_is k none; blocks = refl; slots = refl; own = refl }, (refl, refl, refl))
+goes_whole s t k (Some bytes) some is = goes_decoded s t k bytes is.0 is.1 is.2
+
+offers_same : (s t : ClientState) → t.blocks ≡ s.blocks → t.slots ≡ s.slots → client_offer t.blocks t.slots ≡ client_offer s.blocks s.slots
+offers_same s t blocks slots = ap (λ (n : ℕ). client_offer n t.slots) blocks ∙ ap (λ (n : ℕ). client_offer s.blocks n) slots
+
+goes_link : (s t : ClientState) (packet : List ℕ) (link : LinkTake) → ClientSound t → MayTake (client_core s) → TakesBytes s.link packet link → HearsLink s link (GoesOn t)
+    → EndHears Initiator (client_core s) packet false (client_core t)
+goes_link s t packet (Heard k) sound may takes hears =
+    let to = goes_whole s t k k.whole refl hears in
+    record {
+      may = may;
+      heard = k;
+      takes = takes;
+      link = to.0.link;
+      hears = to.1;
+      offer = offers_same s t to.0.blocks to.0.slots;
+      own = λ before behind. to.0.own;
+      most = infos_most t sound;
+    }
+goes_link s t packet (Unheard cause) sound may takes hears = absurd (cc hears)
+
+pub client_hears : (s : ClientState) (at : Seen) (packet : List ℕ) (t : ClientState) → ClientSound t → client_rule s at ≡ Takes packet → ClientTakes s packet (GoesOn t)
+    → EndHears Initiator (client_core s) packet false (client_core t)
+client_hears s at packet t sound rule takes = goes_link s t packet takes.link sound (client_may_take s at packet rule) takes.takes takes.hears
+
+-- IT RESETS ITSELF
+resets_decoded : (s : ClientState) (k : LinkState) (cause : Cause) (d : Result Message TagFault) → Resets cause ≡ reads (record s { link = k }) d
+    → DecodedFails s.handshake (is_some s.session) d cause
+resets_decoded s k cause (Ok message) is = subst (Comes s k message) (sym is) (by_message_comes s k message s.session refl)
+resets_decoded s k cause (Err fault) is = cc is
+
+resets_whole : (s : ClientState) (k : LinkState) (cause : Cause) (whole : Option (List ℕ)) → HearsWhole (record s { link = k }) whole (Resets cause)
+    → WholeFails s.handshake (is_some s.session) whole cause
+resets_whole s k cause None is = absurd (cc is)
+resets_whole s k cause (Some bytes) is = (is.0, is.1, resets_decoded s (cleared k) cause is.0 is.2)
+
+resets_link : (s : ClientState) (cause : Cause) (link : LinkTake) → HearsLink s link (Resets cause) → LinkFails Initiator (client_core s) link cause
+resets_link s cause (Heard k) hears = resets_whole s k cause k.whole hears
+resets_link s cause (Unheard why) hears = cc hears
+
+pub client_refuses : (s : ClientState) (at : Seen) (packet : List ℕ) (cause : Cause) → client_rule s at ≡ Takes packet → ClientTakes s packet (Resets cause)
+    → EndFails Initiator (client_core s) cause (Some packet)
+client_refuses s at packet cause rule takes =
+    record { may = client_may_take s at packet rule; take = takes.link; takes = takes.takes; fails = resets_link s cause takes.link takes.hears }
+
+fails_by : (s : ClientState) (at : Seen) (memory : List ℕ) (rule : ClientRule) (cause : Cause) (packet : Option (List ℕ)) → client_rule s at ≡ rule → ClientMay s at rule
+    → ClientFails rule s memory cause packet → EndFails Initiator (client_core s) cause packet
+fails_by s at memory (Takes bytes) cause packet rule may fails =
+    subst (EndFails Initiator (client_core s) cause) (sym fails.0) (client_refuses s at bytes cause rule fails.1)
+fails_by s at memory (Completes session) cause packet rule may fails =
+    subst (EndFails Initiator (client_core s) cause) (sym fails.0) (ap is_some may.1)
+fails_by s at memory _ cause packet rule may fails = absurd fails
+
+pub client_fails : (s : ClientState) (at : Seen) (memory : List ℕ) (cause : Cause) (packet : Option (List ℕ)) → ClientFails (client_rule s at) s memory cause packet
+    → EndFails Initiator (client_core s) cause packet
+client_fails s at memory cause packet fails = fails_by s at memory (client_rule s at) cause packet refl (client_may s at) fails
+
+-- IT HOLDS a message
+record HoldsTo (s held : ClientState) : Type 0 where
+  what : Holding
+  holds : Holds (client_core s) what (client_core held)
+
+pub holds_and : (k : LinkState) → holds k ≡ true → is_up k ≡ true
+holds_and k is = first (is_up k) (not (is_empty k.to_send)) is
+  where
+    first : (a b : Bool) → (a && b) ≡ true → a ≡ true
+    first true b is = refl
+    first false b is = absurd (cc is)
+
+holds_says : (s : ClientState) (message : Message) → ClientSound s → owes s.link ≡ false → s.handshake.owed ≡ Some message → HoldsTo s (holding message s)
+holds_says s message sound quiet owed = record {
+  what = HoldsOwed message;
+  holds = record {
+    quiet = quiet;
+    owed = owed;
+    link = refl;
+    handshake = refl;
+    offer = refl;
+    is_open = refl;
+    own = λ up. not_own (is_announcing s.session) s.link.to_send sound.own (up_empty s.link (holds_and (offered (canonical message) s.link) up) quiet);
+    more = omega arith;
+  };
+}
+
+holds_announces : (s : ClientState) (session : ClientSession) → ClientSound s → owes s.link ≡ false → s.handshake.owed ≡ None → s.session ≡ Some session
+    → session.announced < session.published → HoldsTo s (announcing session (holding (announcement s session) s))
+holds_announces s session sound quiet owed is more =
+    let counts : InOrder (length s.pending) session = in_order (length s.pending) s.session session is sound.counts in
+    let infos : infos_left s.slots s.session ≡ (session.acked + s.slots) - (session.announced + one_if session.announcing) = ap (infos_left s.slots) is in
+    let fewer : one_if session.announcing ≤ 1 = one_or session.announcing in
+    record {
+      what = HoldsOwn (announcement s session);
+      holds = record {
+        quiet = quiet;
+        owed = owed;
+        opened = ap is_some is;
+        body = tt;
+        sid = refl;
+        short = omega (arith, length_canonical (announcement s session));
+        link = refl;
+        handshake = refl;
+        offer = refl;
+        is_open = ap is_some (sym is);
+        own = refl;
+        most = omega (arith, infos, fewer);
+        more = λ up.
+            (let own : is_announcing s.session ≡ false = not_own (is_announcing s.session) s.link.to_send sound.own (up_empty s.link up quiet) in
+            let none : one_if session.announcing ≡ 0 = ap one_if (sym (ap is_announcing is) ∙ own) in
+            omega (arith, infos, none, more, counts.published, counts.completed, sound.pending));
+      };
+    }
+  where
+    one_or : (b : Bool) → one_if b ≤ 1
+    one_or true = omega arith
+    one_or false = omega arith
+
+to_the : (s one other : ClientState) → Some one ≡ Some other → HoldsTo s one → HoldsTo s other
+to_the s one other is to = let same : one ≡ other = cc is in subst (HoldsTo s) same to
+
+holds_by : (s : ClientState) (at : Seen) (rule : ClientRule) (held : ClientState) → ClientSound s → ClientMay s at rule → client_holds rule s ≡ Some held → HoldsTo s held
+holds_by s at Puts held sound may is = to_the s s held is (record { what = HoldsOn; holds = refl })
+holds_by s at (Says message) held sound may is = to_the s (holding message s) held is (holds_says s message sound may.1 may.2)
+holds_by s at (Announces session) held sound may is =
+    to_the s (announcing session (holding (announcement s session) s)) held is (holds_announces s session sound may.1 may.2 may.3 may.4)
+holds_by s at _ held sound may is = absurd (cc is)
+
+pub client_waits : (s : ClientState) (at : Seen) (t : ClientState) → ClientSound s → client_holds (client_rule s at) s ≡ Some t → EndWaits (client_core s) (client_core t)
+client_waits s at t sound is = let to = holds_by s at (client_rule s at) t sound (client_may s at) is in record { what = to.what; holds = to.holds }
+
+-- IT PUTS a packet: whose the link's message is stays, unless it is wholly put
+pub holds_none : (k : LinkState) (xs : List ℕ) (X : Type 0) → k.to_send ≡ xs → length xs ≤ 0 → holds k ≡ true → X
+holds_none k [] X is few up = absurd (cc (both (is_up k) up))
+  where
+    both : (a : Bool) → (a && not (is_empty k.to_send)) ≡ true → true ≡ false
+    both true up = sym up ∙ ap (λ (bytes : List ℕ). not (is_empty bytes)) is
+    both false up = sym up
+holds_none k (x ∷ xs) X is few up = absurd (omega (arith, few))
+
+put_own_in : (ph : LinkPhase) (c : ClientState) (last : Bool) → c.link.phase ≡ ph → nat_le (length c.link.to_send) 56 ≡ last → is_up c.link ≡ true → holds (behind_put c.link) ≡ true
+    → is_announcing (session_behind (kind_in ph c.link (is_announcing c.session)) c) ≡ is_announcing c.session
+put_own_in phase.Established c true at short up still =
+    holds_none (behind_put c.link) (drop 56 c.link.to_send) _ (ap (λ (p : LinkPhase). left_behind_put p c.link.to_send) at)
+    (omega (arith, leb-true (length c.link.to_send) 56 short, length-drop 56 c.link.to_send)) still
+put_own_in phase.Established c false at long up still =
+    ap (λ (b : Bool). is_announcing (session_behind (ending b (is_announcing c.session)) c)) long
+put_own_in _ c last at short up still = absurd (cc (sym up ∙ ap is_established at))
+
+infos_announced : (slots pending : ℕ) (open_one : Option ClientSession) → CountsInOrder pending open_one → is_announcing open_one ≡ true
+    → infos_left slots (announced open_one) ≤ infos_left slots open_one
+infos_announced slots pending None counts own = absurd (cc own)
+infos_announced slots pending (Some s) counts own = omega (arith, counts.own own, ap one_if own, counts.acked)
+
+own_ends : (c : ClientState) (last own : Bool) → is_announcing c.session ≡ own → ClientSound c → put_opens (ending last own) c.handshake ≡ false
+    → infos_left c.slots (session_behind (ending last own) c) ≤ infos_left c.slots c.session
+own_ends c true true is sound opens = infos_announced c.slots (length c.pending) c.session sound.counts is
+own_ends c true false is sound opens = omega (arith, ap (λ (b : Bool). infos_left c.slots (opened_if b c)) opens)
+own_ends c false own is sound opens = omega arith
+
+put_infos_in : (ph : LinkPhase) (c : ClientState) → ClientSound c → put_opens (kind_in ph c.link (is_announcing c.session)) c.handshake ≡ false
+    → infos_left c.slots (session_behind (kind_in ph c.link (is_announcing c.session)) c) ≤ infos_left c.slots c.session
+put_infos_in phase.Established c sound opens = own_ends c (nat_le (length c.link.to_send) 56) (is_announcing c.session) refl sound opens
+put_infos_in phase.OwesRdx c sound opens = omega arith
+put_infos_in _ c sound opens = omega arith
+
+opened_is : (b c : Bool) (x : Bool) → b ≡ c → (c || x) ≡ (b || x)
+opened_is b c x is = ap (λ (y : Bool). y || x) (sym is)
+
+record PutsTo (packet : List ℕ) (opens : Bool) (held t : ClientState) : Type 0 where
+  handshake : t.handshake ≡ (client_put held).handshake
+  is_open : is_some t.session ≡ (opens || is_some held.session)
+  offer : client_offer t.blocks t.slots ≡ client_offer held.blocks held.slots
+  own : KeepsOwn (client_core held) (client_core t)
+  more : opens ≡ false → infos_left t.slots t.session ≤ infos_left held.slots held.session
+
+puts_to : (packet : List ℕ) (opens : Bool) (held : ClientState) → ClientSound held → opens ≡ client_opens held → PutsTo packet opens held (client_put held)
+puts_to packet opens held sound is = record {
+  handshake = refl;
+  is_open = behind_open (client_kind held) held ∙ ap (λ (b : Bool). b || is_some held.session) (sym is);
+  offer = refl;
+  own = λ before behind. put_own_in held.link.phase held (nat_le (length held.link.to_send) 56) refl refl (holds_and held.link before) behind;
+  more = λ closed. put_infos_in held.link.phase held sound (sym is ∙ closed);
+}
+
+pub client_says : (s : ClientState) (at : Seen) (memory packet : List ℕ) (opens : Bool) (t : ClientState) (new : List ℕ) → ClientSound s → ClientSound t
+    → ClientSends s at memory packet opens t new → EndSays Initiator (client_core s) packet opens (client_core t)
+client_says s at memory packet opens t new sound behind sends =
+    let to = holds_by s at (client_rule s at) sends.held sound (client_may s at) sends.holds in
+    let puts : PutsTo packet opens sends.held t = subst (PutsTo packet opens sends.held) (sym sends.is) (puts_to packet opens sends.held (client_held s at (client_rule s at) sends.held (client_may s at) sends.holds sound).sound sends.opens_is) in
+    record {
+      held = client_core sends.held;
+      what = to.what;
+      holds = to.holds;
+      puts = sends.packet;
+      handshake = puts.handshake;
+      opens_is = sends.opens_is;
+      is_open = puts.is_open;
+      offer = puts.offer;
+      own = puts.own;
+      most = infos_most t behind;
+      more = puts.more;
+    }
+
+-- IT WORKS, or is asked
+stays : (s : ClientState) → EndStays (client_core s) (client_core s)
+stays s = record { link = refl; handshake = refl; offer = refl; is_open = refl; own = refl; more = omega arith }
+
+pub client_same : (s t : ClientState) → t ≡ s → EndStays (client_core s) (client_core t)
+client_same s t is = subst (λ (x : ClientState). EndStays (client_core s) (client_core x)) (sym is) (stays s)
+
+pub client_asked : (s : ClientState) (event : Admitted) (t : ClientState) → ClientAdmits s event t → EndStays (client_core s) (client_core t)
+client_asked s (Refused why request) t admits = client_same s t admits.1
+client_asked s (Full request) t admits = client_same s t admits.2
+client_asked s (Accepted id request) t admits =
+    subst (λ (x : ClientState). EndStays (client_core s) (client_core x)) (sym admits.5) (record { link = refl; handshake = refl; offer = refl; is_open = refl; own = refl; more = omega arith })
+
+pub client_published : (s : ClientState) (at : Seen) (memory : List ℕ) (id : ℕ) (t : ClientState) (new : List ℕ) → ClientPublishes s at memory id t new
+    → EndStays (client_core s) (client_core t)
+client_published s at memory id t new step =
+    let may : ClientMay s at (Publishes step.session step.request) = subst (ClientMay s at) step.rule (client_may s at) in
+    subst (λ (x : ClientState). EndStays (client_core s) (client_core x)) (sym step.is)
+    (record { link = refl; handshake = refl; offer = refl; is_open = ap is_some (sym may.1); own = ap is_announcing (sym may.1); more = omega (arith, ap (infos_left s.slots) may.1) })
+
+pub client_completed : (s : ClientState) (at : Seen) (memory : List ℕ) (id operation status : ℕ) (bytes : List ℕ) (t : ClientState) (new : List ℕ)
+    → ClientCompletes s at memory id operation status bytes t new → EndStays (client_core s) (client_core t)
+client_completed s at memory id operation status bytes t new step =
+    let may : ClientMay s at (Completes step.session) = subst (ClientMay s at) step.rule (client_may s at) in
+    subst (λ (x : ClientState). EndStays (client_core s) (client_core x)) (sym step.is)
+    (record { link = refl; handshake = refl; offer = refl; is_open = ap is_some (sym may.1); own = ap is_announcing (sym may.1); more = omega (arith, ap (infos_left s.slots) may.1) })

@@ -1,0 +1,528 @@
+-- Along every run both ends are as the lane's log counts them.
+use Rattle.std.proofs.Common.{◌≡◌, ℕ, ◌+◌, ◌≤◌, Bool, true, false, Option, Some, None, List, [], ◌∷◌, ◌++◌, drop, length, refl, sym, ap, ◌∙◌, subst, inl, inr, arith}
+use Rattle.std.specs.Prelude.{is_none, is_some, not, ◌&&◌, ◌||◌, ⊤}
+use Rattle.runs.specs.Lawful.{log_of, run_lawful}
+use Rattle.runs.specs.Run.{Run}
+use Rattle.ldc_link.specs.declared.phase.Role.TheVariants.{Responder}
+use Rattle.ldc_link.specs.LinkState.{LinkState, is_up, offered}
+use Rattle.ldc_link.specs.Putting.{owes, owes_control}
+use Rattle.ldc_queue.specs.declared.end.End.{End}
+use Rattle.ldc_queue.specs.declared.end.End.TheVariants.{A, B}
+use Rattle.ldc_queue.specs.Messages.{is_empty}
+use Rattle.ldc_queue.specs.Transcript.{Heard as Heard_, Said, Turn}
+use Rattle.vio_tag.specs.declared.cause.Cause.{Cause}
+use Rattle.vio_tag.specs.declared.message.Message.{Message}
+use Rattle.vio_tag.specs.Spelling.{canonical}
+use Rattle.vio_handshake.specs.declared.session.Offer.{Offer}
+use Rattle.disk_model.specs.Agreement.{ClientEndAgrees, RangeAgrees, ServerEndAgrees}
+use Rattle.disk_model.specs.BlockLog.{Blockage, Clear, is_stuck}
+use Rattle.disk_model.specs.ClientPutting.{announcement, announcing, client_holds, client_kind, holding, is_announcing}
+use Rattle.disk_model.specs.ClientRule as client_rules
+use Rattle.disk_model.specs.ClientState.{ClientSession, ClientState, joined_client}
+use Rattle.disk_model.specs.ClientStep.{ClientSends}
+use Rattle.disk_model.specs.DiskEvent.{Asks, Calm, CalmReset, CalmRestart, CalmStart, CalmStop, CalmTick, Desc, DiskEvent, Done, Finished, Misplaced, Moved, Off, OnWire, Published, Calms, Started, Stopped, Stored, Switched, Switches, Worked, Works}
+use Rattle.disk_model.specs.DiskLog.{DiskLog, after, nothing_yet}
+use Rattle.disk_model.specs.EndLog.{announced_or_owed, answer_left, client_left, handshake_of, has_begun, infos_heard, left_if, left_of, owed_left, range_in_work, range_left, server_left}
+use Rattle.disk_model.specs.LaneState.{IsShape, LaneState, Shape, fresh}
+use Rattle.disk_model.specs.LaneStep.{EndOnWire, LaneStep, ResetBy, RestStep, TurnStep, WireStep, WorkStep}
+use Rattle.disk_model.specs.Offering.{client_offer, server_offer}
+use Rattle.disk_model.specs.Ranges.{wrapped}
+use Rattle.disk_model.specs.Sayings.{half_said, heard}
+use Rattle.disk_model.specs.Seeing.{seen}
+use Rattle.disk_model.specs.ServerPutting.{server_holds, server_kind}
+use Rattle.disk_model.specs.ServerRule as server_rules
+use Rattle.disk_model.specs.ServerRule.{answer}
+use Rattle.disk_model.specs.ServerState.{ServerSession, ServerState, SlotRange, joined_server, restarted_server}
+use Rattle.disk_model.specs.ServerStep.{ServerSends}
+use Rattle.disk_model.specs.WireEvent.{Blocked, ByRestart, ByScript, ByStep, ByTick, Declines, Giver, Idle, Injected, Joined, Lost, Poked, Reset, Sent, Took, WireEvent, giver}
+use Rattle.disk_model.specs.WorkLog.{ServerCounts}
+use Rattle.lane_laws.proofs.ClientFolds.{ClientIs, client_admits_so, client_begins, client_blocks_so, client_completes_so, client_publishes_so, client_puts_so, client_takes_so, sends_some}
+use Rattle.lane_laws.proofs.Speaking.{client_blocked_rests}
+use Rattle.lane_laws.proofs.ClientTaken.{client_took_what}
+use Rattle.lane_laws.proofs.Speaking.{client_blocked_utters}
+use Rattle.lane_laws.proofs.HeldLinks.{held_link}
+use Rattle.lane_laws.proofs.EndPutting.{put_says}
+use Rattle.lane_laws.proofs.Awake.{is_open_up}
+use Rattle.lane_laws.proofs.HandshakesFold.{client_linked, server_linked}
+use Rattle.lane_laws.proofs.LaneCounting.{Knows, knows_step, run_knows}
+use Rattle.lane_laws.proofs.LinkKept.{client_sending, server_sending}
+use Rattle.lane_laws.proofs.PhasesFold.{put_rdx}
+use Rattle.lane_laws.proofs.RangeLaw.{putting}
+use Rattle.lane_laws.proofs.RangeSums.{count_heard}
+use Rattle.lane_laws.proofs.RemainingClientHears.{owes_nothing, takes_calm}
+use Rattle.lane_laws.proofs.RulesFree.{ServerFree, TakesFree, server_free}
+use Rattle.lane_laws.proofs.Ruling.{client_may}
+use Rattle.lane_laws.proofs.ServerFolds.{ServerIs, ranged, server_begins, server_blocks_so, server_fetches_so, server_finishes_so, server_moves_so, server_puts_so, server_restarts, server_stores_so, server_takes_so}
+use Rattle.lane_laws.proofs.ServerPutCounting.{server_holds_counting}
+use Rattle.lane_laws.proofs.ServerTaken.{server_took_what}
+use Rattle.lane_laws.proofs.Speaking.{server_blocked_utters}
+use Rattle.lane_laws.proofs.HeldLinks.{held_server}
+use Rattle.lane_laws.proofs.HeldHandshake.{held_handshake}
+use Rattle.lane_laws.specs.Counted.{HoldsAnswer, HoldsEither, HoldsOwed, ServerOrder, range_count}
+use Rattle.lane_laws.specs.ChannelEnds.{server_core}
+use Rattle.channel_laws.specs.Cuts.{Cuts}
+
+-- BOTH ENDS, and the log
+abbrev offer_a : DiskLog → Offer
+offer_a l = client_offer l.shape.blocks l.shape.slots
+
+abbrev offer_b : DiskLog → Offer
+offer_b l = server_offer l.shape.blocks l.shape.slots
+
+abbrev pub ClientStands : LaneState → DiskLog → Type 0
+ClientStands s l = ClientIs (offer_a l) s.client l.transcript.client l.transcript.links l.blocked.client
+
+abbrev pub ServerStands : LaneState → DiskLog → Type 0
+ServerStands s l = ServerIs (offer_b l) s.server l.transcript.server l.blocked.server
+
+pub record BothAre (s : LaneState) (l : DiskLog) : Type 0 where
+  pub knows : Knows s l
+  pub client : ClientStands s l
+  pub server : ServerStands s l
+
+-- an end that stays
+same_client : (s t : LaneState) (l : DiskLog) → BothAre s l → t.client ≡ s.client → ClientIs (offer_a l) t.client l.transcript.client l.transcript.links l.blocked.client
+same_client s t l both same = subst (λ (c : ClientState). ClientIs (offer_a l) c l.transcript.client l.transcript.links l.blocked.client) (sym same) both.client
+
+same_server : (s t : LaneState) (l : DiskLog) → BothAre s l → t.server ≡ s.server → ServerIs (offer_b l) t.server l.transcript.server l.blocked.server
+same_server s t l both same = subst (λ (v : ServerState). ServerIs (offer_b l) v l.transcript.server l.blocked.server) (sym same) both.server
+
+-- one that begins anew
+begun_client : (s : LaneState) (l : DiskLog) (c : ClientState) → BothAre s l → c ≡ joined_client s.client → ClientIs (offer_a l) c [] l.transcript.links Clear
+begun_client s l c both is =
+    subst (λ (x : ClientState). ClientIs (offer_a l) x [] l.transcript.links Clear) (sym is)
+    (client_begins (offer_a l) s.client l.transcript.client l.transcript.links l.blocked.client both.knows.counted.client.handshake both.knows.all.transcripts.client.role both.client)
+
+begun_server : (s : LaneState) (l : DiskLog) (v : ServerState) → BothAre s l → v ≡ joined_server s.server → ServerIs (offer_b l) v [] Clear
+begun_server s l v both is =
+    subst (λ (x : ServerState). ServerIs (offer_b l) x [] Clear) (sym is)
+    (server_begins (offer_b l) s.server l.transcript.server l.blocked.server both.knows.counted.server.handshake both.knows.all.transcripts.server.role both.server)
+
+made_server : (s : LaneState) (l : DiskLog) (v : ServerState) → BothAre s l → v ≡ restarted_server s.server → ServerIs (offer_b l) v [] Clear
+made_server s l v both is =
+    let offers : (restarted_server s.server).handshake ≡ handshake_of Responder (offer_b l) 0 [] =
+    ap (λ (n : ℕ). handshake_of Responder (server_offer n s.server.slots) 0 []) both.knows.counted.server.blocks
+    ∙ ap (λ (n : ℕ). handshake_of Responder (server_offer l.shape.blocks n) 0 []) both.knows.counted.server.slots in
+    subst (λ (x : ServerState). ServerIs (offer_b l) x [] Clear) (sym is) (server_restarts (offer_b l) s.server offers)
+
+-- what an end holds leaves its link's phase, its handshake and its session's range
+held_phase : (s : ClientState) (rule : client_rules.ClientRule) (held : ClientState) → client_holds rule s ≡ Some held → held.link.phase ≡ s.link.phase
+held_phase s client_rules.Puts held is = let same : s ≡ held = cc is in ap (λ (x : ClientState). x.link.phase) (sym same)
+held_phase s (client_rules.Says message) held is = let same : holding message s ≡ held = cc is in ap (λ (x : ClientState). x.link.phase) (sym same)
+held_phase s (client_rules.Announces session) held is =
+    let same : announcing session (holding (announcement s session) s) ≡ held = cc is in ap (λ (x : ClientState). x.link.phase) (sym same)
+held_phase s client_rules.Joins held is = absurd (cc)
+held_phase s (client_rules.Completes session) held is = absurd (cc)
+held_phase s (client_rules.Takes packet) held is = absurd (cc)
+held_phase s (client_rules.Publishes session request) held is = absurd (cc)
+held_phase s client_rules.Idles held is = absurd (cc)
+
+record SameServer (s held : ServerState) : Type 0 where
+  phase : held.link.phase ≡ s.link.phase
+  handshake : held.handshake ≡ s.handshake
+  session : held.session ≡ s.session
+
+same_held_server : (s : ServerState) (rule : server_rules.ServerRule) (held : ServerState) → server_holds rule s ≡ Some held → SameServer s held
+same_held_server s server_rules.Puts held is =
+    let same : s ≡ held = cc is in subst (λ (x : ServerState). SameServer s x) same (record { phase = refl; handshake = refl; session = refl })
+same_held_server s (server_rules.Says message) held is =
+    let same : record s { link = offered (canonical message) s.link } ≡ held = cc is in
+    subst (λ (x : ServerState). SameServer s x) same (record { phase = refl; handshake = refl; session = refl })
+same_held_server s server_rules.Joins held is = absurd (cc)
+same_held_server s (server_rules.Fetches session) held is = absurd (cc)
+same_held_server s (server_rules.Serves session work) held is = absurd (cc)
+same_held_server s (server_rules.Takes packet) held is = absurd (cc)
+same_held_server s server_rules.Idles held is = absurd (cc)
+
+-- THE CLIENT on the wire
+first_false : (a b c : Bool) → (a || b || c) ≡ false → a ≡ false
+first_false false b c is = refl
+first_false true b c is = absurd (cc)
+
+client_takes : (s : LaneState) (l : DiskLog) (packet : List ℕ) (opens : Bool) (t : LaneState) → BothAre s l → EndOnWire A s (Took A packet opens) t → ClientStands t (after l (OnWire (Took A packet opens)))
+client_takes s l packet opens t both step =
+    let knows = both.knows in
+    let at = seen A s.shape.entries s.wire.wire in
+    client_takes_so (offer_a l) s.client t.client l.transcript.client packet l.transcript.links l.blocked.client (record {
+      took = client_linked s.client t.client packet step.step.1;
+      same = client_sending s.client t.client packet step.step.1;
+      asking = knows.all.transcripts.client.asking;
+      calm = first_false (owes_control s.client.link) (is_some s.client.handshake.owed) (is_none s.client.session && owes s.client.link) (takes_calm s.client at packet step.step.0);
+      owed = owes_nothing s.client at packet step.step.0;
+    }) both.client
+    (client_took_what s.client l.transcript.client packet t.client knows.all.transcripts.follows_a knows.rests.client.whole step.step.1)
+
+client_puts : (s : LaneState) (l : DiskLog) (packet : List ℕ) (opens : Bool) (t : LaneState) → BothAre s l → EndOnWire A s (Sent A packet opens) t → ClientStands t (after l (OnWire (Sent A packet opens)))
+client_puts s l packet opens t both step =
+    let knows = both.knows in
+    let at = seen A s.shape.entries s.wire.wire in
+    let rule = client_rules.client_rule s.client at in
+    let sends : ClientSends s.client at s.memory packet opens t.client t.memory = step.step in
+    let held = sends.held in
+    let put = putting s l packet opens t.client t.memory knows sends in
+    let follows = held_link s.client at rule held l.transcript.client sends.holds knows.all.transcripts.follows_a in
+    subst (λ (x : ClientState). ClientIs (offer_a l) x (Said packet ∷ l.transcript.client) (after l (OnWire (Sent A packet opens))).transcript.links Clear) (sym sends.is)
+    (client_puts_so (offer_a l) l.transcript.client packet l.transcript.links (client_kind held) held refl (record {
+      phase = held_phase s.client rule held sends.holds ∙ both.client.link.phase;
+      handshake = held_handshake s.client rule held sends.holds ∙ both.client.handshake;
+      fits = put.counted.handshake;
+      rests = client_blocked_rests s.client at held l.transcript.client knows.all.transcripts.client sends.holds knows.rests.client;
+      utters = client_blocked_utters s.client at held l.transcript.client knows.all.transcripts.client sends.holds knows.rests.client;
+      holds = put.counted.holds;
+      rdx = put_rdx (is_announcing held.session) held.link t.client.link l.transcript.client packet follows sends.packet;
+    }) put.says)
+
+client_wire : (s : LaneState) (event : WireEvent) (t : LaneState) (l : DiskLog) → BothAre s l → EndOnWire A s event t
+    → ClientStands t (after l (OnWire event)) × ServerStands t (after l (OnWire event))
+client_wire s (Joined A lost) t l both step = (begun_client s l t.client both step.step.2, same_server s t l both (ap (λ (x : LaneState). x.server) step.is))
+client_wire s (Took A packet opens) t l both step = (client_takes s l packet opens t both step, same_server s t l both (ap (λ (x : LaneState). x.server) step.is))
+client_wire s (Sent A packet opens) t l both step = (client_puts s l packet opens t both step, same_server s t l both (ap (λ (x : LaneState). x.server) step.is))
+client_wire s (Blocked A) t l both step =
+    let at = seen A s.shape.entries s.wire.wire in
+    let rule = client_rules.client_rule s.client at in (
+      client_blocks_so (offer_a l) s.client at rule t.client l.transcript.client l.transcript.links l.blocked.client refl (client_may s.client at) step.step.0
+          (record { rests = both.knows.rests.client; utters = both.knows.utters.client; holds = both.knows.counted.client.holds }) both.client,
+      same_server s t l both (ap (λ (x : LaneState). x.server) step.is),
+    )
+client_wire s (Idle A) t l both step = (same_client s t l both step.step.1, same_server s t l both (ap (λ (x : LaneState). x.server) step.is))
+client_wire s (Reset A cause packet lost) t l both step = (begun_client s l t.client both step.step.2, same_server s t l both (ap (λ (x : LaneState). x.server) step.is))
+client_wire s (Joined B lost) t l both step = absurd step.step
+client_wire s (Took B packet opens) t l both step = absurd step.step
+client_wire s (Sent B packet opens) t l both step = absurd step.step
+client_wire s (Blocked B) t l both step = absurd step.step
+client_wire s (Idle B) t l both step = absurd step.step
+client_wire s (Reset B cause packet lost) t l both step = absurd step.step
+client_wire s (Lost e packet) t l both step = absurd step.step
+client_wire s (Injected e packet) t l both step = absurd step.step
+client_wire s (Poked e at bytes) t l both step = absurd step.step
+client_wire s (Declines d) t l both step = absurd step.step
+
+-- THE SERVER on the wire
+server_takes : (s : LaneState) (l : DiskLog) (packet : List ℕ) (opens : Bool) (t : LaneState) → BothAre s l → EndOnWire B s (Took B packet opens) t → ServerStands t (after l (OnWire (Took B packet opens)))
+server_takes s l packet opens t both step =
+    let knows = both.knows in
+    let at = seen B s.shape.entries s.wire.wire in
+    let free : TakesFree s.server = subst (ServerFree s.server) step.1.step.1.0 (server_free s.server at) in
+    server_takes_so (offer_b l) s.server t.server l.transcript.server packet opens l.blocked.server (record {
+      took = server_linked s.server t.server opens packet step.1.step.1.1;
+      same = server_sending s.server t.server opens packet step.1.step.1.1;
+      free = free;
+    }) knows.counted.server.handshake knows.rests.server both.server
+    (server_took_what s.server l.transcript.server packet t.server opens knows.all.transcripts.follows_b knows.rests.server.whole step.1.step.1.1)
+
+server_puts_packet : (s : LaneState) (l : DiskLog) (packet : List ℕ) (opens : Bool) (t : LaneState) → BothAre s l → EndOnWire B s (Sent B packet opens) t → ServerStands t (after l (OnWire (Sent B packet opens)))
+server_puts_packet s l packet opens t both step =
+    let knows = both.knows in
+    let at = seen B s.shape.entries s.wire.wire in
+    let rule = server_rules.server_rule s.server at in
+    let sends : ServerSends s.server at packet opens t.server = step.1.step.1.0 in
+    let held = sends.held in
+    let counted = server_holds_counting l.shape s.server rule held l.transcript.server l.work.server knows.rests.server knows.utters.server (server_free s.server at) sends.holds knows.counted.server in
+    let follows = held_server s.server rule held l.transcript.server sends.holds knows.all.transcripts.follows_b in
+    let same = same_held_server s.server rule held sends.holds in
+    subst (λ (x : ServerState). ServerIs (offer_b l) x (Said packet ∷ l.transcript.server) Clear) (sym sends.is)
+    (server_puts_so (offer_b l) l.transcript.server packet (server_kind held) held refl (record {
+      phase = same.phase ∙ both.server.link.phase;
+      handshake = same.handshake ∙ both.server.handshake;
+      range = ap ranged same.session ∙ both.server.range;
+      fits = counted.handshake;
+      utters = server_blocked_utters s.server at held l.transcript.server sends.holds knows.rests.server;
+      holds = counted.holds;
+      rdx = put_rdx (is_none held.handshake.owed) held.link t.server.link l.transcript.server packet follows sends.packet;
+    }) (put_says (is_none held.handshake.owed) held.link t.server.link l.transcript.server packet follows sends.packet))
+
+server_wire : (s : LaneState) (event : WireEvent) (t : LaneState) (l : DiskLog) → BothAre s l → EndOnWire B s event t
+    → ClientStands t (after l (OnWire event)) × ServerStands t (after l (OnWire event))
+server_wire s (Joined B lost) t l both step = (same_client s t l both (ap (λ (x : LaneState). x.client) step.1.is), begun_server s l t.server both step.1.step.1.2)
+server_wire s (Took B packet opens) t l both step = (same_client s t l both (ap (λ (x : LaneState). x.client) step.1.is), server_takes s l packet opens t both step)
+server_wire s (Sent B packet opens) t l both step = (same_client s t l both (ap (λ (x : LaneState). x.client) step.1.is), server_puts_packet s l packet opens t both step)
+server_wire s (Blocked B) t l both step =
+    let at = seen B s.shape.entries s.wire.wire in (
+      same_client s t l both (ap (λ (x : LaneState). x.client) step.1.is),
+      server_blocks_so (offer_b l) s.server (server_rules.server_rule s.server at) t.server l.transcript.server l.blocked.server (server_free s.server at) step.1.step.1.0
+          (record { rests = both.knows.rests.server; utters = both.knows.utters.server }) both.server,
+    )
+server_wire s (Idle B) t l both step = (same_client s t l both (ap (λ (x : LaneState). x.client) step.1.is), same_server s t l both step.1.step.1.1)
+server_wire s (Reset B cause packet lost) t l both step = (same_client s t l both (ap (λ (x : LaneState). x.client) step.1.is), begun_server s l t.server both step.1.step.1.2)
+server_wire s (Joined A lost) t l both step = absurd step.1.step.1
+server_wire s (Took A packet opens) t l both step = absurd step.1.step.1
+server_wire s (Sent A packet opens) t l both step = absurd step.1.step.1
+server_wire s (Blocked A) t l both step = absurd step.1.step.1
+server_wire s (Idle A) t l both step = absurd step.1.step.1
+server_wire s (Reset A cause packet lost) t l both step = absurd step.1.step.1
+server_wire s (Lost e packet) t l both step = absurd step.1.step.1
+server_wire s (Injected e packet) t l both step = absurd step.1.step.1
+server_wire s (Poked e at bytes) t l both step = absurd step.1.step.1
+server_wire s (Declines d) t l both step = absurd step.1.step.1
+
+abbrev pub Stand : LaneState → DiskLog → Type 0
+Stand s l = ClientStands s l × ServerStands s l
+
+end_wire : (e : End) (s : LaneState) (event : WireEvent) (t : LaneState) (l : DiskLog) → BothAre s l → EndOnWire e s event t → Stand t (after l (OnWire event))
+end_wire A s event t l both step = client_wire s event t l both step
+end_wire B s event t l both step = server_wire s event t l both step
+
+-- RESETS that no step gave, and what neither end does
+stays : (s t : LaneState) (l : DiskLog) → BothAre s l → t.client ≡ s.client → t.server ≡ s.server → Stand t l
+stays s t l both client server = (same_client s t l both client, same_server s t l both server)
+
+reset_by : (by : Giver) (e : End) (s : LaneState) (cause : Cause) (packet : Option (List ℕ)) (lost : ℕ) (t : LaneState) (l : DiskLog) → BothAre s l → ResetBy by e s cause packet lost t
+    → Stand t (after l (OnWire (Reset e cause packet lost)))
+reset_by ByStep A s cause packet lost t l both step = client_wire s (Reset A cause packet lost) t l both step
+reset_by ByStep B s cause packet lost t l both step = server_wire s (Reset B cause packet lost) t l both step
+reset_by ByScript A s cause packet lost t l both step =
+    (begun_client s l t.client both (ap (λ (x : LaneState). x.client) step.2), same_server s t l both (ap (λ (x : LaneState). x.server) step.2))
+reset_by ByScript B s cause packet lost t l both step =
+    (same_client s t l both (ap (λ (x : LaneState). x.client) step.1.2), begun_server s l t.server both (ap (λ (x : LaneState). x.server) step.1.2))
+reset_by ByRestart A s cause packet lost t l both step = absurd step
+reset_by ByRestart B s cause packet lost t l both step =
+    (same_client s t l both (ap (λ (x : LaneState). x.client) step.1.2), made_server s l t.server both (ap (λ (x : LaneState). x.server) step.1.2))
+reset_by ByTick A s cause packet lost t l both step =
+    (begun_client s l t.client both (ap (λ (x : LaneState). x.client) step.1.2), same_server s t l both (ap (λ (x : LaneState). x.server) step.1.2))
+reset_by ByTick B s cause packet lost t l both step = absurd step
+
+poked_by : (e : End) (s : LaneState) (at : ℕ) (bytes : List ℕ) (t : LaneState) (l : DiskLog) → BothAre s l → WireStep s (Poked e at bytes) t → Stand t (after l (OnWire (Poked e at bytes)))
+poked_by A s at bytes t l both step = stays s t l both (ap (λ (x : LaneState). x.client) step.1) (ap (λ (x : LaneState). x.server) step.1)
+poked_by B s at bytes t l both step = absurd step
+
+on_wire : (s : LaneState) (event : WireEvent) (t : LaneState) (l : DiskLog) → BothAre s l → WireStep s event t → Stand t (after l (OnWire event))
+on_wire s (Joined e lost) t l both step = end_wire e s (Joined e lost) t l both step
+on_wire s (Took e packet opens) t l both step = end_wire e s (Took e packet opens) t l both step
+on_wire s (Sent e packet opens) t l both step = end_wire e s (Sent e packet opens) t l both step
+on_wire s (Idle e) t l both step = end_wire e s (Idle e) t l both step
+on_wire s (Blocked e) t l both step = end_wire e s (Blocked e) t l both step
+on_wire s (Reset e cause packet lost) t l both step = reset_by (giver cause) e s cause packet lost t l both step
+on_wire s (Lost e packet) t l both step = stays s t l both (ap (λ (x : LaneState). x.client) step.1) (ap (λ (x : LaneState). x.server) step.1)
+on_wire s (Injected e packet) t l both step = stays s t l both (ap (λ (x : LaneState). x.client) step.2) (ap (λ (x : LaneState). x.server) step.2)
+on_wire s (Poked e at bytes) t l both step = poked_by e s at bytes t l both step
+on_wire s (Declines d) t l both step = stays s t l both (ap (λ (x : LaneState). x.client) step.1) (ap (λ (x : LaneState). x.server) step.1)
+
+-- THE WORK, what is asked, stops, and what changes nothing
+works : (s : LaneState) (event : Worked) (t : LaneState) (l : DiskLog) → BothAre s l → WorkStep s event t → Stand t (after l (Works event))
+works s (Published id) t l both step = (
+  client_publishes_so (offer_a l) s.client (seen A s.shape.entries s.wire.wire) s.memory id t.client t.memory l.transcript.client l.transcript.links l.blocked.client step.step both.client,
+  same_server s t l both (ap (λ (x : LaneState). x.server) step.is),
+)
+works s (Done id operation status bytes) t l both step = (
+  client_completes_so (offer_a l) s.client (seen A s.shape.entries s.wire.wire) s.memory id operation status bytes t.client t.memory l.transcript.client l.transcript.links l.blocked.client step.step both.client,
+  same_server s t l both (ap (λ (x : LaneState). x.server) step.is),
+)
+works s (Desc slot bytes) t l both step = (
+  same_client s t l both (ap (λ (x : LaneState). x.client) step.1.is),
+  server_fetches_so (offer_b l) s.server (seen B s.shape.entries s.wire.wire) _ slot bytes t.server t.memory l.transcript.server l.blocked.server step.1.step.1.0 both.server,
+)
+works s (Moved unit fault) t l both step = (
+  same_client s t l both (ap (λ (x : LaneState). x.client) step.1.is),
+  server_moves_so (offer_b l) s.server t.server (seen B s.shape.entries s.wire.wire) _ unit fault t.memory l.transcript.server l.blocked.server step.1.step.1.0 both.server,
+)
+works s (Stored operation block count failed) t l both step = (
+  same_client s t l both (ap (λ (x : LaneState). x.client) step.1.is),
+  server_stores_so (offer_b l) s.server t.server (seen B s.shape.entries s.wire.wire) operation block count failed step.0 l.transcript.server l.blocked.server step.1.step.1.0 both.server,
+)
+works s (Finished slot status) t l both step = (
+  same_client s t l both (ap (λ (x : LaneState). x.client) step.1.is),
+  server_finishes_so (offer_b l) s.server (seen B s.shape.entries s.wire.wire) _ slot status t.server t.memory l.transcript.server l.blocked.server step.1.step.1.0 both.server,
+)
+works s Misplaced t l both step = absurd step
+
+turns_are : (s : LaneState) (event : Switched) (t : LaneState) (l : DiskLog) → BothAre s l → TurnStep s event t → Stand t (after l (Switches event))
+turns_are s Stopped t l both step =
+    (same_client s t l both (ap (λ (x : LaneState). x.client) step.1), made_server s l t.server both (ap (λ (x : LaneState). x.server) step.1))
+turns_are s Started t l both step = stays s t l both (ap (λ (x : LaneState). x.client) step.1) (ap (λ (x : LaneState). x.server) step.1)
+turns_are s Off t l both step = stays s t l both (ap (λ (x : LaneState). x.client) step.1) (ap (λ (x : LaneState). x.server) step.1)
+
+calm : (s : LaneState) (event : Calm) (t : LaneState) → RestStep s event t → t ≡ s
+calm s CalmTick t step = step.1
+calm s CalmStop t step = step.1
+calm s CalmStart t step = step.1
+calm s (CalmReset A) t step = absurd step
+calm s (CalmReset B) t step = step.1
+calm s CalmRestart t step = step.1
+
+stand_step : (s : LaneState) (event : DiskEvent) (t : LaneState) (l : DiskLog) → BothAre s l → LaneStep s event t → Stand t (after l event)
+stand_step s (OnWire event) t l both step = on_wire s event t l both step
+stand_step s (Asks event) t l both step = (
+  client_admits_so (offer_a l) s.client event t.client l.transcript.client l.transcript.links l.blocked.client step.0 both.client,
+  same_server s t l both (ap (λ (x : LaneState). x.server) step.1),
+)
+stand_step s (Works event) t l both step = works s event t l both step
+stand_step s (Switches event) t l both step = turns_are s event t l both step
+stand_step s (Calms event) t l both step =
+    let same : t ≡ s = calm s event t step in stays s t l both (ap (λ (x : LaneState). x.client) same) (ap (λ (x : LaneState). x.server) same)
+
+both_step : (s : LaneState) (l : DiskLog) (event : DiskEvent) (t : LaneState) → BothAre s l → LaneStep s event t → ⊤ × BothAre t (after l event)
+both_step s l event t both step =
+    let stand = stand_step s event t l both step in
+    (tt, record { knows = (knows_step s l event t both.knows step).1; client = stand.0; server = stand.1 })
+
+fresh_both : (shape : Shape) → IsShape shape → BothAre (fresh shape) (nothing_yet shape)
+fresh_both shape sound = record {
+  knows = run_knows shape [] (fresh shape) sound refl;
+  client = record {
+    link = record { phase = refl; owes = λ never. absurd (cc); left = λ begun some. absurd (omega (arith, some)) };
+    handshake = refl;
+    announcing = refl;
+  };
+  server = record {
+    link = record { phase = refl; owes = λ never. absurd (cc); left = λ begun some. absurd (omega (arith, some)) };
+    handshake = refl;
+    range = refl;
+  };
+}
+
+pub run_both : (shape : Shape) (events : List DiskEvent) (s : LaneState) → IsShape shape → Run LaneStep (fresh shape) events s → BothAre s (log_of after (nothing_yet shape) events)
+run_both shape events s sound run =
+    (run_lawful LaneStep (λ (l : DiskLog) (e : DiskEvent). ⊤) after BothAre both_step (fresh shape) s (nothing_yet shape) events (fresh_both shape sound) run).1
+
+-- WHAT IS LEFT TO SEND
+drop_front : (half left : List ℕ) → drop (length half) (half ++ left) ≡ left
+drop_front [] left = refl
+drop_front (byte ∷ half) left = drop_front half left
+
+rest_is : (half left message : List ℕ) → half ++ left ≡ message → left ≡ drop (length half) message
+rest_is half left message is = sym (drop_front half left) ∙ ap (λ (xs : List ℕ). drop (length half) xs) is
+
+record Left (k : LinkState) (half : List ℕ) (b : Blockage) : Type 0 where
+  begun : k.begun ≡ not (is_empty half)
+  free : k.to_send ≡ [] → half ≡ []
+  owes_is : is_stuck b ≡ true → owes k ≡ true
+  left : k.begun ≡ false → 1 ≤ length k.to_send → is_stuck b ≡ true
+
+or_true : (x : Bool) → (x || true) ≡ true
+or_true true = refl
+or_true false = refl
+
+-- it has begun a message of which its link holds some, and none of which it holds nothing
+has : (k : LinkState) (half : List ℕ) (b : Blockage) (xs : List ℕ) (y : Bool) → Left k half b → 1 ≤ length k.to_send → half ≡ xs → is_stuck b ≡ y → has_begun half b ≡ true
+has k half b (byte ∷ xs) y known some at stuck = ap (λ (zs : List ℕ). not (is_empty zs) || is_stuck b) at
+has k half b [] true known some at stuck = ap (λ (z : Bool). not (is_empty half) || z) stuck ∙ or_true (not (is_empty half))
+has k half b [] false known some at stuck =
+    let fresh : k.begun ≡ false = known.begun ∙ ap (λ (zs : List ℕ). not (is_empty zs)) at in
+    let never : false ≡ true = sym stuck ∙ known.left fresh some in absurd (cc)
+
+has_none : (k : LinkState) (half : List ℕ) (b : Blockage) (y : Bool) → Left k half b → is_up k ≡ true → k.to_send ≡ [] → is_stuck b ≡ y → has_begun half b ≡ false
+has_none k half b false known up none stuck = ap (λ (zs : List ℕ). not (is_empty zs) || is_stuck b) (known.free none) ∙ stuck
+has_none k half b true known up none stuck =
+    let some : 1 ≤ length k.to_send = sends_some k up (known.owes_is stuck) in absurd (omega (arith, some, ap length none))
+
+held_left : (k : LinkState) (half message : List ℕ) (b : Blockage) → Left k half b → half ++ k.to_send ≡ message → 1 ≤ length k.to_send → k.to_send ≡ left_of half b message
+held_left k half message b known is some =
+    rest_is half k.to_send message is ∙ sym (ap (λ (x : Bool). left_if x half message) (has k half b half (is_stuck b) known some refl refl))
+
+none_left : (k : LinkState) (half message : List ℕ) (b : Blockage) → Left k half b → is_up k ≡ true → k.to_send ≡ [] → k.to_send ≡ left_of half b message
+none_left k half message b known up none =
+    none ∙ sym (ap (λ (x : Bool). left_if x half message) (has_none k half b (is_stuck b) known up none refl))
+
+-- a message that is owed
+owed_is_left : (k : LinkState) (half : List ℕ) (b : Blockage) (owed : Option Message) (left : List ℕ) → Left k half b → k.to_send ≡ left → (1 ≤ length left → HoldsOwed owed (half ++ left))
+    → (is_up k ≡ false → owed ≡ None) → k.to_send ≡ owed_left half b owed
+owed_is_left k half b None [] known is holds free = is
+owed_is_left k half b None (byte ∷ left) known is holds free =
+    let some : HoldsOwed None (half ++ byte ∷ left) = holds (omega arith) in
+    let never : None ≡ Some some.message = some.owed_is in absurd (cc)
+owed_is_left k half b (Some message) [] known is holds free = none_left k half (canonical message) b known (awake (is_up k) refl) is
+  where
+    awake : (up : Bool) → is_up k ≡ up → is_up k ≡ true
+    awake true at = at
+    awake false at = let never : Some message ≡ None = free at in absurd (cc)
+owed_is_left k half b (Some message) (byte ∷ left) known is holds free =
+    let some : HoldsOwed (Some message) (half ++ byte ∷ left) = holds (omega arith) in
+    let same : some.message ≡ message = (let mine : Some message ≡ Some some.message = some.owed_is in cc) in
+    held_left k half (canonical message) b known (ap (λ (xs : List ℕ). half ++ xs) is ∙ some.bytes_are ∙ ap canonical same) (omega (arith, ap length is))
+
+-- THE CLIENT
+of_client : (s : LaneState) (l : DiskLog) → BothAre s l → Cuts s.client.link l.transcript.client → Left s.client.link (half_said l.transcript.client) l.blocked.client
+of_client s l both cuts = record { begun = cuts.begun; free = cuts.free; owes_is = both.client.link.owes; left = both.client.link.left }
+
+client_owed : (s : LaneState) (l : DiskLog) → BothAre s l → Cuts s.client.link l.transcript.client → is_announcing s.client.session ≡ false
+    → s.client.link.to_send ≡ owed_left (half_said l.transcript.client) l.blocked.client s.client.handshake.owed
+client_owed s l both cuts quiet =
+    owed_is_left s.client.link (half_said l.transcript.client) l.blocked.client s.client.handshake.owed s.client.link.to_send (of_client s l both cuts) refl
+    (both.knows.counted.client.holds.owed quiet) both.knows.utters.client.free
+
+client_left_is : (s : LaneState) (l : DiskLog) (o : Option ClientSession) → BothAre s l → Cuts s.client.link l.transcript.client → s.client.session ≡ o
+    → s.client.link.to_send ≡ client_left s.client o (half_said l.transcript.client) l.blocked.client
+client_left_is s l None both cuts is = client_owed s l both cuts (ap is_announcing is)
+client_left_is s l (Some session) both cuts is = by session.announcing refl
+  where
+    by : (own : Bool) → session.announcing ≡ own → s.client.link.to_send ≡ announced_or_owed session.announcing s.client session (half_said l.transcript.client) l.blocked.client
+    by false own =
+        client_owed s l both cuts (ap is_announcing is ∙ own)
+        ∙ sym (ap (λ (b : Bool). announced_or_owed b s.client session (half_said l.transcript.client) l.blocked.client) own)
+    by true own =
+        held_left s.client.link (half_said l.transcript.client) (canonical (announcement s.client session)) l.blocked.client (of_client s l both cuts)
+        (both.knows.counted.client.holds.own session is own) (both.knows.all.transcripts.client.own (ap is_announcing is ∙ own))
+        ∙ sym (ap (λ (b : Bool). announced_or_owed b s.client session (half_said l.transcript.client) l.blocked.client) own)
+
+pub client_end : (s : LaneState) (l : DiskLog) → BothAre s l → Cuts s.client.link l.transcript.client → ClientEndAgrees s.client l.shape l.transcript l.blocked.client
+client_end s l both cuts = record {
+  blocks = both.knows.all.stands.blocks ∙ ap (λ (n : Shape). n.blocks) both.knows.all.stands.shape;
+  slots = both.knows.counted.client.slots;
+  role = both.knows.all.transcripts.client.role;
+  phase = both.client.link.phase;
+  handshake = both.client.handshake;
+  announcing = both.client.announcing;
+  left = client_left_is s l s.client.session both cuts refl;
+}
+
+-- THE SERVER
+infos_are : (turns : List Turn) → infos_heard turns ≡ range_count 1 (heard turns)
+infos_are [] = refl
+infos_are (Said packet ∷ turns) = infos_are turns
+infos_are (Heard_ packet ∷ turns) = omega (arith, infos_are turns, count_heard 1 packet turns)
+
+range_agrees : (slots : ℕ) (o : Option ServerSession) (d : Option ServerCounts) (turns : List Turn) → ServerOrder slots o d turns → ranged o ≡ range_in_work turns → RangeAgrees o turns
+range_agrees slots None d turns order is = tt
+range_agrees slots (Some session) None turns order is = absurd order
+range_agrees slots (Some session) (Some d) turns order is = (order.seq ∙ ap (λ (n : ℕ). wrapped (n + 1)) (sym (infos_are turns)), is)
+
+of_server : (s : LaneState) (l : DiskLog) → BothAre s l → Cuts s.server.link l.transcript.server → Left s.server.link (half_said l.transcript.server) l.blocked.server
+of_server s l both cuts = record { begun = cuts.begun; free = cuts.free; owes_is = both.server.link.owes; left = both.server.link.left }
+
+-- what it holds where its handshake owes nothing is the answer to its range
+owed_either : (v : ServerState) (owed : Message) (bytes : List ℕ) → v.handshake.owed ≡ Some owed → HoldsEither v bytes → HoldsOwed (Some owed) bytes
+owed_either v owed bytes is (inl holds) = subst (λ (o : Option Message). HoldsOwed o bytes) is holds
+owed_either v owed bytes is (inr a) = let never : None ≡ Some owed = sym a.nothing_owed ∙ is in absurd (cc)
+
+answer_either : (v : ServerState) (bytes : List ℕ) → v.handshake.owed ≡ None → HoldsEither v bytes → HoldsAnswer v bytes
+answer_either v bytes is (inl holds) = let never : None ≡ Some holds.message = sym is ∙ holds.owed_is in absurd (cc)
+answer_either v bytes is (inr a) = a
+
+module _ (s : LaneState) (l : DiskLog) (both : BothAre s l) (cuts : Cuts s.server.link l.transcript.server) where
+  answered_left : (o : Option ServerSession) (range : Option SlotRange) (left : List ℕ) → s.server.handshake.owed ≡ None → s.server.session ≡ o → ranged o ≡ range → s.server.link.to_send ≡ left
+      → s.server.link.to_send ≡ range_left s.server range (half_said l.transcript.server) l.blocked.server
+  answered_left o None [] none is at left_is = left_is
+  answered_left o (Some range) [] none is at left_is =
+      none_left s.server.link (half_said l.transcript.server) (canonical (answer s.server range)) l.blocked.server (of_server s l both cuts) (up o is at) left_is
+    where
+      up : (p : Option ServerSession) → s.server.session ≡ p → ranged p ≡ Some range → is_up s.server.link ≡ true
+      up None open_one there = absurd (cc)
+      up (Some session) open_one there =
+          is_open_up Responder (server_core s.server) l.transcript.server both.knows.rests.server (ap is_some open_one)
+  answered_left o range (byte ∷ left) none is at left_is =
+      let some : 1 ≤ length s.server.link.to_send = omega (arith, ap length left_is) in
+      let a : HoldsAnswer s.server (half_said l.transcript.server ++ s.server.link.to_send) = answer_either s.server _ none (both.knows.counted.server.holds some) in
+      let there : range ≡ Some a.range = sym at ∙ ap ranged (sym is ∙ a.session_is) ∙ a.range_is in
+      held_left s.server.link (half_said l.transcript.server) (canonical (answer s.server a.range)) l.blocked.server (of_server s l both cuts) a.bytes_are some
+      ∙ sym (ap (λ (r : Option SlotRange). range_left s.server r (half_said l.transcript.server) l.blocked.server) there)
+
+  answer_is : (o : Option ServerSession) → s.server.handshake.owed ≡ None → s.server.session ≡ o → s.server.link.to_send ≡ answer_left s.server o (half_said l.transcript.server) l.blocked.server
+  answer_is None none is = answered_left None None s.server.link.to_send none is refl refl
+  answer_is (Some session) none is = answered_left (Some session) session.range s.server.link.to_send none is refl refl
+
+  server_left_is : (owed : Option Message) → s.server.handshake.owed ≡ owed → s.server.link.to_send ≡ server_left s.server owed (half_said l.transcript.server) l.blocked.server
+  server_left_is None is = answer_is s.server.session is refl
+  server_left_is (Some message) is =
+      owed_is_left s.server.link (half_said l.transcript.server) l.blocked.server (Some message) s.server.link.to_send (of_server s l both cuts) refl
+      (λ some. owed_either s.server message _ is (both.knows.counted.server.holds some)) (λ down. sym is ∙ both.knows.utters.server.free down)
+
+  pub server_end : ServerEndAgrees s.server l.shape l.transcript l.blocked.server
+  server_end = record {
+    blocks = both.knows.counted.server.blocks;
+    slots = both.knows.counted.server.slots;
+    role = both.knows.all.transcripts.server.role;
+    phase = both.server.link.phase;
+    handshake = both.server.handshake;
+    range = range_agrees l.shape.slots s.server.session l.work.server l.transcript.server both.knows.counted.server.order both.server.range;
+    left = server_left_is s.server.handshake.owed refl;
+  }

@@ -1,0 +1,204 @@
+-- What holds of two ends on a channel holds of a disk's lane: what is said and heard, its links, its sids.
+use Rattle.std.proofs.Common.{◌≡◌, ℕ, ◌%◌, false, List, [], ◌∷◌, Option, refl, sym, ap, ◌∙◌, subst, map, arith}
+use Rattle.runs.specs.Lawful.{Lawful, log_of}
+use Rattle.runs.specs.Run.{Run}
+use Rattle.ldc_link.specs.declared.phase.Role.{Role}
+use Rattle.ldc_link.specs.declared.phase.Role.TheVariants.{Initiator, Responder}
+use Rattle.ldc_queue.specs.declared.end.End.TheVariants.{A, B}
+use Rattle.ldc_queue.specs.Transcript.{Turn}
+use Rattle.vio_handshake.specs.declared.session.Offer.{Offer}
+use Rattle.vio_handshake.specs.Offers.{Match}
+use Rattle.vio_tag.specs.declared.cause.Cause.{Cause}
+use Rattle.lane_laws.proofs.EndMoves.{transcript_same}
+use Rattle.disk_model.proofs.SameSayings.{half_heard_is}
+use Rattle.disk_model.specs.Agreement.{LinkAgrees}
+use Rattle.disk_model.specs.TranscriptLog.{TranscriptLog}
+use Rattle.disk_model.specs.WireAt.{WireHeardAt, WireSaidAt, counts_next}
+use Rattle.disk_model.specs.WireEvent.{Blocked, ByRestart, ByScript, ByStep, ByTick, Declines, Giver, Idle, Injected, Joined, Lost, Poked, Reset, Sent, Took, WireEvent, giver}
+use Rattle.disk_model.specs.DiskEvent.{Asks, Calms, DiskEvent, Off, OnWire, Started, Stopped, Switches, Works}
+use Rattle.disk_model.specs.DiskLog.{DiskLog, after, after_transcript, nothing_yet}
+use Rattle.disk_model.specs.LaneState.{IsShape, LaneState, Shape, fresh}
+use Rattle.disk_model.specs.LaneStep.{LaneStep, ResetBy, WireStep}
+use Rattle.disk_model.specs.May.{OfWire}
+use Rattle.disk_model.specs.Offering.{client_offer, server_offer}
+use Rattle.channel_laws.proofs.CoreLaws.{links_placed, stands_a, stands_b}
+use Rattle.channel_laws.proofs.HandshakePlaces.{Matches}
+use Rattle.channel_laws.proofs.HandshakesPlaced.{Meets, meets_keep}
+use Rattle.channel_laws.proofs.Lifting.{BothStand}
+use Rattle.channel_laws.proofs.Numbering.{count_heard_is, count_said_is}
+use Rattle.channel_laws.proofs.Numbering as core
+use Rattle.channel_laws.proofs.PartsSaid.{PartsSaid, parts_run}
+use Rattle.channel_laws.proofs.Sessions.{meets_knows}
+use Rattle.channel_laws.proofs.Sessions as sessions
+use Rattle.channel_laws.proofs.Sids.{last_sid_counts}
+use Rattle.channel_laws.specs.CoreLog.{CoreLog, OfChannel, comings_after, renewed_by}
+use Rattle.channel_laws.specs.CoreLog as core_log
+use Rattle.channel_laws.specs.EndCore.{EndCore}
+use Rattle.channel_laws.specs.LaneCore.{CoreEvent}
+use Rattle.channel_laws.specs.LinkPlaces.{LinksAt}
+use Rattle.channel_laws.specs.Sides.{Sides, sides_of, swapped}
+use Rattle.channel_laws.specs.Standing.{EndStands}
+use Rattle.lane_laws.proofs.LaneCores.{lane_cores, lane_fits, said_in_log}
+use Rattle.lane_laws.proofs.OpeningDeal.{deal_fits}
+use Rattle.lane_laws.specs.ChannelEnds.{client_core, core_event, core_of, server_core}
+use Rattle.lane_laws.specs.HeardStands.{HeardAt}
+use Rattle.lane_laws.specs.Laws.{SaidAt}
+
+-- what was said and heard on a lane
+abbrev pub transcript_in : Shape → List DiskEvent → TranscriptLog
+transcript_in shape events = (log_of after (nothing_yet shape) events).transcript
+
+abbrev pub asks_of : Shape → Offer
+asks_of shape = client_offer shape.blocks shape.slots
+
+abbrev pub answers_of : Shape → Offer
+answers_of shape = server_offer shape.blocks shape.slots
+
+-- A LAW OF THE CHANNEL'S EVENTS, by what was said and heard, is one of the lane's
+of_wire : (P : TranscriptLog → WireEvent → Type 0) (x y : TranscriptLog) (event : DiskEvent) → x ≡ y → OfChannel (P x) (core_event event) → OfWire (P y) event
+of_wire P x y (OnWire event) same may = subst (λ (l : TranscriptLog). P l event) same may
+of_wire P x y (Asks event) same may = tt
+of_wire P x y (Works event) same may = tt
+of_wire P x y (Switches event) same may = tt
+of_wire P x y (Calms event) same may = tt
+
+of_channel : (P : TranscriptLog → WireEvent → Type 0) (c : CoreLog) (l : DiskLog) (events : List DiskEvent) → c.transcript ≡ l.transcript
+    → Lawful (λ (x : CoreLog) (e : CoreEvent). OfChannel (P x.transcript) e) core_log.after c (map core_event events)
+    → Lawful (λ (x : DiskLog) (e : DiskEvent). OfWire (P x.transcript) e) after l events
+of_channel P c l [] same lawful = tt
+of_channel P c l (event ∷ events) same lawful = (
+  of_wire P c.transcript l.transcript event same lawful.0,
+  of_channel P (core_log.after c (core_event event)) (after l event) events
+      (transcript_same c.transcript event ∙ ap (λ (x : TranscriptLog). after_transcript x event) same) lawful.1,
+)
+
+pub said_lawful : (shape : Shape) (events : List DiskEvent) (s : LaneState) → IsShape shape → Run LaneStep (fresh shape) events s → Lawful SaidAt after (nothing_yet shape) events
+said_lawful shape events s sound run =
+    of_channel WireSaidAt (core_log.nothing_yet shape.entries) (nothing_yet shape) events refl
+    (core.said_lawful shape.entries (asks_of shape) (answers_of shape) (map core_event events) (core_of s) (lane_fits shape sound) (lane_cores shape events s sound run))
+
+pub heard_lawful : (shape : Shape) (events : List DiskEvent) (s : LaneState) → IsShape shape → Run LaneStep (fresh shape) events s → Lawful HeardAt after (nothing_yet shape) events
+heard_lawful shape events s sound run =
+    of_channel WireHeardAt (core_log.nothing_yet shape.entries) (nothing_yet shape) events refl
+    (core.heard_lawful shape.entries (asks_of shape) (answers_of shape) (map core_event events) (core_of s) (lane_fits shape sound) (lane_cores shape events s sound run))
+
+-- EACH END stands by its role, and its link agrees with what was said and heard
+pub client_stands : (shape : Shape) (events : List DiskEvent) (s : LaneState) → IsShape shape → Run LaneStep (fresh shape) events s
+    → EndStands Initiator (client_core s.client) (transcript_in shape events).client
+client_stands shape events s sound run =
+    subst (λ (l : TranscriptLog). EndStands Initiator (client_core s.client) l.client) (said_in_log shape events)
+    (stands_a shape.entries (asks_of shape) (answers_of shape) (map core_event events) (core_of s) (lane_fits shape sound) (lane_cores shape events s sound run))
+
+pub server_stands : (shape : Shape) (events : List DiskEvent) (s : LaneState) → IsShape shape → Run LaneStep (fresh shape) events s
+    → EndStands Responder (server_core s.server) (transcript_in shape events).server
+server_stands shape events s sound run =
+    subst (λ (l : TranscriptLog). EndStands Responder (server_core s.server) l.server) (said_in_log shape events)
+    (stands_b shape.entries (asks_of shape) (answers_of shape) (map core_event events) (core_of s) (lane_fits shape sound) (lane_cores shape events s sound run))
+
+pub link_agrees : (role : Role) (c : EndCore) (turns : List Turn) → EndStands role c turns → LinkAgrees c.link turns
+link_agrees role c turns stands = record {
+  put = stands.link.follows.puts ∙ ap counts_next (sym (count_said_is turns));
+  take = stands.link.follows.takes ∙ ap counts_next (sym (count_heard_is turns));
+  heard = stands.link.follows.half ∙ sym (half_heard_is turns);
+  seen = stands.link.seen;
+  begun = stands.link.cuts.begun;
+  nothing_below = λ down. (stands.below down).left;
+  offers = stands.link.follows.offers;
+}
+
+-- WHERE NOBODY FORGED both links stand at one place, both handshakes too, and the two ends converse
+pub lane_links : (shape : Shape) (events : List DiskEvent) (s : LaneState) → IsShape shape → Run LaneStep (fresh shape) events s → s.wire.forged ≡ false
+    → LinksAt Initiator (sides_of (core_of s) (transcript_in shape events))
+lane_links shape events s sound run clean =
+    subst (λ (l : TranscriptLog). LinksAt Initiator (sides_of (core_of s) l)) (said_in_log shape events)
+    (links_placed shape.entries (asks_of shape) (answers_of shape) (map core_event events) (core_of s) (lane_fits shape sound) (lane_cores shape events s sound run) clean)
+
+matched : (shape : Shape) → IsShape shape → Match (asks_of shape) (answers_of shape)
+matched shape sound =
+    let fits = deal_fits shape 0 0 (omega (arith, sound.some_slots)) sound.most_slots (omega (arith, sound.most_blocks)) in
+    record { kind = refl; ring = fits.ring; device = fits.device }
+
+pub lane_matches : (shape : Shape) → IsShape shape → Matches (asks_of shape) (answers_of shape)
+lane_matches shape sound =
+    let fits = lane_fits shape sound in record { asks_fit = fits.asks_fit; answers_fit = fits.answers_fit; matched = matched shape sound }
+
+pub record OnLane (shape : Shape) (role : Role) (s : Sides) : Type 0 where
+  pub stand : BothStand role s
+  pub meets : Meets (asks_of shape) (answers_of shape) role s
+  pub parts_mine : PartsSaid s.mine.turns
+  pub parts_theirs : PartsSaid s.theirs.turns
+
+pub lane_meets : (shape : Shape) (events : List DiskEvent) (s : LaneState) → IsShape shape → Run LaneStep (fresh shape) events s → s.wire.forged ≡ false
+    → OnLane shape Initiator (sides_of (core_of s) (transcript_in shape events))
+lane_meets shape events s sound run clean =
+    let fits = lane_fits shape sound in
+    let cores = lane_cores shape events s sound run in
+    let knows = meets_knows shape.entries (asks_of shape) (answers_of shape) (map core_event events) (core_of s) fits (matched shape sound) cores in
+    let parts = parts_run shape.entries (asks_of shape) (answers_of shape) (map core_event events) (core_of s) fits cores in
+    let logged = sessions.transcript_is (core_log.nothing_yet shape.entries) (map core_event events) in
+    subst (λ (l : TranscriptLog). OnLane shape Initiator (sides_of (core_of s) l)) (said_in_log shape events) (record {
+      stand = record {
+        mine = stands_a shape.entries (asks_of shape) (answers_of shape) (map core_event events) (core_of s) fits cores;
+        theirs = stands_b shape.entries (asks_of shape) (answers_of shape) (map core_event events) (core_of s) fits cores;
+      };
+      meets = subst (λ (l : TranscriptLog). Meets (asks_of shape) (answers_of shape) Initiator (sides_of (core_of s) l)) logged (knows.holds.holds clean);
+      parts_mine = parts.a.parts;
+      parts_theirs = parts.b.parts;
+    })
+
+-- from its server's side
+pub lane_meets_other : (shape : Shape) (events : List DiskEvent) (s : LaneState) → IsShape shape → Run LaneStep (fresh shape) events s → s.wire.forged ≡ false
+    → OnLane shape Responder (swapped (sides_of (core_of s) (transcript_in shape events)))
+lane_meets_other shape events s sound run clean =
+    let on = lane_meets shape events s sound run clean in
+    record {
+      stand = record { mine = on.stand.theirs; theirs = on.stand.mine };
+      meets = (meets_keep (asks_of shape) (answers_of shape) (lane_matches shape sound)).swaps Initiator (sides_of (core_of s) (transcript_in shape events)) on.meets;
+      parts_mine = on.parts_theirs;
+      parts_theirs = on.parts_mine;
+    }
+
+-- THE CLIENT'S LAST SID is how often its link came up: its values are never made new
+reset_coming : (by : Giver) (s : LaneState) (cause : Cause) (packet : Option (List ℕ)) (lost : ℕ) (t : LaneState) (n : ℕ) → ResetBy by A s cause packet lost t → renewed_by by n ≡ n
+reset_coming ByStep s cause packet lost t n step = refl
+reset_coming ByScript s cause packet lost t n step = refl
+reset_coming ByRestart s cause packet lost t n step = absurd step
+reset_coming ByTick s cause packet lost t n step = refl
+
+wire_coming : (s : LaneState) (event : WireEvent) (t : LaneState) (l : TranscriptLog) → WireStep s event t
+    → comings_after l.links (core_event (OnWire event)) ≡ (after_transcript l (OnWire event)).links
+wire_coming s (Sent A packet opens) t l step = refl
+wire_coming s (Sent B packet opens) t l step = refl
+wire_coming s (Reset A cause packet lost) t l step = reset_coming (giver cause) s cause packet lost t l.links step
+wire_coming s (Reset B cause packet lost) t l step = refl
+wire_coming s (Joined A lost) t l step = refl
+wire_coming s (Joined B lost) t l step = refl
+wire_coming s (Took A packet opens) t l step = refl
+wire_coming s (Took B packet opens) t l step = refl
+wire_coming s (Idle e) t l step = refl
+wire_coming s (Blocked e) t l step = refl
+wire_coming s (Lost e packet) t l step = refl
+wire_coming s (Injected e packet) t l step = refl
+wire_coming s (Poked e at bytes) t l step = refl
+wire_coming s (Declines d) t l step = refl
+
+coming : (s : LaneState) (event : DiskEvent) (t : LaneState) (l : TranscriptLog) → LaneStep s event t → comings_after l.links (core_event event) ≡ (after_transcript l event).links
+coming s (OnWire event) t l step = wire_coming s event t l step
+coming s (Asks event) t l step = refl
+coming s (Works event) t l step = refl
+coming s (Switches Stopped) t l step = refl
+coming s (Switches Started) t l step = refl
+coming s (Switches Off) t l step = refl
+coming s (Calms event) t l step = refl
+
+comings : (s u : LaneState) (l : DiskLog) (events : List DiskEvent) → Run LaneStep s events u
+    → log_of comings_after l.transcript.links (map core_event events) ≡ (log_of after l events).transcript.links
+comings s u l [] run = refl
+comings s u l (event ∷ events) run =
+    ap (λ (n : ℕ). log_of comings_after n (map core_event events)) (coming s event run.0 l.transcript run.1) ∙ comings run.0 u (after l event) events run.2
+
+pub run_sids : (shape : Shape) (events : List DiskEvent) (s : LaneState) → IsShape shape → Run LaneStep (fresh shape) events s
+    → s.client.handshake.last_sid ≡ (transcript_in shape events).links % 4294967296
+run_sids shape events s sound run =
+    last_sid_counts shape.entries (asks_of shape) (answers_of shape) (map core_event events) (core_of s) (lane_fits shape sound) (lane_cores shape events s sound run)
+    ∙ ap (λ (n : ℕ). n % 4294967296) (comings (fresh shape) s (nothing_yet shape) events run)

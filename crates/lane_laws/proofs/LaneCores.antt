@@ -1,0 +1,147 @@
+-- A disk's lane is two ends on a channel: each of its steps is one of theirs, and each run.
+use Rattle.std.proofs.Common.{◌≡◌, ℕ, Bool, List, [], ◌∷◌, Option, refl, sym, ap, ◌∙◌, subst, arith, map}
+use Rattle.runs.specs.Lawful.{log_of, run_lawful}
+use Rattle.runs.specs.Run.{Run}
+use Rattle.ldc_link.specs.declared.phase.Role.TheVariants.{Initiator, Responder}
+use Rattle.ldc_queue.specs.declared.end.End.{End}
+use Rattle.ldc_queue.specs.declared.end.End.TheVariants.{A, B}
+use Rattle.vio_tag.specs.declared.cause.Cause.{Cause}
+use Rattle.disk_model.specs.TranscriptLog.{TranscriptLog, nothing_said}
+use Rattle.disk_model.specs.WireAt.{Sizes, WireTableAt}
+use Rattle.disk_model.specs.WireEvent.{Blocked, ByRestart, ByScript, ByStep, ByTick, Declines, Giver, Idle, Injected, Joined, Lost, Poked, Reset, Sent, Took, WireEvent, giver}
+use Rattle.disk_model.specs.WireLog.{WireLog}
+use Rattle.disk_model.specs.DiskEvent.{Asks, Calm, CalmReset, CalmRestart, CalmStart, CalmStop, CalmTick, Calms, Desc, DiskEvent, Done, Finished, Misplaced, Moved, Off, OnWire, Published, Started, Stopped, Stored, Switched, Switches, Worked, Works}
+use Rattle.disk_model.specs.DiskLog.{DiskLog, after, after_transcript, after_wire, nothing_yet}
+use Rattle.disk_model.specs.LaneState.{IsShape, LaneState, Shape, fresh}
+use Rattle.disk_model.specs.LaneStep.{LaneStep, ResetBy, RestStep, TurnStep, WireStep, WorkStep, reach}
+use Rattle.disk_model.specs.May.{OfWire, sizes_in}
+use Rattle.disk_model.specs.Offering.{client_offer, server_offer}
+use Rattle.disk_model.specs.Seeing.{Seen, seen}
+use Rattle.disk_model.specs.ServerWork.{Reach}
+use Rattle.channel_laws.specs.EndStep.{EndHears, EndStays, EndStep}
+use Rattle.channel_laws.specs.LaneCore.{CoreFits, CoreStands, CoreStep, WireStands, at_end, fresh_core, move_of, reset_move, transcript_after, transcript_behind, wire_after, wire_move}
+use Rattle.lane_laws.proofs.ClientMoves.{client_asked, client_begins, client_completed, client_fails, client_hears, client_published, client_same, client_says, client_waits}
+use Rattle.lane_laws.proofs.OpeningDeal.{client_widths, server_widths}
+use Rattle.lane_laws.proofs.ServerMoves.{server_begins, server_fails, server_fetched, server_finished, server_hears, server_moved, server_renews, server_same, server_says, server_stored, server_waits}
+use Rattle.lane_laws.proofs.TableRuns.{QueuesStand, fresh_queues, queues_step}
+use Rattle.lane_laws.specs.ChannelEnds.{client_core, core_event, core_of, server_core}
+use Rattle.lane_laws.specs.LaneTranscripts as lane
+use Rattle.lane_laws.specs.Sound.{ClientSound}
+use Rattle.lane_laws.specs.TableStands.{MayOfTable}
+use Rattle.lane_laws.proofs.LaneStepping.{calm_same}
+use Rattle.lane_laws.proofs.EndMoves.{Sound, step_a, step_b, transcript_same}
+
+-- THE WIRE: what an event makes of it, and where it may stand
+wire_same : (l : WireLog) (event : DiskEvent) → after_wire l event ≡ wire_after l (core_event event)
+wire_same l (OnWire event) = refl
+wire_same l (Asks event) = refl
+wire_same l (Works event) = refl
+wire_same l (Switches Stopped) = refl
+wire_same l (Switches Started) = refl
+wire_same l (Switches Off) = refl
+wire_same l (Calms event) = refl
+
+wire_stands : (n : Sizes) (l : WireLog) (event : WireEvent) → WireTableAt n l event → WireStands n.entries l event
+wire_stands n l (Joined e lost) table = table
+wire_stands n l (Reset e cause packet lost) table = table
+wire_stands n l (Took e packet opens) table = table
+wire_stands n l (Sent e packet opens) table = table
+wire_stands n l (Idle e) table = table
+wire_stands n l (Blocked e) table = (table.0, omega (arith, table.1))
+wire_stands n l (Lost e packet) table = table
+wire_stands n l (Injected e packet) table = table
+wire_stands n l (Poked e at bytes) table = tt
+wire_stands n l (Declines d) table = tt
+
+core_stands : (n : Sizes) (l : WireLog) (event : DiskEvent) → OfWire (WireTableAt n l) event → CoreStands n.entries l (core_event event)
+core_stands n l (OnWire event) table = wire_stands n l event table
+core_stands n l (Asks event) table = tt
+core_stands n l (Works event) table = tt
+core_stands n l (Switches Stopped) table = tt
+core_stands n l (Switches Started) table = tt
+core_stands n l (Switches Off) table = tt
+core_stands n l (Calms event) table = tt
+
+-- EACH STEP
+lane_core_step : (s : LaneState) (l : DiskLog) (event : DiskEvent) (t : LaneState) → QueuesStand s l → LaneStep s event t
+    → CoreStep (core_of s) (core_event event) (core_of t) × QueuesStand t (after l event)
+lane_core_step s l event t stands step =
+    let more = queues_step s l event t stands step in
+    let before = stands.all.stands in
+    let behind = more.1.all.stands in
+    let at_log : CoreStands l.shape.entries l.wire (core_event event) = core_stands (sizes_in l) l.wire event more.0.table in (
+      record {
+        entries = ap (λ (x : Shape). x.entries) (behind.shape ∙ sym before.shape);
+        stands = subst (λ (x : Shape). CoreStands x.entries s.wire (core_event event)) (sym before.shape)
+            (subst (λ (w : WireLog). CoreStands l.shape.entries w (core_event event)) (sym before.wire) at_log);
+        wire = behind.wire ∙ ap (λ (w : WireLog). after_wire w event) (sym before.wire) ∙ wire_same s.wire event;
+        a = step_a s event t (record { before = stands.all.transcripts.client; behind = more.1.all.transcripts.client }) step;
+        b = step_b s event t step;
+      },
+      more.1,
+    )
+
+-- EACH RUN
+runs_on : (s u : LaneState) (l : DiskLog) (events : List DiskEvent) → QueuesStand s l → Run LaneStep s events u → Run CoreStep (core_of s) (map core_event events) (core_of u)
+runs_on s u l [] stands run = ap core_of run
+runs_on s u l (event ∷ events) stands run =
+    let first = lane_core_step s l event run.0 stands run.1 in
+    (core_of run.0, first.0, runs_on run.0 u (after l event) events first.1 run.2)
+
+abbrev pub Cores : Shape → List DiskEvent → LaneState → Type 0
+Cores shape events s =
+    Run CoreStep (fresh_core shape.entries (client_offer shape.blocks shape.slots) (server_offer shape.blocks shape.slots)) (map core_event events) (core_of s)
+
+pub lane_cores : (shape : Shape) (events : List DiskEvent) (s : LaneState) → IsShape shape → Run LaneStep (fresh shape) events s → Cores shape events s
+lane_cores shape events s sound run = runs_on (fresh shape) s (nothing_yet shape) events (fresh_queues shape sound) run
+
+pub lane_steps : (shape : Shape) (events : List DiskEvent) (s : LaneState) (event : DiskEvent) (t : LaneState) → IsShape shape → Run LaneStep (fresh shape) events s → LaneStep s event t
+    → CoreStep (core_of s) (core_event event) (core_of t)
+lane_steps shape events s event t sound run step =
+    let stands : QueuesStand s (log_of after (nothing_yet shape) events) =
+    (run_lawful LaneStep MayOfTable after QueuesStand queues_step (fresh shape) s (nothing_yet shape) events (fresh_queues shape sound) run).1 in
+    (lane_core_step s (log_of after (nothing_yet shape) events) event t stands step).0
+
+-- what its ends offer fits
+pub lane_fits : (shape : Shape) → IsShape shape → CoreFits shape.entries (client_offer shape.blocks shape.slots) (server_offer shape.blocks shape.slots)
+lane_fits shape sound =
+    let asks = client_widths shape.blocks shape.slots sound.most_slots in
+    let answers = server_widths shape.blocks shape.slots in
+    record {
+      some_entries = omega (arith, sound.some_entries);
+      most_entries = sound.most_entries;
+      asks_fit = record {
+        minor = asks.minor;
+        class = asks.class;
+        slots = asks.slots;
+        slot_size = asks.slot_size;
+        room = asks.room;
+        cookies = asks.cookies;
+        form = asks.form;
+      };
+      answers_fit = record {
+        minor = answers.minor;
+        class = answers.class;
+        slots = answers.slots;
+        slot_size = answers.slot_size;
+        room = answers.room;
+        cookies = answers.cookies;
+        form = answers.form;
+      };
+    }
+
+-- WHAT WAS SAID AND HEARD is the same
+transcripts_same : (l : TranscriptLog) (events : List DiskEvent) → log_of transcript_after l (map core_event events) ≡ log_of after_transcript l events
+transcripts_same l [] = refl
+transcripts_same l (event ∷ events) =
+    ap (λ (x : TranscriptLog). log_of transcript_after x (map core_event events)) (transcript_same l event) ∙ transcripts_same (after_transcript l event) events
+
+pub said_same : (events : List DiskEvent) → transcript_behind (map core_event events) ≡ lane.transcript_behind events
+said_same events = transcripts_same nothing_said events
+
+pub transcript_is : (l : DiskLog) (events : List DiskEvent) → (log_of after l events).transcript ≡ log_of after_transcript l.transcript events
+transcript_is l [] = refl
+transcript_is l (event ∷ events) = transcript_is (after l event) events
+
+pub said_in_log : (shape : Shape) (events : List DiskEvent) → transcript_behind (map core_event events) ≡ (log_of after (nothing_yet shape) events).transcript
+said_in_log shape events = said_same events ∙ sym (transcript_is (nothing_yet shape) events)

@@ -1,0 +1,529 @@
+-- Each step of a disk's server is a move of an end that answers.
+use Rattle.std.proofs.Common.{◌≡◌, ℕ, ◌+◌, ◌≤◌, ◌⊎◌, inl, inr, Bool, true, false, Option, Some, None, List, [], ◌∷◌, length, drop, refl, sym, ap, ◌∙◌, subst, arith, length-drop}
+use Rattle.std.specs.Prelude.{◌&&◌, is_some, is_none, not, nat_le, if◌then◌else◌, Result, Ok, Err}
+use Rattle.std.proofs.lemmas.Bool.{leb-false, leb-true}
+use Rattle.cookie_copy.specs.declared.fault.CopyFault.{CopyFault}
+use Rattle.ldc_link.specs.declared.phase.LinkPhase.{LinkPhase}
+use Rattle.ldc_link.specs.declared.phase.LinkPhase.TheVariants as phase
+use Rattle.ldc_link.specs.declared.phase.Role.TheVariants.{Responder}
+use Rattle.ldc_link.specs.LinkState.{LinkState, cleared, is_established, is_up, offered}
+use Rattle.ldc_link.specs.Calls.{Puts as PutsPacket}
+use Rattle.ldc_link.specs.Putting.{behind_put, left_behind_put, owed_in, owes, phase_behind_put, with_link}
+use Rattle.ldc_link.specs.Taking.{Heard, LinkTake, TakesBytes, Unheard}
+use Rattle.ldc_packet.specs.declared.packet.Packet.{Packet}
+use Rattle.ldc_packet.specs.declared.packet.Subtype.{Subtype}
+use Rattle.ldc_packet.specs.declared.packet.Subtype.TheVariants.{Info}
+use Rattle.ldc_queue.specs.Messages.{is_empty}
+use Rattle.vio_tag.proofs.Canonical.{length_canonical}
+use Rattle.vio_tag.specs.declared.cause.Cause.{Cause}
+use Rattle.vio_tag.specs.declared.cause.Cause.TheVariants as the_cause
+use Rattle.vio_tag.specs.declared.message.Message.{Message}
+use Rattle.vio_tag.specs.declared.message.MsgBody.{MsgBody}
+use Rattle.vio_tag.specs.declared.message.MsgBody.TheVariants.{DringData}
+use Rattle.vio_tag.specs.declared.message.TagFault.{TagFault}
+use Rattle.vio_tag.specs.Decoding.{Decodes}
+use Rattle.vio_tag.specs.Spelling.{canonical}
+use Rattle.vio_handshake.specs.declared.handshake.Handshake.{Handshake}
+use Rattle.vio_handshake.specs.Rules.{Faults, Goes, GoesOpen, HandshakeTake, fault_or, handshake_hear, handshake_take, sid_fault}
+use Rattle.disk_model.specs.EndPuts.{ComesUp, EndsOwn, EndsHandshake, Goes as Goes_, PutKind, ending, kind_in, put_opens, handshake_behind, handshake_risen}
+use Rattle.disk_model.specs.Offering.{server_offer}
+use Rattle.disk_model.specs.Ranges.{is_other, wrapped}
+use Rattle.disk_model.specs.Seeing.{Seen}
+use Rattle.disk_model.specs.ServerPutting.{answered, server_holds, server_kind, server_put, session_behind}
+use Rattle.disk_model.specs.ServerRule.{Fetches, Puts, Says, ServerRule, Serves, Takes, answer, server_rule}
+use Rattle.disk_model.specs.ServerState.{ServerSession, ServerState, SlotRange, Work, joined_server, opened_server, restarted_server}
+use Rattle.disk_model.specs.ServerStep.{ServerFails, ServerFetches, ServerFinishes, ServerMoves, ServerSends, ServerStores}
+use Rattle.disk_model.specs.ServerTaking.{GoesOn, HearsLink, HearsWhole, Resets, ServerTake, ServerTakes, asked, by_handshake, hears_message, in_session, place_of, reads, sid_first, takes_info}
+use Rattle.disk_model.specs.ServerWork.{Reach, first_progress}
+use Rattle.vdisk_msg.specs.Descriptor as slot_says
+use Rattle.channel_laws.specs.EndCore.{holds}
+use Rattle.channel_laws.specs.EndStep.{DecodedFails, EndBegins, EndFails, EndHears, EndRenews, EndSays, EndStays, EndWaits, HandshakeTakes, HearsOwn, Holding, Holds, HoldsOn, HoldsOwed, HoldsOwn, IsOwn, KeepsOwn, LinkFails, MayTake, WholeFails}
+use Rattle.channel_laws.specs.EndStep as core
+use Rattle.lane_laws.proofs.ClientMoves.{cleared_is, holds_and, holds_none}
+use Rattle.lane_laws.proofs.Awake.{up_empty}
+use Rattle.lane_laws.proofs.Ruling.{server_may}
+use Rattle.lane_laws.proofs.RulesFree.{ServerFree, TakesFree, server_free}
+use Rattle.lane_laws.proofs.ServerSpeaking.{range_few}
+use Rattle.lane_laws.proofs.Sharing.{some_left}
+use Rattle.lane_laws.proofs.Short.{some_bytes}
+use Rattle.lane_laws.specs.Budget.{one_range, range_left}
+use Rattle.lane_laws.specs.ChannelEnds.{answers_to_begin, server_core}
+use Rattle.lane_laws.specs.RuleFacts.{ServerMay, ServerSays}
+
+-- THE ANSWERS that it owes and hasn't begun
+answers_less : (b : Bool) (ranges : ℕ) → answers_to_begin b ranges ≤ ranges
+answers_less true ranges = omega arith
+answers_less false ranges = omega arith
+
+answers_none : (b : Bool) → answers_to_begin b 0 ≡ 0
+answers_none true = refl
+answers_none false = refl
+
+answers_owed : (b : Bool) (owed : Option Message) (message : Message) (ranges : ℕ) → owed ≡ Some message → answers_to_begin (b && is_none owed) ranges ≡ ranges
+answers_owed true None message ranges is = absurd (cc is)
+answers_owed true (Some one) message ranges is = refl
+answers_owed false owed message ranges is = refl
+
+answers_free : (b none : Bool) (ranges : ℕ) → b ≡ false → answers_to_begin (b && none) ranges ≡ ranges
+answers_free true none ranges is = absurd (cc is)
+answers_free false none ranges is = refl
+
+answers_begun : (b : Bool) (owed : Option Message) (ranges : ℕ) → b ≡ true → owed ≡ None → answers_to_begin (b && is_none owed) ranges ≡ 0
+answers_begun true None ranges up is = refl
+answers_begun true (Some message) ranges up is = absurd (cc is)
+answers_begun false owed ranges up is = absurd (cc up)
+
+answers_later : (one other none : Bool) (ranges : ℕ) → one ≡ true → answers_to_begin (one && none) ranges ≤ answers_to_begin (other && none) ranges
+answers_later true other true ranges is = omega arith
+answers_later true true false ranges is = omega arith
+answers_later true false false ranges is = omega arith
+answers_later false other none ranges is = absurd (cc is)
+
+-- a link that isn't up, or owes nothing, holds nothing
+not_held : (b c : Bool) → (b ≡ true → c ≡ false) → (b && c) ≡ false
+not_held true c none = none refl
+not_held false c none = refl
+
+quiet_holds : (k : LinkState) → owes k ≡ false → holds k ≡ false
+quiet_holds k quiet = not_held (is_up k) (not (is_empty k.to_send)) (λ up. ap (λ (bytes : List ℕ). not (is_empty bytes)) (up_empty k up quiet))
+
+down_holds : (k : LinkState) → is_up k ≡ false → holds k ≡ false
+down_holds k down = not_held (is_up k) (not (is_empty k.to_send)) (λ up. absurd (cc (sym up ∙ down)))
+
+some_holds : (k : LinkState) → is_up k ≡ true → 1 ≤ length k.to_send → holds k ≡ true
+some_holds k up some = both (is_up k) k.to_send up some
+  where
+    both : (b : Bool) (bytes : List ℕ) → b ≡ true → 1 ≤ length bytes → (b && not (is_empty bytes)) ≡ true
+    both true (byte ∷ bytes) up some = refl
+    both true [] up some = absurd (omega (arith, some))
+    both false bytes up some = absurd (cc up)
+
+-- whose the message of its link is
+and_owed : (b : Bool) (owed : Option Message) (message : Message) → owed ≡ Some message → (b && is_none owed) ≡ false
+and_owed true None message is = absurd (cc is)
+and_owed true (Some one) message is = refl
+and_owed false owed message is = refl
+
+and_free : (bytes : List ℕ) (owed : Option Message) → 1 ≤ length bytes → owed ≡ None → (not (is_empty bytes) && is_none owed) ≡ true
+and_free [] owed some is = absurd (omega (arith, some))
+and_free (byte ∷ bytes) None some is = refl
+and_free (byte ∷ bytes) (Some message) some is = absurd (cc is)
+
+some_own : (bytes : List ℕ) (none : Bool) → 1 ≤ length bytes → (not (is_empty bytes) && none) ≡ none
+some_own [] none some = absurd (omega (arith, some))
+some_own (byte ∷ bytes) none some = refl
+
+held_bytes : (k : LinkState) → holds k ≡ true → 1 ≤ length k.to_send
+held_bytes k is = some (is_up k) k.to_send is
+  where
+    some : (b : Bool) (bytes : List ℕ) → (b && not (is_empty bytes)) ≡ true → 1 ≤ length bytes
+    some true [] is = absurd (cc is)
+    some true (byte ∷ bytes) is = omega arith
+    some false bytes is = absurd (cc is)
+
+-- IT BEGINS, or its values are made new
+pub server_begins : (s t : ServerState) → t ≡ joined_server s → EndBegins (server_core s) (server_core t)
+server_begins s t is =
+    subst (λ (x : ServerState). EndBegins (server_core s) (server_core x)) (sym is)
+    (record { link = refl; handshake = refl; offer = refl; closed = refl; more = answers_none _ })
+
+pub server_renews : (s t : ServerState) → t ≡ restarted_server s → EndRenews Responder (server_core s) (server_core t)
+server_renews s t is =
+    subst (λ (x : ServerState). EndRenews Responder (server_core s) (server_core x)) (sym is)
+    (record { link = refl; handshake = refl; offer = refl; closed = refl; more = refl })
+
+-- IT TAKES a packet
+server_takes_free : (s : ServerState) (at : Seen) (packet : List ℕ) → server_rule s at ≡ Takes packet → TakesFree s
+server_takes_free s at packet rule = subst (ServerFree s) rule (server_free s at)
+
+server_may_take : (s : ServerState) → TakesFree s → MayTake (server_core s)
+server_may_take s free = record { owed = free.owed; quiet = λ closed. free.free }
+
+record TookTo (x t : ServerState) : Type 0 where
+  link : t.link ≡ x.link
+  blocks : t.blocks ≡ x.blocks
+  slots : t.slots ≡ x.slots
+
+abbrev Hears : ServerState → Message → Bool → ServerState → Type 0
+Hears x message opens t =
+    HandshakeTakes Responder (is_some x.session) (handshake_take x.handshake message) opens (server_core t)
+    ⊎ HearsOwn x.handshake (is_some x.session) message opens (server_core t)
+
+abbrev Fails : ServerState → Message → Cause → Type 0
+Fails x message cause = (handshake_take x.handshake message ≡ Faults cause) ⊎ IsOwn x.handshake (is_some x.session) message
+
+abbrev Comes : ServerState → Message → ServerTake → Type 0
+Comes x message (GoesOn t opens) = TookTo x t × Hears x message opens t
+Comes x message (Resets cause) = Fails x message cause
+
+by_handshake_comes : (x : ServerState) (message : Message) (take : HandshakeTake) → handshake_take x.handshake message ≡ take → Comes x message (by_handshake x take)
+by_handshake_comes x message (Goes h) is = (
+  record { link = refl; blocks = refl; slots = refl },
+  inl (subst (λ (a : HandshakeTake). HandshakeTakes Responder (is_some x.session) a false (server_core (record x { handshake = h }))) (sym is) (refl, refl, refl)),
+)
+by_handshake_comes x message (GoesOpen h) is = (
+  record { link = refl; blocks = refl; slots = refl },
+  inl (subst (λ (a : HandshakeTake). HandshakeTakes Responder (is_some x.session) a true (server_core (record x { handshake = h; session = Some opened_server }))) (sym is) (refl, refl, refl)),
+)
+by_handshake_comes x message (Faults cause) is = inl is
+
+if_comes : (x : ServerState) (message : Message) (b : Bool) (one other : ServerTake) → Comes x message one → Comes x message other → Comes x message (if b then one else other)
+if_comes x message true one other first rest = first
+if_comes x message false one other first rest = rest
+
+by_info_comes : (x : ServerState) (message : Message) (session : ServerSession) (ident : ℕ) (range : SlotRange) → x.session ≡ Some session
+    → IsOwn x.handshake (is_some x.session) message → Comes x message (takes_info x session ident range)
+by_info_comes x message session ident range is own =
+    if_comes x message (is_other x.handshake.draft.ident_peer ident) (Resets (the_cause.Ident x.handshake.draft.ident_peer ident)) _ (inr own)
+    (if_comes x message (is_other session.seq range.seq) (Resets (the_cause.Seq session.seq range.seq)) _ (inr own)
+    (if_comes x message (is_other (place_of x session) range.start) (Resets (the_cause.Slot (place_of x session) range.start)) _ (inr own)
+    (if_comes x message (nat_le x.handshake.draft.peer_slots range.end) (Resets (the_cause.RangeEnd range.end)) (GoesOn (asked x session range) false) (inr own)
+    (record { link = refl; blocks = refl; slots = refl }, inr (own, refl, refl, ap is_some (sym is))))))
+
+by_session_comes : (x : ServerState) (message : Message) (session : ServerSession) (subtype : Subtype) (body : MsgBody) → x.session ≡ Some session
+    → message.body ≡ body → sid_fault x.handshake.sid message.sid ≡ None → Comes x message (in_session x session message subtype body)
+by_session_comes x message session Info (DringData seq ident start end state) is body sid =
+    by_info_comes x message session ident (record { seq = seq; start = start; end = end; state = state }) is
+    (record { opened = ap is_some is; sid = sid; body = subst core.IsOfSession (sym body) tt })
+by_session_comes x message session _ _ is body sid = by_handshake_comes x message (handshake_take x.handshake message) refl
+
+by_sid_comes : (x : ServerState) (message : Message) (session : ServerSession) (fault : Option Cause) → x.session ≡ Some session
+    → sid_fault x.handshake.sid message.sid ≡ fault → Comes x message (sid_first fault (in_session x session message message.subtype message.body))
+by_sid_comes x message session None is sid = by_session_comes x message session message.subtype message.body is refl sid
+by_sid_comes x message session (Some cause) is sid =
+    inl (ap (λ (f : Option Cause). fault_or f (handshake_hear x.handshake message.subtype message.sid message.body)) sid)
+
+by_message_comes : (x : ServerState) (message : Message) (open_one : Option ServerSession) → x.session ≡ open_one → Comes x message (hears_message x open_one message)
+by_message_comes x message None is = by_handshake_comes x message (handshake_take x.handshake message) refl
+by_message_comes x message (Some session) is = by_sid_comes x message session (sid_fault x.handshake.sid message.sid) is refl
+
+-- it goes on
+abbrev heard_on : ServerState → LinkState → ServerState
+heard_on s k = record s { link = k; handshake = handshake_risen s.link k s.handshake }
+
+record GoesTo (s : ServerState) (k : LinkState) (whole : Option (List ℕ)) (opens : Bool) (t : ServerState) : Type 0 where
+  link : t.link ≡ cleared k
+  blocks : t.blocks ≡ s.blocks
+  slots : t.slots ≡ s.slots
+  hears : core.HearsWhole Responder (handshake_risen s.link k s.handshake) (is_some s.session) whole opens (server_core t)
+
+goes_decoded : (s t : ServerState) (k : LinkState) (opens : Bool) (bytes : List ℕ) (d : Result Message TagFault) → Decodes bytes d
+    → GoesOn t opens ≡ reads (record s { link = cleared k; handshake = handshake_risen s.link k s.handshake }) d → GoesTo s k (Some bytes) opens t
+goes_decoded s t k opens bytes (Ok message) decodes is =
+    let x : ServerState = record s { link = cleared k; handshake = handshake_risen s.link k s.handshake } in
+    let comes : Comes x message (GoesOn t opens) = subst (Comes x message) (sym is) (by_message_comes x message s.session refl) in
+    record { link = comes.0.link; blocks = comes.0.blocks; slots = comes.0.slots; hears = (Ok message, decodes, comes.1) }
+goes_decoded s t k opens bytes (Err fault) decodes is = absurd (cc is)
+
+goes_same : (s t : ServerState) (k : LinkState) (opens : Bool) → k.whole ≡ None → t ≡ heard_on s k → opens ≡ false → GoesTo s k None opens t
+goes_same s t k opens none same closed =
+    subst (λ (x : ServerState). GoesTo s k None opens x) (sym same) (record { link = cleared_is k none; blocks = refl; slots = refl; hears = (closed, refl, refl) })
+
+the_state : (t x : ServerState) (a b : Bool) → GoesOn t a ≡ GoesOn x b → t ≡ x
+the_state t x a b is = cc is
+
+the_flag : (t x : ServerState) (a b : Bool) → GoesOn t a ≡ GoesOn x b → a ≡ b
+the_flag t x a b is = cc is
+
+goes_whole : (s t : ServerState) (k : LinkState) (opens : Bool) (whole : Option (List ℕ)) → k.whole ≡ whole → HearsWhole (heard_on s k) whole (GoesOn t opens)
+    → GoesTo s k whole opens t
+goes_whole s t k opens None none is = goes_same s t k opens none (the_state t (heard_on s k) opens false is) (the_flag t (heard_on s k) opens false is)
+goes_whole s t k opens (Some bytes) some is = goes_decoded s t k opens bytes is.0 is.1 is.2
+
+offers_same : (s t : ServerState) → t.blocks ≡ s.blocks → t.slots ≡ s.slots → server_offer t.blocks t.slots ≡ server_offer s.blocks s.slots
+offers_same s t blocks slots = ap (λ (n : ℕ). server_offer n t.slots) blocks ∙ ap (λ (n : ℕ). server_offer s.blocks n) slots
+
+answers_most : (b : Bool) (session : Option ServerSession) → answers_to_begin b (range_left session) ≤ 256
+answers_most b session = omega (arith, answers_less b (range_left session), range_few session)
+
+goes_link : (s t : ServerState) (packet : List ℕ) (opens : Bool) (link : LinkTake) → TakesFree s → TakesBytes s.link packet link → HearsLink s link (GoesOn t opens)
+    → EndHears Responder (server_core s) packet opens (server_core t)
+goes_link s t packet opens (Heard k) free takes hears =
+    let to = goes_whole s t k opens k.whole refl hears in
+    record {
+      may = server_may_take s free;
+      heard = k;
+      takes = takes;
+      link = to.link;
+      hears = to.hears;
+      offer = offers_same s t to.blocks to.slots;
+      own = λ before behind. absurd (cc (sym before ∙ quiet_holds s.link free.free));
+      most = answers_most (holds t.link && is_none t.handshake.owed) t.session;
+    }
+goes_link s t packet opens (Unheard cause) free takes hears = absurd (cc hears)
+
+pub server_hears : (s : ServerState) (at : Seen) (packet : List ℕ) (t : ServerState) (opens : Bool) → server_rule s at ≡ Takes packet → ServerTakes s packet (GoesOn t opens)
+    → EndHears Responder (server_core s) packet opens (server_core t)
+server_hears s at packet t opens rule takes = goes_link s t packet opens takes.link (server_takes_free s at packet rule) takes.takes takes.hears
+
+-- IT RESETS ITSELF
+resets_decoded : (x : ServerState) (cause : Cause) (d : Result Message TagFault) → Resets cause ≡ reads x d → DecodedFails x.handshake (is_some x.session) d cause
+resets_decoded x cause (Ok message) is = subst (Comes x message) (sym is) (by_message_comes x message x.session refl)
+resets_decoded x cause (Err fault) is = cc is
+
+resets_whole : (s : ServerState) (k : LinkState) (cause : Cause) (whole : Option (List ℕ)) → HearsWhole (heard_on s k) whole (Resets cause)
+    → WholeFails (handshake_risen s.link k s.handshake) (is_some s.session) whole cause
+resets_whole s k cause None is = absurd (cc is)
+resets_whole s k cause (Some bytes) is = (is.0, is.1, resets_decoded (record s { link = cleared k; handshake = handshake_risen s.link k s.handshake }) cause is.0 is.2)
+
+resets_link : (s : ServerState) (cause : Cause) (link : LinkTake) → HearsLink s link (Resets cause) → LinkFails Responder (server_core s) link cause
+resets_link s cause (Heard k) hears = resets_whole s k cause k.whole hears
+resets_link s cause (Unheard why) hears = cc hears
+
+pub server_refuses : (s : ServerState) (at : Seen) (packet : List ℕ) (cause : Cause) → server_rule s at ≡ Takes packet → ServerTakes s packet (Resets cause)
+    → EndFails Responder (server_core s) cause (Some packet)
+server_refuses s at packet cause rule takes = record {
+  may = server_may_take s (server_takes_free s at packet rule);
+  take = takes.link;
+  takes = takes.takes;
+  fails = resets_link s cause takes.link takes.hears;
+}
+
+no_packet : (s : ServerState) (cause : Cause) (packet : Option (List ℕ)) (session : ServerSession) → packet ≡ None → s.session ≡ Some session
+    → EndFails Responder (server_core s) cause packet
+no_packet s cause packet session none is = subst (EndFails Responder (server_core s) cause) (sym none) (ap is_some is)
+
+fails_by : (s : ServerState) (at : Seen) (r : Reach) (rule : ServerRule) (cause : Cause) (packet : Option (List ℕ)) (new : List ℕ) → server_rule s at ≡ rule → ServerMay s at rule
+    → ServerFails rule s r cause packet new → EndFails Responder (server_core s) cause packet
+fails_by s at r (Takes bytes) cause packet new rule may fails =
+    subst (EndFails Responder (server_core s) cause) (sym fails.0) (server_refuses s at bytes cause rule fails.1)
+fails_by s at r (Fetches session) cause packet new rule may fails = no_packet s cause packet session fails.0 may.1
+fails_by s at r (Serves session work) cause packet new rule may fails = no_packet s cause packet session fails.0 may.1
+fails_by s at r _ cause packet new rule may fails = absurd fails
+
+pub server_fails : (s : ServerState) (at : Seen) (r : Reach) (cause : Cause) (packet : Option (List ℕ)) (new : List ℕ) → ServerFails (server_rule s at) s r cause packet new
+    → EndFails Responder (server_core s) cause packet
+server_fails s at r cause packet new fails = fails_by s at r (server_rule s at) cause packet new refl (server_may s at) fails
+
+-- IT HOLDS a message
+record HoldsTo (s held : ServerState) : Type 0 where
+  what : Holding
+  holds : Holds (server_core s) what (server_core held)
+
+abbrev holding : Message → ServerState → ServerState
+holding message s = record s { link = offered (canonical message) s.link }
+
+holds_owed : (s : ServerState) (message : Message) → owes s.link ≡ false → s.handshake.owed ≡ Some message → HoldsTo s (holding message s)
+holds_owed s message quiet owed = record {
+  what = HoldsOwed message;
+  holds = record {
+    quiet = quiet;
+    owed = owed;
+    link = refl;
+    handshake = refl;
+    offer = refl;
+    is_open = refl;
+    own = λ up. and_owed (not (is_empty (canonical message))) s.handshake.owed message owed;
+    more = omega (
+      arith,
+      answers_owed (holds s.link) s.handshake.owed message (range_left s.session) owed,
+      answers_owed (holds (offered (canonical message) s.link)) s.handshake.owed message (range_left s.session) owed,
+    );
+  };
+}
+
+holds_answer : (s : ServerState) (range : SlotRange) (session : ServerSession) → owes s.link ≡ false → s.handshake.owed ≡ None → s.session ≡ Some session
+    → session.range ≡ Some range → HoldsTo s (holding (answer s range) s)
+holds_answer s range session quiet owed is ranged =
+    let before : answers_to_begin (holds s.link && is_none s.handshake.owed) (range_left s.session) ≡ range_left s.session =
+    answers_free (holds s.link) (is_none s.handshake.owed) (range_left s.session) (quiet_holds s.link quiet) in
+    let one : range_left s.session ≡ 1 = ap range_left is ∙ ap one_range ranged in
+    let link : LinkState = offered (canonical (answer s range)) s.link in
+    let less : answers_to_begin (holds link && is_none s.handshake.owed) (range_left s.session) ≤ range_left s.session =
+    answers_less (holds link && is_none s.handshake.owed) (range_left s.session) in
+    record {
+      what = HoldsOwn (answer s range);
+      holds = record {
+        quiet = quiet;
+        owed = owed;
+        opened = ap is_some is;
+        body = tt;
+        sid = refl;
+        short = omega (arith, length_canonical (answer s range));
+        link = refl;
+        handshake = refl;
+        offer = refl;
+        is_open = refl;
+        own = and_free (canonical (answer s range)) s.handshake.owed (some_bytes (answer s range)) owed;
+        most = omega (arith, before, less);
+        more = λ up.
+            (let begun : answers_to_begin (holds link && is_none s.handshake.owed) (range_left s.session) ≡ 0 =
+            answers_begun (holds link) s.handshake.owed (range_left s.session) (some_holds link up (some_bytes (answer s range))) owed in
+            omega (arith, before, one, begun));
+      };
+    }
+
+holds_says : (s : ServerState) (message : Message) → owes s.link ≡ false → ServerSays s message → HoldsTo s (holding message s)
+holds_says s message quiet (inl owed) = holds_owed s message quiet owed
+holds_says s message quiet (inr answers) =
+    subst (λ (m : Message). HoldsTo s (holding m s)) (sym answers.message_is) (holds_answer s answers.range answers.session quiet answers.nothing_owed answers.session_is answers.range_is)
+
+to_the : (s one other : ServerState) → Some one ≡ Some other → HoldsTo s one → HoldsTo s other
+to_the s one other is to = let same : one ≡ other = cc is in subst (HoldsTo s) same to
+
+holds_by : (s : ServerState) (at : Seen) (rule : ServerRule) (held : ServerState) → ServerMay s at rule → server_holds rule s ≡ Some held → HoldsTo s held
+holds_by s at Puts held may is = to_the s s held is (record { what = HoldsOn; holds = refl })
+holds_by s at (Says message) held may is = to_the s (holding message s) held is (holds_says s message may.1 may.2)
+holds_by s at _ held may is = absurd (cc is)
+
+pub server_waits : (s : ServerState) (at : Seen) (t : ServerState) → server_holds (server_rule s at) s ≡ Some t → EndWaits (server_core s) (server_core t)
+server_waits s at t is = let to = holds_by s at (server_rule s at) t (server_may s at) is in record { what = to.what; holds = to.holds }
+
+-- IT PUTS a packet
+behind_ranges : (kind : PutKind) (session : Option ServerSession) → range_left (session_behind kind session) ≤ range_left session
+behind_ranges EndsOwn None = omega arith
+behind_ranges EndsOwn (Some session) = omega arith
+behind_ranges Goes_ session = omega arith
+behind_ranges ComesUp session = omega arith
+behind_ranges EndsHandshake session = omega arith
+
+behind_open : (kind : PutKind) (session : Option ServerSession) → is_some (session_behind kind session) ≡ is_some session
+behind_open EndsOwn None = refl
+behind_open EndsOwn (Some session) = refl
+behind_open Goes_ session = refl
+behind_open ComesUp session = refl
+behind_open EndsHandshake session = refl
+
+no_ranges : (session : Option ServerSession) → range_left (answered session) ≡ 0
+no_ranges None = refl
+no_ranges (Some session) = refl
+
+abbrev behind_in : LinkPhase → ServerState → Handshake
+behind_in ph v = handshake_behind (kind_in ph v.link (is_none v.handshake.owed)) v.handshake
+
+put_own_in : (ph : LinkPhase) (v : ServerState) (last : Bool) → v.link.phase ≡ ph → nat_le (length v.link.to_send) 56 ≡ last → is_up v.link ≡ true → holds (behind_put v.link) ≡ true
+    → is_none (behind_in ph v).owed ≡ is_none v.handshake.owed
+put_own_in phase.Established v true at short up still =
+    holds_none (behind_put v.link) (drop 56 v.link.to_send) _ (ap (λ (p : LinkPhase). left_behind_put p v.link.to_send) at)
+    (omega (arith, leb-true (length v.link.to_send) 56 short, length-drop 56 v.link.to_send)) still
+put_own_in phase.Established v false at long up still = ap (λ (b : Bool). is_none (handshake_behind (ending b (is_none v.handshake.owed)) v.handshake).owed) long
+put_own_in _ v last at short up still = absurd (cc (sym up ∙ ap is_established at))
+
+abbrev left_in : LinkPhase → ServerState → ℕ
+left_in ph v = answers_to_begin (holds (behind_put v.link) && is_none (behind_in ph v).owed) (range_left (session_behind (kind_in ph v.link (is_none v.handshake.owed)) v.session))
+
+left_less : (ph : LinkPhase) (v : ServerState) → left_in ph v ≤ range_left v.session
+left_less ph v =
+    omega (
+      arith,
+      answers_less (holds (behind_put v.link) && is_none (behind_in ph v).owed) (range_left (session_behind (kind_in ph v.link (is_none v.handshake.owed)) v.session)),
+      behind_ranges (kind_in ph v.link (is_none v.handshake.owed)) v.session,
+    )
+
+abbrev left_by : Bool → ServerState → ℕ
+left_by last v =
+    answers_to_begin (holds (behind_put v.link) && is_none (handshake_behind (ending last (is_none v.handshake.owed)) v.handshake).owed)
+    (range_left (session_behind (ending last (is_none v.handshake.owed)) v.session))
+
+abbrev left_now : ServerState → ℕ
+left_now v = answers_to_begin (holds v.link && is_none v.handshake.owed) (range_left v.session)
+
+last_left : (v : ServerState) (owed : Option Message) → v.handshake.owed ≡ owed
+    → answers_to_begin (holds (behind_put v.link) && is_none (handshake_behind (ending true (is_none owed)) v.handshake).owed) (range_left (session_behind (ending true (is_none owed)) v.session))
+    ≤ left_now v
+last_left v None is = omega (arith, answers_less (holds (behind_put v.link) && is_none v.handshake.owed) (range_left (answered v.session)), no_ranges v.session)
+last_left v (Some message) is =
+    omega (
+      arith,
+      answers_less (holds (behind_put v.link) && is_none (handshake_behind EndsHandshake v.handshake).owed) (range_left v.session),
+      answers_owed (holds v.link) v.handshake.owed message (range_left v.session) is,
+    )
+
+parts_left : (v : ServerState) (last : Bool) → v.link.phase ≡ phase.Established → nat_le (length v.link.to_send) 56 ≡ last → left_by last v ≤ left_now v
+parts_left v true at short = last_left v v.handshake.owed refl
+parts_left v false at long =
+    answers_later (holds (behind_put v.link)) (holds v.link) (is_none v.handshake.owed) (range_left v.session)
+    (some_holds (behind_put v.link) (ap (λ (p : LinkPhase). is_established (phase_behind_put p)) at)
+    (subst (λ (bytes : List ℕ). 1 ≤ length bytes) (sym (ap (λ (p : LinkPhase). left_behind_put p v.link.to_send) at))
+    (omega (arith, leb-false (length v.link.to_send) 56 long, length-drop 56 v.link.to_send))))
+
+put_left_in : (ph : LinkPhase) (v : ServerState) → v.link.phase ≡ ph → left_in ph v ≤ left_now v
+put_left_in phase.Established v at = parts_left v (nat_le (length v.link.to_send) 56) at refl
+put_left_in phase.OwesRdx v at = omega (arith, left_less phase.OwesRdx v, answers_free (holds v.link) (is_none v.handshake.owed) (range_left v.session) (down_holds v.link (ap is_established at)))
+put_left_in ph v at = omega (arith, left_less ph v, answers_free (holds v.link) (is_none v.handshake.owed) (range_left v.session) (down_holds v.link (ap is_established at)))
+
+-- what the packet brings about goes by whose the message is
+kind_same : (ph : LinkPhase) (k m : LinkState) (one : Packet × LinkState) (none : Bool) → with_link (owed_in ph k) m ≡ Some one
+    → kind_in ph k (not (is_empty k.to_send) && none) ≡ kind_in ph k none
+kind_same phase.Established k m one none is = ap (ending (nat_le (length k.to_send) 56)) (some_own k.to_send none (some_left k k.to_send one m is))
+kind_same phase.OwesRdx k m one none is = refl
+kind_same _ k m one none is = refl
+
+server_kind_is : (v : ServerState) (packet : List ℕ) (m : LinkState) → PutsPacket v.link packet m → core.kind_of (server_core v) ≡ server_kind v
+server_kind_is v packet m puts = kind_same v.link.phase v.link (behind_put v.link) (puts.packet, m) (is_none v.handshake.owed) puts.next
+
+record PutsTo (held t : ServerState) : Type 0 where
+  handshake : t.handshake ≡ (server_put held).handshake
+  is_open : is_some t.session ≡ is_some held.session
+  offer : server_offer t.blocks t.slots ≡ server_offer held.blocks held.slots
+  own : KeepsOwn (server_core held) (server_core t)
+  more : (server_core t).more ≤ (server_core held).more
+
+puts_to : (held : ServerState) → PutsTo held (server_put held)
+puts_to held = record {
+  handshake = refl;
+  is_open = behind_open (server_kind held) held.session;
+  offer = refl;
+  own = λ before behind.
+      some_own (behind_put held.link).to_send (is_none (server_put held).handshake.owed) (held_bytes (behind_put held.link) behind)
+      ∙ put_own_in held.link.phase held (nat_le (length held.link.to_send) 56) refl refl (holds_and held.link before) behind
+      ∙ sym (some_own held.link.to_send (is_none held.handshake.owed) (held_bytes held.link before));
+  more = put_left_in held.link.phase held refl;
+}
+
+pub server_says : (s : ServerState) (at : Seen) (packet : List ℕ) (opens : Bool) (t : ServerState) → ServerSends s at packet opens t
+    → EndSays Responder (server_core s) packet opens (server_core t)
+server_says s at packet opens t sends =
+    let to = holds_by s at (server_rule s at) sends.held (server_may s at) sends.holds in
+    let puts : PutsTo sends.held t = subst (PutsTo sends.held) (sym sends.is) (puts_to sends.held) in
+    let kind = server_kind_is sends.held packet t.link sends.packet in
+    record {
+      held = server_core sends.held;
+      what = to.what;
+      holds = to.holds;
+      puts = sends.packet;
+      handshake = puts.handshake ∙ ap (λ (kind : PutKind). handshake_behind kind sends.held.handshake) (sym kind);
+      opens_is = sends.opens_is ∙ ap (λ (one : PutKind). put_opens one sends.held.handshake) (sym kind);
+      is_open = puts.is_open;
+      offer = puts.offer;
+      own = puts.own;
+      most = answers_most (holds t.link && is_none t.handshake.owed) t.session;
+      more = λ closed. puts.more;
+    }
+
+-- IT WORKS, or does nothing
+abbrev Stays : ServerState → ServerState → Type 0
+Stays s t = EndStays (server_core s) (server_core t)
+
+pub server_same : (s t : ServerState) → t ≡ s → Stays s t
+server_same s t is = subst (Stays s) (sym is) (record { link = refl; handshake = refl; offer = refl; is_open = refl; own = refl; more = omega arith })
+
+-- its session and its work change, and not its range
+works_on : (s : ServerState) (session : Option ServerSession) (work : Option Work) → is_some session ≡ is_some s.session → range_left session ≡ range_left s.session
+    → Stays s (record s { session = session; work = work })
+works_on s session work opened range = record {
+  link = refl;
+  handshake = refl;
+  offer = refl;
+  is_open = opened;
+  own = refl;
+  more = omega (arith, ap (answers_to_begin (holds s.link && is_none s.handshake.owed)) range);
+}
+
+pub server_fetched : (s : ServerState) (at : Seen) (r : Reach) (slot : ℕ) (bytes : List ℕ) (t : ServerState) (new : List ℕ) → ServerFetches s at r slot bytes t new → Stays s t
+server_fetched s at r slot bytes t new step =
+    let may : ServerMay s at (Fetches step.session) = subst (ServerMay s at) step.rule (server_may s at) in
+    subst (Stays s) (sym step.is) (works_on s (Some (record step.session { descs = wrapped (step.session.descs + 1) }))
+    (Some (record { bytes = bytes; progress = first_progress s.blocks (slot_says.disk_desc_of bytes) })) (ap is_some (sym may.1)) (ap range_left (sym may.1)))
+
+pub server_moved : (s : ServerState) (at : Seen) (r : Reach) (unit : ℕ) (fault : Option CopyFault) (t : ServerState) (new : List ℕ) → ServerMoves s at r unit fault t new → Stays s t
+server_moved s at r unit fault t new step = subst (Stays s) (sym step.is) (works_on s s.session (Some (record step.work { progress = step.next })) refl refl)
+
+pub server_stored : (s : ServerState) (at : Seen) (operation block count : ℕ) (failed : Bool) (gave : List ℕ) (t : ServerState) → ServerStores s at operation block count failed gave t
+    → Stays s t
+server_stored s at operation block count failed gave t step = subst (Stays s) (sym step.is) (works_on s s.session (Some (record step.work { progress = step.next })) refl refl)
+
+pub server_finished : (s : ServerState) (at : Seen) (r : Reach) (slot status : ℕ) (t : ServerState) (new : List ℕ) → ServerFinishes s at r slot status t new → Stays s t
+server_finished s at r slot status t new step =
+    let may : ServerMay s at (Serves step.session step.work) = subst (ServerMay s at) step.rule (server_may s at) in
+    subst (Stays s) (sym step.is) (works_on s (Some (record step.session { finished = wrapped (step.session.finished + 1) })) None (ap is_some (sym may.1)) (ap range_left (sym may.1)))

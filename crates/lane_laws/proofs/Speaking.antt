@@ -1,0 +1,134 @@
+-- Each event of a lane leaves both ends resting on what they heard, and having said what their handshakes hold, as ends on a channel do.
+use Rattle.std.proofs.Common.{◌≡◌, ◌≤◌, ℕ, true, Option, Some, List, [], refl, sym, ap, subst, ◌∙◌}
+use Rattle.std.specs.Prelude.{is_some, ⊤}
+use Rattle.runs.specs.Lawful.{run_lawful}
+use Rattle.runs.specs.Run.{Run}
+use Rattle.ldc_link.specs.declared.phase.Role.{Role}
+use Rattle.ldc_link.specs.declared.phase.Role.TheVariants.{Initiator, Responder}
+use Rattle.ldc_queue.specs.declared.end.End.TheVariants.{A, B}
+use Rattle.ldc_queue.specs.Transcript.{Turn}
+use Rattle.vio_handshake.specs.declared.session.Offer.{Offer}
+use Rattle.disk_model.specs.ClientPutting.{client_holds}
+use Rattle.disk_model.specs.ClientRule.{client_rule}
+use Rattle.disk_model.specs.ClientState.{ClientState}
+use Rattle.disk_model.specs.DiskEvent.{DiskEvent}
+use Rattle.disk_model.specs.DiskLog.{after_transcript}
+use Rattle.disk_model.specs.LaneState.{IsShape, LaneState, Shape, fresh}
+use Rattle.disk_model.specs.LaneStep.{LaneStep}
+use Rattle.disk_model.specs.Sayings.{heard, said}
+use Rattle.disk_model.specs.Seeing.{Seen}
+use Rattle.disk_model.specs.ServerPutting.{server_holds}
+use Rattle.disk_model.specs.ServerRule.{server_rule}
+use Rattle.disk_model.specs.ServerState.{ServerState}
+use Rattle.disk_model.specs.TranscriptLog.{TranscriptLog, nothing_said}
+use Rattle.channel_laws.proofs.EndResting.{open_rests}
+use Rattle.channel_laws.proofs.EndStanding.{opened_phase}
+use Rattle.channel_laws.proofs.EndUttering.{EndSpeaks, fresh_speaks, speaks_step}
+use Rattle.channel_laws.proofs.Lifting.{transcript_turns}
+use Rattle.channel_laws.specs.EndCore.{EndCore, EndMove, Waits, fresh_end}
+use Rattle.channel_laws.specs.EndStep.{EndStep}
+use Rattle.channel_laws.specs.Grounds.{OpenRests}
+use Rattle.channel_laws.specs.LaneCore.{move_of, transcript_after, turns_after}
+use Rattle.channel_laws.specs.Utterances.{SaysEach}
+use Rattle.lane_laws.proofs.ClientMoves.{client_waits}
+use Rattle.lane_laws.proofs.EndMoves.{step_a, step_b, transcript_same}
+use Rattle.lane_laws.proofs.LaneStepping.{LaneTranscripts, fresh_transcripts, transcripts_step}
+use Rattle.lane_laws.proofs.OpeningDeal.{client_widths, server_widths}
+use Rattle.lane_laws.proofs.ServerMoves.{server_waits}
+use Rattle.lane_laws.specs.ChannelEnds.{client_core, core_event, server_core}
+use Rattle.lane_laws.specs.LaneRests.{ClientRests, ClientUtters, EndRests, EndUtters, LaneRests, LaneUtters, ServerRests, ServerUtters}
+use Rattle.lane_laws.specs.LaneTranscripts.{transcript_behind}
+use Rattle.lane_laws.specs.Sound.{ClientSound}
+
+-- AN END, as the channel has it
+rests_of : (role : Role) (c : EndCore) (turns : List Turn) → EndSpeaks role c turns → EndRests role c turns
+rests_of role c turns speaks = record {
+  stands = speaks.knows.stands;
+  rests = speaks.knows.rests;
+  utters = speaks.utters;
+  whole = speaks.knows.stands.link.seen;
+  down = λ below. (speaks.knows.stands.below below).down;
+  opened = λ now. opened_phase c.handshake.phase (sym speaks.knows.stands.opened ∙ now);
+}
+
+speaks_of : (role : Role) (c : EndCore) (turns : List Turn) → EndRests role c turns → EndSpeaks role c turns
+speaks_of role c turns rests = record { knows = record { stands = rests.stands; rests = rests.rests }; utters = rests.utters }
+
+rests_move : (role : Role) (c : EndCore) (move : EndMove) (t : EndCore) (turns : List Turn) → EndRests role c turns → EndStep role c move t → EndRests role t (turns_after turns move)
+rests_move role c move t turns rests step = rests_of role t (turns_after turns move) (speaks_step role c move t turns (speaks_of role c turns rests) step)
+
+utters_of : (role : Role) (c : EndCore) (turns : List Turn) → EndRests role c turns → EndUtters c turns
+utters_of role c turns rests = record {
+  half = rests.stands.link.cuts.free;
+  silent = λ below. (rests.stands.below below).said_none;
+  idle = λ below. (rests.stands.below below).left;
+  free = λ below. (rests.stands.below below).owed;
+}
+
+-- IT HOLDS a message
+pub client_blocked_rests : (s : ClientState) (at : Seen) (t : ClientState) (turns : List Turn) → ClientSound s → client_holds (client_rule s at) s ≡ Some t → ClientRests s turns → ClientRests t turns
+client_blocked_rests s at t turns sound is rests = rests_move Initiator (client_core s) Waits (client_core t) turns rests (client_waits s at t sound is)
+
+pub client_blocked_utters : (s : ClientState) (at : Seen) (t : ClientState) (turns : List Turn) → ClientSound s → client_holds (client_rule s at) s ≡ Some t → ClientRests s turns → ClientUtters t turns
+client_blocked_utters s at t turns sound is rests = utters_of Initiator (client_core t) turns (client_blocked_rests s at t turns sound is rests)
+
+pub server_blocked_rests : (s : ServerState) (at : Seen) (t : ServerState) (turns : List Turn) → server_holds (server_rule s at) s ≡ Some t → ServerRests s turns → ServerRests t turns
+server_blocked_rests s at t turns is rests = rests_move Responder (server_core s) Waits (server_core t) turns rests (server_waits s at t is)
+
+pub server_blocked_utters : (s : ServerState) (at : Seen) (t : ServerState) (turns : List Turn) → server_holds (server_rule s at) s ≡ Some t → ServerRests s turns → ServerUtters t turns
+server_blocked_utters s at t turns is rests = utters_of Responder (server_core t) turns (server_blocked_rests s at t turns is rests)
+
+-- EACH EVENT
+pub rests_step : (s : LaneState) (event : DiskEvent) (t : LaneState) (transcript : TranscriptLog) → LaneTranscripts s transcript → LaneRests s transcript → LaneStep s event t → LaneRests t (after_transcript transcript event)
+rests_step s event t transcript transcripts rests step =
+    let behind = transcripts_step s event t transcript transcripts step in
+    let now : LaneRests t (transcript_after transcript (core_event event)) = record {
+      client = subst (λ (turns : List Turn). ClientRests t.client turns) (sym (transcript_turns A transcript (core_event event)))
+          (rests_move Initiator (client_core s.client) (move_of A (core_event event)) (client_core t.client) transcript.client rests.client
+          (step_a s event t (record { before = transcripts.client; behind = behind.client }) step));
+      server = subst (λ (turns : List Turn). ServerRests t.server turns) (sym (transcript_turns B transcript (core_event event)))
+          (rests_move Responder (server_core s.server) (move_of B (core_event event)) (server_core t.server) transcript.server rests.server (step_b s event t step));
+    } in
+    subst (λ (l : TranscriptLog). LaneRests t l) (transcript_same transcript event) now
+
+pub fresh_rests : (shape : Shape) → IsShape shape → LaneRests (fresh shape) nothing_said
+fresh_rests shape sound =
+    let asks = client_widths shape.blocks shape.slots sound.most_slots in
+    let answers = server_widths shape.blocks shape.slots in
+    record {
+      client = rests_of Initiator (client_core (fresh shape).client) [] (fresh_speaks Initiator (client_core (fresh shape).client).offer asks.form.most);
+      server = rests_of Responder (server_core (fresh shape).server) [] (fresh_speaks Responder (server_core (fresh shape).server).offer answers.form.most);
+    }
+
+-- what both ends said, where they rest so
+pub lane_utters : (s : LaneState) (transcript : TranscriptLog) → LaneRests s transcript → LaneUtters s transcript
+lane_utters s transcript rests =
+    record { client = utters_of Initiator (client_core s.client) transcript.client rests.client; server = utters_of Responder (server_core s.server) transcript.server rests.server }
+
+-- ALONG EVERY RUN
+run_rests : (shape : Shape) (events : List DiskEvent) (s : LaneState) → IsShape shape → Run LaneStep (fresh shape) events s → LaneRests s (transcript_behind events)
+run_rests shape events s sound run =
+    let both = (run_lawful LaneStep (λ (l : TranscriptLog) (e : DiskEvent). ⊤) after_transcript (λ (x : LaneState) (l : TranscriptLog). LaneTranscripts x l × LaneRests x l)
+    (λ (x : LaneState) (l : TranscriptLog) (e : DiskEvent) (y : LaneState) stands step. (tt, (transcripts_step x e y l stands.0 step, rests_step x e y l stands.0 stands.1 step)))
+    (fresh shape) s nothing_said events (fresh_transcripts shape sound, fresh_rests shape sound) run) in
+    both.1.1
+
+pub client_open_rests : (shape : Shape) (events : List DiskEvent) (s : LaneState) → IsShape shape → Run LaneStep (fresh shape) events s → is_some s.client.session ≡ true
+    → OpenRests Initiator s.client.handshake (heard (transcript_behind events).client)
+client_open_rests shape events s sound run is =
+    let rests = (run_rests shape events s sound run).client in
+    open_rests Initiator (client_core s.client) (transcript_behind events).client (record { stands = rests.stands; rests = rests.rests }) is
+
+pub server_open_rests : (shape : Shape) (events : List DiskEvent) (s : LaneState) → IsShape shape → Run LaneStep (fresh shape) events s → is_some s.server.session ≡ true
+    → OpenRests Responder s.server.handshake (heard (transcript_behind events).server)
+server_open_rests shape events s sound run is =
+    let rests = (run_rests shape events s sound run).server in
+    open_rests Responder (server_core s.server) (transcript_behind events).server (record { stands = rests.stands; rests = rests.rests }) is
+
+pub client_said : (shape : Shape) (events : List DiskEvent) (s : LaneState) → IsShape shape → Run LaneStep (fresh shape) events s
+    → SaysEach Initiator s.client.handshake.phase s.client.handshake.offer s.client.handshake.draft (said (transcript_behind events).client)
+client_said shape events s sound run = (run_rests shape events s sound run).client.utters.said
+
+pub server_said : (shape : Shape) (events : List DiskEvent) (s : LaneState) → IsShape shape → Run LaneStep (fresh shape) events s
+    → SaysEach Responder s.server.handshake.phase s.server.handshake.offer s.server.handshake.draft (said (transcript_behind events).server)
+server_said shape events s sound run = (run_rests shape events s sound run).server.utters.said

@@ -1,0 +1,380 @@
+ghost use Rattle.std.specs.Prelude.{◌≡◌, ◌+◌, ◌<◌, ◌≤◌, [], ◌∷◌, ◌++◌, length, false};
+ghost use Rattle.ldom_journal.specs.Counts.{accepted_count, done_count, is_accepted, is_done, reset_count};
+
+use crate::kept_entries::KeptEntries;
+use crate::reading::nth;
+use cookie_copy::CopyFault;
+use domain_script::EndName;
+use ldom_entries::{
+    Bytes, Entries, Entry, EntryRef, Header, KeptRequest, Who, Why, disk_of, part_of,
+};
+use std::alloc::Global;
+use std::marker::Model;
+use vio_bytes::NoMemory;
+use vio_tag::Cause;
+
+/// The entries of a run in the order in which they came, and the room that is left for more of them. Those that a
+/// report counts are counted as they come.
+#[derive(Debug, Drop)]
+pub struct Journal {
+    kept: KeptEntries,
+    accepted: usize,
+    done: usize,
+    resets: usize,
+}
+
+impl Model for Journal {
+    ghost use Rattle.std.specs.Prelude.{◌≡◌};
+    ghost use Rattle.ldom_journal.specs.Counts.{accepted_count, done_count, reset_count};
+    ghost use Rattle.ldom_entries.specs.JournalState.{JournalState};
+
+    ghost Value = { JournalState };
+
+    ghost view = { λ j. j.kept };
+
+    ghost invariant = { λ j. record {
+      accepted : j.accepted ≡ accepted_count j.kept.entries;
+      done : j.done ≡ done_count j.kept.entries;
+      resets : j.resets ≡ reset_count j.kept.entries;
+    } };
+}
+
+#[tactic(auto, using(crate::proofs::Counting::counted))]
+impl Journal {
+    ghost use Rattle.std.specs.Prelude.{◌↔◌, ◌^◌, max, Some, IsTrue, IfSome, IsNone, OnErr, OnOk, slice_get};
+    ghost use Rattle.ldom_entries.specs.JournalState.{PutsEntry};
+    ghost use Rattle.ldom_entries.specs.Told.{told};
+    ghost use Rattle.ldom_entries.specs.declared.entry.Entry.TheVariants as the_entry;
+
+    /// No entries, and no room. It takes no memory.
+    pub fn new(alloc: Global) -> Self
+        ensures { result ≡ record { entries = []; room = 0 } }
+    {
+        Journal {
+            kept: KeptEntries::new(alloc),
+            accepted: 0,
+            done: 0,
+            resets: 0,
+        }
+    }
+
+    /// Makes room for n more entries, if there isn't yet. The memory grows by doubling, so that asking for one entry at
+    /// a time costs no more than linear time. After `NoMemory` the journal is as it was.
+    pub fn reserve(&mut self, n: usize) -> Result<(), NoMemory>
+        ensures entries { self.new.entries ≡ self.old.entries }
+        ensures room { OnOk result (self.new.room ≡ max self.old.room n) }
+        ensures same { OnErr result (self.new.room ≡ self.old.room) }
+    {
+        self.kept.reserve(n)
+    }
+
+    /// A request that was taken up, put last. As each of the calls below, it takes no memory and wants room.
+    pub fn push_accepted(&mut self, disk: u32, id: u64, request: KeptRequest)
+        requires { 0 < self.old.room }
+        ensures { PutsEntry self.old (the_entry.Accepted disk id request) self.new }
+    {
+        let _len = self.kept.len();
+        self.kept.push_accepted(disk, id, request);
+        self.accepted += 1;
+    }
+
+    /// An end that has nothing to do.
+    pub fn push_idle(&mut self, end: EndName)
+        requires { 0 < self.old.room }
+        ensures { PutsEntry self.old (the_entry.Idle end) self.new }
+    {
+        self.kept.push_plain(Header::Idle {
+            side: end.side,
+            disk: disk_of(end),
+        });
+    }
+
+    /// The end of a stopped server, which was to make a step.
+    pub fn push_off(&mut self, end: EndName)
+        requires { 0 < self.old.room }
+        ensures { PutsEntry self.old (the_entry.Off end) self.new }
+    {
+        self.kept.push_plain(Header::Off {
+            side: end.side,
+            disk: disk_of(end),
+        });
+    }
+
+    /// An end that has no room for its next packet.
+    pub fn push_blocked(&mut self, end: EndName)
+        requires { 0 < self.old.room }
+        ensures { PutsEntry self.old (the_entry.Blocked end) self.new }
+    {
+        self.kept.push_plain(Header::Blocked {
+            side: end.side,
+            disk: disk_of(end),
+        });
+    }
+
+    /// An end that was configured, and so many frames were lost by that.
+    pub fn push_joined(&mut self, end: EndName, lost: u32)
+        requires { 0 < self.old.room }
+        ensures { PutsEntry self.old (the_entry.Joined end lost) self.new }
+    {
+        let header = Header::Joined {
+            side: end.side,
+            disk: disk_of(end),
+        };
+        self.kept.push_number(header, u64::from(lost));
+    }
+
+    /// An end that took a packet, and its session may have opened by it.
+    pub fn push_took(&mut self, end: EndName, packet: &[u8; 64], opens: bool)
+        requires { 0 < self.old.room }
+        ensures { PutsEntry self.old (the_entry.Took end packet.now opens) self.new }
+    {
+        let header = Header::Took {
+            side: end.side,
+            opens,
+            disk: disk_of(end),
+        };
+        self.kept.push_packet(header, packet);
+    }
+
+    /// An end that put a packet, and its session may have opened by it.
+    pub fn push_sent(&mut self, end: EndName, packet: &[u8; 64], opens: bool)
+        requires { 0 < self.old.room }
+        ensures { PutsEntry self.old (the_entry.Sent end packet.now opens) self.new }
+    {
+        let header = Header::Sent {
+            side: end.side,
+            opens,
+            disk: disk_of(end),
+        };
+        self.kept.push_packet(header, packet);
+    }
+
+    /// A request that the client put into its ring.
+    pub fn push_published(&mut self, end: EndName, id: u64)
+        requires { 0 < self.old.room }
+        ensures { PutsEntry self.old (the_entry.Published end id) self.new }
+    {
+        let header = Header::Published {
+            side: end.side,
+            disk: disk_of(end),
+        };
+        self.kept.push_number(header, id);
+    }
+
+    /// A request that was completed.
+    pub fn push_done(&mut self, disk: u32, id: u64, operation: u8, status: u32, bytes: Bytes)
+        requires { 0 < self.old.room }
+        ensures { PutsEntry self.old (the_entry.Done disk id operation status bytes) self.new }
+    {
+        let _len = self.kept.len();
+        self.kept.push_done(disk, id, operation, status, bytes);
+        self.done += 1;
+    }
+
+    /// A descriptor that the server fetched.
+    pub fn push_desc(&mut self, end: EndName, slot: u32, bytes: &[u8; 128])
+        requires { 0 < self.old.room }
+        ensures { PutsEntry self.old (the_entry.Desc end slot bytes.now) self.new }
+    {
+        self.kept.push_desc(end, slot, bytes);
+    }
+
+    /// A unit that the server copied, or why it couldn't.
+    pub fn push_moved(&mut self, end: EndName, unit: u32, fault: Option<CopyFault>)
+        requires { 0 < self.old.room }
+        ensures { PutsEntry self.old (the_entry.Moved end unit fault) self.new }
+    {
+        let header = Header::Moved {
+            side: end.side,
+            fault,
+            disk: disk_of(end),
+        };
+        self.kept.push_number(header, u64::from(unit));
+    }
+
+    /// A call of the server's store, and whether it failed.
+    pub fn push_stored(&mut self, end: EndName, operation: u8, block: u64, count: u64, failed: bool)
+        requires { 0 < self.old.room }
+        ensures { PutsEntry self.old (the_entry.Stored end operation block count failed) self.new }
+    {
+        let header = Header::Stored {
+            side: end.side,
+            operation,
+            failed,
+            disk: disk_of(end),
+        };
+        self.kept.push_numbers(header, block, count);
+    }
+
+    /// A descriptor that the server gave its status.
+    pub fn push_finished(&mut self, end: EndName, slot: u32, status: u32)
+        requires { 0 < self.old.room }
+        ensures { PutsEntry self.old (the_entry.Finished end slot status) self.new }
+    {
+        let header = Header::Finished {
+            side: end.side,
+            disk: disk_of(end),
+        };
+        self.kept
+            .push_numbers(header, u64::from(slot), u64::from(status));
+    }
+
+    /// An end that was reset, maybe by a packet that it took, and so many frames were lost by that.
+    pub fn push_reset(&mut self, end: EndName, cause: Cause, packet: &Option<[u8; 64]>, lost: u32)
+        requires { 0 < self.old.room }
+        ensures { PutsEntry self.old (the_entry.Reset end cause packet.now lost) self.new }
+    {
+        let _len = self.kept.len();
+        self.kept.push_reset(end, cause, packet, lost);
+        self.resets += 1;
+    }
+
+    /// As many requests are pending as the ring holds.
+    fn push_full(&mut self, who: Who)
+        requires { 0 < self.old.room }
+        ensures { PutsEntry self.old (the_entry.Full who) self.new }
+    {
+        let (disk, part) = part_of(who);
+        self.kept.push_plain(Header::Full { part, disk });
+    }
+
+    /// A request that was refused.
+    fn push_refused(&mut self, who: Who, why: Why)
+        requires { 0 < self.old.room }
+        ensures { PutsEntry self.old (the_entry.Refused who why) self.new }
+    {
+        let (disk, part) = part_of(who);
+        self.kept.push_plain(Header::Refused { part, why, disk });
+    }
+
+    /// What a line asked for and changes nothing.
+    fn push_calm(&mut self, who: Who)
+        requires { 0 < self.old.room }
+        ensures { PutsEntry self.old (the_entry.Calm who) self.new }
+    {
+        let (disk, part) = part_of(who);
+        self.kept.push_plain(Header::Calm { part, disk });
+    }
+
+    /// A settle that ended though something is left to do here.
+    fn push_unsettled(&mut self, who: Who)
+        requires { 0 < self.old.room }
+        ensures { PutsEntry self.old (the_entry.Unsettled who) self.new }
+    {
+        let (disk, part) = part_of(who);
+        self.kept.push_plain(Header::Unsettled { part, disk });
+    }
+
+    /// PutsEntry an entry last, into room that was reserved. It takes no memory.
+    pub fn push(&mut self, entry: Entry)
+        requires { 0 < self.old.room }
+        ensures entries { self.new.entries ≡ self.old.entries ++ entry ∷ [] }
+        ensures room { self.new.room + 1 ≡ self.old.room }
+    {
+        match entry {
+            Entry::Accepted { disk, id, request } => self.push_accepted(disk, id, request),
+            Entry::Done {
+                disk,
+                id,
+                operation,
+                status,
+                bytes,
+            } => self.push_done(disk, id, operation, status, bytes),
+            other => self.push_other(other),
+        }
+    }
+
+    /// PutsEntry an entry last that neither takes up a request nor completes one.
+    fn push_other(&mut self, entry: Entry)
+        requires room { 0 < self.old.room }
+        requires accepted { is_accepted entry ≡ false }
+        requires done { is_done entry ≡ false }
+        ensures { PutsEntry self.old entry self.new }
+    {
+        match entry {
+            Entry::Full { who } => self.push_full(who),
+            Entry::Refused { who, why } => self.push_refused(who, why),
+            Entry::Stopped { disk } => self.kept.push_plain(Header::Stopped { disk }),
+            Entry::Started { disk } => self.kept.push_plain(Header::Started { disk }),
+            Entry::Calm { who } => self.push_calm(who),
+            Entry::Settled => self.kept.push_plain(Header::Settled),
+            Entry::Unsettled { who } => self.push_unsettled(who),
+            Entry::Idle { end } => self.push_idle(end),
+            Entry::Off { end } => self.push_off(end),
+            Entry::Blocked { end } => self.push_blocked(end),
+            Entry::Joined { end, lost } => self.push_joined(end, lost),
+            Entry::Took { end, packet, opens } => self.push_took(end, &packet, opens),
+            Entry::Sent { end, packet, opens } => self.push_sent(end, &packet, opens),
+            Entry::Published { end, id } => self.push_published(end, id),
+            Entry::Desc { end, slot, bytes } => self.push_desc(end, slot, &bytes),
+            Entry::Moved { end, unit, fault } => self.push_moved(end, unit, fault),
+            Entry::Stored {
+                end,
+                operation,
+                block,
+                count,
+                failed,
+            } => self.push_stored(end, operation, block, count, failed),
+            Entry::Finished { end, slot, status } => self.push_finished(end, slot, status),
+            Entry::Reset {
+                end,
+                cause,
+                packet,
+                lost,
+            } => self.push_reset(end, cause, &packet, lost),
+            whole => self.kept.push_whole(whole),
+        }
+    }
+
+    /// How many entries there are.
+    pub fn len(&self) -> usize
+        ensures count { result ≡ length self.now.entries }
+        ensures small { length self.now.entries < 2 ^ 63 }
+    {
+        self.kept.len()
+    }
+
+    /// Whether there are no entries.
+    pub fn is_empty(&self) -> bool
+        ensures { IsTrue result ↔ (length self.now.entries ≡ 0) }
+    {
+        self.kept.is_empty()
+    }
+
+    /// The k-th entry, counted from 0. None exactly where there are k or fewer. Those before it are read on the way: to
+    /// read many, take `entries`.
+    pub fn get(&self, k: usize) -> Option<EntryRef<'_>>
+        ensures some { IfSome result (λ entry. slice_get self.now.entries k ≡ Some (told entry)) }
+        ensures none { IsNone result ↔ length self.now.entries ≤ k }
+    {
+        nth(self.entries(), k)
+    }
+
+    /// The entries, to be read in order.
+    pub fn entries(&self) -> Entries<'_>
+        ensures { result ≡ self.now.entries }
+    {
+        self.kept.entries()
+    }
+
+    /// How many requests were taken up.
+    pub fn accepted(&self) -> usize
+        ensures { result ≡ accepted_count self.now.entries }
+    {
+        self.accepted
+    }
+
+    /// How many requests were completed.
+    pub fn done(&self) -> usize
+        ensures { result ≡ done_count self.now.entries }
+    {
+        self.done
+    }
+
+    /// How often an end was reset.
+    pub fn resets(&self) -> usize
+        ensures { result ≡ reset_count self.now.entries }
+    {
+        self.resets
+    }
+}

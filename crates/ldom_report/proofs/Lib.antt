@@ -1,0 +1,4 @@
+mod LineParts
+pub mod ReportLines
+pub mod StopLemmas
+mod WholeLines

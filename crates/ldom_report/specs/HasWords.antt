@@ -1,0 +1,43 @@
+-- What an entry needs so that its line can be written.
+use Rattle.std.specs.Prelude.{◌≡◌, ℕ, ◌%◌, ◌<◌, ◌≤◌, List, length, ⊤}
+use Rattle.domain_script.specs.declared.event.DiskDecl.{DiskDecl}
+use Rattle.ldom_entries.specs.declared.entry.Entry.{Entry}
+use Rattle.ldom_entries.specs.declared.entry.Entry.TheVariants as entry
+use Rattle.ldom_report.specs.LaneEvents.{Meaning, AtWire, AtClient, AtServer, AtLane, NoRoomFor, Refuses, ChangesNothing, LeavesOver, LeavesNothing, meaning}
+pub use Rattle.line_words.specs.HasFault.{HasFault}
+pub use Rattle.line_words.specs.IsDeclared.{IsDeclared, IsEnd, IsLane}
+
+-- the operation is one of the three
+pub record IsOperation (operation : ℕ) : Type 0 where
+  pub least : 1 ≤ operation
+  pub most : operation ≤ 3
+
+-- so it is, and a read with status 0 carries one block of 512 bytes or more
+pub record IsCompletion (operation status : ℕ) (bytes : List ℕ) : Type 0 where
+  pub least : 1 ≤ operation
+  pub most : operation ≤ 3
+  pub some : operation ≡ 1 → status ≡ 0 → 0 < length bytes
+  pub blocks : operation ≡ 1 → status ≡ 0 → length bytes % 512 ≡ 0
+
+-- whom an entry is about is declared, by what it means
+abbrev pub IsNamed : List DiskDecl → Meaning → Type 0
+IsNamed disks (AtWire e event) = IsEnd disks e
+IsNamed disks (AtClient e event) = IsEnd disks e
+IsNamed disks (AtServer e event) = IsEnd disks e
+IsNamed disks (AtLane k event) = k < length disks
+IsNamed disks (NoRoomFor who) = IsDeclared disks who
+IsNamed disks (Refuses who why) = IsDeclared disks who
+IsNamed disks (ChangesNothing who) = IsDeclared disks who
+IsNamed disks (LeavesOver who) = IsDeclared disks who
+IsNamed disks LeavesNothing = ⊤
+
+-- the values of an entry have their words: all have but these
+abbrev pub HasValues : Entry → Type 0
+HasValues (entry.Done disk id operation status bytes) = IsCompletion operation status bytes.items
+HasValues (entry.Stored e operation block count failed) = IsOperation operation
+HasValues (entry.Reset e cause packet lost) = HasFault cause
+HasValues other = ⊤
+
+-- WHAT THE ENTRY NAMES IS DECLARED, and its values have their words
+abbrev pub HasWords : List DiskDecl → Entry → Type 0
+HasWords disks entry = IsNamed disks (meaning entry) × HasValues entry

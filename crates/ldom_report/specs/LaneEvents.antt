@@ -1,0 +1,66 @@
+-- What the entries of a journal say of disks' lanes. `meaning` alone lists the kinds of entry: laws of lanes go by what an
+-- entry means.
+use Rattle.std.specs.Prelude.{ℕ}
+use Rattle.ldc_queue.specs.declared.end.End.{End}
+use Rattle.ldc_queue.specs.declared.end.End.TheVariants.{A, B}
+use Rattle.disk_model.specs.WireEvent.{WireEvent}
+use Rattle.disk_model.specs.WireEvent as wire
+use Rattle.disk_model.specs.DiskEvent.{DiskEvent, Asks, Switches, Works}
+use Rattle.disk_model.specs.DiskEvent as disk
+use Rattle.domain_script.specs.declared.event.EndName.{EndName}
+use Rattle.domain_script.specs.declared.event.Lane.{Lane}
+use Rattle.domain_script.specs.declared.event.Lane.TheVariants.{Disk}
+use Rattle.domain_script.specs.declared.event.Side.{Side}
+use Rattle.domain_script.specs.declared.event.Side.TheVariants.{Client, Server}
+use Rattle.ldom_entries.specs.declared.entry.Entry.{Entry}
+use Rattle.ldom_entries.specs.declared.entry.Entry.TheVariants as entry
+use Rattle.ldom_entries.specs.declared.entry.Who.{Who}
+use Rattle.ldom_entries.specs.declared.entry.Why.{Why}
+
+-- the end of a channel that a side has
+abbrev pub end_of : Side → End
+end_of Client = A
+end_of Server = B
+
+-- the number of a lane
+abbrev pub lane_number : Lane → ℕ
+lane_number (Disk k) = k
+
+-- WHAT AN ENTRY MEANS, whatever line it came in: an event on the channel of an end, or of the work of a client or of a
+-- server; an event of a lane; a request that found no room, or was refused; what changes nothing; what a settle leaves
+-- over, and that it leaves nothing
+pub data Meaning : Type 0 where
+  AtWire : (e : EndName) (event : WireEvent) → Meaning
+  AtClient : (e : EndName) (event : DiskEvent) → Meaning
+  AtServer : (e : EndName) (event : DiskEvent) → Meaning
+  AtLane : (k : ℕ) (event : DiskEvent) → Meaning
+  NoRoomFor : (who : Who) → Meaning
+  Refuses : (who : Who) (why : Why) → Meaning
+  ChangesNothing : (who : Who) → Meaning
+  LeavesOver : (who : Who) → Meaning
+  LeavesNothing : Meaning
+
+-- what each kind of entry means
+abbrev pub meaning : Entry → Meaning
+meaning (entry.Accepted k id request) = AtLane k (Asks (disk.Accepted id request))
+meaning (entry.Full who) = NoRoomFor who
+meaning (entry.Refused who why) = Refuses who why
+meaning (entry.Lost e packet) = AtWire e (wire.Lost (end_of e.side) packet)
+meaning (entry.Stopped k) = AtLane k (Switches disk.Stopped)
+meaning (entry.Started k) = AtLane k (Switches disk.Started)
+meaning (entry.Calm who) = ChangesNothing who
+meaning entry.Settled = LeavesNothing
+meaning (entry.Unsettled who) = LeavesOver who
+meaning (entry.Idle e) = AtWire e (wire.Idle (end_of e.side))
+meaning (entry.Off e) = AtServer e (Switches disk.Off)
+meaning (entry.Blocked e) = AtWire e (wire.Blocked (end_of e.side))
+meaning (entry.Joined e lost) = AtWire e (wire.Joined (end_of e.side) lost)
+meaning (entry.Took e packet opens) = AtWire e (wire.Took (end_of e.side) packet opens)
+meaning (entry.Sent e packet opens) = AtWire e (wire.Sent (end_of e.side) packet opens)
+meaning (entry.Published e id) = AtClient e (Works (disk.Published id))
+meaning (entry.Done k id operation status bytes) = AtLane k (Works (disk.Done id operation status bytes.items))
+meaning (entry.Desc e slot bytes) = AtServer e (Works (disk.Desc slot bytes))
+meaning (entry.Moved e unit fault) = AtServer e (Works (disk.Moved unit fault))
+meaning (entry.Stored e operation block count failed) = AtServer e (Works (disk.Stored operation block count failed))
+meaning (entry.Finished e slot status) = AtServer e (Works (disk.Finished slot status))
+meaning (entry.Reset e cause packet lost) = AtWire e (wire.Reset (end_of e.side) cause packet lost)

@@ -1,0 +1,11 @@
+pub mod DiskEvents
+pub mod EntryText
+pub mod Failing
+pub mod HasWords
+pub mod LaneEvents
+pub mod LeftOut
+pub mod LineParts
+pub mod LinesEnd
+pub mod Report
+pub mod Status
+pub mod Stops

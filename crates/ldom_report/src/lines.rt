@@ -1,0 +1,225 @@
+// The lines of a report.
+ghost use Rattle.std.specs.Prelude.{◌≡◌, ◌+◌, ◌≤◌, ◌<◌, true, [], ◌∷◌, ◌++◌, length, codes};
+ghost use Rattle.std.specs.Prelude.{All, IfSome, IsNone, OnOk, OnErr};
+ghost use Rattle.std.specs.Io.KnownBytes.{Appends};
+ghost use Rattle.ldom_report.specs.EntryText.{entry_lines, may_be_seen, may_show, report_entries};
+ghost use Rattle.gathered_text.specs.Gathered.{Gathers, WroteFront};
+ghost use Rattle.ldom_report.specs.HasWords.{HasWords};
+ghost use Rattle.ldom_report.specs.LeftOut.{LeavesOut};
+ghost use Rattle.ldom_report.specs.LineParts.{front_text, rest_text};
+ghost use Rattle.ldom_entries.specs.Seen.{PassesUnseen};
+ghost use Rattle.ldom_entries.specs.Told.{told};
+ghost use Rattle.kept_requests.specs.BlockWord.{blocks_text};
+ghost use Rattle.vio_io.specs.Causes.{Rose};
+
+use crate::request_lines::{push_about, push_accepted, push_done, push_of_disk, push_refused};
+use crate::step_lines::{
+    push_carried, push_descriptor, push_finished, push_joined, push_moved, push_reset, push_stored,
+};
+use crate::whole_lines::push_whole;
+use crate::{Bytes, Entries, EntryRef, Journal, Mode, VD_OP_BREAD};
+use domain_script::Names;
+use gathered_text::{TEXT_ROOM, Text};
+use line_words::{LineNames, names_of_lanes, push_end, push_end_number, put_blocks};
+use vio_io::{Failed, Sink};
+
+/// More bytes than a line has, but for the words of a read.
+const LINE_ROOM: usize = 4096;
+
+/// Puts the line of an entry, up to the words of a read and the line feed; of one that is kept whole, all that the mode
+/// shows.
+fn push_front(text: &mut Text, mode: Mode, entry: &EntryRef<'_>, names: &LineNames<'_>)
+    requires words { HasWords names.now.disks (told entry.now) }
+    requires room { length text.old + LINE_ROOM ≤ TEXT_ROOM }
+    ensures room { length text.new < TEXT_ROOM }
+    ensures text { text.new ≡ text.old ++ front_text mode names.now.disks entry.now }
+{
+    match entry {
+        EntryRef::Accepted { disk, id, request } => push_accepted(text, *disk, *id, request, names),
+        EntryRef::Full { who } => push_about(text, b"full ", who, names),
+        EntryRef::Refused { who, why } => push_refused(text, who, *why, names),
+        EntryRef::Stopped { disk } => push_of_disk(text, b"stopped ", *disk, names),
+        EntryRef::Started { disk } => push_of_disk(text, b"started ", *disk, names),
+        EntryRef::Calm { who } => push_about(text, b"calm ", who, names),
+        EntryRef::Settled => text.push(b"settled"),
+        EntryRef::Unsettled { who } => push_about(text, b"unsettled ", who, names),
+        EntryRef::Idle { end } => push_end(text, b"idle ", *end, names),
+        EntryRef::Off { end } => push_end(text, b"off ", *end, names),
+        EntryRef::Blocked { end } => push_end(text, b"blocked ", *end, names),
+        EntryRef::Joined { end, lost } => push_joined(text, *end, *lost, names),
+        EntryRef::Took { end, packet, opens } => push_carried(
+            text, b"took ", *end, packet, *opens, names,
+        ),
+        EntryRef::Sent { end, packet, opens } => push_carried(
+            text, b"sent ", *end, packet, *opens, names,
+        ),
+        EntryRef::Published { end, id } => push_end_number(text, b"published ", *end, *id, names),
+        EntryRef::Done {
+            disk,
+            id,
+            operation,
+            status,
+        } => push_done(text, *disk, *id, *operation, *status, names),
+        EntryRef::Read {
+            disk,
+            id,
+            operation,
+            status,
+            bytes: _,
+        } => push_done(text, *disk, *id, *operation, *status, names),
+        EntryRef::Desc { end, slot, bytes } => push_descriptor(text, *end, *slot, bytes, names),
+        EntryRef::Moved { end, unit, fault } => push_moved(text, *end, *unit, *fault, names),
+        EntryRef::Stored {
+            end,
+            operation,
+            block,
+            count,
+            failed,
+        } => push_stored(text, *end, *operation, *block, *count, *failed, names),
+        EntryRef::Finished { end, slot, status } => push_finished(
+            text, *end, *slot, *status, names,
+        ),
+        EntryRef::Reset {
+            end,
+            cause,
+            packet,
+            lost,
+        } => push_reset(text, mode, *end, cause, packet, *lost, names),
+        EntryRef::Whole(whole) => push_whole(text, mode, whole.entry(), names),
+    }
+}
+
+/// Puts the words of blocks, and the line feed.
+#[tactic(auto, using(crate::proofs::LineParts::in_two_parts))]
+fn put_words<K: Sink>(text: &mut Text, bytes: &Bytes, out: &mut K) -> Result<(), Failed>
+    requires { length text.old < TEXT_ROOM }
+    ensures told { OnOk result (Gathers (K.written out.old) (K.written out.new) text.new
+        (text.old ++ (blocks_text bytes.now.items ++ codes "\n"))) }
+    ensures front { OnErr result (WroteFront (K.written out.old) (K.written out.new)
+        (text.old ++ (blocks_text bytes.now.items ++ codes "\n"))) }
+    ensures ok { OnOk result (K.faults out.new ≡ K.faults out.old) }
+    ensures count { K.faults out.old ≤ K.faults out.new }
+    ensures cause { OnErr result (Rose (K.faults out.old) (K.faults out.new)) }
+{
+    put_blocks(text, bytes, out)?;
+    text.push(b"\n");
+    Ok(())
+}
+
+/// Puts what is left of an entry's line: the words of a read with status 0, and the line feed.
+#[tactic(auto, unfolding(kept_requests::specs::BlockWord::blocks_text))]
+fn put_rest<K: Sink>(text: &mut Text, entry: &EntryRef<'_>, out: &mut K) -> Result<(), Failed>
+    requires { length text.old < TEXT_ROOM }
+    ensures told { OnOk result (Gathers (K.written out.old) (K.written out.new) text.new
+        (text.old ++ rest_text entry.now)) }
+    ensures front { OnErr result (WroteFront (K.written out.old) (K.written out.new)
+        (text.old ++ rest_text entry.now)) }
+    ensures ok { OnOk result (K.faults out.new ≡ K.faults out.old) }
+    ensures count { K.faults out.old ≤ K.faults out.new }
+    ensures cause { OnErr result (Rose (K.faults out.old) (K.faults out.new)) }
+{
+    match entry {
+        EntryRef::Whole(_) => Ok(()),
+        EntryRef::Read {
+            operation: VD_OP_BREAD,
+            status: 0,
+            bytes,
+            ..
+        } => put_words(text, bytes, out),
+        _ => {
+            text.push(b"\n");
+            Ok(())
+        }
+    }
+}
+
+/// Puts the line of an entry, where the mode shows it.
+fn put_line<K: Sink>(
+    text: &mut Text,
+    mode: Mode,
+    entry: &EntryRef<'_>,
+    names: &LineNames<'_>,
+    out: &mut K,
+) -> Result<(), Failed>
+    requires words { HasWords names.now.disks (told entry.now) }
+    requires may { may_show mode (told entry.now) ≡ true }
+    ensures told { OnOk result (Gathers (K.written out.old) (K.written out.new) text.new
+        (text.old ++ entry_lines mode names.now.disks (told entry.now))) }
+    ensures front { OnErr result (WroteFront (K.written out.old) (K.written out.new)
+        (text.old ++ entry_lines mode names.now.disks (told entry.now))) }
+    ensures ok { OnOk result (K.faults out.new ≡ K.faults out.old) }
+    ensures count { K.faults out.old ≤ K.faults out.new }
+    ensures cause { OnErr result (Rose (K.faults out.old) (K.faults out.new)) }
+{
+    text.make_room(LINE_ROOM, out)?;
+    push_front(text, mode, entry, names);
+    put_rest(text, entry, out)
+}
+
+/// The next entry that a user of the disks may see. None where no further one is left.
+fn next_seen<'a>(entries: &mut Entries<'a>) -> Option<EntryRef<'a>>
+    ensures some { IfSome result (λ entry. PassesUnseen entries.old (told entry ∷ entries.new)) }
+    ensures seen { IfSome result (λ entry. may_be_seen (told entry) ≡ true) }
+    ensures none { IsNone result → PassesUnseen entries.old [] }
+{
+    entries.pass_unseen();
+    entries.next_entry()
+}
+
+/// The next entry that the mode may show. None where it shows no further one.
+#[tactic(auto, using(crate::proofs::ReportLines::leaving_out))]
+fn next_to_show<'a>(entries: &mut Entries<'a>, mode: Mode) -> Option<EntryRef<'a>>
+    ensures some { IfSome result (λ entry. LeavesOut mode entries.old (told entry ∷ entries.new)) }
+    ensures may { IfSome result (λ entry. may_show mode (told entry) ≡ true) }
+    ensures none { IsNone result → LeavesOut mode entries.old [] }
+{
+    match mode {
+        Mode::Run => next_seen(entries),
+        Mode::Trace => entries.next_entry(),
+        Mode::EndOnly => None,
+    }
+}
+
+/// Writes the lines of the entries that the mode shows.
+fn write_lines<K: Sink>(
+    journal: &Journal,
+    mode: Mode,
+    names: &LineNames<'_>,
+    out: &mut K,
+) -> Result<(), Failed>
+    requires words { All (HasWords names.now.disks) journal.now.entries }
+    ensures told { OnOk result (Appends (K.written out.old) (K.written out.new)
+        (report_entries mode names.now.disks journal.now.entries)) }
+    ensures front { OnErr result (WroteFront (K.written out.old) (K.written out.new)
+        (report_entries mode names.now.disks journal.now.entries)) }
+    ensures ok { OnOk result (K.faults out.new ≡ K.faults out.old) }
+    ensures count { K.faults out.old ≤ K.faults out.new }
+    ensures cause { OnErr result (Rose (K.faults out.old) (K.faults out.new)) }
+{
+    let mut text = Text::new();
+    let mut rest = journal.entries();
+    while let Some(entry) = next_to_show(&mut rest, mode) {
+        put_line(&mut text, mode, &entry, names, out)?;
+    }
+    text.flush(out)
+}
+
+/// Writes the lines of the entries that the mode shows. After `Failed` a front of their text was written.
+pub fn write_text<K: Sink>(
+    journal: &Journal,
+    mode: Mode,
+    names: &Names,
+    out: &mut K,
+) -> Result<(), Failed>
+    requires words { All (HasWords names.now.disks) journal.now.entries }
+    ensures told { OnOk result (Appends (K.written out.old) (K.written out.new)
+        (report_entries mode names.now.disks journal.now.entries)) }
+    ensures front { OnErr result (WroteFront (K.written out.old) (K.written out.new)
+        (report_entries mode names.now.disks journal.now.entries)) }
+    ensures ok { OnOk result (K.faults out.new ≡ K.faults out.old) }
+    ensures count { K.faults out.old ≤ K.faults out.new }
+    ensures cause { OnErr result (Rose (K.faults out.old) (K.faults out.new)) }
+{
+    let lanes = names_of_lanes(names);
+    write_lines(journal, mode, &LineNames::new(names, &lanes), out)
+}

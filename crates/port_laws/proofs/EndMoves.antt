@@ -1,0 +1,432 @@
+-- Each step of an end of a port is a move of an end on a channel.
+use Rattle.std.proofs.Common.{◌≡◌, ℕ, Bool, true, false, Option, Some, None, List, [], ◌∷◌, length, drop, refl, sym, subst, ap, ◌∙◌, arith}
+use Rattle.std.specs.Prelude.{Result, Ok, Err, ◌+◌, ◌≤◌, ◌&&◌, not, nat_le, is_none, is_some}
+use Rattle.std.proofs.lemmas.Bool.Decides.{nat_tests}
+use Rattle.std.proofs.lemmas.List.{length-drop}
+use Rattle.ldc_link.specs.Calls.{Puts as PutsPacket}
+use Rattle.ldc_link.specs.declared.phase.LinkPhase.{LinkPhase}
+use Rattle.ldc_link.specs.declared.phase.LinkPhase.TheVariants as phase
+use Rattle.ldc_link.specs.declared.phase.Role.{Role}
+use Rattle.ldc_link.specs.declared.phase.Role.TheVariants.{Initiator, Responder}
+use Rattle.ldc_link.specs.LinkState.{LinkState, cleared, is_established}
+use Rattle.ldc_link.specs.Putting.{behind_put, left_behind_put, owed_in, owed_packet, owes, part_owed, phase_behind_put, with_link}
+use Rattle.ldc_link.specs.Taking.{Heard, LinkTake, TakesBytes, Unheard}
+use Rattle.ldc_packet.specs.declared.packet.Packet.{Packet}
+use Rattle.ldc_queue.specs.Messages.{is_empty}
+use Rattle.vio_handshake.specs.declared.handshake.Handshake.{Handshake}
+use Rattle.vio_tag.specs.declared.cause.Cause.{Cause}
+use Rattle.vio_tag.specs.declared.message.Message.{Message}
+use Rattle.vio_tag.specs.declared.message.MsgBody.{MsgBody}
+use Rattle.vio_tag.specs.declared.message.MsgBody.TheVariants.{Attr, DringData, DringReg, DringUnreg, Mcast, Plain, Rdx, Ver}
+use Rattle.vio_tag.specs.declared.message.TagFault.{TagFault}
+use Rattle.vio_tag.specs.Decoding.{Decodes}
+use Rattle.vio_tag.specs.Spelling.{SpellsBody, addresses_at, canonical}
+use Rattle.disk_model.specs.EndPuts.{ending, handshake_behind, kind_in, put_kind}
+use Rattle.disk_model.specs.Seeing.{Seen}
+use Rattle.disk_model.specs.ServerWork.{Reach}
+use Rattle.channel_laws.specs.EndCore.{Begins, EndMove, Fails, Hears, Says as SaysPacket, Stays, Waits, holds}
+use Rattle.channel_laws.specs.EndStep.{EndBegins, EndFails, EndHears, EndSays, EndStays, EndStep, EndWaits, HearsWhole, Holding, Holds, HoldsOn, HoldsOwed, HoldsOwn, IsOfSession, KeepsOwn, LinkFails, MayTake, WholeFails, opened_by, risen_at}
+use Rattle.port_model.specs.Fetching.{Fetched, IsFrame, NotReady, Refuses, fetched}
+use Rattle.port_model.specs.Groups.{membership}
+use Rattle.port_model.specs.NetEndPutting.{announcement, answer, answers, groups_answer, holding, holding_own, net_holds, net_kind, net_opens, net_put, opened_by_put}
+use Rattle.port_model.specs.NetEndRule.{Announces, Fetches, Idles, Joins, NetRule, Publishes, Puts, Replies, Says, Takes, Tells, port_rule}
+use Rattle.port_model.specs.NetEndState.{Activity, GroupsReply, NetEndState, NetSession, joined_net_end}
+use Rattle.port_model.specs.NetEndStep.{Blocked, Frame, Idle, Joined, NetAnswer, NetEndStep, NetFails, NetLeft, NetSends, Published, Reset, Sent, Took, published, taken}
+use Rattle.port_model.specs.NetEndTaking as take
+use Rattle.port_model.specs.Offers.{port_offer}
+use Rattle.port_model.specs.RuleFacts.{IsFree, IsFreeIn}
+use Rattle.port_model.proofs.Ruling.{says_of}
+use Rattle.port_laws.specs.NetCore.{more_in, more_of, net_core, one_if}
+use Rattle.port_laws.specs.NetFits.{AreShort, GroupsFit, NetFits, ReplyFits, SessionFits, SomeFits}
+use Rattle.port_laws.proofs.ShortMessages.{announcement_short, answer_short, membership_short, read_long, read_short, reply_short}
+use Rattle.port_laws.proofs.Taking.{BodyFits, TakeGoes, message_goes}
+use Rattle.port_model.proofs.Refuting.{false_true, none_some, true_false}
+
+of_some : {X : Type 0} (P : X → Type 0) (x y : X) → Some x ≡ Some y → P x → P y
+of_some {X} P x y same holds = let is : x ≡ y = cc in subst P is holds
+
+-- HOW MANY MORE messages
+one_most : (b : Bool) → one_if b ≤ 1
+one_most true = omega arith
+one_most false = omega arith
+
+pub more_most : (session : Option NetSession) → more_of session ≤ 4
+more_most None = omega arith
+more_most (Some p) = omega (arith, one_most (is_some p.reply), one_most (is_some p.active), one_most (not p.telling), one_most (not p.asking))
+
+-- IT HOLDS a message of its session, of which it may say one fewer then
+own_held : (role : Role) (s : NetEndState) (at : Seen) (message : Message) (p q : NetSession) → IsFreeIn s at p → IsOfSession message.body → message.sid ≡ s.handshake.draft.sid
+    → length (canonical message) ≤ 56 → more_in q + 1 ≤ more_in p → Holds (net_core role s) (HoldsOwn message) (net_core role (holding_own message q s))
+own_held role s at message p q free body sid short fewer =
+    let fewer_here : more_in q + 1 ≤ more_of s.session = subst (λ (x : Option NetSession). more_in q + 1 ≤ more_of x) (sym free.session) fewer in
+    record {
+      quiet = free.free.quiet;
+      owed = free.free.owed;
+      opened = ap (λ (x : Option NetSession). is_some x) free.session;
+      body = body;
+      sid = sid;
+      short = short;
+      link = refl;
+      handshake = refl;
+      offer = refl;
+      is_open = sym (ap (λ (x : Option NetSession). is_some x) free.session);
+      own = ap (λ (x : Option Message). is_none x) free.free.owed;
+      most = omega arith;
+      more = λ up. fewer_here;
+    }
+
+-- the end that holds what the rule is to put
+pub record HeldCore (role : Role) (s held : NetEndState) : Type 0 where
+  pub what : Holding
+  pub holds : Holds (net_core role s) what (net_core role held)
+
+held_to : (role : Role) (s one held : NetEndState) (what : Holding) → Some one ≡ Some held → Holds (net_core role s) what (net_core role one) → HeldCore role s held
+held_to role s one held what same holds = of_some (HeldCore role s) one held same (record { what = what; holds = holds })
+
+reply_of : (s : NetEndState) (p : NetSession) (reply : GroupsReply) → SessionFits s.session → s.session ≡ Some p → p.reply ≡ Some reply → ReplyFits reply
+reply_of s p reply fits session is = subst SomeFits is (subst SessionFits session fits)
+
+slot_held : (role : Role) (s : NetEndState) (at : Seen) (p : NetSession) (activity : Activity) (last : Option ℕ) (found : Fetched) (held : NetEndState) → IsFreeIn s at p
+    → p.active ≡ Some activity → answers s p activity last found ≡ Some held → HeldCore role s held
+slot_held role s at p activity (Some last) (NotReady state) held free is same =
+    let one : one_if (is_some p.active) ≡ 1 = ap (λ (x : Option Activity). one_if (is_some x)) is in
+    held_to role s (holding_own (answer s activity last) (record p { active = None }) s) held (HoldsOwn (answer s activity last)) same
+    (own_held role s at (answer s activity last) p (record p { active = None }) free tt refl (answer_short s activity last) (omega (arith, one)))
+slot_held role s at p activity (Some last) (IsFrame frame new) held free is same = none_some held same
+slot_held role s at p activity (Some last) (Refuses why) held free is same = none_some held same
+slot_held role s at p activity None found held free is same = none_some held same
+
+pub held_core : (role : Role) (s : NetEndState) (at : Seen) (reach : Reach) (rule : NetRule) (held : NetEndState) → NetFits role s → port_rule role s at ≡ rule
+    → net_holds rule s reach ≡ Some held → HeldCore role s held
+held_core role s at reach Puts held fits is same = held_to role s s held HoldsOn same refl
+held_core role s at reach (Says message) held fits is same =
+    let says = says_of role s at (Says message) is in
+    held_to role s (holding message s) held (HoldsOwed message) same
+    (record {
+      quiet = says.1;
+      owed = says.2;
+      link = refl;
+      handshake = refl;
+      offer = refl;
+      is_open = refl;
+      own = λ up. ap (λ (x : Option Message). is_none x) says.2;
+      more = omega arith;
+    })
+held_core role s at reach (Replies p reply) held fits is same =
+    let says = says_of role s at (Replies p reply) is in
+    let one : one_if (is_some p.reply) ≡ 1 = ap (λ (x : Option GroupsReply). one_if (is_some x)) says.1 in
+    held_to role s (holding_own (groups_answer s reply) (record p { reply = None }) s) held (HoldsOwn (groups_answer s reply)) same
+    (own_held role s at (groups_answer s reply) p (record p { reply = None }) says.0 tt refl
+    (reply_short s reply (reply_of s p reply fits.session says.0.session says.1)) (omega (arith, one)))
+held_core role s at reach (Fetches p activity) held fits is same =
+    let says = says_of role s at (Fetches p activity) is in
+    slot_held role s at p activity activity.last (fetched s reach p.place) held says.0 says.1 same
+held_core role s at reach (Tells p) held fits is same =
+    let says = says_of role s at (Tells p) is in
+    let one : one_if (not p.telling) ≡ 1 = ap (λ (b : Bool). one_if (not b)) says.3 in
+    let short : AreShort s.groups = subst (λ (x : Role). GroupsFit x s.groups) says.1 fits.groups in
+    held_to role s (holding_own (membership s.handshake.draft.sid s.groups) (record p { untold = false; telling = true }) s) held (HoldsOwn (membership s.handshake.draft.sid s.groups)) same
+    (own_held role s at (membership s.handshake.draft.sid s.groups) p (record p { untold = false; telling = true }) says.0.in_session tt refl
+    (membership_short s.handshake.draft.sid s.groups short) (omega (arith, one)))
+held_core role s at reach (Announces p) held fits is same =
+    let says = says_of role s at (Announces p) is in
+    let one : one_if (not p.asking) ≡ 1 = ap (λ (b : Bool). one_if (not b)) says.2 in
+    held_to role s (holding_own (announcement s p) (record p { infos = p.infos + 1; asking = true }) s) held (HoldsOwn (announcement s p)) same
+    (own_held role s at (announcement s p) p (record p { infos = p.infos + 1; asking = true }) says.0.in_session tt refl (announcement_short s p) (omega (arith, one)))
+held_core role s at reach Joins held fits is same = none_some held same
+held_core role s at reach (Takes packet) held fits is same = none_some held same
+held_core role s at reach (Publishes p frame) held fits is same = none_some held same
+held_core role s at reach Idles held fits is same = none_some held same
+
+-- IT PUTS. The handshake changes where its message ends, and then the link holds nothing.
+empty_of : (xs : List ℕ) → length xs ≡ 0 → is_empty xs ≡ true
+empty_of [] is = refl
+empty_of (x ∷ xs) is = absurd (omega (arith, is))
+
+goes_on : (fits own : Bool) (left : List ℕ) (h : Handshake) → (fits ≡ true → is_empty left ≡ true) → not (is_empty left) ≡ true → handshake_behind (ending fits own) h ≡ h
+goes_on false own left h ends more = refl
+goes_on true own left h ends more = true_false (sym more ∙ ap not (ends refl))
+
+ended_empty : (xs : List ℕ) → nat_le (length xs) 56 ≡ true → is_empty (drop 56 xs) ≡ true
+ended_empty xs most =
+    let few : length xs ≤ 56 = grind (arith, nat_tests, most) in
+    empty_of (drop 56 xs) (omega (arith, few, length-drop 56 xs))
+
+phase_keeps : (ph : LinkPhase) (k : LinkState) (own : Bool) (h : Handshake) → k.phase ≡ ph → holds k ≡ true → holds (behind_put k) ≡ true → handshake_behind (kind_in ph k own) h ≡ h
+phase_keeps phase.Established k own h is held left =
+    goes_on (nat_le (length k.to_send) 56) own (drop 56 k.to_send) h (ended_empty k.to_send)
+    (subst (λ (x : LinkPhase). holds (record (behind_put k) { phase = phase_behind_put x; to_send = left_behind_put x k.to_send }) ≡ true) is left)
+phase_keeps phase.OwesRdx k own h is held left = true_false (sym held ∙ ap (λ (x : LinkPhase). holds (record k { phase = x })) is)
+phase_keeps _ k own h is held left = refl
+
+link_keeps : (k : LinkState) (own : Bool) (h : Handshake) → holds k ≡ true → holds (behind_put k) ≡ true → handshake_behind (put_kind k own) h ≡ h
+link_keeps k own h held left = phase_keeps k.phase k own h refl held left
+
+put_keeps : (role : Role) (opens : Bool) (s : NetEndState) → KeepsOwn (net_core role s) (net_core role (opened_by_put role opens s))
+put_keeps Initiator true s held left = refl
+put_keeps Initiator false s held left = refl
+put_keeps Responder opens s held left = refl
+
+pub record PutCore (role : Role) (opens : Bool) (s t : NetEndState) : Type 0 where
+  pub link : t.link ≡ s.link
+  pub handshake : t.handshake ≡ s.handshake
+  pub offer : port_offer role t.address t.slots ≡ port_offer role s.address s.slots
+  pub is_open : is_some t.session ≡ opened_by role opens (is_some s.session)
+  pub more : opens ≡ false → more_of t.session ≤ more_of s.session
+
+opened_core : (role : Role) (opens : Bool) (s : NetEndState) → PutCore role opens s (opened_by_put role opens s)
+opened_core Initiator true s = record { link = refl; handshake = refl; offer = refl; is_open = refl; more = λ is. true_false is }
+opened_core Initiator false s = record { link = refl; handshake = refl; offer = refl; is_open = refl; more = λ is. omega arith }
+opened_core Responder opens s = record { link = refl; handshake = refl; offer = refl; is_open = refl; more = λ is. omega arith }
+
+says_core : (role : Role) (s held : NetEndState) (packet : List ℕ) → HeldCore role s held → PutsPacket held.link packet (behind_put held.link)
+    → EndSays role (net_core role s) packet (net_opens held) (net_core role (net_put role held))
+says_core role s held packet core puts =
+    let t : NetEndState = record held { link = behind_put held.link; handshake = handshake_behind (net_kind held) held.handshake } in
+    let opened = opened_core role (net_opens held) t in
+    record {
+      held = net_core role held;
+      what = core.what;
+      holds = core.holds;
+      puts = subst (PutsPacket held.link packet) (sym opened.link) puts;
+      handshake = opened.handshake;
+      opens_is = refl;
+      is_open = opened.is_open;
+      offer = opened.offer;
+      own = λ one two.
+          ap (λ (x : Handshake). is_none x.owed) opened.handshake
+          ∙ ap (λ (x : Handshake). is_none x.owed) (link_keeps held.link (is_none held.handshake.owed) held.handshake one (sym (ap holds opened.link) ∙ two));
+      most = omega (arith, more_most (opened_by_put role (net_opens held) t).session);
+      more = opened.more;
+    }
+
+-- the link behind a packet is that of the put
+with_behind : (k behind : LinkState) (packet : Packet) (owed : Option Packet) → with_link owed (behind_put k) ≡ Some (packet, behind) → behind ≡ behind_put k
+with_behind k behind packet None is = none_some (packet, behind) is
+with_behind k behind packet (Some other) is =
+    let pair : ◌≡◌ {A = Packet × LinkState} (other, behind_put k) (packet, behind) = cc in
+    sym (ap (λ (x : Packet × LinkState). x.1) pair)
+
+puts_behind : (k : LinkState) (packet : List ℕ) (behind : LinkState) → PutsPacket k packet behind → behind ≡ behind_put k
+puts_behind k packet behind puts = with_behind k behind puts.packet (owed_packet k) puts.next
+
+-- IT TAKES
+some_left : (left : List ℕ) (k : LinkState) → is_some (part_owed k left) ≡ false → not (is_empty left) ≡ true → ⊥
+some_left [] k quiet held = false_true held
+some_left (byte ∷ bytes) k quiet held = true_false quiet
+
+both_true : (a b : Bool) → (a && b) ≡ true → (a ≡ true) × (b ≡ true)
+both_true true b is = (refl, is)
+both_true false b is = false_true is
+
+phase_held : (ph : LinkPhase) (k : LinkState) → k.phase ≡ ph → is_established ph ≡ true → owes k ≡ false → not (is_empty k.to_send) ≡ true → ⊥
+phase_held phase.Established k is up quiet held = some_left k.to_send k (subst (λ (x : LinkPhase). is_some (owed_in x k) ≡ false) is quiet) held
+phase_held _ k is up quiet held = false_true up
+
+not_held : (k : LinkState) → owes k ≡ false → holds k ≡ true → ⊥
+not_held k quiet held = let both = both_true (is_established k.phase) (not (is_empty k.to_send)) held in phase_held k.phase k refl both.0 quiet both.1
+
+may_take : (role : Role) (s : NetEndState) (at : Seen) → IsFree s at → MayTake (net_core role s)
+may_take role s at free = record { owed = free.owed; quiet = λ closed. free.quiet }
+
+fits_of : (bytes : List ℕ) (b : MsgBody) → SpellsBody bytes b → BodyFits b
+fits_of bytes (Mcast set count addresses) spells =
+    let is : addresses ≡ addresses_at 10 7 bytes = spells.2 in
+    (subst (λ (x : List (List ℕ)). length x ≤ 7) (sym is) (omega (arith, read_long 7 10 bytes)), subst AreShort (sym is) (read_short 7 10 bytes))
+fits_of bytes (Ver major minor class) spells = tt
+fits_of bytes (Attr attr) spells = tt
+fits_of bytes (DringReg ident slots slot_size options count cookies) spells = tt
+fits_of bytes (DringUnreg ident) spells = tt
+fits_of bytes Rdx spells = tt
+fits_of bytes (DringData seq ident start end state) spells = tt
+fits_of bytes (Plain envelope) spells = tt
+
+-- WHAT COMES OF A MESSAGE that became whole, if one did
+pub record GoesWhole (role : Role) (s : NetEndState) (whole : Option (List ℕ)) (t : NetEndState) (opens : Bool) : Type 0 where
+  pub link : t.link ≡ cleared s.link
+  pub address : t.address ≡ s.address
+  pub slots : t.slots ≡ s.slots
+  pub groups : role ≡ Initiator → t.groups ≡ s.groups
+  pub fits : NetFits role t
+  pub hears : HearsWhole role s.handshake (is_some s.session) whole opens (net_core role t)
+
+abbrev WholeGoes : Role → NetEndState → Option (List ℕ) → take.NetTake → Type 0
+WholeGoes role s whole (take.GoesOn t opens memory) = GoesWhole role s whole t opens
+WholeGoes role s whole (take.Resets cause) = WholeFails s.handshake (is_some s.session) whole cause
+
+message_whole : (role : Role) (s : NetEndState) (bytes : List ℕ) (message : Message) (tk : take.NetTake) → Decodes bytes (Ok message)
+    → TakeGoes role (record s { link = cleared s.link }) message tk → WholeGoes role s (Some bytes) tk
+message_whole role s bytes message (take.GoesOn t opens memory) decodes goes =
+    record { link = goes.link; address = goes.address; slots = goes.slots; groups = goes.groups; fits = goes.fits; hears = (Ok message, decodes, goes.hears) }
+message_whole role s bytes message (take.Resets cause) decodes goes = (Ok message, decodes, goes)
+
+decoded_whole : (role : Role) (s : NetEndState) (memory bytes : List ℕ) (decoded : Result Message TagFault) → NetFits role s → Decodes bytes decoded
+    → WholeGoes role s (Some bytes) (take.reads role (record s { link = cleared s.link }) memory decoded)
+decoded_whole role s memory bytes (Ok message) fits decodes =
+    let t : NetEndState = record s { link = cleared s.link } in
+    let spells = decodes.message in
+    message_whole role s bytes message (take.hears_message role t memory t.session message) decodes
+    (message_goes role t memory t.session message (record { groups = fits.groups; session = fits.session }) (fits_of bytes message.body spells.1.body) refl)
+decoded_whole role s memory bytes (Err fault) fits decodes = (Err fault, decodes, refl)
+
+cleared_same : (k : LinkState) → k.whole ≡ None → k ≡ cleared k
+cleared_same k is = ap (λ (x : Option (List ℕ)). record k { whole = x }) is
+
+whole_goes : (role : Role) (s : NetEndState) (memory : List ℕ) (whole : Option (List ℕ)) (tk : take.NetTake) → NetFits role s → s.link.whole ≡ whole
+    → take.HearsWhole role s memory whole tk → WholeGoes role s whole tk
+whole_goes role s memory None tk fits is hears =
+    subst (WholeGoes role s None) (sym hears) (record { link = cleared_same s.link is; address = refl; slots = refl; groups = λ guest. refl; fits = fits; hears = (refl, refl, refl) })
+whole_goes role s memory (Some bytes) tk fits is hears = subst (WholeGoes role s (Some bytes)) (sym hears.2) (decoded_whole role s memory bytes hears.0 fits hears.1)
+
+-- WHAT COMES OF A PACKET
+risen_same : (role : Role) (before behind : LinkState) (h : Handshake) → take.risen role before behind h ≡ risen_at role before behind h
+risen_same Initiator before behind h = refl
+risen_same Responder before behind h = refl
+
+pub record PacketGoes (role : Role) (s : NetEndState) (packet : List ℕ) (t : NetEndState) (opens : Bool) : Type 0 where
+  pub heard : LinkState
+  pub takes : TakesBytes s.link packet (Heard heard)
+  pub link : t.link ≡ cleared heard
+  pub address : t.address ≡ s.address
+  pub slots : t.slots ≡ s.slots
+  pub groups : role ≡ Initiator → t.groups ≡ s.groups
+  pub fits : NetFits role t
+  pub hears : HearsWhole role (risen_at role s.link heard s.handshake) (is_some s.session) heard.whole opens (net_core role t)
+
+abbrev LinkGoes : Role → NetEndState → List ℕ → take.NetTake → Type 0
+LinkGoes role s packet (take.GoesOn t opens memory) = PacketGoes role s packet t opens
+LinkGoes role s packet (take.Resets cause) = (link : LinkTake) × TakesBytes s.link packet link × LinkFails role (net_core role s) link cause
+
+heard_goes : (role : Role) (s : NetEndState) (packet : List ℕ) (k : LinkState) (tk : take.NetTake) → TakesBytes s.link packet (Heard k)
+    → WholeGoes role (record s { link = k; handshake = take.risen role s.link k s.handshake }) k.whole tk → LinkGoes role s packet tk
+heard_goes role s packet k (take.GoesOn t opens memory) takes goes = record {
+  heard = k;
+  takes = takes;
+  link = goes.link;
+  address = goes.address;
+  slots = goes.slots;
+  groups = goes.groups;
+  fits = goes.fits;
+  hears = subst (λ (x : Handshake). HearsWhole role x (is_some s.session) k.whole opens (net_core role t)) (risen_same role s.link k s.handshake) goes.hears;
+}
+heard_goes role s packet k (take.Resets cause) takes goes =
+    (Heard k, takes, subst (λ (x : Handshake). WholeFails x (is_some s.session) k.whole cause) (risen_same role s.link k s.handshake) goes)
+
+link_goes : (role : Role) (s : NetEndState) (memory packet : List ℕ) (link : LinkTake) (tk : take.NetTake) → NetFits role s → TakesBytes s.link packet link
+    → take.HearsLink role s memory link tk → LinkGoes role s packet tk
+link_goes role s memory packet (Heard k) tk fits takes hears =
+    let t : NetEndState = record s { link = k; handshake = take.risen role s.link k s.handshake } in
+    heard_goes role s packet k tk takes (whole_goes role t memory k.whole tk (record { groups = fits.groups; session = fits.session }) refl hears)
+link_goes role s memory packet (Unheard why) tk fits takes hears = subst (LinkGoes role s packet) (sym hears) (Unheard why, takes, refl)
+
+pub packet_goes : (role : Role) (s : NetEndState) (memory packet : List ℕ) (tk : take.NetTake) → NetFits role s → take.NetTakes role s memory packet tk → LinkGoes role s packet tk
+packet_goes role s memory packet tk fits takes = link_goes role s memory packet takes.link tk fits takes.takes takes.hears
+
+hears_core : (role : Role) (s : NetEndState) (at : Seen) (packet : List ℕ) (t : NetEndState) (opens : Bool) → IsFree s at → PacketGoes role s packet t opens
+    → EndHears role (net_core role s) packet opens (net_core role t)
+hears_core role s at packet t opens free goes = record {
+  may = may_take role s at free;
+  heard = goes.heard;
+  takes = goes.takes;
+  link = goes.link;
+  hears = goes.hears;
+  offer = ap (λ (x : List ℕ). port_offer role x t.slots) goes.address ∙ ap (λ (x : ℕ). port_offer role s.address x) goes.slots;
+  own = λ one two. absurd (not_held s.link free.quiet one);
+  most = omega (arith, more_most t.session);
+}
+
+-- IT RESETS ITSELF
+begins_core : (role : Role) (s : NetEndState) → EndBegins (net_core role s) (net_core role (joined_net_end role s))
+begins_core role s = record { link = refl; handshake = refl; offer = refl; closed = refl; more = refl }
+
+slot_fails : (role : Role) (s : NetEndState) (p : NetSession) (packet : Option (List ℕ)) (cause : Cause) → packet ≡ None → s.session ≡ Some p → EndFails role (net_core role s) cause packet
+slot_fails role s p packet cause is session = subst (EndFails role (net_core role s) cause) (sym is) (ap (λ (x : Option NetSession). is_some x) session)
+
+packet_fails : (role : Role) (s : NetEndState) (at : Seen) (memory bytes : List ℕ) (packet : Option (List ℕ)) (cause : Cause) → NetFits role s → IsFree s at → packet ≡ Some bytes
+    → take.NetTakes role s memory bytes (take.Resets cause) → EndFails role (net_core role s) cause packet
+packet_fails role s at memory bytes packet cause fits free is takes =
+    let goes = packet_goes role s memory bytes (take.Resets cause) fits takes in
+    subst (EndFails role (net_core role s) cause) (sym is) (record { may = may_take role s at free; take = goes.0; takes = goes.1; fails = goes.2 })
+
+fails_core : (role : Role) (s : NetEndState) (at : Seen) (memory : List ℕ) (reach : Reach) (rule : NetRule) (cause : Cause) (packet : Option (List ℕ)) → NetFits role s
+    → port_rule role s at ≡ rule → NetFails role rule s memory reach cause packet → EndFails role (net_core role s) cause packet
+fails_core role s at memory reach (Takes bytes) cause packet fits is fails =
+    packet_fails role s at memory bytes packet cause fits (says_of role s at (Takes bytes) is).0 fails.0 fails.1
+fails_core role s at memory reach (Fetches p activity) cause packet fits is fails =
+    slot_fails role s p packet cause fails.0 (says_of role s at (Fetches p activity) is).0.session
+fails_core role s at memory reach Joins cause packet fits is fails = absurd fails
+fails_core role s at memory reach Puts cause packet fits is fails = absurd fails
+fails_core role s at memory reach (Says message) cause packet fits is fails = absurd fails
+fails_core role s at memory reach (Replies p reply) cause packet fits is fails = absurd fails
+fails_core role s at memory reach (Tells p) cause packet fits is fails = absurd fails
+fails_core role s at memory reach (Publishes p frame) cause packet fits is fails = absurd fails
+fails_core role s at memory reach (Announces p) cause packet fits is fails = absurd fails
+fails_core role s at memory reach Idles cause packet fits is fails = absurd fails
+
+-- IT STAYS
+pub stays_with : (role : Role) (s t : NetEndState) → t.link ≡ s.link → t.handshake ≡ s.handshake → t.address ≡ s.address → t.slots ≡ s.slots → is_some t.session ≡ is_some s.session
+    → more_of t.session ≤ more_of s.session → EndStays (net_core role s) (net_core role t)
+stays_with role s t link handshake address slots opened more = record {
+  link = link;
+  handshake = handshake;
+  offer = ap (λ (x : List ℕ). port_offer role x t.slots) address ∙ ap (λ (x : ℕ). port_offer role s.address x) slots;
+  is_open = opened;
+  own = ap (λ (x : Handshake). is_none x.owed) handshake;
+  more = more;
+}
+
+session_stays : (role : Role) (s : NetEndState) (p q : NetSession) (last : List ℕ) → s.session ≡ Some p → more_in q ≤ more_in p
+    → EndStays (net_core role s) (net_core role (record s { session = Some q; last = last }))
+session_stays role s p q last is fewer =
+    stays_with role s (record s { session = Some q; last = last }) refl refl refl refl (sym (ap (λ (x : Option NetSession). is_some x) is))
+    (subst (λ (x : Option NetSession). more_in q ≤ more_of x) (sym is) fewer)
+
+fetched_stays : (role : Role) (s : NetEndState) (p : NetSession) (activity : Activity) (frame : List ℕ) → s.session ≡ Some p → p.active ≡ Some activity
+    → EndStays (net_core role s) (net_core role (record s { session = Some (taken s p activity); last = frame }))
+fetched_stays role s p activity frame is active =
+    let one : one_if (is_some p.active) ≡ 1 = ap (λ (x : Option Activity). one_if (is_some x)) active in
+    session_stays role s p (taken s p activity) frame is (omega (arith, one))
+
+-- A STEP IS A MOVE
+abbrev pub move_by : NetAnswer → EndMove
+move_by (Joined lost) = Begins
+move_by (Took packet opens) = Hears packet opens
+move_by (Sent packet opens) = SaysPacket packet opens
+move_by Blocked = Waits
+move_by Idle = Stays
+move_by (Published id) = Stays
+move_by (Frame frame) = Stays
+move_by (Reset cause packet lost) = Fails cause packet
+
+abbrev LeftMoves : Role → NetEndState → EndMove → NetLeft → Type 0
+LeftMoves role s move left = EndStep role (net_core role s) move (net_core role left.end)
+
+sent_core : (role : Role) (s : NetEndState) (at : Seen) (memory : List ℕ) (reach : Reach) (packet : List ℕ) (opens : Bool) (t : NetLeft) → NetFits role s
+    → NetSends role s at memory reach packet opens t → LeftMoves role s (SaysPacket packet opens) t
+sent_core role s at memory reach packet opens t fits step =
+    let core = held_core role s at reach (port_rule role s at) step.held fits refl step.holds in
+    let puts : PutsPacket step.held.link packet (behind_put step.held.link) =
+    subst (PutsPacket step.held.link packet) (puts_behind step.held.link packet t.end.link step.packet) step.packet in
+    subst (λ (x : Bool). LeftMoves role s (SaysPacket packet x) t) (sym step.opens_is)
+    (subst (LeftMoves role s (SaysPacket packet (net_opens step.held))) (sym step.is) (says_core role s step.held packet core puts))
+
+waits_core : (role : Role) (s held : NetEndState) → HeldCore role s held → EndWaits (net_core role s) (net_core role held)
+waits_core role s held core = record { what = core.what; holds = core.holds }
+
+pub step_core : (role : Role) (s : NetEndState) (at : Seen) (memory : List ℕ) (reach : Reach) (answer : NetAnswer) (t : NetLeft) → NetFits role s
+    → NetEndStep role s at memory reach answer t → LeftMoves role s (move_by answer) t
+step_core role s at memory reach (Joined lost) t fits step = subst (LeftMoves role s Begins) (sym step.2) (begins_core role s)
+step_core role s at memory reach (Took packet opens) t fits step =
+    hears_core role s at packet t.end opens (says_of role s at (Takes packet) step.0).0 (packet_goes role s memory packet (take.GoesOn t.end opens t.own) fits step.1)
+step_core role s at memory reach (Sent packet opens) t fits step = sent_core role s at memory reach packet opens t fits step
+step_core role s at memory reach Blocked t fits step = waits_core role s t.end (held_core role s at reach (port_rule role s at) t.end fits refl step.0)
+step_core role s at memory reach Idle t fits step = subst (LeftMoves role s Stays) (sym step.1) (stays_with role s s refl refl refl refl refl (omega arith))
+step_core role s at memory reach (Published id) t fits step =
+    let says = says_of role s at (Publishes step.session step.frame) step.rule in
+    subst (LeftMoves role s Stays) (sym step.is)
+    (session_stays role s step.session (published step.session) s.last says.0.in_session.session (omega arith))
+step_core role s at memory reach (Frame frame) t fits step =
+    let says = says_of role s at (Fetches step.session step.activity) step.rule in
+    subst (LeftMoves role s Stays) (sym step.is) (fetched_stays role s step.session step.activity frame says.0.session says.1)
+step_core role s at memory reach (Reset cause packet lost) t fits step =
+    (fails_core role s at memory reach (port_rule role s at) cause packet fits refl step.0, subst (λ (x : NetLeft). EndBegins (net_core role s) (net_core role x.end)) (sym step.2) (begins_core role s))

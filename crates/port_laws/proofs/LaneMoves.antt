@@ -1,0 +1,424 @@
+-- Each event of a port's lane is one of two ends on a channel.
+use Rattle.std.proofs.Common.{◌≡◌, ◌≢◌, ℕ, ◌≤◌, Bool, true, false, Option, Some, None, List, [], ◌∷◌, refl, sym, subst, ap, ◌∙◌, arith}
+use Rattle.std.specs.Prelude.{◌++◌, ◌&&◌, is_none, is_some, slice_get}
+use Rattle.std.proofs.lemmas.Bool.Decides.{nat_tests}
+use Rattle.cookie_copy.specs.Faults.{is_up}
+use Rattle.ldc_link.specs.declared.phase.Role.{Role}
+use Rattle.ldc_link.specs.declared.phase.Role.TheVariants.{Initiator, Responder}
+use Rattle.ldc_queue.specs.declared.end.ChannelState.{ChannelState}
+use Rattle.ldc_queue.specs.declared.end.ChannelState.TheVariants.{Down, Resetting, Up}
+use Rattle.ldc_queue.specs.declared.end.End.{End}
+use Rattle.ldc_queue.specs.declared.end.End.TheVariants.{A, B}
+use Rattle.ldc_queue.specs.Wire.{Wire, peer_behind, state_of, waiting_for}
+use Rattle.runs.specs.Run.{Run, run_keeps}
+use Rattle.vio_tag.specs.declared.cause.Cause.{Cause}
+use Rattle.disk_model.specs.Seeing.{Seen}
+use Rattle.disk_model.specs.ServerWork.{Reach}
+use Rattle.disk_model.specs.WireAt.{IsUp, MayCarry, MayReset}
+use Rattle.disk_model.specs.WireEvent.{ByStep, Giver, WireEvent, giver}
+use Rattle.disk_model.specs.WireLog.{WireLog}
+use Rattle.channel_laws.specs.EndCore.{EndMove, Fails, Stays}
+use Rattle.channel_laws.specs.EndStep.{EndBegins, EndStays, EndStep}
+use Rattle.channel_laws.specs.LaneCore.{CoreStands, CoreStep, move_of, reset_move, wire_after}
+use Rattle.port_model.specs.NetEndPutting.{net_holds}
+use Rattle.port_model.specs.NetEndRule.{Announces, Fetches, Idles, Joins, NetRule, Publishes, Puts, Replies, Says, Takes, Tells, port_rule}
+use Rattle.port_model.specs.NetEndState.{NetEndState, NetSession, joined_net_end, with_frame}
+use Rattle.port_model.specs.NetEndStep.{Already, BadLength, Blocked, Frame, Full, Given, GroupsFull, Idle, Joined, Joining, Member, NetAnswer, NetEndStep, NetFails, NetGives, NetJoins, NetLeft, Published, Queued, Reset, Sent, Took, untold}
+use Rattle.port_model.specs.NetEvent.{Asked, CalmTick, Declines, Gives, Injects, Joins as JoinsGroup, Loses, NetEvent, Pokes, Steps, Ticked, on_wire}
+use Rattle.port_model.specs.NetLaneState.{NetLaneState, NetShape, fresh_net, net_end, reach_of, role_at, seen_at, memory_of}
+use Rattle.port_model.specs.NetLaneStep.{NetLaneStep, Resets, moved_on, net_wire}
+use Rattle.port_model.proofs.OwnResets.{net_resets_own}
+use Rattle.port_model.proofs.Ruling.{says_of}
+use Rattle.port_laws.specs.NetCore.{core_event, core_events, event_core, fresh_net_core, is_begun, lane_core, more_of, net_core, net_core_at}
+use Rattle.port_laws.specs.NetFits.{NetFits}
+use Rattle.port_laws.proofs.EndMoves.{move_by, stays_with, step_core}
+use Rattle.port_laws.proofs.Fitting.{BothFit, event_fits}
+use Rattle.port_model.proofs.Refuting.{false_true, none_some, true_false}
+
+-- THE WIRE
+pub wire_same : (l : WireLog) (event : Option WireEvent) → moved_on l event ≡ wire_after l (event_core event)
+wire_same l None = refl
+wire_same l (Some event) = refl
+
+-- WHERE AN ANSWER STANDS
+up_of : (state : ChannelState) → is_up state ≡ true → state ≡ Up
+up_of Up is = refl
+up_of Down is = false_true is
+up_of Resetting is = false_true is
+
+not_up : (state : ChannelState) → is_up state ≡ false → state ≢ Up
+not_up Up is = true_false is
+not_up Down is = λ up. false_true (ap is_up up)
+not_up Resetting is = λ up. false_true (ap is_up up)
+
+holds_up : (role : Role) (s : NetEndState) (at : Seen) (reach : Reach) (rule : NetRule) (held : NetEndState) → port_rule role s at ≡ rule → net_holds rule s reach ≡ Some held → is_up at.state ≡ true
+holds_up role s at reach Puts held is same = (says_of role s at Puts is).0
+holds_up role s at reach (Says message) held is same = (says_of role s at (Says message) is).0
+holds_up role s at reach (Replies p reply) held is same = (says_of role s at (Replies p reply) is).0.free.up
+holds_up role s at reach (Fetches p activity) held is same = (says_of role s at (Fetches p activity) is).0.free.up
+holds_up role s at reach (Tells p) held is same = (says_of role s at (Tells p) is).0.in_session.free.up
+holds_up role s at reach (Announces p) held is same = (says_of role s at (Announces p) is).0.in_session.free.up
+holds_up role s at reach Joins held is same = none_some held same
+holds_up role s at reach (Takes packet) held is same = none_some held same
+holds_up role s at reach (Publishes p frame) held is same = none_some held same
+holds_up role s at reach Idles held is same = none_some held same
+
+carries_none : (e : End) (w : Wire) (packet : Option (List ℕ)) → packet ≡ None → MayCarry packet e w
+carries_none e w packet is = subst (λ (x : Option (List ℕ)). MayCarry x e w) (sym is) tt
+
+carries_first : (e : End) (w : Wire) (bytes : List ℕ) (packet : Option (List ℕ)) → packet ≡ Some bytes → slice_get (waiting_for e w) 0 ≡ Some bytes → MayCarry packet e w
+carries_first e w bytes packet is first = subst (λ (x : Option (List ℕ)). MayCarry x e w) (sym is) first
+
+fails_stand : (e : End) (s : NetLaneState) (rule : NetRule) (cause : Cause) (packet : Option (List ℕ)) → port_rule (role_at e) (net_end e s) (seen_at e s) ≡ rule
+    → NetFails (role_at e) rule (net_end e s) (memory_of e s) (reach_of e s) cause packet → MayReset ByStep packet e s.wire.wire
+fails_stand e s (Takes bytes) cause packet is fails =
+    let says = says_of (role_at e) (net_end e s) (seen_at e s) (Takes bytes) is in
+    (up_of (state_of e s.wire.wire) says.0.up, carries_first e s.wire.wire bytes packet fails.0 says.1)
+fails_stand e s (Fetches p activity) cause packet is fails =
+    let says = says_of (role_at e) (net_end e s) (seen_at e s) (Fetches p activity) is in
+    (up_of (state_of e s.wire.wire) says.0.free.up, carries_none e s.wire.wire packet fails.0)
+fails_stand e s Joins cause packet is fails = absurd fails
+fails_stand e s Puts cause packet is fails = absurd fails
+fails_stand e s (Says message) cause packet is fails = absurd fails
+fails_stand e s (Replies p reply) cause packet is fails = absurd fails
+fails_stand e s (Tells p) cause packet is fails = absurd fails
+fails_stand e s (Publishes p frame) cause packet is fails = absurd fails
+fails_stand e s (Announces p) cause packet is fails = absurd fails
+fails_stand e s Idles cause packet is fails = absurd fails
+
+answer_stands : (e : End) (s : NetLaneState) (answer : NetAnswer) (left : NetLeft)
+    → NetEndStep (role_at e) (net_end e s) (seen_at e s) (memory_of e s) (reach_of e s) answer left
+    → CoreStands s.shape.entries s.wire (core_event (Steps e answer))
+answer_stands e s (Joined lost) left step = not_up (state_of e s.wire.wire) (says_of (role_at e) (net_end e s) (seen_at e s) Joins step.0)
+answer_stands e s (Took packet opens) left step =
+    let says = says_of (role_at e) (net_end e s) (seen_at e s) (Takes packet) step.0 in
+    (up_of (state_of e s.wire.wire) says.0.up, says.1)
+answer_stands e s (Sent packet opens) left step =
+    let room = step.room in (
+      up_of (state_of e s.wire.wire) (holds_up (role_at e) (net_end e s) (seen_at e s) (reach_of e s) (port_rule (role_at e) (net_end e s) (seen_at e s)) step.held refl step.holds),
+      grind (arith, nat_tests, room),
+    )
+answer_stands e s Blocked left step =
+    let room = step.1 in (
+      up_of (state_of e s.wire.wire) (holds_up (role_at e) (net_end e s) (seen_at e s) (reach_of e s) (port_rule (role_at e) (net_end e s) (seen_at e s)) left.end refl step.0),
+      grind (arith, nat_tests, room),
+    )
+answer_stands e s Idle left step = up_of (state_of e s.wire.wire) (says_of (role_at e) (net_end e s) (seen_at e s) Idles step.0).0.up
+answer_stands e s (Published id) left step = tt
+answer_stands e s (Frame frame) left step = tt
+answer_stands e s (Reset cause packet lost) left step =
+    subst (λ (x : Giver). MayReset x packet e s.wire.wire)
+    (sym (net_resets_own (role_at e) (port_rule (role_at e) (net_end e s) (seen_at e s)) (net_end e s) (memory_of e s) (reach_of e s) cause packet step.0))
+    (fails_stand e s (port_rule (role_at e) (net_end e s) (seen_at e s)) cause packet refl step.0)
+
+-- WHAT IT IS for both ends
+reset_is : (cause : Cause) (packet : Option (List ℕ)) → giver cause ≡ ByStep → reset_move (giver cause) cause packet ≡ Fails cause packet
+reset_is cause packet is = ap (λ (x : Giver). reset_move x cause packet) is
+
+moves_own : (e : End) (s : NetLaneState) (answer : NetAnswer) (left : NetLeft)
+    → NetEndStep (role_at e) (net_end e s) (seen_at e s) (memory_of e s) (reach_of e s) answer left → move_of e (core_event (Steps e answer)) ≡ move_by answer
+moves_own A s (Reset cause packet lost) left step =
+    reset_is cause packet (net_resets_own Initiator (port_rule Initiator s.guest (seen_at A s)) s.guest s.guest_memory (reach_of A s) cause packet step.0)
+moves_own B s (Reset cause packet lost) left step =
+    reset_is cause packet (net_resets_own Responder (port_rule Responder s.hub (seen_at B s)) s.hub s.hub_memory (reach_of B s) cause packet step.0)
+moves_own A s (Joined lost) left step = refl
+moves_own A s (Took packet opens) left step = refl
+moves_own A s (Sent packet opens) left step = refl
+moves_own A s Blocked left step = refl
+moves_own A s Idle left step = refl
+moves_own A s (Published id) left step = refl
+moves_own A s (Frame frame) left step = refl
+moves_own B s (Joined lost) left step = refl
+moves_own B s (Took packet opens) left step = refl
+moves_own B s (Sent packet opens) left step = refl
+moves_own B s Blocked left step = refl
+moves_own B s Idle left step = refl
+moves_own B s (Published id) left step = refl
+moves_own B s (Frame frame) left step = refl
+
+moves_b : (answer : NetAnswer) → move_of B (core_event (Steps A answer)) ≡ Stays
+moves_b (Joined lost) = refl
+moves_b (Took packet opens) = refl
+moves_b (Sent packet opens) = refl
+moves_b Blocked = refl
+moves_b Idle = refl
+moves_b (Published id) = refl
+moves_b (Frame frame) = refl
+moves_b (Reset cause packet lost) = refl
+
+moves_a : (answer : NetAnswer) → move_of A (core_event (Steps B answer)) ≡ Stays
+moves_a (Joined lost) = refl
+moves_a (Took packet opens) = refl
+moves_a (Sent packet opens) = refl
+moves_a Blocked = refl
+moves_a Idle = refl
+moves_a (Published id) = refl
+moves_a (Frame frame) = refl
+moves_a (Reset cause packet lost) = refl
+
+-- an end that stays, whatever was its channel end's state
+pub stays_at : (role : Role) (begun now : Bool) (s t : NetEndState) → now ≡ begun → EndStays (net_core role s) (net_core role t)
+    → EndStays (net_core_at role begun s) (net_core_at role now t)
+stays_at role begun now s t same stays = record {
+  link = stays.link;
+  handshake = stays.handshake;
+  offer = stays.offer;
+  is_open = stays.is_open;
+  own = ap (λ (b : Bool). b && is_none t.handshake.owed) same ∙ ap (λ (b : Bool). begun && b) stays.own;
+  more = stays.more;
+}
+
+same_stays : (role : Role) (s : NetEndState) → EndStays (net_core role s) (net_core role s)
+same_stays role s = stays_with role s s refl refl refl refl refl (omega arith)
+
+pub still : (role : Role) (begun : Bool) (s : NetEndState) → EndStays (net_core_at role begun s) (net_core_at role begun s)
+still role begun s = stays_at role begun begun s s refl (same_stays role s)
+
+still_by : (role : Role) (begun now : Bool) (s : NetEndState) (move : EndMove) → move ≡ Stays → now ≡ begun
+    → EndStep role (net_core_at role begun s) move (net_core_at role now s)
+still_by role begun now s move is same =
+    subst (λ (x : EndMove). EndStep role (net_core_at role begun s) x (net_core_at role now s)) (sym is) (stays_at role begun now s s same (same_stays role s))
+
+-- and one that is up before and behind a move
+moved_up : (role : Role) (s t : NetEndState) (before now : Bool) (move other : EndMove) → move ≡ other → before ≡ true → now ≡ true
+    → EndStep role (net_core role s) other (net_core role t) → EndStep role (net_core_at role before s) move (net_core_at role now t)
+moved_up role s t before now move other is up_before up_now step =
+    subst (λ (x : EndMove). EndStep role (net_core_at role before s) x (net_core_at role now t)) (sym is)
+    (subst (λ (b : Bool). EndStep role (net_core_at role b s) other (net_core_at role now t)) (sym up_before)
+    (subst (λ (b : Bool). EndStep role (net_core_at role true s) other (net_core_at role b t)) (sym up_now) step))
+
+begins : (role : Role) (begun now : Bool) (s : NetEndState) → EndBegins (net_core_at role begun s) (net_core_at role now (joined_net_end role s))
+begins role begun now s = record { link = refl; handshake = refl; offer = refl; closed = refl; more = refl }
+
+joined_moves : (role : Role) (begun now : Bool) (s t : NetEndState) → t ≡ joined_net_end role s → EndBegins (net_core_at role begun s) (net_core_at role now t)
+joined_moves role begun now s t is =
+    subst (λ (x : NetEndState). EndBegins (net_core_at role begun s) (net_core_at role now x)) (sym is) (begins role begun now s)
+
+peer_begun : (x y : ChannelState) → is_begun (peer_behind x y) ≡ is_begun y
+peer_begun Up Up = refl
+peer_begun Up Down = refl
+peer_begun Up Resetting = refl
+peer_begun Down y = refl
+peer_begun Resetting y = refl
+
+abbrev Embeds : NetLaneState → NetEvent → NetLaneState → Type 0
+Embeds s event t = CoreStep (lane_core s) (core_event event) (lane_core t)
+
+-- A STEP OF AN END, for that end and for the other
+begun_up : (e : End) (s : NetLaneState) → IsUp e s.wire.wire → is_begun (state_of e s.wire.wire) ≡ true
+begun_up e s up = ap is_begun up
+
+published_up : (e : End) (s : NetLaneState) (id : ℕ) (left : NetLeft)
+    → NetEndStep (role_at e) (net_end e s) (seen_at e s) (memory_of e s) (reach_of e s) (Published id) left → IsUp e s.wire.wire
+published_up e s id left step =
+    up_of (state_of e s.wire.wire) (says_of (role_at e) (net_end e s) (seen_at e s) (Publishes step.session step.frame) step.rule).0.in_session.free.up
+
+frame_up : (e : End) (s : NetLaneState) (frame : List ℕ) (left : NetLeft)
+    → NetEndStep (role_at e) (net_end e s) (seen_at e s) (memory_of e s) (reach_of e s) (Frame frame) left → IsUp e s.wire.wire
+frame_up e s frame left step =
+    up_of (state_of e s.wire.wire) (says_of (role_at e) (net_end e s) (seen_at e s) (Fetches step.session step.activity) step.rule).0.free.up
+
+reset_up : (e : End) (s : NetLaneState) (cause : Cause) (packet : Option (List ℕ)) (lost : ℕ) (left : NetLeft)
+    → NetEndStep (role_at e) (net_end e s) (seen_at e s) (memory_of e s) (reach_of e s) (Reset cause packet lost) left → IsUp e s.wire.wire
+reset_up e s cause packet lost left step = (fails_stand e s (port_rule (role_at e) (net_end e s) (seen_at e s)) cause packet refl step.0).0
+
+guest_moves : (s : NetLaneState) (answer : NetAnswer) (left : NetLeft) → NetFits Initiator s.guest
+    → NetEndStep Initiator s.guest (seen_at A s) s.guest_memory (reach_of A s) answer left
+    → EndStep Initiator (net_core_at Initiator (is_begun s.wire.wire.end_a) s.guest) (move_of A (core_event (Steps A answer)))
+    (net_core_at Initiator (is_begun (net_wire (Steps A answer) s).wire.end_a) left.end)
+guest_moves s (Joined lost) left fits step = joined_moves Initiator (is_begun s.wire.wire.end_a) true s.guest left.end (ap (λ (x : NetLeft). x.end) step.2)
+guest_moves s (Took packet opens) left fits step =
+    let up = begun_up A s (answer_stands A s (Took packet opens) left step).0 in
+    moved_up Initiator s.guest left.end (is_begun s.wire.wire.end_a) (is_begun s.wire.wire.end_a) (move_of A (core_event (Steps A (Took packet opens)))) (move_by (Took packet opens)) refl up up (step_core Initiator s.guest (seen_at A s) s.guest_memory (reach_of A s) (Took packet opens) left fits step)
+guest_moves s (Sent packet opens) left fits step =
+    let up = begun_up A s (answer_stands A s (Sent packet opens) left step).0 in
+    moved_up Initiator s.guest left.end (is_begun s.wire.wire.end_a) (is_begun s.wire.wire.end_a) (move_of A (core_event (Steps A (Sent packet opens)))) (move_by (Sent packet opens)) refl up up (step_core Initiator s.guest (seen_at A s) s.guest_memory (reach_of A s) (Sent packet opens) left fits step)
+guest_moves s Blocked left fits step =
+    let up = begun_up A s (answer_stands A s Blocked left step).0 in
+    moved_up Initiator s.guest left.end (is_begun s.wire.wire.end_a) (is_begun s.wire.wire.end_a) (move_of A (core_event (Steps A Blocked))) (move_by Blocked) refl up up (step_core Initiator s.guest (seen_at A s) s.guest_memory (reach_of A s) Blocked left fits step)
+guest_moves s Idle left fits step =
+    let up = begun_up A s (answer_stands A s Idle left step) in
+    moved_up Initiator s.guest left.end (is_begun s.wire.wire.end_a) (is_begun s.wire.wire.end_a) (move_of A (core_event (Steps A Idle))) (move_by Idle) refl up up (step_core Initiator s.guest (seen_at A s) s.guest_memory (reach_of A s) Idle left fits step)
+guest_moves s (Published id) left fits step =
+    let up = begun_up A s (published_up A s id left step) in
+    moved_up Initiator s.guest left.end (is_begun s.wire.wire.end_a) (is_begun s.wire.wire.end_a) (move_of A (core_event (Steps A (Published id)))) (move_by (Published id)) refl up up (step_core Initiator s.guest (seen_at A s) s.guest_memory (reach_of A s) (Published id) left fits step)
+guest_moves s (Frame frame) left fits step =
+    let up = begun_up A s (frame_up A s frame left step) in
+    moved_up Initiator s.guest left.end (is_begun s.wire.wire.end_a) (is_begun s.wire.wire.end_a) (move_of A (core_event (Steps A (Frame frame)))) (move_by (Frame frame)) refl up up (step_core Initiator s.guest (seen_at A s) s.guest_memory (reach_of A s) (Frame frame) left fits step)
+guest_moves s (Reset cause packet lost) left fits step =
+    moved_up Initiator s.guest left.end (is_begun s.wire.wire.end_a) true (move_of A (core_event (Steps A (Reset cause packet lost)))) (move_by (Reset cause packet lost)) (moves_own A s (Reset cause packet lost) left step) (begun_up A s (reset_up A s cause packet lost left step)) refl
+    (step_core Initiator s.guest (seen_at A s) s.guest_memory (reach_of A s) (Reset cause packet lost) left fits step)
+
+hub_moves : (s : NetLaneState) (answer : NetAnswer) (left : NetLeft) → NetFits Responder s.hub
+    → NetEndStep Responder s.hub (seen_at B s) s.hub_memory (reach_of B s) answer left
+    → EndStep Responder (net_core_at Responder (is_begun s.wire.wire.end_b) s.hub) (move_of B (core_event (Steps B answer)))
+    (net_core_at Responder (is_begun (net_wire (Steps B answer) s).wire.end_b) left.end)
+hub_moves s (Joined lost) left fits step = joined_moves Responder (is_begun s.wire.wire.end_b) true s.hub left.end (ap (λ (x : NetLeft). x.end) step.2)
+hub_moves s (Took packet opens) left fits step =
+    let up = begun_up B s (answer_stands B s (Took packet opens) left step).0 in
+    moved_up Responder s.hub left.end (is_begun s.wire.wire.end_b) (is_begun s.wire.wire.end_b) (move_of B (core_event (Steps B (Took packet opens)))) (move_by (Took packet opens)) refl up up (step_core Responder s.hub (seen_at B s) s.hub_memory (reach_of B s) (Took packet opens) left fits step)
+hub_moves s (Sent packet opens) left fits step =
+    let up = begun_up B s (answer_stands B s (Sent packet opens) left step).0 in
+    moved_up Responder s.hub left.end (is_begun s.wire.wire.end_b) (is_begun s.wire.wire.end_b) (move_of B (core_event (Steps B (Sent packet opens)))) (move_by (Sent packet opens)) refl up up (step_core Responder s.hub (seen_at B s) s.hub_memory (reach_of B s) (Sent packet opens) left fits step)
+hub_moves s Blocked left fits step =
+    let up = begun_up B s (answer_stands B s Blocked left step).0 in
+    moved_up Responder s.hub left.end (is_begun s.wire.wire.end_b) (is_begun s.wire.wire.end_b) (move_of B (core_event (Steps B Blocked))) (move_by Blocked) refl up up (step_core Responder s.hub (seen_at B s) s.hub_memory (reach_of B s) Blocked left fits step)
+hub_moves s Idle left fits step =
+    let up = begun_up B s (answer_stands B s Idle left step) in
+    moved_up Responder s.hub left.end (is_begun s.wire.wire.end_b) (is_begun s.wire.wire.end_b) (move_of B (core_event (Steps B Idle))) (move_by Idle) refl up up (step_core Responder s.hub (seen_at B s) s.hub_memory (reach_of B s) Idle left fits step)
+hub_moves s (Published id) left fits step =
+    let up = begun_up B s (published_up B s id left step) in
+    moved_up Responder s.hub left.end (is_begun s.wire.wire.end_b) (is_begun s.wire.wire.end_b) (move_of B (core_event (Steps B (Published id)))) (move_by (Published id)) refl up up (step_core Responder s.hub (seen_at B s) s.hub_memory (reach_of B s) (Published id) left fits step)
+hub_moves s (Frame frame) left fits step =
+    let up = begun_up B s (frame_up B s frame left step) in
+    moved_up Responder s.hub left.end (is_begun s.wire.wire.end_b) (is_begun s.wire.wire.end_b) (move_of B (core_event (Steps B (Frame frame)))) (move_by (Frame frame)) refl up up (step_core Responder s.hub (seen_at B s) s.hub_memory (reach_of B s) (Frame frame) left fits step)
+hub_moves s (Reset cause packet lost) left fits step =
+    moved_up Responder s.hub left.end (is_begun s.wire.wire.end_b) true (move_of B (core_event (Steps B (Reset cause packet lost)))) (move_by (Reset cause packet lost)) (moves_own B s (Reset cause packet lost) left step) (begun_up B s (reset_up B s cause packet lost left step)) refl
+    (step_core Responder s.hub (seen_at B s) s.hub_memory (reach_of B s) (Reset cause packet lost) left fits step)
+
+hub_begun : (s : NetLaneState) (answer : NetAnswer) → is_begun (net_wire (Steps A answer) s).wire.end_b ≡ is_begun s.wire.wire.end_b
+hub_begun s (Joined lost) = peer_begun s.wire.wire.end_a s.wire.wire.end_b
+hub_begun s (Reset cause packet lost) = peer_begun s.wire.wire.end_a s.wire.wire.end_b
+hub_begun s (Took packet opens) = refl
+hub_begun s (Sent packet opens) = refl
+hub_begun s Blocked = refl
+hub_begun s Idle = refl
+hub_begun s (Published id) = refl
+hub_begun s (Frame frame) = refl
+
+guest_begun : (s : NetLaneState) (answer : NetAnswer) → is_begun (net_wire (Steps B answer) s).wire.end_a ≡ is_begun s.wire.wire.end_a
+guest_begun s (Joined lost) = peer_begun s.wire.wire.end_b s.wire.wire.end_a
+guest_begun s (Reset cause packet lost) = peer_begun s.wire.wire.end_b s.wire.wire.end_a
+guest_begun s (Took packet opens) = refl
+guest_begun s (Sent packet opens) = refl
+guest_begun s Blocked = refl
+guest_begun s Idle = refl
+guest_begun s (Published id) = refl
+guest_begun s (Frame frame) = refl
+
+-- A RESET that no step gave, of either end
+asked_core : (e : End) (s : NetLaneState) (lost : ℕ) (t : NetLaneState) → Resets e (Asked e lost) s lost t → Embeds s (Asked e lost) t
+asked_core A s lost t resets =
+    subst (Embeds s (Asked A lost)) (sym resets.1)
+    (record {
+      entries = refl;
+      stands = refl;
+      wire = refl;
+      a = begins Initiator (is_begun s.wire.wire.end_a) true s.guest;
+      b = stays_at Responder (is_begun s.wire.wire.end_b) (is_begun (peer_behind s.wire.wire.end_a s.wire.wire.end_b)) s.hub s.hub
+          (peer_begun s.wire.wire.end_a s.wire.wire.end_b) (same_stays Responder s.hub);
+    })
+asked_core B s lost t resets =
+    subst (Embeds s (Asked B lost)) (sym resets.1)
+    (record {
+      entries = refl;
+      stands = refl;
+      wire = refl;
+      a = stays_at Initiator (is_begun s.wire.wire.end_a) (is_begun (peer_behind s.wire.wire.end_b s.wire.wire.end_a)) s.guest s.guest
+          (peer_begun s.wire.wire.end_b s.wire.wire.end_a) (same_stays Initiator s.guest);
+      b = begins Responder (is_begun s.wire.wire.end_b) true s.hub;
+    })
+
+ticked_core : (s : NetLaneState) (queued lost : ℕ) (t : NetLaneState) → Resets A (Ticked queued lost) s lost t → Embeds s (Ticked queued lost) t
+ticked_core s queued lost t resets =
+    subst (Embeds s (Ticked queued lost)) (sym resets.1)
+    (record {
+      entries = refl;
+      stands = refl;
+      wire = refl;
+      a = begins Initiator (is_begun s.wire.wire.end_a) true s.guest;
+      b = stays_at Responder (is_begun s.wire.wire.end_b) (is_begun (peer_behind s.wire.wire.end_a s.wire.wire.end_b)) s.hub s.hub
+          (peer_begun s.wire.wire.end_a s.wire.wire.end_b) (same_stays Responder s.hub);
+    })
+
+-- WHAT IS ASKED leaves link, handshake and session
+gives_stays : (role : Role) (s : NetEndState) (given : Given) (t : NetEndState) → NetGives s given t → EndStays (net_core role s) (net_core role t)
+gives_stays role s (BadLength frame) t gives = subst (λ (x : NetEndState). EndStays (net_core role s) (net_core role x)) (sym gives.1) (same_stays role s)
+gives_stays role s (Full frame) t gives = subst (λ (x : NetEndState). EndStays (net_core role s) (net_core role x)) (sym gives.2) (same_stays role s)
+gives_stays role s (Queued id frame) t gives =
+    subst (λ (x : NetEndState). EndStays (net_core role s) (net_core role x)) (sym gives.4) (stays_with role s (with_frame frame s) refl refl refl refl refl (omega arith))
+
+untold_open : (session : Option NetSession) → is_some (untold session) ≡ is_some session
+untold_open None = refl
+untold_open (Some p) = refl
+
+untold_more : (session : Option NetSession) → more_of (untold session) ≤ more_of session
+untold_more None = omega arith
+untold_more (Some p) = omega arith
+
+joins_stays : (s : NetEndState) (joining : Joining) (t : NetEndState) → NetJoins s joining t → EndStays (net_core Initiator s) (net_core Initiator t)
+joins_stays s (Already address) t joins = subst (λ (x : NetEndState). EndStays (net_core Initiator s) (net_core Initiator x)) (sym joins.1) (same_stays Initiator s)
+joins_stays s (GroupsFull address) t joins = subst (λ (x : NetEndState). EndStays (net_core Initiator s) (net_core Initiator x)) (sym joins.2) (same_stays Initiator s)
+joins_stays s (Member address) t joins =
+    subst (λ (x : NetEndState). EndStays (net_core Initiator s) (net_core Initiator x)) (sym joins.3)
+    (stays_with Initiator s (record s { groups = s.groups ++ address ∷ []; session = untold s.session }) refl refl refl refl (untold_open s.session) (untold_more s.session))
+
+-- AN EVENT
+abbrev guest_up : NetLaneState → Bool
+guest_up s = is_begun s.wire.wire.end_a
+
+abbrev hub_up : NetLaneState → Bool
+hub_up s = is_begun s.wire.wire.end_b
+
+pub event_core_step : (s : NetLaneState) (event : NetEvent) (t : NetLaneState) → BothFit s → NetLaneStep s event t → Embeds s event t
+event_core_step s (Steps A answer) t fits step =
+    subst (Embeds s (Steps A answer)) (sym step.is)
+    (record {
+      entries = refl;
+      stands = answer_stands A s answer step.left step.step;
+      wire = wire_same s.wire (on_wire (Steps A answer));
+      a = guest_moves s answer step.left fits.0 step.step;
+      b = still_by Responder (hub_up s) (is_begun (net_wire (Steps A answer) s).wire.end_b) s.hub (move_of B (core_event (Steps A answer))) (moves_b answer) (hub_begun s answer);
+    })
+event_core_step s (Steps B answer) t fits step =
+    subst (Embeds s (Steps B answer)) (sym step.is)
+    (record {
+      entries = refl;
+      stands = answer_stands B s answer step.left step.step;
+      wire = wire_same s.wire (on_wire (Steps B answer));
+      a = still_by Initiator (guest_up s) (is_begun (net_wire (Steps B answer) s).wire.end_a) s.guest (move_of A (core_event (Steps B answer))) (moves_a answer) (guest_begun s answer);
+      b = hub_moves s answer step.left fits.1 step.step;
+    })
+event_core_step s (Asked e lost) t fits step = asked_core e s lost t step
+event_core_step s (Ticked queued lost) t fits step = ticked_core s queued lost t step.1
+event_core_step s (CalmTick queued) t fits step =
+    subst (Embeds s (CalmTick queued)) (sym step.1) (record { entries = refl; stands = tt; wire = refl; a = still Initiator (guest_up s) s.guest; b = still Responder (hub_up s) s.hub })
+event_core_step s (Gives A given) t fits step =
+    subst (Embeds s (Gives A given)) (sym step.1)
+    (record { entries = refl; stands = tt; wire = refl; a = stays_at Initiator (guest_up s) (guest_up s) s.guest t.guest refl (gives_stays Initiator s.guest given t.guest step.0); b = still Responder (hub_up s) s.hub })
+event_core_step s (Gives B given) t fits step =
+    subst (Embeds s (Gives B given)) (sym step.1)
+    (record { entries = refl; stands = tt; wire = refl; a = still Initiator (guest_up s) s.guest; b = stays_at Responder (hub_up s) (hub_up s) s.hub t.hub refl (gives_stays Responder s.hub given t.hub step.0) })
+event_core_step s (JoinsGroup joining) t fits step =
+    subst (Embeds s (JoinsGroup joining)) (sym step.1)
+    (record { entries = refl; stands = tt; wire = refl; a = stays_at Initiator (guest_up s) (guest_up s) s.guest t.guest refl (joins_stays s.guest joining t.guest step.0); b = still Responder (hub_up s) s.hub })
+event_core_step s (Loses A packet) t fits step =
+    subst (Embeds s (Loses A packet)) (sym step.1) (record { entries = refl; stands = step.0; wire = refl; a = still Initiator (guest_up s) s.guest; b = still Responder (hub_up s) s.hub })
+event_core_step s (Loses B packet) t fits step =
+    subst (Embeds s (Loses B packet)) (sym step.1) (record { entries = refl; stands = step.0; wire = refl; a = still Initiator (guest_up s) s.guest; b = still Responder (hub_up s) s.hub })
+event_core_step s (Injects A packet) t fits step =
+    subst (Embeds s (Injects A packet)) (sym step.2) (record { entries = refl; stands = (step.0, step.1); wire = refl; a = still Initiator (guest_up s) s.guest; b = still Responder (hub_up s) s.hub })
+event_core_step s (Injects B packet) t fits step =
+    subst (Embeds s (Injects B packet)) (sym step.2) (record { entries = refl; stands = (step.0, step.1); wire = refl; a = still Initiator (guest_up s) s.guest; b = still Responder (hub_up s) s.hub })
+event_core_step s (Pokes A at bytes) t fits step =
+    subst (Embeds s (Pokes A at bytes)) (sym step.1) (record { entries = refl; stands = tt; wire = refl; a = still Initiator (guest_up s) s.guest; b = still Responder (hub_up s) s.hub })
+event_core_step s (Pokes B at bytes) t fits step =
+    subst (Embeds s (Pokes B at bytes)) (sym step.1) (record { entries = refl; stands = tt; wire = refl; a = still Initiator (guest_up s) s.guest; b = still Responder (hub_up s) s.hub })
+event_core_step s (Declines d) t fits step =
+    subst (Embeds s (Declines d)) (sym step.1) (record { entries = refl; stands = tt; wire = refl; a = still Initiator (guest_up s) s.guest; b = still Responder (hub_up s) s.hub })
+
+-- A RUN
+pub run_core : (s t : NetLaneState) (events : List NetEvent) → BothFit s → Run NetLaneStep s events t → Run CoreStep (lane_core s) (core_events events) (lane_core t)
+run_core s t [] fits run = ap lane_core run
+run_core s t (event ∷ events) fits run =
+    (lane_core run.0, event_core_step s event run.0 fits run.1, run_core run.0 t events (event_fits s event run.0 run.1 fits) run.2)
+
+pub fresh_fits : (shape : NetShape) → BothFit (fresh_net shape)
+fresh_fits shape = (record { groups = tt; session = tt }, record { groups = tt; session = tt })
+
+pub fresh_run_core : (shape : NetShape) (events : List NetEvent) (s : NetLaneState) → Run NetLaneStep (fresh_net shape) events s
+    → Run CoreStep (fresh_net_core shape) (core_events events) (lane_core s)
+fresh_run_core shape events s run = run_core (fresh_net shape) s events (fresh_fits shape) run
+
+pub fits_behind : (shape : NetShape) (events : List NetEvent) (s : NetLaneState) → Run NetLaneStep (fresh_net shape) events s → BothFit s
+fits_behind shape events s run = run_keeps NetLaneStep BothFit event_fits (fresh_net shape) s events run (fresh_fits shape)

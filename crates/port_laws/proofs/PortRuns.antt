@@ -1,0 +1,148 @@
+-- Each run of a port with its out queue is one of two ends on a channel, in the same log.
+use Rattle.std.proofs.Common.{◌≡◌, ℕ, Bool, true, false, Option, Some, None, List, [], ◌∷◌, ◌++◌, refl, sym, subst, ap, ◌∙◌}
+use Rattle.ldc_link.specs.declared.phase.Role.TheVariants.{Initiator, Responder}
+use Rattle.ldc_queue.specs.declared.end.End.TheVariants.{A, B}
+use Rattle.runs.specs.Lawful.{Lawful, log_append, log_of, run_lawful}
+use Rattle.runs.specs.Run.{Run, run_keeps, run_push}
+use Rattle.disk_model.specs.TranscriptLog.{TranscriptLog}
+use Rattle.disk_model.specs.WireEvent.{WireEvent}
+use Rattle.disk_model.specs.WireLog.{WireLog}
+use Rattle.channel_laws.specs.CoreLog as core
+use Rattle.channel_laws.specs.LaneCore.{Beside, CoreEvent, CoreStep, transcript_after, transcript_behind, wire_after}
+use Rattle.port_model.specs.NetEvent.{Asked, CalmTick, Declines, Gives, Injects, Joins, Loses, NetEvent, Pokes, Steps, Ticked, on_wire}
+use Rattle.port_model.specs.NetLaneState.{NetShape}
+use Rattle.port_model.specs.PortLog.{PortLog, after, no_events, spoken_on}
+use Rattle.port_model.specs.PortState.{OnLane, PortEvent, PortState, PortStep, Receives, before, fresh_port, moves_first, takes_more}
+use Rattle.port_laws.specs.NetCore.{core_event, event_core, fresh_net_core, is_begun, lane_core}
+use Rattle.port_laws.specs.PortCore.{port_core, port_event, port_events}
+use Rattle.port_laws.proofs.Fitting.{BothFit, event_fits}
+use Rattle.port_laws.proofs.LaneMoves.{event_core_step, fresh_fits, still, wire_same}
+
+-- A FRAME THAT MOVES from the queue to the switch's end is none of the channel's
+moves_core : (b : Bool) (queue : List (List ℕ)) (s : PortState) → lane_core (moves_first b queue s).lane ≡ lane_core s.lane
+moves_core true [] s = refl
+moves_core true (frame ∷ frames) s = refl
+moves_core false queue s = refl
+
+moves_fit : (b : Bool) (queue : List (List ℕ)) (s : PortState) → BothFit s.lane → BothFit (moves_first b queue s).lane
+moves_fit true [] s fits = fits
+moves_fit true (frame ∷ frames) s fits = (fits.0, record { groups = fits.1.groups; session = fits.1.session })
+moves_fit false queue s fits = fits
+
+before_core : (event : NetEvent) (s : PortState) → lane_core (before event s).lane ≡ lane_core s.lane
+before_core (Steps B answer) s = moves_core (takes_more s.lane.hub) s.queue s
+before_core (Steps A answer) s = refl
+before_core (Asked e lost) s = refl
+before_core (Ticked queued lost) s = refl
+before_core (CalmTick queued) s = refl
+before_core (Gives e given) s = refl
+before_core (Joins joining) s = refl
+before_core (Loses e packet) s = refl
+before_core (Injects e packet) s = refl
+before_core (Pokes e at bytes) s = refl
+before_core (Declines d) s = refl
+
+pub before_fits : (event : NetEvent) (s : PortState) → BothFit s.lane → BothFit (before event s).lane
+before_fits (Steps B answer) s fits = moves_fit (takes_more s.lane.hub) s.queue s fits
+before_fits (Steps A answer) s fits = fits
+before_fits (Asked e lost) s fits = fits
+before_fits (Ticked queued lost) s fits = fits
+before_fits (CalmTick queued) s fits = fits
+before_fits (Gives e given) s fits = fits
+before_fits (Joins joining) s fits = fits
+before_fits (Loses e packet) s fits = fits
+before_fits (Injects e packet) s fits = fits
+before_fits (Pokes e at bytes) s fits = fits
+before_fits (Declines d) s fits = fits
+
+abbrev pub PortFits : PortState → Type 0
+PortFits s = BothFit s.lane
+
+pub port_fits : (s : PortState) (event : PortEvent) (t : PortState) → PortStep s event t → PortFits s → PortFits t
+port_fits s (OnLane event) t step fits = event_fits (before event s).lane event t.lane step.1 (before_fits event s fits)
+port_fits s (Receives frame) t step fits = subst PortFits (sym step.2) fits
+
+pub port_step_core : (s : PortState) (event : PortEvent) (t : PortState) → PortFits s → PortStep s event t → CoreStep (port_core s) (port_event event) (port_core t)
+port_step_core s (OnLane event) t fits step =
+    subst (λ x. CoreStep x (core_event event) (port_core t)) (before_core event s) (event_core_step (before event s).lane event t.lane (before_fits event s fits) step.1)
+port_step_core s (Receives frame) t fits step =
+    subst (λ (x : PortState). CoreStep (port_core s) Beside (port_core x)) (sym step.2)
+    (record { entries = refl; stands = tt; wire = refl; a = still Initiator (is_begun s.lane.wire.wire.end_a) s.lane.guest; b = still Responder (is_begun s.lane.wire.wire.end_b) s.lane.hub })
+
+-- A RUN
+pub port_run_core : (s t : PortState) (events : List PortEvent) → PortFits s → Run PortStep s events t → Run CoreStep (port_core s) (port_events events) (port_core t)
+port_run_core s t [] fits run = ap port_core run
+port_run_core s t (event ∷ events) fits run =
+    (port_core run.0, port_step_core s event run.0 fits run.1, port_run_core run.0 t events (port_fits s event run.0 run.1 fits) run.2)
+
+pub fresh_port_core : (shape : NetShape) (events : List PortEvent) (s : PortState) → Run PortStep (fresh_port shape) events s
+    → Run CoreStep (fresh_net_core shape) (port_events events) (port_core s)
+fresh_port_core shape events s run = port_run_core (fresh_port shape) s events (fresh_fits shape) run
+
+pub port_fits_behind : (shape : NetShape) (events : List PortEvent) (s : PortState) → Run PortStep (fresh_port shape) events s → PortFits s
+port_fits_behind shape events s run = run_keeps PortStep PortFits port_fits (fresh_port shape) s events run (fresh_fits shape)
+
+-- THE SAME LOG
+spoken_same : (l : TranscriptLog) (event : Option WireEvent) → spoken_on l event ≡ transcript_after l (event_core event)
+spoken_same l None = refl
+spoken_same l (Some event) = refl
+
+-- what the channel's log and the port's have both
+pub record SameLog (c : core.CoreLog) (l : PortLog) : Type 0 where
+  pub entries : c.entries ≡ l.shape.entries
+  pub wire : c.wire ≡ l.wire
+  pub transcript : c.transcript ≡ l.transcript
+
+same_after : (c : core.CoreLog) (l : PortLog) (event : PortEvent) → SameLog c l → SameLog (core.after c (port_event event)) (after l event)
+same_after c l (OnLane event) same = record {
+  entries = same.entries;
+  wire = ap (λ (x : WireLog). wire_after x (core_event event)) same.wire ∙ sym (wire_same l.wire (on_wire event));
+  transcript = ap (λ (x : TranscriptLog). transcript_after x (core_event event)) same.transcript ∙ sym (spoken_same l.transcript (on_wire event));
+}
+same_after c l (Receives frame) same = record { entries = same.entries; wire = same.wire; transcript = same.transcript }
+
+same_log : (events : List PortEvent) (c : core.CoreLog) (l : PortLog) → SameLog c l → SameLog (log_of core.after c (port_events events)) (log_of after l events)
+same_log [] c l same = same
+same_log (event ∷ events) c l same = same_log events (core.after c (port_event event)) (after l event) (same_after c l event same)
+
+pub logs_same : (shape : NetShape) (events : List PortEvent) → SameLog (log_of core.after (core.nothing_yet shape.entries) (port_events events)) (log_of after (no_events shape) events)
+logs_same shape events = same_log events (core.nothing_yet shape.entries) (no_events shape) (record { entries = refl; wire = refl; transcript = refl })
+
+-- the transcript alone
+spoken_log : (events : List CoreEvent) (c : core.CoreLog) → (log_of core.after c events).transcript ≡ log_of transcript_after c.transcript events
+spoken_log [] c = refl
+spoken_log (event ∷ events) c = spoken_log events (core.after c event)
+
+pub spoken_behind : (shape : NetShape) (events : List PortEvent) → transcript_behind (port_events events) ≡ (log_of after (no_events shape) events).transcript
+spoken_behind shape events = sym (spoken_log (port_events events) (core.nothing_yet shape.entries)) ∙ (logs_same shape events).transcript
+
+-- A LAW OF THE CHANNEL at each event, in the port's log
+pub lawful_here : (CoreMay : core.CoreLog → CoreEvent → Type 0) (May : PortLog → PortEvent → Type 0)
+    → ((c : core.CoreLog) (l : PortLog) (event : PortEvent) → SameLog c l → CoreMay c (port_event event) → May l event)
+    → (events : List PortEvent) (c : core.CoreLog) (l : PortLog) → SameLog c l → Lawful CoreMay core.after c (port_events events) → Lawful May after l events
+lawful_here CoreMay May means [] c l same lawful = tt
+lawful_here CoreMay May means (event ∷ events) c l same lawful =
+    (means c l event same lawful.0, lawful_here CoreMay May means events (core.after c (port_event event)) (after l event) (same_after c l event same) lawful.1)
+
+-- A LAW OF AN EVENT behind a run holds at each event of a run
+record Behind (shape : NetShape) (s : PortState) (l : PortLog) : Type 0 where
+  events : List PortEvent
+  run : Run PortStep (fresh_port shape) events s
+  log : l ≡ log_of after (no_events shape) events
+
+pub lawful_along : (shape : NetShape) (May : PortLog → PortEvent → Type 0)
+    → ((events : List PortEvent) (s : PortState) (event : PortEvent) (t : PortState) → Run PortStep (fresh_port shape) events s → PortStep s event t
+    → May (log_of after (no_events shape) events) event)
+    → (events : List PortEvent) (s : PortState) → Run PortStep (fresh_port shape) events s → Lawful May after (no_events shape) events
+lawful_along shape May law events s run =
+    (run_lawful PortStep May after (Behind shape) one_more (fresh_port shape) s (no_events shape) events (record { events = []; run = refl; log = refl }) run).0
+  where
+    one_more : (s : PortState) (l : PortLog) (event : PortEvent) (t : PortState) → Behind shape s l → PortStep s event t → May l event × Behind shape t (after l event)
+    one_more s l event t behind step = (
+      subst (λ (x : PortLog). May x event) (sym behind.log) (law behind.events s event t behind.run step),
+      record {
+        events = behind.events ++ event ∷ [];
+        run = run_push PortStep (fresh_port shape) s t behind.events event behind.run step;
+        log = ap (λ (x : PortLog). after x event) behind.log ∙ sym (log_append after (no_events shape) behind.events (event ∷ []));
+      },
+    )

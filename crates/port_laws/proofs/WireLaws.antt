@@ -1,0 +1,127 @@
+-- What a port's ends say and hear, and how their sessions open, event by event.
+use Rattle.std.proofs.Common.{◌≡◌, ℕ, Bool, true, false, Option, Some, None, List, ◌∷◌, refl, sym, subst, ap, ◌∙◌}
+use Rattle.ldc_link.specs.declared.phase.Role.TheVariants.{Initiator, Responder}
+use Rattle.ldc_queue.specs.declared.end.End.{End}
+use Rattle.ldc_queue.specs.declared.end.End.TheVariants.{A, B}
+use Rattle.ldc_queue.specs.Transcript.{Heard, Said, Turn}
+use Rattle.runs.specs.Lawful.{Lawful, log_of}
+use Rattle.runs.specs.Run.{Run}
+use Rattle.disk_model.specs.HandshakeOrder.{HandshakeOrder}
+use Rattle.disk_model.specs.TranscriptLog.{TranscriptLog, hears, says, transcript_of}
+use Rattle.disk_model.specs.WireAt.{WireHeardAt, WireSaidAt}
+use Rattle.disk_model.specs.WireEvent.{WireEvent}
+use Rattle.channel_laws.proofs.Numbering.{heard_lawful, said_lawful}
+use Rattle.channel_laws.specs.CoreLog as core
+use Rattle.channel_laws.specs.LaneCore.{end_of, role_of, transcript_behind}
+use Rattle.channel_laws.proofs.OpeningOrder.{opens_hearing, opens_saying}
+use Rattle.port_model.specs.FrameLaws.{OpeningsAt}
+use Rattle.port_model.specs.NetEndStep.{Blocked, Frame, Idle, Joined, Published, Reset, Sent, Took}
+use Rattle.port_model.specs.NetEvent.{Asked, CalmTick, Declines, Gives, Injects, Joins, Loses, Pokes, Steps, Ticked, on_wire}
+use Rattle.port_model.specs.NetLaneState.{IsNetShape, NetShape, role_at}
+use Rattle.port_model.specs.Offers.{port_offer}
+use Rattle.port_model.specs.PortLog.{PortLog, after, no_events}
+use Rattle.port_model.specs.PortMay.{IfOnWire, OfWire}
+use Rattle.port_model.specs.PortState.{OnLane, PortEvent, PortState, PortStep, Receives, fresh_port}
+use Rattle.port_laws.specs.NetCore.{event_core}
+use Rattle.port_laws.specs.PortCore.{port_core, port_event, port_events}
+use Rattle.port_laws.proofs.CoreLaws.{order_of, role_same, sizes_fit}
+use Rattle.port_laws.proofs.PortRuns.{SameLog, fresh_port_core, lawful_along, lawful_here, port_fits_behind, port_step_core, spoken_behind}
+
+-- of the channel's event
+of_event : (Holds : WireEvent → Type 0) (event : Option WireEvent) → core.OfChannel Holds (event_core event) → IfOnWire Holds event
+of_event Holds None holds = tt
+of_event Holds (Some event) holds = holds
+
+said_means : (c : core.CoreLog) (l : PortLog) (event : PortEvent) → SameLog c l → core.SaidAt c (port_event event) → OfWire (WireSaidAt l.transcript) event
+said_means c l (OnLane event) same said =
+    of_event (WireSaidAt l.transcript) (on_wire event)
+    (subst (λ (x : TranscriptLog). core.OfChannel (WireSaidAt x) (event_core (on_wire event))) same.transcript said)
+said_means c l (Receives frame) same said = tt
+
+heard_means : (c : core.CoreLog) (l : PortLog) (event : PortEvent) → SameLog c l → core.HeardAt c (port_event event) → OfWire (WireHeardAt l.transcript) event
+heard_means c l (OnLane event) same heard =
+    of_event (WireHeardAt l.transcript) (on_wire event)
+    (subst (λ (x : TranscriptLog). core.OfChannel (WireHeardAt x) (event_core (on_wire event))) same.transcript heard)
+heard_means c l (Receives frame) same heard = tt
+
+same_start : (shape : NetShape) → SameLog (core.nothing_yet shape.entries) (no_events shape)
+same_start shape = record { entries = refl; wire = refl; transcript = refl }
+
+pub port_says : (shape : NetShape) (events : List PortEvent) (s : PortState) → IsNetShape shape → Run PortStep (fresh_port shape) events s
+    → Lawful (λ (l : PortLog) (event : PortEvent). OfWire (WireSaidAt l.transcript) event) after (no_events shape) events
+port_says shape events s is run =
+    lawful_here core.SaidAt (λ (l : PortLog) (event : PortEvent). OfWire (WireSaidAt l.transcript) event) said_means events (core.nothing_yet shape.entries) (no_events shape) (same_start shape)
+    (said_lawful shape.entries (port_offer Initiator shape.address shape.slots) (port_offer Responder shape.address shape.slots) (port_events events) (port_core s)
+    (sizes_fit shape is) (fresh_port_core shape events s run))
+
+pub port_hears : (shape : NetShape) (events : List PortEvent) (s : PortState) → IsNetShape shape → Run PortStep (fresh_port shape) events s
+    → Lawful (λ (l : PortLog) (event : PortEvent). OfWire (WireHeardAt l.transcript) event) after (no_events shape) events
+port_hears shape events s is run =
+    lawful_here core.HeardAt (λ (l : PortLog) (event : PortEvent). OfWire (WireHeardAt l.transcript) event) heard_means events (core.nothing_yet shape.entries) (no_events shape) (same_start shape)
+    (heard_lawful shape.entries (port_offer Initiator shape.address shape.slots) (port_offer Responder shape.address shape.slots) (port_events events) (port_core s)
+    (sizes_fit shape is) (fresh_port_core shape events s run))
+
+-- SESSIONS OPEN in the order of the handshake
+port_rings : (s : PortState) (e : End) → (end_of e (port_core s)).offer.both_rings ≡ true
+port_rings s A = refl
+port_rings s B = refl
+
+turn_says : (e : End) (packet : List ℕ) (l : TranscriptLog) → transcript_of e (says e packet l) ≡ Said packet ∷ transcript_of e l
+turn_says A packet l = refl
+turn_says B packet l = refl
+
+turn_hears : (e : End) (packet : List ℕ) (l : TranscriptLog) → transcript_of e (hears e packet l) ≡ Heard packet ∷ transcript_of e l
+turn_hears A packet l = refl
+turn_hears B packet l = refl
+
+order_in : (e : End) (turns now : List Turn) → turns ≡ now → HandshakeOrder true (role_at e) turns → HandshakeOrder true (role_at e) now
+order_in e turns now is order = subst (HandshakeOrder true (role_at e)) is order
+
+says_order : (shape : NetShape) (events : List PortEvent) (s : PortState) (e : End) (packet : List ℕ) (opens : Bool) (t : PortState) → IsNetShape shape
+    → Run PortStep (fresh_port shape) events s → PortStep s (OnLane (Steps e (Sent packet opens))) t
+    → OpeningsAt (log_of after (no_events shape) events) (OnLane (Steps e (Sent packet opens)))
+says_order shape events s e packet false t is run step = tt
+says_order shape events s e packet true t is run step =
+    order_in e (Said packet ∷ transcript_of e (transcript_behind (port_events events))) _
+    (ap (λ (x : TranscriptLog). Said packet ∷ transcript_of e x) (spoken_behind shape events) ∙ sym (turn_says e packet (log_of after (no_events shape) events).transcript))
+    (order_of (end_of e (port_core s)).offer.both_rings (role_of e) (role_at e) (Said packet ∷ transcript_of e (transcript_behind (port_events events))) (port_rings s e) (role_same e)
+    (opens_saying shape.entries (port_offer Initiator shape.address shape.slots) (port_offer Responder shape.address shape.slots) (port_events events) (port_core s) e packet (port_core t)
+    (sizes_fit shape is) (fresh_port_core shape events s run)
+    (port_step_core s (OnLane (Steps e (Sent packet true))) t (port_fits_behind shape events s run) step)))
+
+hears_order : (shape : NetShape) (events : List PortEvent) (s : PortState) (e : End) (packet : List ℕ) (opens : Bool) (t : PortState) → IsNetShape shape
+    → Run PortStep (fresh_port shape) events s → PortStep s (OnLane (Steps e (Took packet opens))) t
+    → OpeningsAt (log_of after (no_events shape) events) (OnLane (Steps e (Took packet opens)))
+hears_order shape events s e packet false t is run step = tt
+hears_order shape events s e packet true t is run step =
+    order_in e (Heard packet ∷ transcript_of e (transcript_behind (port_events events))) _
+    (ap (λ (x : TranscriptLog). Heard packet ∷ transcript_of e x) (spoken_behind shape events) ∙ sym (turn_hears e packet (log_of after (no_events shape) events).transcript))
+    (order_of (end_of e (port_core s)).offer.both_rings (role_of e) (role_at e) (Heard packet ∷ transcript_of e (transcript_behind (port_events events))) (port_rings s e) (role_same e)
+    (opens_hearing shape.entries (port_offer Initiator shape.address shape.slots) (port_offer Responder shape.address shape.slots) (port_events events) (port_core s) e packet (port_core t)
+    (sizes_fit shape is) (fresh_port_core shape events s run)
+    (port_step_core s (OnLane (Steps e (Took packet true))) t (port_fits_behind shape events s run) step)))
+
+opens_at : (shape : NetShape) (is : IsNetShape shape) (events : List PortEvent) (s : PortState) (event : PortEvent) (t : PortState) → Run PortStep (fresh_port shape) events s → PortStep s event t
+    → OpeningsAt (log_of after (no_events shape) events) event
+opens_at shape is events s (OnLane (Steps e (Sent packet opens))) t run step = says_order shape events s e packet opens t is run step
+opens_at shape is events s (OnLane (Steps e (Took packet opens))) t run step = hears_order shape events s e packet opens t is run step
+opens_at shape is events s (OnLane (Steps e (Joined lost))) t run step = tt
+opens_at shape is events s (OnLane (Steps e Blocked)) t run step = tt
+opens_at shape is events s (OnLane (Steps e Idle)) t run step = tt
+opens_at shape is events s (OnLane (Steps e (Published id))) t run step = tt
+opens_at shape is events s (OnLane (Steps e (Frame frame))) t run step = tt
+opens_at shape is events s (OnLane (Steps e (Reset cause packet lost))) t run step = tt
+opens_at shape is events s (OnLane (Asked e lost)) t run step = tt
+opens_at shape is events s (OnLane (Ticked queued lost)) t run step = tt
+opens_at shape is events s (OnLane (CalmTick queued)) t run step = tt
+opens_at shape is events s (OnLane (Gives e given)) t run step = tt
+opens_at shape is events s (OnLane (Joins joining)) t run step = tt
+opens_at shape is events s (OnLane (Loses e packet)) t run step = tt
+opens_at shape is events s (OnLane (Injects e packet)) t run step = tt
+opens_at shape is events s (OnLane (Pokes e at bytes)) t run step = tt
+opens_at shape is events s (OnLane (Declines d)) t run step = tt
+opens_at shape is events s (Receives frame) t run step = tt
+
+pub port_opens : (shape : NetShape) (events : List PortEvent) (s : PortState) → IsNetShape shape → Run PortStep (fresh_port shape) events s
+    → Lawful OpeningsAt after (no_events shape) events
+port_opens shape events s is run = lawful_along shape OpeningsAt (opens_at shape is) events s run

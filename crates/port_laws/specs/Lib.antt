@@ -1,0 +1,4 @@
+pub mod NetCore
+pub mod NetFits
+pub mod PortCore
+pub mod LetsGo

@@ -1,0 +1,20 @@
+//! What always holds of a port's lane: it is two ends on a channel with rings both ways, so all that holds of such ends
+//! holds of a port's. It has no code.
+#![tactic(auto)]
+
+mod core_laws;
+mod frame_laws;
+mod group_laws;
+mod wire_laws;
+
+pub use core_laws::{
+    a_port_is_two_ends_on_a_channel, a_port_resets_itself_behind_a_loss_or_for_its_session,
+    an_end_heard_a_front_of_what_the_other_said, an_end_of_a_port_always_has_a_step,
+    open_sessions_of_a_port_are_one, sessions_of_a_port_open_in_order,
+};
+pub use frame_laws::an_ack_alone_lets_frames_go;
+pub use group_laws::a_guest_joins_each_group_once;
+pub use wire_laws::{
+    a_port_opens_behind_its_handshake, what_a_port_hears_may_come,
+    what_a_port_says_is_cut_and_numbered,
+};

@@ -1,0 +1,4 @@
+mod PieceLemmas
+mod PartLemmas
+mod ToCome
+mod Readers

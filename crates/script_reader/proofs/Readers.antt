@@ -1,0 +1,51 @@
+-- What a reader of lines holds, seen from its fields.
+use Rattle.std.proofs.Common.{◌≡◌, ◌≢◌, ℕ, Bool, true, false, cond, List, [], ◌∷◌, ◌++◌, Option, Some, None, IfSome, refl, sym, ap, ◌∙◌, subst}
+use Rattle.std.specs.Io.KnownBytes.{Keeps, IsAtEnd, prepend_known}
+use Rattle.script_reader.specs.declared.lines.Lines.TheInside.{Inside}
+use Rattle.script_reader.specs.declared.lines.LinesStop.{LinesStop}
+use Rattle.script_reader.specs.LinesState.{LinesState, to_come, GivesNone}
+use Rattle.script_reader.specs.Reader.{reader_state}
+
+held_by : (given : Bool) (line piece : List ℕ) → (cond given line []) ≡ [] → line ++ piece ≡ (cond given [] line) ++ piece
+held_by true line piece forgotten = ap (λ (l : List ℕ). l ++ piece) forgotten
+held_by false line piece forgotten = refl
+
+-- a reader that gives no line holds its line and its piece
+pub is_held : (reader : Inside) (s : LinesState) → reader_state reader ≡ s → s.line ≡ [] → reader.line.items ++ reader.piece ≡ s.held
+is_held reader s is forgotten =
+    held_by reader.given reader.line.items reader.piece (ap (λ (t : LinesState). t.line) is ∙ forgotten) ∙ ap (λ (t : LinesState). t.held) is
+
+pub is_to_come : (reader : Inside) (s : LinesState) (left : Option (List ℕ)) → reader_state reader ≡ s → s.line ≡ [] → prepend_known (reader.line.items ++ reader.piece) left ≡ to_come s left
+is_to_come reader s left is forgotten = ap (λ (l : List ℕ). prepend_known l left) (is_held reader s is forgotten)
+
+no_line_by : (given : Bool) (line : List ℕ) → (cond given line []) ≡ [] → (given ≡ false → line ≡ []) → line ≡ []
+no_line_by true line forgotten full = forgotten
+no_line_by false line forgotten full = full refl
+
+-- no line is begun after the last that there may be
+pub no_line : (reader : Inside) (s : LinesState) → reader_state reader ≡ s → s.line ≡ [] → (reader.given ≡ false → reader.line.items ≡ []) → reader.line.items ≡ []
+no_line reader s is forgotten full = no_line_by reader.given reader.line.items (ap (λ (t : LinesState). t.line) is ∙ forgotten) full
+
+-- bytes that are there are to come
+pub some_to_come : (rest left : Option (List ℕ)) (bytes : List ℕ) → Keeps rest (prepend_known bytes left) → bytes ≢ [] → IfSome rest (λ all. all ≢ [])
+some_to_come None left bytes told some = tt
+some_to_come (Some all) None bytes told some = absurd told
+some_to_come (Some all) (Some x) [] told some = absurd (some refl)
+some_to_come (Some all) (Some x) (b ∷ bs) told some = λ none. let e : b ∷ (bs ++ x) ≡ [] = told ∙ none in cc
+
+-- nothing is to come after the end
+pub none_to_come : (rest left : Option (List ℕ)) (bytes : List ℕ) → Keeps rest (prepend_known bytes left) → bytes ≡ [] → IsAtEnd left → IsAtEnd rest
+none_to_come None left bytes told none end = tt
+none_to_come (Some all) None bytes told none end = absurd told
+none_to_come (Some all) (Some x) bytes told none end = sym told ∙ ap (λ (l : List ℕ). l ++ x) none ∙ end
+
+-- no line was given, and what is to come stays
+pub gives_none : (reader : Inside) (s : LinesState) (held : List ℕ) (left after : Option (List ℕ)) (why : LinesStop) → reader_state reader ≡ s → s.line ≡ []
+    → Keeps (prepend_known (reader.line.items ++ reader.piece) left) (prepend_known held after)
+    → GivesNone (to_come s left) (prepend_known held after) s (record { held = held; line = []; number = reader.number; stop = why }) why
+gives_none reader s held left after why is forgotten told = record {
+  told = subst (λ (rest : Option (List ℕ)). Keeps rest (prepend_known held after)) (is_to_come reader s left is forgotten) told;
+  line = refl;
+  count = ap (λ (t : LinesState). t.number) is;
+  stop = refl;
+}

@@ -1,0 +1,110 @@
+-- What is still to come while a line is read.
+use Rattle.std.proofs.Common.{◌≡◌, ◌≢◌, inl, inr, ℕ, eqb, not, Bool, true, false, List, [], ◌∷◌, ◌++◌, length, Option, Some, None, Ok, Err, IfSome, refl, sym, ◌∙◌, ap, subst, append-nil, append_assoc}
+use Rattle.std.proofs.Math.Dec.{eqb-suc-zero}
+use Rattle.std.proofs.KnownBytes.{Keeps-trans}
+use Rattle.std.specs.Io.KnownBytes.{Keeps, IsAtEnd, prepend_known}
+use Rattle.script_reader.specs.declared.lines.LinesFault.{LinesFault}
+use Rattle.script_reader.specs.declared.lines.LinesFault.TheVariants.{Source, Long, Many, Memory}
+use Rattle.domain_script.specs.ScriptLines.{script_lines, TakesLine, BeginsWithLonger}
+use Rattle.domain_script.specs.Pieces.{HasNoFeed, IsTooLong}
+use Rattle.script_reader.specs.Parts.{MovesPart, ReadsLine}
+use Rattle.domain_script.proofs.ScriptLemmas.{lines_feed, lines_last, begins_longer}
+
+-- a read after the bytes of a line
+pub keeps_behind : (a b : Option (List ℕ)) (line old new : List ℕ) → Keeps (prepend_known old a) (prepend_known new b) → Keeps (prepend_known (line ++ old) a) (prepend_known (line ++ new) b)
+keeps_behind None b line old new same = tt
+keeps_behind (Some x) None line old new same = absurd same
+keeps_behind (Some x) (Some y) line old new same =
+    append_assoc line new y ∙ ap (λ (l : List ℕ). line ++ l) same ∙ sym (append_assoc line old x)
+
+-- the same, after what is known so far
+pub keeps_on : (rest a b : Option (List ℕ)) (line old new : List ℕ) → Keeps rest (prepend_known (line ++ old) a) → Keeps (prepend_known old a) (prepend_known new b) → Keeps rest (prepend_known (line ++ new) b)
+keeps_on rest a b line old new told same = Keeps-trans rest (prepend_known (line ++ old) a) (prepend_known (line ++ new) b) told (keeps_behind a b line old new same)
+
+-- the line before a line feed was taken
+pub takes_line : (rest left : Option (List ℕ)) (line piece line_after piece_after : List ℕ) → Keeps rest (prepend_known (line ++ piece) left)
+    → line ++ piece ≡ line_after ++ 10 ∷ piece_after → HasNoFeed line_after → TakesLine rest (prepend_known piece_after left) line_after
+takes_line None left line piece line_after piece_after told is clean = tt
+takes_line (Some bytes) None line piece line_after piece_after told is clean = absurd told
+takes_line (Some bytes) (Some x) line piece line_after piece_after told is clean =
+    let all : bytes ≡ line_after ++ 10 ∷ (piece_after ++ x) = sym told ∙ ap (λ (l : List ℕ). l ++ x) is ∙ append_assoc line_after (10 ∷ piece_after) x in (
+      ap (λ (l : List ℕ). script_lines l) all ∙ lines_feed line_after (piece_after ++ x) clean,
+      inl (all ∙ sym (append_assoc line_after (10 ∷ []) (piece_after ++ x))),
+    )
+
+-- a last line without a line feed was taken
+pub takes_last : (rest left : Option (List ℕ)) (line piece : List ℕ) → Keeps rest (prepend_known (line ++ piece) left) → piece ≡ [] → IsAtEnd left
+    → HasNoFeed line → line ≢ [] → TakesLine rest (prepend_known piece left) line
+takes_last None left line piece told none end clean some = tt
+takes_last (Some bytes) None line piece told none end clean some = absurd told
+takes_last (Some bytes) (Some x) line piece told none end clean some =
+    let all : bytes ≡ line = sym told ∙ ap (λ (l : List ℕ). (line ++ l) ++ x) none ∙ ap (λ (l : List ℕ). (line ++ []) ++ l) end ∙ append-nil (line ++ []) ∙ append-nil line in
+    let behind : piece ++ x ≡ [] = ap (λ (l : List ℕ). l ++ x) none ∙ end in (
+      ap (λ (l : List ℕ). script_lines l) all ∙ lines_last line clean some ∙ ap (λ (l : List ℕ). line ∷ script_lines l) (sym behind),
+      inr (ap (λ (l : List ℕ). l ++ 10 ∷ []) all, behind),
+    )
+
+-- nothing is to come
+pub at_end : (rest left : Option (List ℕ)) (line piece : List ℕ) → Keeps rest (prepend_known (line ++ piece) left) → piece ≡ [] → IsAtEnd left → line ≡ [] → IsAtEnd rest
+at_end None left line piece told none end empty = tt
+at_end (Some bytes) None line piece told none end empty = absurd told
+at_end (Some bytes) (Some x) line piece told none end empty =
+    sym told ∙ ap (λ (l : List ℕ). (line ++ l) ++ x) none ∙ ap (λ (l : List ℕ). (l ++ []) ++ x) empty ∙ end
+
+-- the source ended: what was read is a last line, if there is something
+pub read_to_end : (rest left : Option (List ℕ)) (line piece : List ℕ) (more : Bool) → Keeps rest (prepend_known (line ++ piece) left) → piece ≡ [] → IsAtEnd left
+    → HasNoFeed line → (more ≡ true → line ≢ []) → (more ≡ false → line ≡ []) → ReadsLine rest (Ok more) line piece left
+read_to_end rest left line piece true told none end clean some empty = takes_last rest left line piece told none end clean (some refl)
+read_to_end rest left line piece false told none end clean some empty = (told, empty refl, at_end rest left line piece told none end (empty refl))
+
+-- too many bytes without a line feed are to come
+pub longer_to_come : (rest left : Option (List ℕ)) (bytes : List ℕ) → Keeps rest (prepend_known bytes left) → IsTooLong bytes → IfSome rest (BeginsWithLonger 3100)
+longer_to_come None left bytes told long = tt
+longer_to_come (Some all) None bytes told long = absurd told
+longer_to_come (Some all) (Some x) bytes told long = begins_longer all (record {
+  front = long.front;
+  behind = long.behind ++ x;
+  is = sym told ∙ ap (λ (l : List ℕ). l ++ x) long.is ∙ append_assoc long.front long.behind x;
+  no_feed = long.no_feed;
+  long = long.long;
+})
+
+-- a part was refused, so the line is
+pub read_refused : (rest left : Option (List ℕ)) (line piece line_after piece_after : List ℕ) (fault : LinesFault) → Keeps rest (prepend_known (line ++ piece) left)
+    → MovesPart piece line (Err fault) piece_after line_after → ReadsLine rest (Err fault) line_after piece_after left
+read_refused rest left line piece line_after piece_after Long told moves = (
+  subst (λ (l : List ℕ). Keeps rest (prepend_known l left)) (sym (ap (λ (l : List ℕ). l ++ piece_after) moves.1 ∙ ap (λ (l : List ℕ). line ++ l) moves.0)) told,
+  longer_to_come rest left (line ++ piece) told moves.2,
+)
+read_refused rest left line piece line_after piece_after Memory told moves =
+    subst (λ (l : List ℕ). Keeps rest (prepend_known l left)) (sym (ap (λ (l : List ℕ). l ++ piece_after) moves.1 ∙ ap (λ (l : List ℕ). line ++ l) moves.0)) told
+read_refused rest left line piece line_after piece_after Source told moves = absurd moves
+read_refused rest left line piece line_after piece_after Many told moves = absurd moves
+
+-- what a refused part leaves of the line
+pub refused_same : (line piece line_after piece_after : List ℕ) (fault : LinesFault) → MovesPart piece line (Err fault) piece_after line_after → line_after ≡ line
+refused_same line piece line_after piece_after Long moves = moves.1
+refused_same line piece line_after piece_after Memory moves = moves.1
+refused_same line piece line_after piece_after Source moves = absurd moves
+refused_same line piece line_after piece_after Many moves = absurd moves
+
+-- a part is refused for its own cause
+pub refused_not_source : (line piece line_after piece_after : List ℕ) (fault : LinesFault) → MovesPart piece line (Err fault) piece_after line_after → fault ≢ Source
+refused_not_source line piece line_after piece_after Long moves = λ is. cc
+refused_not_source line piece line_after piece_after Memory moves = λ is. cc
+refused_not_source line piece line_after piece_after Source moves = absurd moves
+refused_not_source line piece line_after piece_after Many moves = λ is. cc
+
+-- a list is empty where a test for a byte says so
+pub none_there : (xs : List ℕ) (more : Bool) → (xs ≢ [] → more ≡ true) → more ≡ false → xs ≡ []
+none_there [] more tells is = refl
+none_there (x ∷ xs) more tells is =
+    let both : true ≡ false = sym (tells (λ e. cc)) ∙ is in cc
+
+-- what the test for an empty line says
+pub empty_tells : (line : List ℕ) (n : ℕ) (empty : Bool) → n ≡ length line → empty ≡ eqb n 0 → (not empty ≡ true → line ≢ []) × (not empty ≡ false → line ≡ [])
+empty_tells [] n empty long is =
+    let yes : empty ≡ true = is ∙ ap (λ (m : ℕ). eqb m 0) long in (λ no. let both : false ≡ true = ap not (sym yes) ∙ no in cc, λ _. refl)
+empty_tells (x ∷ xs) n empty long is =
+    let no : empty ≡ false = is ∙ ap (λ (m : ℕ). eqb m 0) long ∙ eqb-suc-zero (length xs) in
+    (λ _ e. cc, λ yes. let both : true ≡ false = ap not (sym no) ∙ yes in cc)

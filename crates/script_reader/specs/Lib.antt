@@ -1,0 +1,3 @@
+pub mod LinesState
+pub mod Parts
+pub mod Reader

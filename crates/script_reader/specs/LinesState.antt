@@ -1,0 +1,59 @@
+-- A reader of lines, and what each of its answers says.
+use Rattle.std.specs.Prelude.{◌≡◌, ◌≢◌, ℕ, ◌+◌, ◌<◌, ◌≤◌, Bool, true, false, List, [], length, Option, IfSome, Result, Ok, Err}
+use Rattle.std.specs.Io.KnownBytes.{Keeps, IsAtEnd, prepend_known}
+use Rattle.script_reader.specs.declared.lines.LinesFault.{LinesFault}
+use Rattle.script_reader.specs.declared.lines.LinesFault.TheVariants.{Source, Long, Many, Memory}
+use Rattle.script_reader.specs.declared.lines.LinesStop.{LinesStop}
+use Rattle.script_reader.specs.declared.lines.LinesStop.TheVariants.{Going, Ended, TooLong, TooMany}
+use Rattle.domain_script.specs.Pieces.{DecidesNothing}
+use Rattle.domain_script.specs.ScriptLines.{TakesLine, BeginsWithLonger}
+use Rattle.domain_script.specs.Limits.{most_line_bytes, most_lines}
+
+pub record LinesState : Type 0 where
+  -- bytes taken from the source and not yet given in a line
+  pub held : List ℕ
+  -- the line that the last call gave
+  pub line : List ℕ
+  -- how many lines were given
+  pub number : ℕ
+  -- whether a further call can give a line, and else why not
+  pub stop : LinesStop
+
+-- the bytes that are still to come, where the source tells those that it has left
+abbrev pub to_come : LinesState → Option (List ℕ) → Option (List ℕ)
+to_come lines left = prepend_known lines.held left
+
+-- the next line was given
+pub record GivesLine (rest left : Option (List ℕ)) (before after : LinesState) : Type 0 where
+  pub told : TakesLine rest left after.line
+  pub short : length after.line ≤ most_line_bytes
+  pub count : after.number ≡ before.number + 1
+  pub few : after.number ≤ most_lines
+  pub going : after.stop ≡ Going
+
+-- no line was given, and all that was taken is kept
+pub record GivesNone (rest left : Option (List ℕ)) (before after : LinesState) (why : LinesStop) : Type 0 where
+  pub told : Keeps rest left
+  pub line : after.line ≡ []
+  pub count : after.number ≡ before.number
+  pub stop : after.stop ≡ why
+
+-- An answer of a reader that goes on: `rest` is to come before the call, `left` after it. Where the source failed, no
+-- line is whole in what is held, and no limit is met.
+abbrev pub Reads : Option (List ℕ) → Option (List ℕ) → LinesState → Result Bool LinesFault → LinesState → Type 0
+Reads rest left before (Ok true) after = GivesLine rest left before after
+Reads rest left before (Ok false) after = GivesNone rest left before after Ended × IsAtEnd rest
+Reads rest left before (Err Source) after = GivesNone rest left before after Going × DecidesNothing before.number after.held
+Reads rest left before (Err Memory) after = GivesNone rest left before after Going
+Reads rest left before (Err Long) after = GivesNone rest left before after TooLong × (before.number < most_lines) × IfSome rest (BeginsWithLonger most_line_bytes)
+Reads rest left before (Err Many) after = GivesNone rest left before after TooMany × (before.number ≡ most_lines) × IfSome rest (λ bytes. bytes ≢ [])
+
+-- an answer of a reader: where it stopped before, the same again
+abbrev pub AdvancesFrom : LinesStop → Option (List ℕ) → Option (List ℕ) → LinesState → Result Bool LinesFault → LinesState → Type 0
+AdvancesFrom Going rest left before result after = Reads rest left before result after
+AdvancesFrom Ended rest left before result after = (result ≡ Ok false) × (after ≡ before)
+AdvancesFrom TooLong rest left before result after = (result ≡ Err Long) × (after ≡ before)
+AdvancesFrom TooMany rest left before result after = (result ≡ Err Many) × (after ≡ before)
+
+abbrev pub Advances : Option (List ℕ) → Option (List ℕ) → LinesState → Result Bool LinesFault → LinesState → Type 0
+Advances rest left before result after = AdvancesFrom before.stop rest left before result after

@@ -1,0 +1,25 @@
+-- What a reader of lines keeps, and how it is seen.
+use Rattle.std.specs.Prelude.{◌≡◌, ◌≤◌, true, false, [], ◌++◌, length, if◌then◌else◌}
+use Rattle.script_reader.specs.declared.lines.LinesStop.TheVariants.{Going}
+use Rattle.script_reader.specs.declared.lines.Lines.TheInside.{Inside}
+use Rattle.script_reader.specs.LinesState.{LinesState}
+use Rattle.domain_script.specs.Pieces.{HasNoFeed}
+use Rattle.domain_script.specs.Limits.{most_line_bytes, most_lines}
+
+-- the line stands for itself once it was given, and before for bytes that are held
+abbrev pub reader_state : Inside → LinesState
+reader_state reader = record {
+  held = (if reader.given then [] else reader.line.items) ++ reader.piece;
+  line = if reader.given then reader.line.items else [];
+  number = reader.number;
+  stop = reader.stop;
+}
+
+pub record IsReader (reader : Inside) : Type 0 where
+  pub short : length reader.line.items ≤ most_line_bytes
+  pub no_feed : HasNoFeed reader.line.items
+  pub few : reader.number ≤ most_lines
+  -- after the last line that there may be, no line is begun
+  pub all : reader.number ≡ most_lines → reader.given ≡ false → reader.line.items ≡ []
+  -- a reader that stopped has given no line
+  pub stopped : reader.given ≡ true → reader.stop ≡ Going

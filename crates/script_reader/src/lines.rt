@@ -1,0 +1,218 @@
+ghost use Rattle.std.specs.Prelude.{◌≡◌, ◌≢◌, ℕ, ◌<◌, [], true, IfOk};
+ghost use Rattle.vio_io.specs.Causes.{Rose};
+ghost use Rattle.domain_script.specs.Limits.{most_lines};
+
+use crate::piece::Piece;
+use crate::reading::{MOST_BYTES, read_line};
+use std::alloc::{AllocError, Global};
+use std::marker::Model;
+use thiserror::Error;
+use vio_bytes::NoMemory;
+use vio_io::{Failed, Source};
+
+/// The most lines.
+const MOST_LINES: u32 = 20_000;
+
+/// Why no further line was given.
+#[derive(Clone, Copy, Debug, PartialEq, Eq, Error)]
+pub enum LinesFault {
+    /// The source failed.
+    #[error("the source failed")]
+    Source,
+
+    /// The line has more than 3,100 bytes.
+    #[error("a line is too long")]
+    Long,
+
+    /// There is a line after the 20,000th.
+    #[error("too many lines")]
+    Many,
+
+    /// Out of memory.
+    #[error("out of memory")]
+    Memory,
+}
+
+impl From<Failed> for LinesFault {
+    ghost use Rattle.script_reader.specs.declared.lines.LinesFault.TheVariants.{Source as source_fault};
+
+    ghost from_gives = { λ _ fault. fault ≡ source_fault };
+
+    fn from(_: Failed) -> Self {
+        LinesFault::Source
+    }
+}
+
+impl From<AllocError> for LinesFault {
+    ghost use Rattle.script_reader.specs.declared.lines.LinesFault.TheVariants.{Memory as memory_fault};
+
+    ghost from_gives = { λ _ fault. fault ≡ memory_fault };
+
+    fn from(_: AllocError) -> Self {
+        LinesFault::Memory
+    }
+}
+
+/// Whether a further call can give a line.
+#[derive(Clone, Copy, Debug, PartialEq, Eq)]
+enum LinesStop {
+    Going,
+    Ended,
+    TooLong,
+    TooMany,
+}
+
+/// The lines of a script, one after another from a source that stays with the caller. Each read asks for at most
+/// 4,096 bytes; those after a line are kept for the next. After the end, a line that is too long or one too many
+/// nothing more is read.
+#[derive(Drop)]
+pub struct Lines {
+    piece: Piece,
+
+    /// The line that was given, or else the beginning of the next.
+    line: Vec<u8>,
+    given: bool,
+
+    /// How many lines were given.
+    number: u32,
+    stop: LinesStop,
+}
+
+impl Model for Lines {
+    ghost use Rattle.script_reader.specs.LinesState.{LinesState};
+
+    ghost Value = { LinesState };
+
+    ghost use Rattle.script_reader.specs.Reader.{reader_state, IsReader};
+
+    ghost view = { reader_state };
+
+    ghost invariant = { IsReader };
+}
+
+impl Lines {
+    ghost use Rattle.std.specs.Prelude.{◌≡◌, ◌≢◌, ℕ, ◌<◌, ◌≤◌, [], true, length, IfOk};
+    ghost use Rattle.vio_io.specs.Causes.{Rose};
+    ghost use Rattle.script_reader.specs.LinesState.{Advances, Reads, to_come};
+
+    /// Nothing was read.
+    pub fn new(alloc: Global) -> Result<Self, NoMemory>
+        ensures { IfOk result (λ lines. lines ≡ record { held = []; line = []; number = 0; stop = LinesStop.Going }) }
+    {
+        Ok(Lines {
+            piece: Piece::new(alloc)?,
+            line: Vec::with_capacity(alloc, MOST_BYTES + 1)?,
+            given: false,
+            number: 0,
+            stop: LinesStop::Going,
+        })
+    }
+
+    /// Reads the next line. False at the end, where no line is left.
+    pub fn advance<S: Source>(&mut self, source: &mut S) -> Result<bool, LinesFault>
+        ensures advances { Advances (to_come self.old (S.left source.old)) (to_come self.new (S.left source.new)) self.old result self.new }
+        ensures empty { result ≢ Ok true → self.new.line ≡ [] }
+
+        // After a stop the source isn't asked.
+        ensures stays { self.old.stop ≢ LinesStop.Going → source.new ≡ source.old }
+        ensures unfailed { result ≢ Err LinesFault.Source → S.faults source.new ≡ S.faults source.old }
+        ensures count { S.faults source.old ≤ S.faults source.new }
+        ensures cause { result ≡ Err LinesFault.Source → Rose (S.faults source.old) (S.faults source.new) }
+    {
+        match self.stop {
+            LinesStop::Going => self.go_on(source),
+            LinesStop::Ended => Ok(false),
+            LinesStop::TooLong => Err(LinesFault::Long),
+            LinesStop::TooMany => Err(LinesFault::Many),
+        }
+    }
+
+    /// The line that the last call gave, without its line feed. Empty where that call gave none.
+    pub fn line(&self) -> &[u8]
+        ensures { result.now ≡ self.now.line }
+    {
+        if self.given { &self.line } else { &[] }
+    }
+
+    /// How many lines were given.
+    pub fn number(&self) -> u32
+        ensures { result ≡ self.now.number }
+    {
+        self.number
+    }
+
+    /// Reads the next line of a script that goes on.
+    fn go_on<S: Source>(&mut self, source: &mut S) -> Result<bool, LinesFault>
+        requires { self.old.stop ≡ LinesStop.Going }
+        ensures reads { Reads (to_come self.old (S.left source.old)) (to_come self.new (S.left source.new)) self.old result self.new }
+        ensures unfailed { result ≢ Err LinesFault.Source → S.faults source.new ≡ S.faults source.old }
+        ensures count { S.faults source.old ≤ S.faults source.new }
+        ensures cause { result ≡ Err LinesFault.Source → Rose (S.faults source.old) (S.faults source.new) }
+    {
+        self.forget_line();
+        if self.number < MOST_LINES {
+            self.read_next(source)
+        } else {
+            self.read_behind_last(source)
+        }
+    }
+
+    /// The line that was given is no longer needed.
+    fn forget_line(&mut self)
+        ensures { self.new ≡ record self.old { line = [] } }
+    {
+        if self.given {
+            self.line.clear();
+            self.given = false;
+        }
+    }
+
+    /// Reads a line of which there may still be one.
+    fn read_next<S: Source>(&mut self, source: &mut S) -> Result<bool, LinesFault>
+        requires going { self.old.stop ≡ LinesStop.Going }
+        requires forgotten { self.old.line ≡ [] }
+        requires few { self.old.number < most_lines }
+        ensures reads { Reads (to_come self.old (S.left source.old)) (to_come self.new (S.left source.new)) self.old result self.new }
+        ensures unfailed { result ≢ Err LinesFault.Source → S.faults source.new ≡ S.faults source.old }
+        ensures count { S.faults source.old ≤ S.faults source.new }
+        ensures cause { result ≡ Err LinesFault.Source → Rose (S.faults source.old) (S.faults source.new) }
+    {
+        self.given = false;
+        match read_line(&mut self.piece, &mut self.line, source) {
+            Ok(true) => {
+                self.given = true;
+                self.number += 1;
+                Ok(true)
+            }
+            Ok(false) => {
+                self.stop = LinesStop::Ended;
+                Ok(false)
+            }
+            Err(LinesFault::Long) => {
+                self.stop = LinesStop::TooLong;
+                Err(LinesFault::Long)
+            }
+            Err(fault) => Err(fault),
+        }
+    }
+
+    /// Looks whether there is a byte after the last line that there may be.
+    fn read_behind_last<S: Source>(&mut self, source: &mut S) -> Result<bool, LinesFault>
+        requires going { self.old.stop ≡ LinesStop.Going }
+        requires forgotten { self.old.line ≡ [] }
+        requires all { self.old.number ≡ most_lines }
+        ensures reads { Reads (to_come self.old (S.left source.old)) (to_come self.new (S.left source.new)) self.old result self.new }
+        ensures unfailed { result ≢ Err LinesFault.Source → S.faults source.new ≡ S.faults source.old }
+        ensures count { S.faults source.old ≤ S.faults source.new }
+        ensures cause { result ≡ Err LinesFault.Source → Rose (S.faults source.old) (S.faults source.new) }
+    {
+        self.given = false;
+        if self.piece.fill(source)? {
+            self.stop = LinesStop::TooMany;
+            Err(LinesFault::Many)
+        } else {
+            self.stop = LinesStop::Ended;
+            Ok(false)
+        }
+    }
+}

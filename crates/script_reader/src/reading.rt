@@ -1,0 +1,71 @@
+ghost use Rattle.std.specs.Prelude.{◌≡◌, ◌≢◌, ℕ, ◌≤◌, ◌++◌, length};
+ghost use Rattle.std.specs.Io.KnownBytes.{prepend_known};
+ghost use Rattle.vio_io.specs.Causes.{Rose};
+ghost use Rattle.domain_script.specs.Pieces.{HasNoFeed};
+ghost use Rattle.script_reader.specs.Parts.{Extends, MovesPart, ReadsLine};
+ghost use Rattle.domain_script.specs.Limits.{most_line_bytes};
+
+use crate::lines::LinesFault;
+use crate::piece::Piece;
+use memchr::memchr;
+use vio_io::Source;
+
+/// The most bytes that a line has, without its line feed.
+pub const MOST_BYTES: usize = 3100;
+
+/// Adds bytes to a line, unless it had more than 3,100 then.
+fn extend(line: &mut Vec<u8>, more: &[u8]) -> Result<(), LinesFault>
+    requires { length line.old.items ≤ most_line_bytes }
+    ensures { Extends line.old.items more.now result line.new.items }
+{
+    if more.len() > MOST_BYTES - line.len() {
+        return Err(LinesFault::Long);
+    }
+    line.extend_from_slice(more)?;
+    Ok(())
+}
+
+/// Moves the bytes before the first line feed from a piece to a line, and takes the line feed away. False where the
+/// piece has none and was moved whole.
+fn take_part(piece: &mut Piece, line: &mut Vec<u8>) -> Result<bool, LinesFault>
+    requires short { length line.old.items ≤ most_line_bytes }
+    requires no_feed { HasNoFeed line.old.items }
+    ensures { MovesPart piece.old line.old.items result piece.new line.new.items }
+{
+    let rest = piece.rest();
+    match memchr(b'\n', rest) {
+        Some(feed) => {
+            extend(line, &rest[..feed])?;
+            piece.skip(feed + 1);
+            Ok(true)
+        }
+        None => {
+            extend(line, rest)?;
+            piece.clear();
+            Ok(false)
+        }
+    }
+}
+
+/// Reads on until a line is whole. False at the source's end where nothing of a line is there.
+pub fn read_line<S: Source>(
+    piece: &mut Piece,
+    line: &mut Vec<u8>,
+    source: &mut S,
+) -> Result<bool, LinesFault>
+    requires short { length line.old.items ≤ most_line_bytes }
+    requires no_feed { HasNoFeed line.old.items }
+    ensures reads { ReadsLine (prepend_known (line.old.items ++ piece.old) (S.left source.old)) result line.new.items piece.new (S.left source.new) }
+    ensures short { length line.new.items ≤ most_line_bytes }
+    ensures no_feed { HasNoFeed line.new.items }
+    ensures unfailed { result ≢ Err LinesFault.Source → S.faults source.new ≡ S.faults source.old }
+    ensures count { S.faults source.old ≤ S.faults source.new }
+    ensures cause { result ≡ Err LinesFault.Source → Rose (S.faults source.old) (S.faults source.new) }
+{
+    while piece.fill(source)? {
+        if take_part(piece, line)? {
+            return Ok(true);
+        }
+    }
+    Ok(!line.is_empty())
+}

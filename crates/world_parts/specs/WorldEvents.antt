@@ -1,0 +1,93 @@
+-- What the entries of a journal are for the lanes of a world, in the part of a script's line that they came in.
+use Rattle.std.specs.Prelude.{ℕ, Bool, true, false, ◌==◌, ◌&&◌, Option, Some, None}
+use Rattle.ldc_queue.specs.declared.end.End.{End}
+use Rattle.ldc_queue.specs.declared.end.End.TheVariants.{A, B}
+use Rattle.world_laws.specs.WireEvent.{WireEvent, Declines, NothingLost}
+use Rattle.world_laws.specs.DiskEvent.{DiskEvent, OnWire, Asks, Calms, CalmTick, CalmStop, CalmStart, CalmReset, CalmRestart}
+use Rattle.world_laws.specs.DiskEvent as disk
+use Rattle.world_laws.specs.Settle.{SettleEntry, OfLane}
+use Rattle.world_laws.specs.Lines.{Asked, Call, Calls, Line, Loses, Resets, Restarts, Starts, Stops, Ticks}
+use Rattle.world_laws.specs.Settle as settle
+use Rattle.domain_script.specs.declared.event.EndName.{EndName}
+use Rattle.domain_script.specs.declared.event.Lane.TheVariants.{Disk}
+use Rattle.domain_script.specs.declared.event.Side.{Side}
+use Rattle.domain_script.specs.declared.event.Side.TheVariants.{Client, Server}
+use Rattle.ldom_entries.specs.declared.entry.Entry.{Entry}
+use Rattle.ldom_entries.specs.declared.entry.Who.{Who}
+use Rattle.ldom_entries.specs.declared.entry.Who.TheVariants.{Lane as OfWhole, End as OfEnd}
+use Rattle.ldom_entries.specs.declared.entry.Why.{Why}
+use Rattle.ldom_report.specs.DiskEvents.{defect_of}
+use Rattle.ldom_report.specs.LaneEvents.{AtClient, AtLane, AtServer, AtWire, ChangesNothing, LeavesNothing, LeavesOver, Meaning, NoRoomFor, Refuses, end_of, lane_number, meaning}
+
+-- whether an end is this one of this lane
+abbrev pub is_same : End → End → Bool
+is_same A A = true
+is_same B B = true
+is_same _ _ = false
+
+abbrev pub is_end : ℕ → End → EndName → Bool
+is_end j e name = (j == lane_number name.lane) && is_same e (end_of name.side)
+
+-- an event where this holds, and else none
+abbrev pub if_so : Bool → SettleEntry → Option SettleEntry
+if_so true x = Some x
+if_so false x = None
+
+-- an event of an end's lane
+abbrev pub of_lane : EndName → DiskEvent → Option SettleEntry
+of_lane e event = Some (OfLane (lane_number e.lane) event)
+
+abbrev pub on_wire : EndName → WireEvent → Option SettleEntry
+on_wire e event = of_lane e (OnWire event)
+
+-- the work of a client, and that of a server: of the other end there is none
+abbrev pub of_client : Side → EndName → DiskEvent → Option SettleEntry
+of_client Client e event = of_lane e event
+of_client Server e event = None
+
+abbrev pub of_server : Side → EndName → DiskEvent → Option SettleEntry
+of_server Server e event = of_lane e event
+of_server Client e event = None
+
+-- a request that found no room, or was refused, on the disk that the line names
+abbrev pub full_event : Line → Who → Option SettleEntry
+full_event (Asked j request) (OfWhole (Disk k)) = if_so (j == k) (OfLane k (Asks (disk.Full request)))
+full_event _ _ = None
+
+abbrev pub refused_event : Line → Who → Why → Option SettleEntry
+refused_event (Asked j request) (OfWhole (Disk k)) why = if_so (j == k) (OfLane k (Asks (disk.Refused (defect_of why) request)))
+refused_event _ _ why = None
+
+-- What was asked of a lane and changes nothing there: of the lane that the line names, or of the end that it names.
+abbrev pub called_event : ℕ → Call → Who → Option SettleEntry
+called_event j Stops (OfWhole (Disk k)) = if_so (j == k) (OfLane k (Calms CalmStop))
+called_event j Starts (OfWhole (Disk k)) = if_so (j == k) (OfLane k (Calms CalmStart))
+called_event j Ticks (OfWhole (Disk k)) = if_so (j == k) (OfLane k (Calms CalmTick))
+called_event j (Resets e) (OfEnd name) = if_so (is_end j e name) (OfLane j (Calms (CalmReset e)))
+called_event j Restarts (OfEnd name) = if_so (is_end j B name) (OfLane j (Calms CalmRestart))
+called_event j (Loses e) (OfEnd name) = if_so (is_end j e name) (OfLane j (OnWire (Declines (NothingLost e))))
+called_event j _ _ = None
+
+abbrev pub calm_event : Line → Who → Option SettleEntry
+calm_event (Calls j call) who = called_event j call who
+calm_event _ who = None
+
+abbrev pub unsettled_event : Who → Option SettleEntry
+unsettled_event (OfWhole (Disk k)) = Some (settle.Unsettled k)
+unsettled_event (OfEnd e) = None
+
+-- what is meant for the lanes, where it came in the part of this line; none where it doesn't belong to it, or to its end
+abbrev pub meant : Line → Meaning → Option SettleEntry
+meant asked (AtWire e event) = on_wire e event
+meant asked (AtClient e event) = of_client e.side e event
+meant asked (AtServer e event) = of_server e.side e event
+meant asked (AtLane k event) = Some (OfLane k event)
+meant asked (NoRoomFor who) = full_event asked who
+meant asked (Refuses who why) = refused_event asked who why
+meant asked (ChangesNothing who) = calm_event asked who
+meant asked (LeavesOver who) = unsettled_event who
+meant asked LeavesNothing = Some settle.Settled
+
+-- WHAT AN ENTRY IS FOR THE LANES, where it came in the part of this line
+abbrev pub world_event : Line → Entry → Option SettleEntry
+world_event asked entry = meant asked (meaning entry)
