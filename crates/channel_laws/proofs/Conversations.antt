@@ -20,7 +20,7 @@ use Rattle.ldc_queue.specs.QueueEvent.{Close, Join, Lose, Put, Take}
 use Rattle.ldc_queue.specs.QueueLog.{IsFirst, lost_behind, lost_past}
 use Rattle.ldc_queue.specs.Transcript.{Turn}
 use Rattle.ldc_queue.specs.Wire.{peer_behind, queue_behind, upset}
-use Rattle.disk_model.specs.WireLog.{lossy_behind}
+use Rattle.channel_model.specs.WireLog.{lossy_behind}
 use Rattle.channel_laws.proofs.Budgets.{anew_budget, budget_small, says_budget, stays_budget, waits_budget}
 use Rattle.channel_laws.proofs.EndCases.{PutControl, PutMore, PutOwn, PutReady, PutHandshake, PutWhat, end_put, end_took}
 use Rattle.channel_laws.proofs.EndStanding.{held_stands, stands_step}

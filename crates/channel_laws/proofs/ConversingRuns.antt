@@ -24,10 +24,10 @@ use Rattle.ldc_queue.specs.Transcript as turn
 use Rattle.ldc_queue.specs.Transcript.{Turn, numbered_heard, numbered_said}
 use Rattle.ldc_queue.specs.Wire.{peer_of}
 use Rattle.vio_handshake.specs.declared.session.Offer.{Offer}
-use Rattle.disk_model.proofs.SameSayings.{heard_is, said_is}
-use Rattle.disk_model.specs.Sayings.{heard, said}
-use Rattle.disk_model.specs.TranscriptLog.{TranscriptLog, nothing_said, transcript_of}
-use Rattle.disk_model.specs.WireAt.{IsUp}
+use Rattle.channel_model.proofs.SameSayings.{heard_is, said_is}
+use Rattle.channel_model.specs.Sayings.{heard, said}
+use Rattle.channel_model.specs.TranscriptLog.{TranscriptLog, nothing_said, transcript_of}
+use Rattle.channel_model.specs.WireAt.{IsUp}
 use Rattle.channel_laws.proofs.Conversations.{anew_converse, first_waits, missed_converse, put_converse, shut_converse, stays_converse, swap_converse, took_converse, waits_converse}
 use Rattle.channel_laws.proofs.FewLost.{below_turn, few_begins}
 use Rattle.channel_laws.proofs.Lifting.{ActsKeep, CoreHolds, core_run}

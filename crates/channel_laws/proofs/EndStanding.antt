@@ -29,7 +29,7 @@ use Rattle.vio_tag.specs.declared.message.Message.{Message}
 use Rattle.vio_tag.specs.declared.message.MsgBody.{MsgBody}
 use Rattle.vio_tag.specs.declared.message.MsgBody.TheVariants.{DringUnreg, Plain}
 use Rattle.vio_tag.specs.Spelling.{canonical}
-use Rattle.disk_model.specs.Sayings.{half_said}
+use Rattle.channel_model.specs.Sayings.{half_said}
 use Rattle.channel_laws.proofs.EndCases.{EndTook, NoMessage, PutControl, PutMore, PutOwn, PutReady, PutHandshake, PutWhat, Rises, TookOwn, TookHandshake, TookWhat, end_put, end_took, put_down}
 use Rattle.channel_laws.proofs.HandshakeCases.{AttributesAgreed, AttributesAsked, AttributesRefused, Declined, OneRingAgreed, Opened, Opens, Owes, OwnReadyFollows, PeerAgreed, ReadyAgreed, ReadyAsked, ReadyFollows, RingAgreed, RingAsked, RingFollows, RingRefused, RowSent, RowTaken, VersionAgreed, VersionAsked, VersionRefused, row_sent}
 use Rattle.channel_laws.proofs.LinkCases.{ControlHeard, ControlPut, ControlTaken, LinkHeard, ModeAnswered, ModeOffered, PartHeard, ReadyHeard, VersionAnswered, VersionOffered, behind_part, behind_ready}

@@ -21,7 +21,7 @@ use Rattle.vio_handshake.specs.State.{begun, fresh_handshake, joined_handshake, 
 use Rattle.vio_tag.specs.declared.message.Message.{Message}
 use Rattle.vio_tag.specs.declared.message.MsgBody.{MsgBody}
 use Rattle.vio_tag.specs.declared.message.MsgBody.TheVariants.{Attr, DringData, DringReg, Mcast, Rdx, Ver}
-use Rattle.disk_model.specs.Sayings.{half_said, said}
+use Rattle.channel_model.specs.Sayings.{half_said, said}
 use Rattle.channel_laws.proofs.EndCases.{EndTook, NoMessage, PutControl, PutMore, PutOwn, PutReady, PutHandshake, PutWhat, Rises, TookOwn, TookHandshake, TookWhat, end_put, end_took}
 use Rattle.channel_laws.proofs.EndResting.{StandsResting, held_handshake, of_sid, resting_step}
 use Rattle.channel_laws.proofs.EndStanding.{fresh_end_stands, held_stands, holds_some}

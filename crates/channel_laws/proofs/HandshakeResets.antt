@@ -19,7 +19,7 @@ use Rattle.vio_handshake.specs.declared.handshake.Phase.{Phase}
 use Rattle.vio_handshake.specs.declared.handshake.Phase.TheVariants as state
 use Rattle.vio_handshake.specs.Rules as rules
 use Rattle.vio_handshake.specs.Rules.{Faults, Goes, GoesOpen, HandshakeTake, answered, asked, fault_or, is_declined, row, handshake_hear, handshake_take, sid_fault}
-use Rattle.disk_model.specs.ResetSays.{MessageSays}
+use Rattle.channel_model.specs.ResetSays.{MessageSays}
 use Rattle.channel_laws.proofs.LinkResets.{other_number}
 
 -- bytes that spell a message

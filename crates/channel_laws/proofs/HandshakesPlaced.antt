@@ -25,8 +25,8 @@ use Rattle.vio_handshake.specs.declared.session.Offer.{Offer}
 use Rattle.vio_handshake.specs.Rules.{is_declined, handshake_sent}
 use Rattle.vio_handshake.specs.State.{begun, joined_handshake, next_sid, handshake_up}
 use Rattle.vio_handshake.proofs.Places.{AllSaid, IsPlace, Place, VersionSaid, last_at, handshake_at}
-use Rattle.disk_model.specs.Sayings.{half_said, heard, said}
-use Rattle.disk_model.specs.TranscriptLog.{nothing_said}
+use Rattle.channel_model.specs.Sayings.{half_said, heard, said}
+use Rattle.channel_model.specs.TranscriptLog.{nothing_said}
 use Rattle.channel_laws.proofs.Conversations.{held_phase}
 use Rattle.channel_laws.proofs.ConversingRuns.{HeardFrom, converse_keeps, first_converse, hears_next}
 use Rattle.channel_laws.proofs.EndCases.{EndTook, NoMessage, PutControl, PutMore, PutOwn, PutReady, PutHandshake, PutWhat, Rises, TookOwn, TookHandshake, TookWhat, end_put, end_took, put_down}

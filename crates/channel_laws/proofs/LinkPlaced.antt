@@ -24,9 +24,9 @@ use Rattle.ldc_queue.specs.Numbered.{is_numbered, numbered}
 use Rattle.ldc_queue.specs.OneStream.{live}
 use Rattle.ldc_queue.specs.Transcript.{Turn, numbered_heard, numbered_said}
 use Rattle.vio_handshake.specs.declared.session.Offer.{Offer}
-use Rattle.disk_model.specs.TranscriptLog.{nothing_said}
+use Rattle.channel_model.specs.TranscriptLog.{nothing_said}
 use Rattle.ldc_queue.specs.Wire.{peer_behind, queue_behind, upset}
-use Rattle.disk_model.specs.WireLog.{lossy_behind}
+use Rattle.channel_model.specs.WireLog.{lossy_behind}
 use Rattle.channel_laws.proofs.Conversations.{held_phase}
 use Rattle.channel_laws.proofs.EndCases.{end_took}
 use Rattle.channel_laws.proofs.EndStanding.{held_stands}

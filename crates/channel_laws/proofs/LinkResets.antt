@@ -25,9 +25,9 @@ use Rattle.ldc_queue.specs.Transcript.{Turn}
 use Rattle.vio_bytes.specs.Place.{number_at}
 use Rattle.vio_tag.specs.declared.cause.Cause.{Cause}
 use Rattle.vio_tag.specs.declared.cause.Cause.TheVariants as the_cause
-use Rattle.disk_model.proofs.SameSayings.{half_heard_is}
-use Rattle.disk_model.specs.Sayings.{count_heard, half_heard}
-use Rattle.disk_model.specs.WireAt.{counts_next}
+use Rattle.channel_model.proofs.SameSayings.{half_heard_is}
+use Rattle.channel_model.specs.Sayings.{count_heard, half_heard}
+use Rattle.channel_model.specs.WireAt.{counts_next}
 use Rattle.channel_laws.proofs.Numbering.{count_heard_is}
 use Rattle.channel_laws.specs.Resetting.{SaysWhy}
 

@@ -28,10 +28,10 @@ use Rattle.vio_handshake.specs.declared.session.Offer.{Offer}
 use Rattle.vio_handshake.specs.Messages.{info}
 use Rattle.vio_handshake.specs.Rules.{opens_by_put, put_in, handshake_sent, sid_fault}
 use Rattle.vio_handshake.specs.State.{begun, joined_handshake, next_sid, handshake_up}
-use Rattle.disk_model.specs.HandshakeOrder.{ComesUpBelow, Control, FollowsRow, HandshakeOrder, Hears as Hears_, HearsControl, IsControlOf, IsVersNack, Line, MayEnd, RdxGiven, RtrAnswered, RtsAsked, Says as Says_, SaysControl, VersAgreed, VersOffer}
-use Rattle.disk_model.specs.Sayings.{half_said}
-use Rattle.disk_model.specs.TranscriptLog.{transcript_of}
-use Rattle.disk_model.specs.WireEvent.{Sent as Sent_, Took as Took_}
+use Rattle.channel_model.specs.HandshakeOrder.{ComesUpBelow, Control, FollowsRow, HandshakeOrder, Hears as Hears_, HearsControl, IsControlOf, IsVersNack, Line, MayEnd, RdxGiven, RtrAnswered, RtsAsked, Says as Says_, SaysControl, VersAgreed, VersOffer}
+use Rattle.channel_model.specs.Sayings.{half_said}
+use Rattle.channel_model.specs.TranscriptLog.{transcript_of}
+use Rattle.channel_model.specs.WireEvent.{Sent as Sent_, Took as Took_}
 use Rattle.channel_laws.proofs.EndCases.{EndTook, NoMessage, PutControl, PutMore, PutOwn, PutReady, PutHandshake, PutWhat, Rises, TookMessage, TookOwn, TookHandshake, TookWhat, end_put, end_took, put_down, taken_down}
 use Rattle.channel_laws.proofs.EndResting.{StandsResting, held_handshake, of_sid, resting_step}
 use Rattle.channel_laws.proofs.EndStanding.{first_down, held_stands, holds_some, open_declines, opened_phase, stands_step}

@@ -16,9 +16,9 @@ use Rattle.ldc_queue.specs.Fragments.{Fragment, fragment_at, fragments_in, is_pa
 use Rattle.ldc_queue.specs.Messages.{AllMayCome, MayCome, half_in, half_with}
 use Rattle.ldc_queue.specs.Numbered.{is_numbered}
 use Rattle.ldc_queue.specs.Transcript.{Said, Turn, numbered_said}
-use Rattle.disk_model.proofs.SameSayings.{half_said_is}
-use Rattle.disk_model.specs.Sayings.{half_said}
-use Rattle.disk_model.specs.WireAt.{IsSaid, IsSaidPart}
+use Rattle.channel_model.proofs.SameSayings.{half_said_is}
+use Rattle.channel_model.specs.Sayings.{half_said}
+use Rattle.channel_model.specs.WireAt.{IsSaid, IsSaidPart}
 use Rattle.ldc_link.specs.declared.phase.Role.{Role}
 use Rattle.ldc_link.specs.declared.phase.Role.TheVariants.{Initiator, Responder}
 use Rattle.vio_handshake.specs.declared.session.Offer.{Offer}

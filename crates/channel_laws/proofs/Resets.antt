@@ -20,9 +20,9 @@ use Rattle.vio_tag.specs.declared.cause.Cause.TheVariants as the_cause
 use Rattle.vio_tag.specs.declared.message.Message.{Message}
 use Rattle.vio_tag.specs.declared.message.TagFault.{TagFault}
 use Rattle.vio_tag.specs.Decoding.{Decodes}
-use Rattle.disk_model.specs.ResetSays.{EndsMessage, MessageSays, ended}
-use Rattle.disk_model.specs.TranscriptLog.{transcript_of}
-use Rattle.disk_model.specs.WireEvent.{ByStep, Giver, Reset, giver}
+use Rattle.channel_model.specs.ResetSays.{EndsMessage, MessageSays, ended}
+use Rattle.channel_model.specs.TranscriptLog.{transcript_of}
+use Rattle.channel_model.specs.WireEvent.{ByStep, Giver, Reset, giver}
 use Rattle.channel_laws.proofs.HandshakeResets.{HandshakeWhy, Spelled, handshake_why}
 use Rattle.channel_laws.proofs.LinkCases.{link_heard}
 use Rattle.channel_laws.proofs.LinkResets.{link_why}

@@ -5,14 +5,13 @@ use Rattle.runs.specs.Run.{Run}
 use Rattle.ldc_queue.specs.declared.end.End.{End}
 use Rattle.ldc_queue.specs.declared.end.End.TheVariants.{A, B}
 use Rattle.ldc_queue.specs.Transcript.{Heard, Said}
-use Rattle.map_table.specs.Cookies.{IsCookie}
+use Rattle.map_table.specs.Cookies.{IsCookie, no_cookie}
 use Rattle.map_table.proofs.Each.{each_replicate}
 use Rattle.vio_handshake.specs.Acceptance.{hold_ring}
 use Rattle.vio_handshake.specs.Offers.{FitsRing, Match}
-use Rattle.vio_tag.specs.Form.{no_cookie}
-use Rattle.disk_model.specs.HandshakeOrder.{HandshakeOrder}
-use Rattle.disk_model.specs.TranscriptLog.{transcript_of}
-use Rattle.disk_model.specs.WireEvent as event
+use Rattle.channel_model.specs.HandshakeOrder.{HandshakeOrder}
+use Rattle.channel_model.specs.TranscriptLog.{transcript_of}
+use Rattle.channel_model.specs.WireEvent as event
 use Rattle.channel_laws.proofs.OpeningOrder.{opens_hearing, opens_saying}
 use Rattle.channel_laws.proofs.Sessions.{open_sessions_one}
 use Rattle.channel_laws.specs.LaneCore.{CoreEvent, CoreFits, CoreStep, OfferFits, OnChannel, fresh_core, role_of, transcript_behind}

@@ -12,8 +12,8 @@ use Rattle.ldc_link.specs.Following.{Follows}
 use Rattle.ldc_link.specs.LinkState.{LinkState}
 use Rattle.ldc_link.specs.Putting.{first_part, part_bytes}
 use Rattle.ldc_link.specs.Taking.{whole_of}
-use Rattle.disk_model.proofs.SameSayings.{half_heard_is}
-use Rattle.disk_model.specs.Sayings.{half_heard, half_past, half_said, heard, said, whole_by, whole_past}
+use Rattle.channel_model.proofs.SameSayings.{half_heard_is}
+use Rattle.channel_model.specs.Sayings.{half_heard, half_past, half_said, heard, said, whole_by, whole_past}
 use Rattle.channel_laws.proofs.LinkCases.{ControlHeard, IsPacket, LinkHeard, PartHeard, ReadyHeard, canonical_is, ready_loud, taken_quiet}
 
 -- A PACKET THAT IS NO PART says nothing of a message

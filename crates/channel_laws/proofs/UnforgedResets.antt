@@ -24,10 +24,10 @@ use Rattle.vio_tag.specs.declared.cause.Cause.{Cause}
 use Rattle.vio_tag.specs.declared.message.Message.{Message}
 use Rattle.vio_tag.specs.declared.message.TagFault.{TagFault}
 use Rattle.vio_tag.specs.Decoding.{Decodes}
-use Rattle.disk_model.specs.Sayings.{said}
-use Rattle.disk_model.specs.TranscriptLog.{TranscriptLog, transcript_of}
-use Rattle.disk_model.specs.WireAt.{IsOwnReset, MayReset}
-use Rattle.disk_model.specs.WireEvent.{ByStep, Giver, Reset, giver}
+use Rattle.channel_model.specs.Sayings.{said}
+use Rattle.channel_model.specs.TranscriptLog.{TranscriptLog, transcript_of}
+use Rattle.channel_model.specs.WireAt.{IsOwnReset, MayReset}
+use Rattle.channel_model.specs.WireEvent.{ByStep, Giver, Reset, giver}
 use Rattle.channel_laws.proofs.ConversingRuns.{HeardFrom, hears_next}
 use Rattle.channel_laws.proofs.CoreRuns.{Knows}
 use Rattle.channel_laws.proofs.EndCases.{stays_risen}

@@ -10,10 +10,10 @@ use Rattle.ldc_queue.specs.declared.end.End.TheVariants.{A, B}
 use Rattle.ldc_queue.specs.Transcript.{Heard, Said, Turn}
 use Rattle.ldc_queue.specs.Wire.{Wire, closed, peer_of, state_of, waiting_for}
 use Rattle.vio_handshake.specs.declared.session.Offer.{Offer}
-use Rattle.disk_model.specs.TranscriptLog.{TranscriptLog, nothing_said, silenced, transcript_moved}
-use Rattle.disk_model.specs.WireAt.{IsFirstOn, IsUp, MayReset}
-use Rattle.disk_model.specs.WireEvent.{Blocked, ByRestart, ByScript, ByStep, ByTick, Declines, Giver, Idle, Injected, Joined, Lost, Poked, Reset, Sent, Took, WireEvent, giver}
-use Rattle.disk_model.specs.WireLog.{WireLog, nothing_on_wire, wire_moved}
+use Rattle.channel_model.specs.TranscriptLog.{TranscriptLog, nothing_said, silenced, transcript_moved}
+use Rattle.channel_model.specs.WireAt.{IsFirstOn, IsUp, MayReset}
+use Rattle.channel_model.specs.WireEvent.{Blocked, ByRestart, ByScript, ByStep, ByTick, Declines, Giver, Idle, Injected, Joined, Lost, Poked, Reset, Sent, Took, WireEvent, giver}
+use Rattle.channel_model.specs.WireLog.{WireLog, nothing_on_wire, wire_moved}
 use Rattle.map_table.specs.Cookies.{IsCookie}
 use Rattle.vio_tag.specs.declared.cause.Cause.{Cause}
 use Rattle.vio_tag.specs.Form.{AreCookies}

@@ -4,8 +4,8 @@ use Rattle.std.specs.Prelude.{◌≡◌, ℕ, Bool, true, ◌⊎◌, List, Optio
 use Rattle.ldc_queue.specs.Transcript.{Turn}
 use Rattle.vio_tag.specs.declared.cause.Cause.{Cause}
 use Rattle.vio_tag.specs.declared.cause.Cause.TheVariants as the_cause
-use Rattle.disk_model.specs.ResetSays.{EndsMessage, PacketSays}
-use Rattle.disk_model.specs.WireAt.{GapOf}
+use Rattle.channel_model.specs.ResetSays.{EndsMessage, PacketSays}
+use Rattle.channel_model.specs.WireAt.{GapOf}
 use Rattle.channel_laws.specs.EndCore.{EndCore}
 
 -- a slot of a ring that isn't DONE lies in no packet

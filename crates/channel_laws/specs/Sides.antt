@@ -6,8 +6,8 @@ use Rattle.ldc_queue.specs.declared.end.ChannelState.TheVariants.{Down, Up}
 use Rattle.ldc_queue.specs.Transcript.{Heard, Said, Turn}
 use Rattle.ldc_queue.specs.Wire.{peer_behind, queue_behind, upset}
 pub use Rattle.vio_handshake.specs.Pairing.{other}
-use Rattle.disk_model.specs.TranscriptLog.{TranscriptLog}
-use Rattle.disk_model.specs.WireLog.{WireLog, lossy_behind}
+use Rattle.channel_model.specs.TranscriptLog.{TranscriptLog}
+use Rattle.channel_model.specs.WireLog.{WireLog, lossy_behind}
 use Rattle.channel_laws.specs.EndCore.{EndCore}
 use Rattle.channel_laws.specs.LaneCore.{LaneCore}
 

@@ -4,12 +4,12 @@ use Rattle.std.specs.Prelude.{◌≡◌, ℕ, ◌-◌, Bool, true, ◌&&◌, is_
 use Rattle.ldc_link.specs.declared.phase.Role.TheVariants.{Initiator, Responder}
 use Rattle.ldc_link.specs.LinkState.{LinkState, fresh_link}
 use Rattle.ldc_queue.specs.Messages.{is_empty}
+use Rattle.map_table.specs.Cookies.{no_cookie}
 use Rattle.map_table.specs.declared.cookie.Cookie.{Cookie}
 use Rattle.vio_handshake.specs.declared.handshake.Handshake.{Handshake}
 use Rattle.vio_handshake.specs.declared.session.Offer.{Offer}
 use Rattle.vio_handshake.specs.State.{fresh_handshake}
-use Rattle.vio_tag.specs.Form.{no_cookie}
-use Rattle.disk_model.specs.WireLog.{WireLog, nothing_on_wire}
+use Rattle.channel_model.specs.WireLog.{WireLog, nothing_on_wire}
 use Rattle.channel_laws.specs.EndCore.{EndCore}
 use Rattle.channel_laws.specs.LaneCore.{CoreEvent, CoreStep, LaneCore}
 

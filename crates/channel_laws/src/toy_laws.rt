@@ -4,9 +4,9 @@ ghost use Rattle.std.specs.Prelude.{◌≡◌, ◌∷◌, ℕ, List, false, is_s
 ghost use Rattle.runs.specs.Run.{Run};
 ghost use Rattle.ldc_queue.specs.Transcript.{Heard, Said};
 ghost use Rattle.ldc_queue.specs.declared.end.End.{End};
-ghost use Rattle.disk_model.specs.HandshakeOrder.{HandshakeOrder};
-ghost use Rattle.disk_model.specs.TranscriptLog.{transcript_of};
-ghost use Rattle.disk_model.specs.WireEvent.{Sent, Took};
+ghost use Rattle.channel_model.specs.HandshakeOrder.{HandshakeOrder};
+ghost use Rattle.channel_model.specs.TranscriptLog.{transcript_of};
+ghost use Rattle.channel_model.specs.WireEvent.{Sent, Took};
 ghost use Rattle.channel_laws.specs.LaneCore.{role_of, transcript_behind, CoreEvent, OnChannel};
 ghost use Rattle.channel_laws.specs.OneSession.{AreOneSession};
 ghost use Rattle.channel_laws.specs.ToyKind.{fresh_toys, ToyLane, ToyStep};

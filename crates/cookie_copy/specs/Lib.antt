@@ -3,3 +3,4 @@ pub mod Faults
 pub mod OnePage
 pub mod Identity
 pub mod Following
+pub mod Reach

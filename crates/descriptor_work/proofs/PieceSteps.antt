@@ -11,7 +11,8 @@ use Rattle.map_table.specs.declared.cookie.Cookie.{Cookie}
 use Rattle.vio_io.specs.Causes.{next_count}
 use Rattle.vio_io.specs.Stores.{IsUnitRange, KeepsOutside, ReadsRange, WritesRange}
 use Rattle.disk_model.specs.ServerState.{Ends, Flushes, Gathers, Gives, Progress, Reads, Work, Writes}
-use Rattle.disk_model.specs.ServerWork.{MovesIn, Reach, data_cookies, desc_of, gathers_next, length_of, or_ends, reads_next, unit_block}
+use Rattle.cookie_copy.specs.Reach.{Reach}
+use Rattle.disk_model.specs.ServerWork.{MovesIn, data_cookies, desc_of, gathers_next, length_of, or_ends, reads_next, unit_block}
 use Rattle.descriptor_work.specs.declared.answers.ServerOut.TheVariants as out
 use Rattle.descriptor_work.specs.Calling.{FaultsAfter}
 use Rattle.descriptor_work.specs.Pieces.{PieceIn, PieceOn, StoredFor}

@@ -5,7 +5,7 @@ use Rattle.ldc_queue.specs.ChannelView.{ChannelView}
 use Rattle.map_table.specs.declared.table.Entry.{Entry}
 use Rattle.vio_io.specs.Causes.{next_count}
 use Rattle.vio_io.specs.declared.store.Store.{Ghosts}
-use Rattle.disk_model.specs.ServerWork.{Reach}
+use Rattle.cookie_copy.specs.Reach.{Reach}
 use Rattle.descriptor_work.specs.declared.answers.ServerOut.{ServerOut}
 use Rattle.descriptor_work.specs.declared.answers.ServerOut.TheVariants as out
 

@@ -2,7 +2,8 @@
 use Rattle.std.specs.Prelude.{◌≡◌, ℕ, List, Option}
 use Rattle.disk_model.specs.Served.{StoreDoesIn}
 use Rattle.disk_model.specs.ServerState.{Progress, ServerState, Work, fresh_server}
-use Rattle.disk_model.specs.ServerWork.{MovesIn, Reach, StoresIn}
+use Rattle.cookie_copy.specs.Reach.{Reach}
+use Rattle.disk_model.specs.ServerWork.{MovesIn, StoresIn}
 use Rattle.descriptor_work.specs.declared.answers.ServerOut.{ServerOut}
 use Rattle.descriptor_work.specs.declared.answers.ServerOut.TheVariants as out
 

@@ -7,7 +7,7 @@ use Rattle.std.specs.List.{position_or_len, range_with_len}
 use Rattle.std.specs.Prelude.{is_none}
 use Rattle.cookie_copy.specs.Faults.{PagesWithin}
 use Rattle.cookie_copy.specs.Identity.{own_entry}
-use Rattle.disk_model.specs.LaneState.{own_table}
+use Rattle.channel_model.specs.OwnMemory.{own_table}
 use Rattle.lane_laws.proofs.RingPages.{own_is_identity}
 use Rattle.map_table.specs.Table.{first_free}
 use Rattle.map_table.specs.declared.table.Entry.{Entry}

@@ -4,7 +4,7 @@ ghost use Rattle.std.specs.Prelude.{◌≡◌, ◌+◌, ◌*◌, ◌≤◌, IfOk
 ghost use Rattle.cookie_copy.specs.Identity.{own_entry};
 ghost use Rattle.map_table.specs.Table.{first_free};
 ghost use Rattle.vdisk_msg.specs.Requested.{ring_pages};
-ghost use Rattle.disk_model.specs.LaneState.{own_table};
+ghost use Rattle.channel_model.specs.OwnMemory.{own_table};
 
 use map_table::{MapTable, Rights};
 use std::alloc::Global;

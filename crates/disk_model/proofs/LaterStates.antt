@@ -5,14 +5,15 @@ use Rattle.ldc_link.specs.declared.phase.LinkPhase.TheVariants as link
 use Rattle.ldc_link.specs.declared.phase.Role.TheVariants.{Initiator, Responder}
 use Rattle.ldc_packet.specs.Spelling.{canonical}
 use Rattle.ldc_queue.specs.declared.end.ChannelState.TheVariants.{Up}
+use Rattle.map_table.specs.Cookies.{no_cookie}
 use Rattle.map_table.specs.declared.table.Entry.{Entry}
 use Rattle.vdisk_msg.specs.declared.request.Request.{Request}
 use Rattle.vio_bytes.specs.Place.{put_at}
 use Rattle.vio_handshake.specs.declared.handshake.Phase.TheVariants as handshake
-use Rattle.vio_tag.specs.Form.{no_cookie}
 use Rattle.disk_model.specs.ClientStep.{published_memory}
 use Rattle.disk_model.specs.LaneState.{LaneState}
-use Rattle.disk_model.specs.Offering.{client_offer, filled, server_offer}
+use Rattle.channel_model.specs.OwnMemory.{filled}
+use Rattle.disk_model.specs.Offering.{client_offer, server_offer}
 use Rattle.disk_model.specs.FirstRounds.{attr_ack, data_info, rdx_ack, rdx_info, reg_ack, reg_info, carries}
 use Rattle.disk_model.proofs.RoundStates.{lane_at, link_at, handshake_at}
 

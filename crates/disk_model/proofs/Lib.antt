@@ -1,4 +1,3 @@
-pub mod SameSayings
 pub mod Stepping
 pub mod RoundStates
 pub mod LaterStates
@@ -6,6 +5,4 @@ pub mod RoundMessages
 pub mod RoundsOpening
 pub mod RoundsSession
 pub mod FirstRun
-pub mod OwnCauses
-pub mod OwnMessages
 pub mod OwnSteps

@@ -6,11 +6,11 @@ use Rattle.ldc_packet.specs.declared.packet.Body.TheVariants as body
 use Rattle.ldc_packet.specs.declared.packet.Subtype.TheVariants.{Info, Ack}
 use Rattle.ldc_packet.specs.Spelling.{canonical}
 use Rattle.ldc_queue.specs.declared.end.ChannelState.TheVariants.{Down, Up}
+use Rattle.map_table.specs.Cookies.{no_cookie}
 use Rattle.map_table.specs.declared.table.Entry.{Entry}
 use Rattle.vdisk_msg.specs.declared.request.Request.{Request}
 use Rattle.vio_handshake.specs.declared.handshake.Phase.TheVariants as handshake
 use Rattle.vio_tag.specs.declared.message.Message.{Message}
-use Rattle.vio_tag.specs.Form.{no_cookie}
 use Rattle.disk_model.specs.LaneState.{LaneState}
 use Rattle.disk_model.specs.Offering.{client_offer, server_offer}
 use Rattle.ldc_link.specs.Putting.{control}

@@ -1,11 +1,10 @@
 -- The state of a disk's lane: the wire, its two ends, the client's memory and the table that grants it to the server. The image isn't in
 -- it: steps say what the store gave.
-use Rattle.std.specs.Prelude.{◌≡◌, ℕ, ◌+◌, ◌-◌, ◌*◌, ◌^◌, ◌≤◌, min, Bool, false, List, map, replicate, Option, Some}
-use Rattle.std.specs.List.{range_with_len}
-use Rattle.cookie_copy.specs.Identity.{own_entry}
+use Rattle.std.specs.Prelude.{ℕ, ◌+◌, ◌-◌, ◌*◌, ◌^◌, ◌≤◌, min, Bool, false, List, replicate, Option}
 use Rattle.map_table.specs.declared.table.Entry.{Entry}
 use Rattle.vdisk_msg.specs.Requested.{ring_pages}
-use Rattle.disk_model.specs.WireLog.{WireLog, nothing_on_wire}
+use Rattle.channel_model.specs.WireLog.{WireLog, nothing_on_wire}
+use Rattle.channel_model.specs.OwnMemory.{IsPowerOfTwo, own_table}
 use Rattle.disk_model.specs.ClientState.{ClientState, ever_published_count, fresh_client}
 use Rattle.disk_model.specs.ServerState.{ServerState, fresh_server}
 
@@ -15,9 +14,6 @@ pub record Shape : Type 0 where
   pub blocks : ℕ
   pub slots : ℕ
   pub entries : ℕ
-
-abbrev pub IsPowerOfTwo : ℕ → Type 0
-IsPowerOfTwo n = (k : ℕ) × (n ≡ 2 ^ k)
 
 pub record IsShape (shape : Shape) : Type 0 where
   pub some_blocks : 1 ≤ shape.blocks
@@ -52,9 +48,6 @@ pub record LaneState : Type 0 where
 -- the pages of the ring and of each slot's buffer, and each granted at its own index
 abbrev pub pages_of : Shape → ℕ
 pages_of shape = ring_pages shape.slots + 4 * shape.slots
-
-abbrev pub own_table : ℕ → List (Option Entry)
-own_table pages = map (λ (page : ℕ). Some (own_entry page)) (range_with_len 0 pages)
 
 abbrev pub nothing_near : NearCounts
 nothing_near = record { k = 0; m = 0; u = 0 }

@@ -1,26 +1,16 @@
 -- What the two ends of a disk offer in their handshake.
-use Rattle.std.specs.Prelude.{ℕ, ◌+◌, ◌*◌, zero, suc, nat_le, false, if◌then◌else◌, List, [], ◌∷◌, replicate, length}
+use Rattle.std.specs.Prelude.{ℕ, ◌*◌, nat_le, false, if◌then◌else◌, List, [], ◌∷◌, replicate, length}
+use Rattle.map_table.specs.Cookies.{no_cookie}
 use Rattle.map_table.specs.declared.cookie.Cookie.{Cookie}
 use Rattle.vdisk_msg.specs.Requested.{ring_pages}
 use Rattle.vio_tag.specs.Attributes.{disk_attr_bytes}
 use Rattle.vio_tag.specs.declared.attributes.DiskAttr.{DiskAttr}
-use Rattle.vio_tag.specs.Form.{no_cookie}
 use Rattle.vio_handshake.specs.declared.session.Offer.{Offer}
-
--- so many pages of a ring, from the page on, each by a cookie of its own
-abbrev pub page_cookies : ℕ → ℕ → List Cookie
-page_cookies page zero = []
-page_cookies page (suc n) = record { address = 8192 * page; size = 8192 } ∷ page_cookies (page + 1) n
+use Rattle.channel_model.specs.OwnMemory.{filled, page_cookies}
 
 -- a ring below a page has one cookie, of its size
 abbrev pub own_cookies : ℕ → List Cookie
 own_cookies slots = if nat_le 64 slots then page_cookies 0 (ring_pages slots) else record { address = 0; size = 128 * slots } ∷ []
-
--- fourteen of them, the last ones none
-abbrev pub filled : ℕ → List Cookie → List Cookie
-filled zero cookies = []
-filled (suc n) [] = no_cookie ∷ filled n []
-filled (suc n) (cookie ∷ cookies) = cookie ∷ filled n cookies
 
 -- the disk that an end speaks of, by its number of blocks
 abbrev pub disk_of : ℕ → DiskAttr

@@ -6,15 +6,16 @@ use Rattle.ldc_link.specs.Calls.{Puts as PutsPacket}
 use Rattle.ldc_queue.specs.declared.end.End.TheVariants.{B}
 use Rattle.vdisk_msg.specs.Descriptor as slot_says
 use Rattle.vio_tag.specs.declared.cause.Cause.{Cause}
-use Rattle.disk_model.specs.WireEvent.{Blocked, Idle, Joined, Reset, Sent, Took}
+use Rattle.channel_model.specs.WireEvent.{Blocked, Idle, Joined, Reset, Sent, Took}
 use Rattle.disk_model.specs.DiskEvent.{Desc, DiskEvent, Finished, Moved, OnWire, Stored, Works}
-use Rattle.disk_model.specs.Ranges.{wrapped}
-use Rattle.disk_model.specs.Seeing.{Seen}
+use Rattle.channel_model.specs.Ranges.{wrapped}
+use Rattle.channel_model.specs.Seeing.{Seen}
 use Rattle.disk_model.specs.ServerPutting.{server_holds, server_opens, server_put}
 use Rattle.disk_model.specs.ServerRule.{Fetches, Joins, Idles, ServerRule, Serves, Takes, server_rule}
 use Rattle.disk_model.specs.ServerState.{Ends, Progress, ServerSession, ServerState, Work, joined_server}
 use Rattle.disk_model.specs.ServerTaking.{GoesOn, Resets, ServerTakes}
-use Rattle.disk_model.specs.ServerWork.{CanFetch, EndFails, FetchFails, MovesIn, Reach, StoresIn, first_progress, header_of, slot_at, slot_fetched, with_done, with_word, word_fault}
+use Rattle.cookie_copy.specs.Reach.{Reach}
+use Rattle.disk_model.specs.ServerWork.{CanFetch, EndFails, FetchFails, MovesIn, StoresIn, first_progress, header_of, slot_at, slot_fetched, with_done, with_word, word_fault}
 
 -- the packet that the rule puts, and the server after it
 pub record ServerSends (s : ServerState) (at : Seen) (bytes : List ℕ) (opens : Bool) (t : ServerState) : Type 0 where

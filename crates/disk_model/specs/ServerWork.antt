@@ -11,7 +11,6 @@ use Rattle.dring.specs.declared.peer.RingFault.TheVariants as refused
 use Rattle.dring.specs.Reaching.{RefusesFetch, ring_cookies}
 use Rattle.dring.specs.Slots.{ready_state}
 use Rattle.map_table.specs.declared.cookie.Cookie.{Cookie}
-use Rattle.map_table.specs.declared.table.Entry.{Entry}
 use Rattle.vdisk_msg.specs.Check.{first_defect}
 use Rattle.vdisk_msg.specs.declared.desc.DescFault.{DescFault}
 use Rattle.vdisk_msg.specs.declared.desc.DiskDesc.{DiskDesc}
@@ -20,22 +19,8 @@ use Rattle.vdisk_msg.specs.Pieces.{refusal_status, unit_count}
 use Rattle.vdisk_msg.specs.Requested.{header, status_word}
 use Rattle.vio_tag.specs.declared.cause.Cause.{Cause}
 use Rattle.vio_tag.specs.declared.cause.Cause.TheVariants as the_cause
+use Rattle.cookie_copy.specs.Reach.{Reach, copy_number}
 use Rattle.disk_model.specs.ServerState.{Ends, Flushes, Gathers, Gives, Progress, Reads, ServerState, Work, Writes, peer_ring}
-
--- what a copy works on: whether both ends are up, the client's table and its memory
-pub record Reach : Type 0 where
-  pub both : Bool
-  pub table : List (Option Entry)
-  pub memory : List ℕ
-
--- the number of a copy's fault, as a reset's cause has it
-abbrev pub copy_number : CopyFault → ℕ
-copy_number fault.Channel = 1
-copy_number fault.BadAlign = 2
-copy_number fault.Short = 3
-copy_number fault.BadPage = 4
-copy_number fault.NoMap = 5
-copy_number fault.NoAccess = 6
 
 -- the cookies of the client's ring
 abbrev pub slots_cookies : ServerState → List Cookie

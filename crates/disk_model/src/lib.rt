@@ -1,12 +1,9 @@
-//! A disk's lane as a state, its steps and the log of its events. The wire between two ends: what each put, took and said of it. A client
-//! with its requests and its memory, a server, the queues between them and the table by which the server reaches the memory. One
-//! relation says what each step of an end, each call of the lane and each disturbance does, exactly, also where somebody forges packets
-//! or memory. The log says in groups what happened, and where each event may stand in it. The ends' code and the lane's laws stand on
-//! it. It has no code but laws, by one of which its definitions can be held against the first rounds of a lane.
+//! A disk's lane as a state, its steps and its events: a client with its requests and its memory, a server, the queues between them
+//! and the table by which the server reaches the memory. One relation says what each step of an end, each call of the lane and each
+//! disturbance does, exactly, also where somebody forges packets or memory. The ends' code and the lane's laws stand on it. It has no
+//! code but laws, by one of which its definitions can be held against the first rounds of a lane.
 #![tactic(auto)]
 
 mod step_laws;
-mod wire_laws;
 
 pub use step_laws::{first_rounds_are_steps, steps_reset_for_their_own_causes};
-pub use wire_laws::transcripts_count_messages;

@@ -6,7 +6,7 @@ ghost use Rattle.vdisk_msg.specs.declared.request.Fill.{Fill};
 ghost use Rattle.vdisk_msg.specs.declared.request.Request.TheVariants.{Write};
 ghost use Rattle.vdisk_msg.specs.Fills.{IsFill};
 ghost use Rattle.vio_tag.specs.declared.cause.Cause.{Cause};
-ghost use Rattle.disk_model.specs.WireEvent.{ByStep, giver};
+ghost use Rattle.channel_model.specs.WireEvent.{ByStep, giver};
 ghost use Rattle.disk_model.specs.ClientRule.{ClientRule};
 ghost use Rattle.disk_model.specs.ClientState.{ClientState};
 ghost use Rattle.disk_model.specs.ClientStep.{ClientFails};
@@ -14,7 +14,7 @@ ghost use Rattle.disk_model.specs.FirstRounds.{RunsFirstRounds};
 ghost use Rattle.disk_model.specs.ServerRule.{ServerRule};
 ghost use Rattle.disk_model.specs.ServerState.{ServerState};
 ghost use Rattle.disk_model.specs.ServerStep.{ServerFails};
-ghost use Rattle.disk_model.specs.ServerWork.{Reach};
+ghost use Rattle.cookie_copy.specs.Reach.{Reach};
 
 /// A fresh lane accepts a write of two blocks, and the first 24 rounds, a step of the client and one of the server in each, are
 /// these: the ends join, the link and the session open, and the write is published and announced, all with the packets that are

@@ -2,10 +2,12 @@
 use Rattle.std.proofs.Common.{◌≡◌, ℕ, zero, suc, ◌+◌, ◌*◌, ◌<◌, ◌≤◌, Bool, true, false, [], ◌∷◌, length, replicate, refl, arith, ap, ◌∙◌, subst, sym}
 use Rattle.std.proofs.lemmas.Bool.{le-leb}
 use Rattle.std.specs.Prelude.{slice_set, nat_le, if◌then◌else◌}
+use Rattle.map_table.specs.Cookies.{no_cookie}
 use Rattle.map_table.specs.declared.cookie.Cookie.{Cookie}
 use Rattle.vdisk_msg.specs.Requested.{ring_pages}
-use Rattle.vio_tag.specs.Form.{AreCookies, no_cookie}
-use Rattle.disk_model.specs.Offering.{filled, own_cookies, page_cookies}
+use Rattle.vio_tag.specs.Form.{AreCookies}
+use Rattle.channel_model.specs.OwnMemory.{filled, page_cookies}
+use Rattle.disk_model.specs.Offering.{own_cookies}
 
 -- no pages yet, and one more
 pub no_pages : replicate 14 no_cookie ≡ filled 14 (page_cookies 0 0)

@@ -3,7 +3,8 @@
 ghost use Rattle.std.specs.Prelude.{◌≡◌, ◌+◌, ◌*◌, ◌/◌, ◌≤◌, nat_le, [], ◌∷◌, length};
 ghost use Rattle.vdisk_msg.specs.Requested.{ring_pages};
 ghost use Rattle.vio_tag.specs.Attributes.{disk_attr_bytes};
-ghost use Rattle.disk_model.specs.Offering.{client_offer, disk_of, filled, own_cookies, page_cookies};
+ghost use Rattle.channel_model.specs.OwnMemory.{filled, page_cookies};
+ghost use Rattle.disk_model.specs.Offering.{client_offer, disk_of, own_cookies};
 
 use map_table::Cookie;
 use vio_handshake::Offer;

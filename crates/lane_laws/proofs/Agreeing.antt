@@ -8,14 +8,14 @@ use Rattle.ldc_queue.specs.declared.end.ChannelState.TheVariants.{Down, Resettin
 use Rattle.ldc_queue.specs.declared.end.End.TheVariants.{A, B}
 use Rattle.ldc_queue.specs.OneStream.{IsFront}
 use Rattle.vio_handshake.specs.declared.session.Offer.{Offer}
-use Rattle.disk_model.specs.Sayings.{heard, said}
-use Rattle.disk_model.specs.TranscriptLog.{TranscriptLog}
-use Rattle.disk_model.specs.WireAt.{IsUp}
-use Rattle.disk_model.specs.WireLog.{WireLog}
-use Rattle.disk_model.specs.Agreement.{ClientAgrees, ClientCountsAgree, ServerAgrees}
-use Rattle.disk_model.specs.DiskLog.{DiskLog, after, nothing_yet}
-use Rattle.disk_model.specs.WorkLaws.{IfServer}
-use Rattle.disk_model.specs.WorkLog.{ClientCounts, ServerCounts}
+use Rattle.channel_model.specs.Sayings.{heard, said}
+use Rattle.channel_model.specs.TranscriptLog.{TranscriptLog}
+use Rattle.channel_model.specs.WireAt.{IsUp}
+use Rattle.channel_model.specs.WireLog.{WireLog}
+use Rattle.lane_laws.specs.Agreement.{ClientAgrees, ClientCountsAgree, ServerAgrees}
+use Rattle.lane_laws.specs.DiskLog.{DiskLog, after, nothing_yet}
+use Rattle.lane_laws.specs.WorkLaws.{IfServer}
+use Rattle.lane_laws.specs.WorkLog.{ClientCounts, ServerCounts}
 use Rattle.disk_model.specs.ClientState.{ClientSession}
 use Rattle.disk_model.specs.DiskEvent.{DiskEvent}
 use Rattle.disk_model.specs.LaneState.{IsShape, LaneState, Shape, fresh}
@@ -33,7 +33,7 @@ use Rattle.lane_laws.proofs.RingRuns.{issued_behind}
 use Rattle.lane_laws.specs.Counted.{InServerOrder, RangeStands, ServerOrder, acked_of, announced_of, range_sum, ready_count}
 use Rattle.lane_laws.specs.LaneTranscripts.{transcript_behind}
 use Rattle.lane_laws.specs.OneSession.{AreOneSession}
-use Rattle.disk_model.specs.Ranges.{wrapped}
+use Rattle.channel_model.specs.Ranges.{wrapped}
 use Rattle.lane_laws.specs.Remaining.{total}
 use Rattle.lane_laws.specs.RingAgreed.{AlwaysAgree, OneRing}
 use Rattle.lane_laws.specs.Sound.{CountsInOrder, InOrder}

@@ -4,16 +4,16 @@ use Rattle.ldc_queue.specs.declared.end.End.{End}
 use Rattle.ldc_queue.specs.declared.end.End.TheVariants.{A, B}
 use Rattle.ldc_queue.specs.Wire.{peer_behind}
 use Rattle.vio_tag.specs.declared.cause.Cause.{Cause}
-use Rattle.disk_model.specs.WireEvent.{Blocked, Declines, Idle, Injected, Joined, Lost, Poked, Reset, Sent, Took, WireEvent}
-use Rattle.disk_model.specs.WireLog.{WireLog, wire_moved}
-use Rattle.disk_model.specs.DiskLog.{DiskLog, after}
-use Rattle.disk_model.specs.WorkLaws.{IfServer}
-use Rattle.disk_model.specs.WorkLog.{ClientCounts, ServerCounts}
+use Rattle.channel_model.specs.WireEvent.{Blocked, Declines, Idle, Injected, Joined, Lost, Poked, Reset, Sent, Took, WireEvent}
+use Rattle.channel_model.specs.WireLog.{WireLog, wire_moved}
+use Rattle.lane_laws.specs.DiskLog.{DiskLog, after}
+use Rattle.lane_laws.specs.WorkLaws.{IfServer}
+use Rattle.lane_laws.specs.WorkLog.{ClientCounts, ServerCounts}
 use Rattle.disk_model.specs.ClientState.{ClientSession, ClientState, opened_session}
 use Rattle.disk_model.specs.DiskEvent.{Accepted, Admitted, Asks, Calm, DiskEvent, Full, Off, OnWire, Refused, Calms, Started, Stopped, Switched, Switches}
 use Rattle.disk_model.specs.LaneState.{LaneState, NearCounts}
 use Rattle.disk_model.specs.LaneStep.{LaneStep, RestStep, TurnStep, WireStep}
-use Rattle.disk_model.specs.Seeing.{seen}
+use Rattle.channel_model.specs.Seeing.{seen}
 use Rattle.disk_model.specs.ServerState.{Work}
 use Rattle.lane_laws.proofs.RingWire.{sent_clears, wire_same}
 use Rattle.lane_laws.proofs.SlotsStepping.{StepFacts}

@@ -14,11 +14,11 @@ use Rattle.ldc_queue.specs.declared.end.End.TheVariants.{A, B}
 use Rattle.ldc_queue.specs.OneStream.{IsFront}
 use Rattle.ldc_queue.specs.Wire.{peer_of}
 use Rattle.vdisk_msg.specs.declared.request.Request.{Request}
-use Rattle.disk_model.specs.Sayings.{heard, said}
-use Rattle.disk_model.specs.TranscriptLog.{TranscriptLog}
-use Rattle.disk_model.specs.WireEvent.{Idle}
-use Rattle.disk_model.specs.WireLog.{WireLog}
-use Rattle.disk_model.specs.DiskLog.{after, nothing_yet}
+use Rattle.channel_model.specs.Sayings.{heard, said}
+use Rattle.channel_model.specs.TranscriptLog.{TranscriptLog}
+use Rattle.channel_model.specs.WireEvent.{Idle}
+use Rattle.channel_model.specs.WireLog.{WireLog}
+use Rattle.lane_laws.specs.DiskLog.{after, nothing_yet}
 use Rattle.disk_model.specs.ClientPutting.{client_holds}
 use Rattle.disk_model.specs.ClientRule as client_rules
 use Rattle.disk_model.specs.ClientState.{ClientState, is_nothing}

@@ -6,8 +6,8 @@ use Rattle.ldc_queue.specs.declared.end.ChannelState.TheVariants.{Up}
 use Rattle.ldc_queue.specs.declared.end.End.{End}
 use Rattle.ldc_queue.specs.declared.end.End.TheVariants.{A, B}
 use Rattle.ldc_queue.specs.Wire.{peer_of}
-use Rattle.disk_model.specs.WireEvent.{Blocked, Idle}
-use Rattle.disk_model.specs.DiskLog.{DiskLog, after}
+use Rattle.channel_model.specs.WireEvent.{Blocked, Idle}
+use Rattle.lane_laws.specs.DiskLog.{DiskLog, after}
 use Rattle.disk_model.specs.ClientPutting.{client_holds}
 use Rattle.disk_model.specs.ClientRule as client_rules
 use Rattle.disk_model.specs.DiskEvent.{DiskEvent, Off, OnWire, Switches}

@@ -9,16 +9,16 @@ use Rattle.vio_tag.specs.Spelling.{canonical}
 use Rattle.vio_handshake.specs.declared.handshake.Handshake.{Handshake}
 use Rattle.vio_handshake.specs.declared.session.Session.{Session}
 use Rattle.vio_handshake.specs.Rules.{HandshakeTake, handshake_take}
-use Rattle.disk_model.specs.Sayings.{half_heard, half_said, heard}
-use Rattle.disk_model.specs.Agreement.{ClientAgrees}
-use Rattle.disk_model.specs.Messages.{range_ended, range_in}
-use Rattle.disk_model.specs.WorkLog.{ClientCounts, change_client, length_in}
+use Rattle.channel_model.specs.Sayings.{half_heard, half_said, heard}
+use Rattle.lane_laws.specs.Agreement.{ClientAgrees}
+use Rattle.channel_model.specs.Messages.{range_ended, range_in}
+use Rattle.lane_laws.specs.WorkLog.{ClientCounts, change_client, length_in}
 use Rattle.disk_model.specs.ClientPutting.{announcement, is_announcing}
 use Rattle.disk_model.specs.ClientState.{ClientSession, ClientState, joined_client}
 use Rattle.disk_model.specs.ClientTaking.{acknowledged}
 use Rattle.disk_model.specs.LaneState.{Shape}
 use Rattle.disk_model.specs.Offering.{client_offer}
-use Rattle.disk_model.specs.Ranges.{range_length}
+use Rattle.channel_model.specs.Ranges.{range_length}
 use Rattle.lane_laws.proofs.ClientTaken.{ClientAcked, ClientHearsPart, ClientHandshakes, ClientTook, HandshakesTo}
 use Rattle.lane_laws.proofs.Fitting.{TakesFit, joined_fits, take_fits}
 use Rattle.lane_laws.proofs.RangeSums.{sum_heard, sum_more}

@@ -18,19 +18,19 @@ use Rattle.vio_handshake.specs.declared.handshake.Handshake.{Handshake}
 use Rattle.vio_handshake.specs.declared.handshake.Phase.TheVariants.{Down}
 use Rattle.vio_handshake.specs.declared.session.Offer.{Offer}
 use Rattle.vio_handshake.specs.State.{handshake_up, joined_handshake, no_session}
-use Rattle.disk_model.specs.BlockLog.{Blockage, Clear, Stuck, StuckBefore, hearing, is_stuck, stuck}
+use Rattle.lane_laws.specs.BlockLog.{Blockage, Clear, Stuck, StuckBefore, hearing, is_stuck, stuck}
 use Rattle.disk_model.specs.ClientPutting.{announcement, announced, announcing, client_holds, client_kind, holding, is_announcing, opened_if, session_behind}
 use Rattle.disk_model.specs.ClientRule.{Announces, ClientRule, Completes, Idles, Joins, Publishes, Puts, Says, Takes, client_rule}
 use Rattle.disk_model.specs.ClientState.{ClientSession, ClientState, joined_client, slot_in}
 use Rattle.disk_model.specs.ClientStep.{ClientAdmits, ClientCompletes, ClientPublishes}
 use Rattle.disk_model.specs.DiskEvent.{Accepted, Admitted, Full, Refused}
-use Rattle.disk_model.specs.EndLog.{down_with, handshake_of, is_stuck_with_own, link_phase}
-use Rattle.disk_model.specs.EndPuts.{ComesUp, EndsOwn, EndsHandshake, Goes, PutKind, ending, handshake_behind, kind_in, put_kind, put_opens}
-use Rattle.disk_model.specs.Messages.{is_range, range_if, range_in}
-use Rattle.disk_model.specs.Ranges.{wrapped}
-use Rattle.disk_model.specs.Sayings.{half_said}
-use Rattle.disk_model.specs.Seeing.{Seen}
-use Rattle.disk_model.specs.TranscriptLog.{is_rdx, more_if}
+use Rattle.lane_laws.specs.EndLog.{down_with, handshake_of, is_stuck_with_own, link_phase}
+use Rattle.channel_model.specs.EndPuts.{ComesUp, EndsOwn, EndsHandshake, Goes, PutKind, ending, handshake_behind, kind_in, put_kind, put_opens}
+use Rattle.channel_model.specs.Messages.{is_range, range_if, range_in}
+use Rattle.channel_model.specs.Ranges.{wrapped}
+use Rattle.channel_model.specs.Sayings.{half_said}
+use Rattle.channel_model.specs.Seeing.{Seen}
+use Rattle.channel_model.specs.TranscriptLog.{is_rdx, more_if}
 use Rattle.lane_laws.proofs.ClientHolding.{info_long}
 use Rattle.lane_laws.proofs.ClientPutCounting.{own_info, put_as}
 use Rattle.lane_laws.proofs.ClientTaken.{ClientAcked, ClientHandshakes, ClientHearsPart, ClientTook}

@@ -17,7 +17,7 @@ use Rattle.vio_handshake.specs.Rules.{Faults, Goes, GoesOpen, HandshakeTake, han
 use Rattle.disk_model.specs.ClientPutting.{is_announcing}
 use Rattle.disk_model.specs.ClientState.{ClientSession, ClientState, slot_in}
 use Rattle.disk_model.specs.ClientTaking.{ClientTake, ClientTakes, GoesOn, HearsLink, HearsWhole, Resets, acknowledged, by_handshake, hears_message, in_session, reads, sid_first, takes_ack}
-use Rattle.disk_model.specs.Ranges.{is_other, range_length}
+use Rattle.channel_model.specs.Ranges.{is_other, range_length}
 use Rattle.lane_laws.proofs.Hearing.{heard_leaves}
 use Rattle.lane_laws.proofs.Short.{ComesShort, TakesShort, message_comes, take_short}
 use Rattle.lane_laws.proofs.Sharing.{in_order}

@@ -10,8 +10,8 @@ use Rattle.vio_handshake.specs.Messages.{info}
 use Rattle.disk_model.specs.ClientPutting.{announcement, announcing, client_holds, holding, is_announcing}
 use Rattle.disk_model.specs.ClientRule.{Announces, ClientRule, Completes, Joins, Publishes, Puts, Idles, Says, Takes}
 use Rattle.disk_model.specs.ClientState.{ClientSession, ClientState, slot_in}
-use Rattle.disk_model.specs.Ranges.{wrapped}
-use Rattle.disk_model.specs.Seeing.{Seen}
+use Rattle.channel_model.specs.Ranges.{wrapped}
+use Rattle.channel_model.specs.Seeing.{Seen}
 use Rattle.lane_laws.proofs.Short.{short_within, some_bytes}
 use Rattle.lane_laws.proofs.Sharing.{in_order, owed_short, same_link}
 use Rattle.lane_laws.specs.LinkMoves.{SameTranscript}

@@ -20,18 +20,18 @@ use Rattle.vio_handshake.proofs.Agreeable.{same_number}
 use Rattle.vio_handshake.proofs.Places.{AllSaid, Place, handshake_at}
 use Rattle.vio_handshake.specs.declared.handshake.Handshake.{Handshake}
 use Rattle.vio_handshake.specs.Rules.{sid_fault}
-use Rattle.disk_model.specs.Sayings.{heard, said}
-use Rattle.disk_model.specs.TranscriptLog.{TranscriptLog}
-use Rattle.disk_model.specs.WireLog.{WireLog}
-use Rattle.disk_model.specs.DiskLog.{DiskLog, after, nothing_yet}
-use Rattle.disk_model.specs.Messages.{range_in}
-use Rattle.disk_model.specs.WorkLog.{ServerCounts, length_in}
+use Rattle.channel_model.specs.Sayings.{heard, said}
+use Rattle.channel_model.specs.TranscriptLog.{TranscriptLog}
+use Rattle.channel_model.specs.WireLog.{WireLog}
+use Rattle.lane_laws.specs.DiskLog.{DiskLog, after, nothing_yet}
+use Rattle.channel_model.specs.Messages.{range_in}
+use Rattle.lane_laws.specs.WorkLog.{ServerCounts, length_in}
 use Rattle.disk_model.specs.ClientState.{ClientSession, ClientState, slot_in}
 use Rattle.disk_model.specs.ClientTaking.{ClientTake, GoesOn, HearsWhole, Resets, acknowledged, hears_message, reads, sid_first, takes_ack}
 use Rattle.disk_model.specs.DiskEvent.{DiskEvent}
 use Rattle.disk_model.specs.LaneState.{IsShape, LaneState, Shape, fresh}
 use Rattle.disk_model.specs.LaneStep.{LaneStep}
-use Rattle.disk_model.specs.Ranges.{is_other, range_length}
+use Rattle.channel_model.specs.Ranges.{is_other, range_length}
 use Rattle.disk_model.specs.ServerState.{ServerSession}
 use Rattle.lane_laws.proofs.Agreeing.{front_sum, range_answered}
 use Rattle.lane_laws.proofs.LaneCores.{transcript_is}

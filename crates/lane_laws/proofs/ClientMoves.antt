@@ -27,10 +27,10 @@ use Rattle.disk_model.specs.ClientState.{ClientSession, ClientState, joined_clie
 use Rattle.disk_model.specs.ClientStep.{ClientAdmits, ClientCompletes, ClientFails, ClientPublishes, ClientSends}
 use Rattle.disk_model.specs.ClientTaking.{ClientTake, ClientTakes, GoesOn, HearsLink, HearsWhole, Resets, acknowledged, by_handshake, hears_message, in_session, reads, sid_first, takes_ack}
 use Rattle.disk_model.specs.DiskEvent.{Accepted, Admitted, Full, Refused}
-use Rattle.disk_model.specs.EndPuts.{ending, kind_in, put_opens}
+use Rattle.channel_model.specs.EndPuts.{ending, kind_in, put_opens}
 use Rattle.disk_model.specs.Offering.{client_offer}
-use Rattle.disk_model.specs.Ranges.{is_other, range_length}
-use Rattle.disk_model.specs.Seeing.{Seen}
+use Rattle.channel_model.specs.Ranges.{is_other, range_length}
+use Rattle.channel_model.specs.Seeing.{Seen}
 use Rattle.channel_laws.specs.EndCore.{holds}
 use Rattle.channel_laws.specs.EndStep.{DecodedFails, EndBegins, EndFails, EndHears, EndSays, EndStays, EndWaits, HandshakeTakes, HearsOwn, Holding, Holds, HoldsOn, HoldsOwed, HoldsOwn, IsOwn, KeepsOwn, LinkFails, MayTake, WholeFails}
 use Rattle.channel_laws.specs.EndStep as core

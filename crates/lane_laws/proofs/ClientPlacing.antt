@@ -18,13 +18,13 @@ use Rattle.vio_handshake.specs.declared.session.Session.{Session}
 use Rattle.vio_handshake.specs.Rules.{opens_by_put}
 use Rattle.vio_handshake.specs.State.{begun, joined_handshake, handshake_up}
 use Rattle.vio_handshake.proofs.Places.{AllSaid, AttributesAnswered, AttributesSaid, IsPlace, PeerReadyAnswered, PeerReadySaid, PeerRingAnswered, PeerRingSaid, Place, ReadyAnswered, ReadySaid, RingAnswered, RingSaid, VersionAnswered, VersionSaid, message_at, next, owed_by, owner, phase_at, handshake_at}
-use Rattle.disk_model.specs.Sayings.{half_said, heard, said}
+use Rattle.channel_model.specs.Sayings.{half_said, heard, said}
 use Rattle.disk_model.specs.ClientPutting.{announced, is_announcing, opened_if}
 use Rattle.disk_model.specs.ClientState.{ClientSession, ClientState, slot_in}
-use Rattle.disk_model.specs.EndPuts.{ComesUp, EndsOwn, EndsHandshake, Goes, PutKind, put_opens}
+use Rattle.channel_model.specs.EndPuts.{ComesUp, EndsOwn, EndsHandshake, Goes, PutKind, put_opens}
 use Rattle.disk_model.specs.LaneState.{Shape}
-use Rattle.disk_model.specs.Ranges.{wrapped}
-use Rattle.disk_model.specs.WorkLog.{ClientCounts}
+use Rattle.channel_model.specs.Ranges.{wrapped}
+use Rattle.lane_laws.specs.WorkLog.{ClientCounts}
 use Rattle.lane_laws.proofs.ClientPutCounting.{own_info, put_as}
 use Rattle.lane_laws.proofs.ClientTaken.{ClientAcked, ClientHearsPart, ClientHandshakes, ClientTook}
 use Rattle.lane_laws.proofs.EndHearing.{PeerSaid, Sizes, first_place, hear_data, hear_place, hears_data, next_place, not_last, put_data, same_place, who}

@@ -9,16 +9,16 @@ use Rattle.ldc_packet.specs.declared.packet.Subtype.TheVariants.{Info}
 use Rattle.ldc_queue.specs.Transcript.{Said, Turn}
 use Rattle.vio_tag.specs.Spelling.{canonical}
 use Rattle.vio_handshake.specs.declared.handshake.Handshake.{Handshake}
-use Rattle.disk_model.specs.Sayings.{half_said, said}
-use Rattle.disk_model.specs.Agreement.{ClientAgrees}
-use Rattle.disk_model.specs.Messages.{range_ended, range_in}
-use Rattle.disk_model.specs.WorkLog.{ClientCounts, change_client, length_in, one_in, opened_client}
+use Rattle.channel_model.specs.Sayings.{half_said, said}
+use Rattle.lane_laws.specs.Agreement.{ClientAgrees}
+use Rattle.channel_model.specs.Messages.{range_ended, range_in}
+use Rattle.lane_laws.specs.WorkLog.{ClientCounts, change_client, length_in, one_in, opened_client}
 use Rattle.disk_model.specs.ClientPutting.{announcement, announced, is_announcing, session_behind}
 use Rattle.disk_model.specs.ClientState.{ClientSession, ClientState, slot_in}
-use Rattle.disk_model.specs.EndPuts.{ComesUp, EndsOwn, Goes, PutKind, handshake_behind}
+use Rattle.channel_model.specs.EndPuts.{ComesUp, EndsOwn, Goes, PutKind, handshake_behind}
 use Rattle.disk_model.specs.LaneState.{Shape}
 use Rattle.disk_model.specs.Offering.{client_offer}
-use Rattle.disk_model.specs.Ranges.{range_length, wrapped}
+use Rattle.channel_model.specs.Ranges.{range_length, wrapped}
 use Rattle.lane_laws.proofs.EndPutting.{SaysLast, SaysOn}
 use Rattle.lane_laws.proofs.Awake.{is_open_up}
 use Rattle.lane_laws.proofs.Fitting.{behind_fits}

@@ -12,7 +12,7 @@ use Rattle.vio_handshake.specs.Rules.{handshake_sent}
 use Rattle.vio_handshake.specs.State.{handshake_up}
 use Rattle.disk_model.specs.ClientPutting.{announced, client_kind, client_put, is_announcing, opened_if, session_behind}
 use Rattle.disk_model.specs.ClientState.{ClientSession, ClientState}
-use Rattle.disk_model.specs.EndPuts.{ComesUp, EndsOwn, EndsHandshake, Goes, PutKind, ending, kind_in, put_opens, handshake_behind}
+use Rattle.channel_model.specs.EndPuts.{ComesUp, EndsOwn, EndsHandshake, Goes, PutKind, ending, kind_in, put_opens, handshake_behind}
 use Rattle.lane_laws.proofs.Sharing.{behind_short, put_within}
 use Rattle.lane_laws.specs.LinkMoves.{IsAsking}
 use Rattle.lane_laws.specs.Sound.{ClientSound, CountsInOrder}

@@ -22,8 +22,8 @@ use Rattle.vio_handshake.specs.declared.handshake.Handshake.{Handshake}
 use Rattle.vio_handshake.specs.Rules.{Faults, Goes, GoesOpen, HandshakeTake, handshake_take, sid_fault}
 use Rattle.disk_model.specs.ClientState.{ClientSession, ClientState, slot_in}
 use Rattle.disk_model.specs.ClientTaking.{ClientTake, ClientTakes, GoesOn, HearsLink, HearsWhole, Resets, acknowledged, by_handshake, hears_message, in_session, reads, sid_first, takes_ack}
-use Rattle.disk_model.specs.Ranges.{is_other, range_length}
-use Rattle.disk_model.specs.Sayings.{heard}
+use Rattle.channel_model.specs.Ranges.{is_other, range_length}
+use Rattle.channel_model.specs.Sayings.{heard}
 use Rattle.lane_laws.proofs.Awake.{was_up}
 use Rattle.lane_laws.proofs.Hearing.{heard_leaves}
 use Rattle.lane_laws.proofs.StaysDown.{asking_down}

@@ -1,10 +1,10 @@
 -- What the log counts of an open session, and what its slots are: those of its numbers modulo the ring.
 use Rattle.std.proofs.Common.{◌≡◌, ℕ, zero, suc, ◌^◌, ◌%◌, ◌≤◌, ◌⊎◌, Option, Some, None, refl, ap, ◌∙◌, subst, arith, inl, inr}
-use Rattle.disk_model.specs.Agreement.{ClientAgrees, ClientCountsAgree, ServerAgrees, ServerCountsAgree, WorkAgrees}
-use Rattle.disk_model.specs.WorkLog.{ClientCounts, ServerCounts}
+use Rattle.lane_laws.specs.Agreement.{ClientAgrees, ClientCountsAgree, ServerAgrees, ServerCountsAgree, WorkAgrees}
+use Rattle.lane_laws.specs.WorkLog.{ClientCounts, ServerCounts}
 use Rattle.disk_model.specs.ClientState.{ClientSession}
-use Rattle.disk_model.specs.LaneState.{IsPowerOfTwo}
-use Rattle.disk_model.specs.Ranges.{wrapped}
+use Rattle.channel_model.specs.OwnMemory.{IsPowerOfTwo}
+use Rattle.channel_model.specs.Ranges.{wrapped}
 use Rattle.disk_model.specs.ServerState.{ServerSession, Work}
 
 -- a client's session is open in the log too, with its counts

@@ -4,11 +4,11 @@ use Rattle.runs.specs.Lawful.{log_of}
 use Rattle.runs.specs.Run.{Run}
 use Rattle.ldc_queue.specs.declared.end.ChannelState.TheVariants.{Up}
 use Rattle.disk_model.specs.DiskEvent.{DiskEvent}
-use Rattle.disk_model.specs.DiskLog.{DiskLog, after, nothing_yet}
+use Rattle.lane_laws.specs.DiskLog.{DiskLog, after, nothing_yet}
 use Rattle.disk_model.specs.LaneState.{IsShape, LaneState, Shape, fresh}
 use Rattle.disk_model.specs.LaneStep.{LaneStep}
-use Rattle.disk_model.specs.WireLog.{WireLog}
-use Rattle.disk_model.specs.WorkLog.{ClientCounts, ServerCounts}
+use Rattle.channel_model.specs.WireLog.{WireLog}
+use Rattle.lane_laws.specs.WorkLog.{ClientCounts, ServerCounts}
 use Rattle.lane_laws.proofs.Agreeing.{always_agree, client_some, server_open}
 use Rattle.lane_laws.proofs.LaneCounting.{Knows, run_knows}
 use Rattle.lane_laws.proofs.SlotsAlong.{announced_in}

@@ -5,14 +5,14 @@ use Rattle.std.proofs.lemmas.Nat.{mod_below}
 use Rattle.ldc_queue.specs.declared.end.End.TheVariants.{A, B}
 use Rattle.vdisk_msg.proofs.Written.{is_admitted}
 use Rattle.vdisk_msg.specs.declared.request.Request.{Request}
-use Rattle.disk_model.specs.DiskLog.{DiskLog}
+use Rattle.lane_laws.specs.DiskLog.{DiskLog}
 use Rattle.disk_model.specs.ClientRule as client_rules
 use Rattle.disk_model.specs.ClientState.{ClientState}
 use Rattle.disk_model.specs.ClientStep.{completed_slot}
 use Rattle.disk_model.specs.DiskEvent.{Done, Finished, Published as PublishedEvent, Works}
 use Rattle.disk_model.specs.LaneState.{LaneState, NearCounts, pages_of, risen}
 use Rattle.disk_model.specs.LaneStep.{WorkStep, reach}
-use Rattle.disk_model.specs.Seeing.{seen}
+use Rattle.channel_model.specs.Seeing.{seen}
 use Rattle.disk_model.specs.ServerRule as server_rules
 use Rattle.disk_model.specs.ServerState.{ServerState}
 use Rattle.disk_model.specs.ServerWork.{with_done}

@@ -16,7 +16,7 @@ use Rattle.vio_handshake.specs.Pairing.{other}
 use Rattle.vio_handshake.specs.Rules.{Goes, GoesOpen, HandshakeTake, handshake_take}
 use Rattle.vio_handshake.proofs.PlaceRows.{GoesTo, take_at}
 use Rattle.vio_handshake.proofs.Places.{AllSaid, AttributesAnswered, AttributesSaid, PeerReadyAnswered, PeerReadySaid, PeerRingAnswered, PeerRingSaid, ReadyAnswered, ReadySaid, RingAnswered, RingSaid, VersionAnswered, VersionSaid, Deal, IsPlace, Place, message_at, next, owner, handshake_at}
-use Rattle.disk_model.specs.Sayings.{heard, said}
+use Rattle.channel_model.specs.Sayings.{heard, said}
 use Rattle.disk_model.specs.LaneState.{Shape}
 use Rattle.lane_laws.proofs.ClientTaken.{HearsMessage, HandshakesTo}
 use Rattle.lane_laws.proofs.OpeningDeal.{deal, deal_fits, place_form, place_widths}

@@ -17,11 +17,11 @@ use Rattle.vio_handshake.specs.Rules.{handshake_sent}
 use Rattle.vio_handshake.specs.State.{begun, joined_handshake}
 use Rattle.vio_handshake.proofs.PlaceRows.{put_at}
 use Rattle.vio_handshake.proofs.Places.{AllSaid, VersionSaid, Deal, IsPlace, Place, next, owner, handshake_at}
-use Rattle.disk_model.specs.Sayings.{heard, said}
-use Rattle.disk_model.specs.Messages.{range_in}
-use Rattle.disk_model.specs.WorkLog.{length_in}
+use Rattle.channel_model.specs.Sayings.{heard, said}
+use Rattle.channel_model.specs.Messages.{range_in}
+use Rattle.lane_laws.specs.WorkLog.{length_in}
 use Rattle.disk_model.specs.LaneState.{Shape}
-use Rattle.disk_model.specs.Ranges.{wrapped}
+use Rattle.channel_model.specs.Ranges.{wrapped}
 use Rattle.lane_laws.specs.Counted.{range_sum}
 use Rattle.lane_laws.proofs.OpeningDeal.{deal}
 use Rattle.lane_laws.proofs.OpeningScript.{bytes_at, other_next, said_at, says_next}

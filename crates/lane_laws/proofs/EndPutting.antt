@@ -10,8 +10,8 @@ use Rattle.ldc_link.specs.Following.{Follows}
 use Rattle.ldc_link.specs.LinkState.{LinkState, is_established, is_up}
 use Rattle.ldc_link.specs.Putting.{behind_put, left_behind_put}
 use Rattle.ldc_queue.specs.Transcript.{Said, Turn}
-use Rattle.disk_model.specs.EndPuts.{ComesUp, EndsOwn, EndsHandshake, Goes, PutKind, ending, kind_in, put_kind}
-use Rattle.disk_model.specs.Sayings.{half_said, said}
+use Rattle.channel_model.specs.EndPuts.{ComesUp, EndsOwn, EndsHandshake, Goes, PutKind, ending, kind_in, put_kind}
+use Rattle.channel_model.specs.Sayings.{half_said, said}
 use Rattle.lane_laws.proofs.PartPut.{SaysNothing, SaysPart, part_puts, quiet_puts, said_last, said_more}
 
 -- no message is whole by it

@@ -10,18 +10,19 @@ use Rattle.ldc_packet.specs.Fault.{first_fault}
 use Rattle.ldc_queue.specs.Transcript.{Turn}
 use Rattle.vio_tag.specs.declared.cause.Cause.{Cause}
 use Rattle.vio_tag.specs.declared.cause.Cause.TheVariants as the_cause
-use Rattle.disk_model.specs.ResetSays.{MessageSays, ResetSays}
-use Rattle.disk_model.specs.WireAt.{GapOf}
+use Rattle.channel_model.specs.ResetSays.{MessageSays, ResetSays}
+use Rattle.channel_model.specs.WireAt.{GapOf}
 use Rattle.disk_model.specs.ClientRule as client_rule
 use Rattle.disk_model.specs.ClientState.{ClientState}
 use Rattle.disk_model.specs.ClientStep.{ClientFails}
 use Rattle.disk_model.specs.ClientTaking as client
-use Rattle.disk_model.specs.EndPuts.{handshake_risen}
+use Rattle.channel_model.specs.EndPuts.{handshake_risen}
 use Rattle.disk_model.specs.ServerRule as server_rule
 use Rattle.disk_model.specs.ServerState.{Ends, Progress, ServerSession, ServerState, Work}
 use Rattle.disk_model.specs.ServerStep.{ServerFails, WorkFails}
 use Rattle.disk_model.specs.ServerTaking as server
-use Rattle.disk_model.specs.ServerWork.{EndFails, FetchFails, Reach, cause_of, slot_at}
+use Rattle.cookie_copy.specs.Reach.{Reach}
+use Rattle.disk_model.specs.ServerWork.{EndFails, FetchFails, cause_of, slot_at}
 use Rattle.channel_laws.proofs.Numbering.{heard_so}
 use Rattle.lane_laws.proofs.MessageResets.{client_reads, server_reads}
 use Rattle.channel_laws.specs.Resetting.{LiesInPacket, SaysWhy}

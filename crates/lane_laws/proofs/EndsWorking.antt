@@ -6,13 +6,13 @@ use Rattle.ldc_queue.specs.declared.end.End.{End}
 use Rattle.ldc_queue.specs.declared.end.End.TheVariants.{A, B}
 use Rattle.disk_model.specs.ClientRule as client_rules
 use Rattle.disk_model.specs.DiskEvent.{Asks, Desc, DiskEvent, Done, Finished, Misplaced, Moved, OnWire, Published, Calms, Stored, Switches, Worked, Works}
-use Rattle.disk_model.specs.DiskLog.{DiskLog, after, nothing_yet}
+use Rattle.lane_laws.specs.DiskLog.{DiskLog, after, nothing_yet}
 use Rattle.disk_model.specs.LaneState.{IsShape, LaneState, Shape, fresh}
 use Rattle.disk_model.specs.LaneStep.{LaneStep, WorkStep}
 use Rattle.disk_model.specs.ServerRule as server_rules
-use Rattle.disk_model.specs.WireAt.{IsUp}
-use Rattle.disk_model.specs.WireLog.{WireLog}
-use Rattle.disk_model.specs.WorkLaws.{WorksAt}
+use Rattle.channel_model.specs.WireAt.{IsUp}
+use Rattle.channel_model.specs.WireLog.{WireLog}
+use Rattle.lane_laws.specs.WorkLaws.{WorksAt}
 use Rattle.lane_laws.proofs.Ruling.{client_may, server_may}
 use Rattle.lane_laws.proofs.WorkNumbers.{Grounded, at_client, at_server}
 use Rattle.lane_laws.proofs.WorkRuns.{grounded_lawful}

@@ -2,12 +2,12 @@
 use Rattle.std.proofs.Common.{List, [], ◌∷◌}
 use Rattle.runs.specs.Lawful.{Lawful}
 use Rattle.runs.specs.Run.{Run}
-use Rattle.disk_model.specs.DiskLog.{DiskLog, after, nothing_yet}
-use Rattle.disk_model.specs.May.{IsLawful, May}
-use Rattle.disk_model.specs.NearLaws.{NearAt}
-use Rattle.disk_model.specs.QuietLaws.{IdleAt, TickAt, TwoIdleAt}
-use Rattle.disk_model.specs.RequestLaws.{AdmissionAt, CarriesAt, OnceAt, TurnsAt}
-use Rattle.disk_model.specs.WorkLaws.{OpeningsAt, PiecesAt, RangesAt, WorkNumbersAt, WorkResetAt, WorkUnforgedAt, WorksAt}
+use Rattle.lane_laws.specs.DiskLog.{DiskLog, after, nothing_yet}
+use Rattle.lane_laws.specs.May.{IsLawful, May}
+use Rattle.lane_laws.specs.NearLaws.{NearAt}
+use Rattle.lane_laws.specs.QuietLaws.{IdleAt, TickAt, TwoIdleAt}
+use Rattle.lane_laws.specs.RequestLaws.{AdmissionAt, CarriesAt, OnceAt, TurnsAt}
+use Rattle.lane_laws.specs.WorkLaws.{OpeningsAt, PiecesAt, RangesAt, WorkNumbersAt, WorkResetAt, WorkUnforgedAt, WorksAt}
 use Rattle.disk_model.specs.DiskEvent.{DiskEvent}
 use Rattle.disk_model.specs.LaneState.{IsShape, LaneState, Shape, fresh}
 use Rattle.disk_model.specs.LaneStep.{LaneStep}

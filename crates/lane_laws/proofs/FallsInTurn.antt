@@ -3,12 +3,12 @@ use Rattle.std.proofs.Common.{◌≡◌, ℕ, ◌+◌, ◌-◌, ◌%◌, ◌^◌
 use Rattle.ldc_queue.specs.declared.end.End.{End}
 use Rattle.std.proofs.lemmas.Nat.{mod_below}
 use Rattle.ldc_queue.specs.declared.end.ChannelState.{ChannelState}
-use Rattle.disk_model.specs.Sayings.{heard}
-use Rattle.disk_model.specs.WireAt.{IsUp}
-use Rattle.disk_model.specs.Agreement.{ServerAgrees}
-use Rattle.disk_model.specs.WorkLog.{ServerCounts}
+use Rattle.channel_model.specs.Sayings.{heard}
+use Rattle.channel_model.specs.WireAt.{IsUp}
+use Rattle.lane_laws.specs.Agreement.{ServerAgrees}
+use Rattle.lane_laws.specs.WorkLog.{ServerCounts}
 use Rattle.disk_model.specs.ClientState.{ClientState}
-use Rattle.disk_model.specs.Ranges.{range_length, wrapped}
+use Rattle.channel_model.specs.Ranges.{range_length, wrapped}
 use Rattle.disk_model.specs.ServerRule as server_rules
 use Rattle.disk_model.specs.ServerState.{ServerSession, ServerState, SlotRange, Work}
 use Rattle.lane_laws.proofs.Agreeing.{AskedWithin, asked_within}
@@ -33,15 +33,15 @@ use Rattle.ldc_queue.specs.declared.end.End.TheVariants.{A, B}
 use Rattle.runs.specs.Lawful.{log_append, log_of}
 use Rattle.runs.specs.Run.{Run, run_push}
 use Rattle.ldc_queue.specs.declared.end.ChannelState.TheVariants.{Up}
-use Rattle.disk_model.specs.WireEvent.{Took, Joined, Sent, WireEvent}
-use Rattle.disk_model.specs.WireLog.{WireLog, wire_moved}
-use Rattle.disk_model.specs.DiskLog.{DiskLog, after, nothing_yet}
+use Rattle.channel_model.specs.WireEvent.{Took, Joined, Sent, WireEvent}
+use Rattle.channel_model.specs.WireLog.{WireLog, wire_moved}
+use Rattle.lane_laws.specs.DiskLog.{DiskLog, after, nothing_yet}
 use Rattle.disk_model.specs.ClientRule as client_rules
 use Rattle.disk_model.specs.DiskEvent.{DiskEvent, OnWire, Desc, Done, Finished, Misplaced, Moved, Published, Stored, Works}
 use Rattle.disk_model.specs.LaneState.{IsShape, LaneState, Shape, fresh}
 use Rattle.disk_model.specs.LaneStep.{LaneStep, EndOnWire}
 use Rattle.vio_handshake.specs.declared.session.Offer.{Offer}
-use Rattle.disk_model.specs.Seeing.{seen}
+use Rattle.channel_model.specs.Seeing.{seen}
 use Rattle.lane_laws.proofs.ClientTaken.{client_took_what}
 use Rattle.lane_laws.proofs.LaneCounting.{Knows, run_knows}
 use Rattle.lane_laws.proofs.LanePlacing.{LanePlaced}

@@ -21,7 +21,7 @@ use Rattle.vio_handshake.specs.declared.session.Offer.{Offer}
 use Rattle.vio_handshake.specs.Messages.{ack, info, nack, own_ring}
 use Rattle.vio_handshake.specs.Rules.{Faults, Goes, GoesOpen, HandshakeTake, agrees_minor, answered, asked, behind_ring, fault_or, is_declined, knows, own_named, owes, peer_named, put_in, ready_answered, refuses_version, ring_answered, ring_asked, row, handshake_sent, handshake_take, sid_fault, version_asked}
 use Rattle.vio_handshake.specs.State.{begun, joined_handshake, handshake_up}
-use Rattle.disk_model.specs.EndPuts.{ComesUp, EndsOwn, EndsHandshake, Goes as GoesOn, PutKind, handshake_behind}
+use Rattle.channel_model.specs.EndPuts.{ComesUp, EndsOwn, EndsHandshake, Goes as GoesOn, PutKind, handshake_behind}
 use Rattle.lane_laws.specs.HandshakeFits.{Fits, FitsIn, OwedFits}
 
 abbrev pub TakesFit : Role → Offer → HandshakeTake → Type 0

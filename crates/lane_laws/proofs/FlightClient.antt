@@ -18,9 +18,9 @@ use Rattle.disk_model.specs.ClientRule.{Announces, ClientRule, Completes, Joins,
 use Rattle.disk_model.specs.ClientState.{ClientSession, ClientState, slot_in}
 use Rattle.disk_model.specs.ClientStep.{ClientAdmits, ClientCompletes, ClientPublishes, ClientSends}
 use Rattle.disk_model.specs.DiskEvent.{Accepted, Admitted, Full, Refused}
-use Rattle.disk_model.specs.EndPuts.{EndsOwn, EndsHandshake, Goes, PutKind, ending, kind_in, handshake_behind}
-use Rattle.disk_model.specs.Ranges.{wrapped}
-use Rattle.disk_model.specs.Seeing.{Seen}
+use Rattle.channel_model.specs.EndPuts.{EndsOwn, EndsHandshake, Goes, PutKind, ending, kind_in, handshake_behind}
+use Rattle.channel_model.specs.Ranges.{wrapped}
+use Rattle.channel_model.specs.Seeing.{Seen}
 use Rattle.lane_laws.proofs.ClientHolding.{client_held, not_own}
 use Rattle.lane_laws.proofs.Awake.{up_empty}
 use Rattle.lane_laws.proofs.RemainingHandshake.{range_part, sent_left, up_left}

@@ -6,12 +6,13 @@ use Rattle.cookie_copy.specs.declared.fault.CopyFault.{CopyFault}
 use Rattle.ldc_queue.specs.Transcript.{Turn}
 use Rattle.vdisk_msg.specs.Descriptor as slot_says
 use Rattle.vdisk_msg.specs.Pieces.{unit_count}
-use Rattle.disk_model.specs.Seeing.{Seen}
+use Rattle.channel_model.specs.Seeing.{Seen}
 use Rattle.disk_model.specs.ServerPutting.{server_holds, server_kind}
 use Rattle.disk_model.specs.ServerRule.{Fetches, Joins, Puts, Idles, Says, ServerRule, Serves, Takes, server_rule}
 use Rattle.disk_model.specs.ServerState.{Progress, ServerSession, ServerState, Work}
 use Rattle.disk_model.specs.ServerStep.{ServerFetches, ServerFinishes, ServerMoves, ServerSends, ServerStores}
-use Rattle.disk_model.specs.ServerWork.{Reach, desc_of}
+use Rattle.cookie_copy.specs.Reach.{Reach}
+use Rattle.disk_model.specs.ServerWork.{desc_of}
 use Rattle.lane_laws.proofs.FlightClient.{quiet_empty}
 use Rattle.lane_laws.proofs.RemainingServerPuts.{ServerLowers, answered_serving, holding, says_lowers, sends_lowers}
 use Rattle.lane_laws.proofs.RemainingServerSteps.{Less, few_pieces, moves_less, stores_less}

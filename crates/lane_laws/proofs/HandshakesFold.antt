@@ -24,13 +24,13 @@ use Rattle.vio_handshake.specs.Rules.{Faults, Goes, GoesOpen, HandshakeTake, han
 use Rattle.vio_handshake.specs.State.{begun, handshake_up, joined_handshake, next_sid, no_session}
 use Rattle.disk_model.specs.ClientState.{ClientState}
 use Rattle.disk_model.specs.ClientTaking as client
-use Rattle.disk_model.specs.EndLog.{behind_decoded, behind_heard, behind_said, decoded_of, handshake_of, link_phase, moved_by, own_range, phase_heard, sent_unless, up_if, up_with}
-use Rattle.disk_model.specs.EndPuts.{handshake_risen}
-use Rattle.disk_model.specs.Messages.{ended_by, is_range, whole_with}
-use Rattle.disk_model.specs.Sayings.{half_heard, half_said, heard, said, whole_by, whole_past}
+use Rattle.lane_laws.specs.EndLog.{behind_decoded, behind_heard, behind_said, decoded_of, handshake_of, link_phase, moved_by, own_range, phase_heard, sent_unless, up_if, up_with}
+use Rattle.channel_model.specs.EndPuts.{handshake_risen}
+use Rattle.channel_model.specs.Messages.{ended_by, is_range, whole_with}
+use Rattle.channel_model.specs.Sayings.{half_heard, half_said, heard, said, whole_by, whole_past}
 use Rattle.disk_model.specs.ServerState.{ServerState}
 use Rattle.disk_model.specs.ServerTaking as server
-use Rattle.disk_model.specs.TranscriptLog.{is_rdx}
+use Rattle.channel_model.specs.TranscriptLog.{is_rdx}
 use Rattle.lane_laws.proofs.ClientTaken.{HandshakesTo}
 use Rattle.lane_laws.proofs.HandshakesOpen.{no_data}
 use Rattle.lane_laws.proofs.LastSids.{KeepsLast, put_last, take_last}

@@ -17,9 +17,9 @@ use Rattle.ldc_queue.specs.Messages.{whole_in}
 use Rattle.ldc_queue.specs.Numbered.{numbered}
 use Rattle.ldc_queue.specs.OneStream.{OneWay, live}
 use Rattle.ldc_queue.specs.Transcript.{Turn, numbered_heard, numbered_said}
-use Rattle.disk_model.proofs.SameSayings.{heard_is, said_is}
-use Rattle.disk_model.specs.Sayings.{heard, said}
-use Rattle.disk_model.specs.TranscriptLog.{TranscriptLog}
+use Rattle.channel_model.proofs.SameSayings.{heard_is, said_is}
+use Rattle.channel_model.specs.Sayings.{heard, said}
+use Rattle.channel_model.specs.TranscriptLog.{TranscriptLog}
 use Rattle.disk_model.specs.LaneState.{LaneState}
 use Rattle.channel_laws.specs.Sides.{sides_of}
 use Rattle.lane_laws.specs.ChannelEnds.{core_of}

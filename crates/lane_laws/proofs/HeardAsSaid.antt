@@ -8,8 +8,8 @@ use Rattle.ldc_queue.specs.OneStream.{IsFront}
 use Rattle.vio_handshake.specs.declared.handshake.Phase.{Phase}
 use Rattle.vio_handshake.specs.declared.session.Offer.{Offer}
 use Rattle.vio_handshake.specs.declared.session.Session.{Session}
-use Rattle.disk_model.specs.Sayings.{heard, said}
-use Rattle.disk_model.specs.WireAt.{IsUp}
+use Rattle.channel_model.specs.Sayings.{heard, said}
+use Rattle.channel_model.specs.WireAt.{IsUp}
 use Rattle.disk_model.specs.DiskEvent.{DiskEvent}
 use Rattle.disk_model.specs.LaneState.{IsShape, LaneState, Shape, fresh}
 use Rattle.disk_model.specs.LaneStep.{LaneStep}

@@ -7,7 +7,7 @@ use Rattle.vio_tag.specs.Spelling.{canonical}
 use Rattle.disk_model.specs.ClientPutting.{announcement, announcing, client_holds, holding}
 use Rattle.disk_model.specs.ClientRule.{Announces, ClientRule, Completes, Joins, Publishes, Puts, Idles, Says, Takes}
 use Rattle.disk_model.specs.ClientState.{ClientState}
-use Rattle.disk_model.specs.Seeing.{Seen}
+use Rattle.channel_model.specs.Seeing.{Seen}
 use Rattle.disk_model.specs.ServerPutting.{server_holds}
 use Rattle.disk_model.specs.ServerRule.{ServerRule}
 use Rattle.disk_model.specs.ServerRule as server

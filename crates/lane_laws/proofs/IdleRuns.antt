@@ -5,9 +5,9 @@ use Rattle.runs.specs.Lawful.{log_of, run_lawful}
 use Rattle.runs.specs.Run.{Run}
 use Rattle.ldc_queue.specs.declared.end.End.{End}
 use Rattle.ldc_queue.specs.declared.end.End.TheVariants.{A, B}
-use Rattle.disk_model.specs.WireEvent.{Blocked, Declines, Idle, Injected, Joined, Lost, Poked, Reset, Sent, Took, WireEvent}
-use Rattle.disk_model.specs.Agreement.{IdleAgrees}
-use Rattle.disk_model.specs.DiskLog.{DiskLog, after, idle_in, nothing_yet}
+use Rattle.channel_model.specs.WireEvent.{Blocked, Declines, Idle, Injected, Joined, Lost, Poked, Reset, Sent, Took, WireEvent}
+use Rattle.lane_laws.specs.Agreement.{IdleAgrees}
+use Rattle.lane_laws.specs.DiskLog.{DiskLog, after, idle_in, nothing_yet}
 use Rattle.disk_model.specs.ClientState.{ClientState}
 use Rattle.disk_model.specs.DiskEvent.{Asks, DiskEvent, OnWire, Calms, Switches, Works}
 use Rattle.disk_model.specs.LaneState.{IsShape, LaneState, Shape, fresh}

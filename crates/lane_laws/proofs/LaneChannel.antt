@@ -10,16 +10,16 @@ use Rattle.vio_handshake.specs.declared.session.Offer.{Offer}
 use Rattle.vio_handshake.specs.Offers.{Match}
 use Rattle.vio_tag.specs.declared.cause.Cause.{Cause}
 use Rattle.lane_laws.proofs.EndMoves.{transcript_same}
-use Rattle.disk_model.proofs.SameSayings.{half_heard_is}
-use Rattle.disk_model.specs.Agreement.{LinkAgrees}
-use Rattle.disk_model.specs.TranscriptLog.{TranscriptLog}
-use Rattle.disk_model.specs.WireAt.{WireHeardAt, WireSaidAt, counts_next}
-use Rattle.disk_model.specs.WireEvent.{Blocked, ByRestart, ByScript, ByStep, ByTick, Declines, Giver, Idle, Injected, Joined, Lost, Poked, Reset, Sent, Took, WireEvent, giver}
+use Rattle.channel_model.proofs.SameSayings.{half_heard_is}
+use Rattle.lane_laws.specs.Agreement.{LinkAgrees}
+use Rattle.channel_model.specs.TranscriptLog.{TranscriptLog}
+use Rattle.channel_model.specs.WireAt.{WireHeardAt, WireSaidAt, counts_next}
+use Rattle.channel_model.specs.WireEvent.{Blocked, ByRestart, ByScript, ByStep, ByTick, Declines, Giver, Idle, Injected, Joined, Lost, Poked, Reset, Sent, Took, WireEvent, giver}
 use Rattle.disk_model.specs.DiskEvent.{Asks, Calms, DiskEvent, Off, OnWire, Started, Stopped, Switches, Works}
-use Rattle.disk_model.specs.DiskLog.{DiskLog, after, after_transcript, nothing_yet}
+use Rattle.lane_laws.specs.DiskLog.{DiskLog, after, after_transcript, nothing_yet}
 use Rattle.disk_model.specs.LaneState.{IsShape, LaneState, Shape, fresh}
 use Rattle.disk_model.specs.LaneStep.{LaneStep, ResetBy, WireStep}
-use Rattle.disk_model.specs.May.{OfWire}
+use Rattle.lane_laws.specs.May.{OfWire}
 use Rattle.disk_model.specs.Offering.{client_offer, server_offer}
 use Rattle.channel_laws.proofs.CoreLaws.{links_placed, stands_a, stands_b}
 use Rattle.channel_laws.proofs.HandshakePlaces.{Matches}

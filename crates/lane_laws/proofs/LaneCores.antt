@@ -6,18 +6,18 @@ use Rattle.ldc_link.specs.declared.phase.Role.TheVariants.{Initiator, Responder}
 use Rattle.ldc_queue.specs.declared.end.End.{End}
 use Rattle.ldc_queue.specs.declared.end.End.TheVariants.{A, B}
 use Rattle.vio_tag.specs.declared.cause.Cause.{Cause}
-use Rattle.disk_model.specs.TranscriptLog.{TranscriptLog, nothing_said}
-use Rattle.disk_model.specs.WireAt.{Sizes, WireTableAt}
-use Rattle.disk_model.specs.WireEvent.{Blocked, ByRestart, ByScript, ByStep, ByTick, Declines, Giver, Idle, Injected, Joined, Lost, Poked, Reset, Sent, Took, WireEvent, giver}
-use Rattle.disk_model.specs.WireLog.{WireLog}
+use Rattle.channel_model.specs.TranscriptLog.{TranscriptLog, nothing_said}
+use Rattle.channel_model.specs.WireAt.{Sizes, WireTableAt}
+use Rattle.channel_model.specs.WireEvent.{Blocked, ByRestart, ByScript, ByStep, ByTick, Declines, Giver, Idle, Injected, Joined, Lost, Poked, Reset, Sent, Took, WireEvent, giver}
+use Rattle.channel_model.specs.WireLog.{WireLog}
 use Rattle.disk_model.specs.DiskEvent.{Asks, Calm, CalmReset, CalmRestart, CalmStart, CalmStop, CalmTick, Calms, Desc, DiskEvent, Done, Finished, Misplaced, Moved, Off, OnWire, Published, Started, Stopped, Stored, Switched, Switches, Worked, Works}
-use Rattle.disk_model.specs.DiskLog.{DiskLog, after, after_transcript, after_wire, nothing_yet}
+use Rattle.lane_laws.specs.DiskLog.{DiskLog, after, after_transcript, after_wire, nothing_yet}
 use Rattle.disk_model.specs.LaneState.{IsShape, LaneState, Shape, fresh}
 use Rattle.disk_model.specs.LaneStep.{LaneStep, ResetBy, RestStep, TurnStep, WireStep, WorkStep, reach}
-use Rattle.disk_model.specs.May.{OfWire, sizes_in}
+use Rattle.lane_laws.specs.May.{OfWire, sizes_in}
 use Rattle.disk_model.specs.Offering.{client_offer, server_offer}
-use Rattle.disk_model.specs.Seeing.{Seen, seen}
-use Rattle.disk_model.specs.ServerWork.{Reach}
+use Rattle.channel_model.specs.Seeing.{Seen, seen}
+use Rattle.cookie_copy.specs.Reach.{Reach}
 use Rattle.channel_laws.specs.EndStep.{EndHears, EndStays, EndStep}
 use Rattle.channel_laws.specs.LaneCore.{CoreFits, CoreStands, CoreStep, WireStands, at_end, fresh_core, move_of, reset_move, transcript_after, transcript_behind, wire_after, wire_move}
 use Rattle.lane_laws.proofs.ClientMoves.{client_asked, client_begins, client_completed, client_fails, client_hears, client_published, client_same, client_says, client_waits}

@@ -6,7 +6,7 @@ use Rattle.ldc_link.specs.Following.{Follows, OffersLittle}
 use Rattle.ldc_link.specs.LinkState.{LinkState}
 use Rattle.ldc_queue.specs.declared.end.End.TheVariants.{A, B}
 use Rattle.ldc_queue.specs.Transcript.{Turn}
-use Rattle.disk_model.specs.TranscriptLog.{TranscriptLog, hears, says, silenced}
+use Rattle.channel_model.specs.TranscriptLog.{TranscriptLog, hears, says, silenced}
 use Rattle.disk_model.specs.ClientState.{ClientState, joined_client}
 use Rattle.disk_model.specs.ServerState.{ServerState, joined_server, restarted_server}
 use Rattle.lane_laws.specs.LaneTranscripts.{Transcripts}

@@ -9,16 +9,16 @@ use Rattle.ldc_link.specs.LinkState.{fresh_link}
 use Rattle.ldc_queue.specs.declared.end.End.{End}
 use Rattle.ldc_queue.specs.declared.end.End.TheVariants.{A, B}
 use Rattle.vio_tag.specs.declared.cause.Cause.{Cause}
-use Rattle.disk_model.specs.TranscriptLog.{TranscriptLog, nothing_said, silenced, transcript_moved}
-use Rattle.disk_model.specs.WireEvent.{Blocked, ByRestart, ByScript, ByStep, ByTick, Declines, Giver, Idle, Injected, Joined, Lost, Poked, Reset, Sent, Took, WireEvent, giver}
-use Rattle.disk_model.specs.DiskLog.{after_transcript}
+use Rattle.channel_model.specs.TranscriptLog.{TranscriptLog, nothing_said, silenced, transcript_moved}
+use Rattle.channel_model.specs.WireEvent.{Blocked, ByRestart, ByScript, ByStep, ByTick, Declines, Giver, Idle, Injected, Joined, Lost, Poked, Reset, Sent, Took, WireEvent, giver}
+use Rattle.lane_laws.specs.DiskLog.{after_transcript}
 use Rattle.disk_model.specs.ClientState.{ClientState, fresh_client, joined_client}
 use Rattle.disk_model.specs.DiskEvent.{Asks, Calm, CalmReset, CalmRestart, CalmStart, CalmStop, CalmTick, Desc, DiskEvent, Done, Finished, Misplaced, Moved, Off, OnWire, Published, Calms, Started, Stopped, Stored, Switched, Switches, Worked, Works}
 use Rattle.disk_model.specs.LaneState.{IsShape, LaneState, Shape, fresh}
 use Rattle.disk_model.specs.LaneStep.{EndOnWire, LaneStep, ResetBy, RestStep, TurnStep, WireStep, WorkStep, reach}
-use Rattle.disk_model.specs.Seeing.{Seen, seen}
+use Rattle.channel_model.specs.Seeing.{Seen, seen}
 use Rattle.disk_model.specs.ServerState.{ServerState, fresh_server, joined_server, restarted_server}
-use Rattle.disk_model.specs.ServerWork.{Reach}
+use Rattle.cookie_copy.specs.Reach.{Reach}
 use Rattle.lane_laws.proofs.ClientHearing.{client_takes}
 use Rattle.lane_laws.proofs.ClientHolding.{Held}
 use Rattle.lane_laws.proofs.ClientSteps.{ClientPut, ClientWorked, client_admits, client_blocked, client_completes, client_joined, client_publishes, client_sends}

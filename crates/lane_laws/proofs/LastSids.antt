@@ -32,8 +32,8 @@ use Rattle.vio_handshake.specs.declared.handshake.Phase.TheVariants.{Attributes,
 use Rattle.vio_handshake.specs.Messages.{ack, info, nack, own_ring}
 use Rattle.vio_handshake.specs.Rules.{Faults, Goes, GoesOpen, HandshakeTake, agrees_minor, answered, asked, attributes_answered, attributes_asked, behind_ring, fault_or, is_declined, knows, owes, own_named, peer_named, put_in, ready_answered, refuses_version, ring_answered, ring_asked, row, handshake_take, sid_fault, version_answered, version_asked}
 use Rattle.vio_handshake.specs.State.{begun, joined_handshake, handshake_up}
-use Rattle.disk_model.specs.EndPuts.{ending, kind_in, handshake_behind}
-use Rattle.disk_model.specs.TranscriptLog.{is_rdx}
+use Rattle.channel_model.specs.EndPuts.{ending, kind_in, handshake_behind}
+use Rattle.channel_model.specs.TranscriptLog.{is_rdx}
 use Rattle.lane_laws.proofs.PartPut.{part_puts}
 
 -- A MESSAGE that is taken leaves it

@@ -6,18 +6,18 @@ use Rattle.ldc_queue.specs.declared.end.End.TheVariants.{A, B}
 use Rattle.ldc_queue.specs.Transcript as turn
 use Rattle.ldc_queue.specs.Transcript.{Turn}
 use Rattle.vio_tag.specs.declared.cause.Cause.{Cause}
-use Rattle.disk_model.specs.TranscriptLog.{TranscriptLog, silenced, transcript_moved}
-use Rattle.disk_model.specs.WireEvent.{Blocked, ByRestart, ByScript, ByStep, ByTick, Declines, Giver, Idle, Injected, Joined, Lost, Poked, Reset, Sent, Took, WireEvent, giver}
-use Rattle.disk_model.specs.DiskLog.{after_transcript}
+use Rattle.channel_model.specs.TranscriptLog.{TranscriptLog, silenced, transcript_moved}
+use Rattle.channel_model.specs.WireEvent.{Blocked, ByRestart, ByScript, ByStep, ByTick, Declines, Giver, Idle, Injected, Joined, Lost, Poked, Reset, Sent, Took, WireEvent, giver}
+use Rattle.lane_laws.specs.DiskLog.{after_transcript}
 use Rattle.disk_model.specs.ClientState.{ClientState, joined_client}
 use Rattle.disk_model.specs.ClientStep.{ClientAdmits, ClientStep}
 use Rattle.disk_model.specs.DiskEvent.{Admitted, Asks, Calm, CalmReset, CalmRestart, CalmStart, CalmStop, CalmTick, Desc, DiskEvent, Done, Finished, Misplaced, Moved, Off, OnWire, Published, Calms, Started, Stopped, Stored, Switched, Switches, Worked, Works}
 use Rattle.disk_model.specs.LaneState.{LaneState}
 use Rattle.disk_model.specs.LaneStep.{EndOnWire, LaneStep, ResetBy, RestStep, TurnStep, WireStep, WorkStep, reach}
-use Rattle.disk_model.specs.Seeing.{Seen, seen}
+use Rattle.channel_model.specs.Seeing.{Seen, seen}
 use Rattle.disk_model.specs.ServerState.{ServerState, joined_server, restarted_server}
 use Rattle.disk_model.specs.ServerStep.{ServerStep}
-use Rattle.disk_model.specs.ServerWork.{Reach}
+use Rattle.cookie_copy.specs.Reach.{Reach}
 use Rattle.lane_laws.proofs.LaneStepping.{LaneTranscripts, calm_same}
 use Rattle.lane_laws.specs.LaneRests.{ClientRests, ClientUtters, LaneRests, LaneUtters, ServerRests, ServerUtters}
 use Rattle.lane_laws.specs.Sound.{ClientSound, ServerSound}

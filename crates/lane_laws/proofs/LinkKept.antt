@@ -20,8 +20,8 @@ use Rattle.vio_tag.specs.declared.message.TagFault.{TagFault}
 use Rattle.vio_handshake.specs.Rules.{Faults, Goes, GoesOpen, HandshakeTake, handshake_take, sid_fault}
 use Rattle.disk_model.specs.ClientState.{ClientSession, ClientState, slot_in}
 use Rattle.disk_model.specs.ClientTaking as client
-use Rattle.disk_model.specs.EndPuts.{handshake_risen}
-use Rattle.disk_model.specs.Ranges.{is_other, range_length}
+use Rattle.channel_model.specs.EndPuts.{handshake_risen}
+use Rattle.channel_model.specs.Ranges.{is_other, range_length}
 use Rattle.disk_model.specs.ServerState.{ServerSession, ServerState, SlotRange}
 use Rattle.disk_model.specs.ServerTaking as server
 

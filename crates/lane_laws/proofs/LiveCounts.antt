@@ -3,7 +3,7 @@ use Rattle.std.proofs.Common.{◌≡◌, ◌≢◌, ℕ, ◌+◌, Option, Some, 
 use Rattle.ldc_queue.specs.declared.end.ChannelState.{ChannelState}
 use Rattle.ldc_queue.specs.declared.end.ChannelState.TheVariants.{Down, Resetting, Up}
 use Rattle.ldc_queue.specs.Wire.{peer_behind}
-use Rattle.disk_model.specs.WorkLog.{ClientCounts, ServerCounts, change_client, change_server}
+use Rattle.lane_laws.specs.WorkLog.{ClientCounts, ServerCounts, change_client, change_server}
 use Rattle.lane_laws.proofs.SlotsStepping.{upset_not}
 
 -- the counts of a server whose end is up

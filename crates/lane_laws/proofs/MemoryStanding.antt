@@ -17,7 +17,8 @@ use Rattle.vio_bytes.proofs.Putting.{length-put_at}
 use Rattle.vio_bytes.specs.Place.{put_at}
 use Rattle.disk_model.specs.ClientStep.{filled_buffer, published_memory}
 use Rattle.disk_model.specs.ServerState.{ServerState}
-use Rattle.disk_model.specs.ServerWork.{Reach, slots_cookies, with_word}
+use Rattle.cookie_copy.specs.Reach.{Reach}
+use Rattle.disk_model.specs.ServerWork.{slots_cookies, with_word}
 use Rattle.lane_laws.specs.MemoryStands.{memory_long}
 
 -- WRITES THROUGH COOKIES keep the length

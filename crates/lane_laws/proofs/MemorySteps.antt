@@ -14,8 +14,8 @@ use Rattle.vio_bytes.proofs.Ranges.{length-range_at}
 use Rattle.vio_bytes.proofs.Putting.{length-put_at}
 use Rattle.vio_bytes.specs.Place.{put_at}
 use Rattle.vio_tag.specs.declared.cause.Cause.{Cause}
-use Rattle.disk_model.specs.WireEvent.{Blocked, ByRestart, ByScript, ByStep, ByTick, Declines, Giver, Idle, Injected, Joined, Lost, Poked, Reset, Sent, Took, WireEvent, giver}
-use Rattle.disk_model.specs.RequestLaws.{carried_count}
+use Rattle.channel_model.specs.WireEvent.{Blocked, ByRestart, ByScript, ByStep, ByTick, Declines, Giver, Idle, Injected, Joined, Lost, Poked, Reset, Sent, Took, WireEvent, giver}
+use Rattle.lane_laws.specs.RequestLaws.{carried_count}
 use Rattle.disk_model.specs.ClientPutting.{client_opens}
 use Rattle.disk_model.specs.ClientRule.{Publishes, client_rule}
 use Rattle.disk_model.specs.ClientState.{ClientState, slot_in}
@@ -23,11 +23,12 @@ use Rattle.disk_model.specs.ClientStep.{ClientAdmits, ClientCompletes, ClientPub
 use Rattle.disk_model.specs.DiskEvent.{Accepted, Admitted, Asks, Desc, Done, Finished, Full, Misplaced, Moved, Published, Refused, Stored, Worked}
 use Rattle.disk_model.specs.LaneState.{LaneState}
 use Rattle.disk_model.specs.LaneStep.{EndOnWire, LaneStep, ResetBy, WireStep, WorkStep, reach}
-use Rattle.disk_model.specs.Seeing.{seen}
+use Rattle.channel_model.specs.Seeing.{seen}
 use Rattle.disk_model.specs.ServerRule as server_rules
 use Rattle.disk_model.specs.ServerState.{Ends, Gathers, Gives, Progress, ServerSession, ServerState, Work}
 use Rattle.disk_model.specs.ServerStep.{ServerFails, WorkFails}
-use Rattle.disk_model.specs.ServerWork.{EndFails, MovesIn, Reach, data_cookies, given_memory, header_of, slot_at, with_done, with_status}
+use Rattle.cookie_copy.specs.Reach.{Reach}
+use Rattle.disk_model.specs.ServerWork.{EndFails, MovesIn, data_cookies, given_memory, header_of, slot_at, with_done, with_status}
 use Rattle.vdisk_msg.specs.Requested as asks_for
 use Rattle.lane_laws.proofs.MemoryStanding.{cleared_long, freed_long, given_within, moved_long, published_long, word_long}
 use Rattle.lane_laws.proofs.Requesting.{KeepsRequests, held_kept}

@@ -24,10 +24,10 @@ use Rattle.vio_handshake.specs.Rules as rules
 use Rattle.vio_handshake.specs.Rules.{Faults, Goes, GoesOpen, HandshakeTake, answered, asked, fault_or, is_declined, row, handshake_hear, handshake_take, sid_fault}
 use Rattle.disk_model.specs.ClientState.{ClientSession, ClientState, slot_in}
 use Rattle.disk_model.specs.ClientTaking as client
-use Rattle.disk_model.specs.Ranges.{is_other, range_length}
+use Rattle.channel_model.specs.Ranges.{is_other, range_length}
 use Rattle.disk_model.specs.ServerState.{ServerSession, ServerState, SlotRange}
 use Rattle.disk_model.specs.ServerTaking as server
-use Rattle.disk_model.specs.ResetSays.{IsOther, MessageSays}
+use Rattle.channel_model.specs.ResetSays.{IsOther, MessageSays}
 use Rattle.channel_laws.proofs.LinkResets.{other_number}
 use Rattle.channel_laws.proofs.HandshakeResets.{FaultWhy, HandshakeWhy, Spelled, handshake_why, sid_why}
 

@@ -8,16 +8,16 @@ use Rattle.ldc_queue.specs.declared.end.End.{End}
 use Rattle.ldc_queue.specs.declared.end.End.TheVariants.{A, B}
 use Rattle.ldc_queue.specs.Wire.{peer_behind}
 use Rattle.vio_tag.specs.declared.cause.Cause.{Cause}
-use Rattle.disk_model.specs.WireEvent.{Blocked, Declines, Idle, Injected, Joined, Lost, Poked, Reset, Sent, Took, WireEvent}
-use Rattle.disk_model.specs.WireLog.{WireLog, wire_moved}
-use Rattle.disk_model.specs.Agreement.{NearAgrees}
-use Rattle.disk_model.specs.DiskLog.{DiskLog, after, nothing_yet}
-use Rattle.disk_model.specs.NearLog.{NearLog, stored_more}
+use Rattle.channel_model.specs.WireEvent.{Blocked, Declines, Idle, Injected, Joined, Lost, Poked, Reset, Sent, Took, WireEvent}
+use Rattle.channel_model.specs.WireLog.{WireLog, wire_moved}
+use Rattle.lane_laws.specs.Agreement.{NearAgrees}
+use Rattle.lane_laws.specs.DiskLog.{DiskLog, after, nothing_yet}
+use Rattle.lane_laws.specs.NearLog.{NearLog, stored_more}
 use Rattle.disk_model.specs.ClientState.{ClientState, ever_published_count}
 use Rattle.disk_model.specs.DiskEvent.{Accepted, Admitted, Asks, Desc, DiskEvent, Done, Finished, Full, Misplaced, Moved, Off, OnWire, Published, Refused, Calms, Started, Stopped, Stored, Switches, Worked, Works}
 use Rattle.disk_model.specs.LaneState.{IsShape, LaneState, NearCounts, Shape, fresh, near_disturbed, risen}
 use Rattle.disk_model.specs.LaneStep.{LaneStep, WireStep, WorkStep, stored_blocks}
-use Rattle.disk_model.specs.Seeing.{seen}
+use Rattle.channel_model.specs.Seeing.{seen}
 use Rattle.disk_model.specs.ServerState.{ServerState}
 use Rattle.lane_laws.proofs.RingLeaves.{OpensNot}
 use Rattle.lane_laws.proofs.RingRuns.{before as clean_before}

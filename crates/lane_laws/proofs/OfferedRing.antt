@@ -2,13 +2,14 @@
 use Rattle.std.proofs.Common.{◌≡◌, ℕ, zero, suc, ◌+◌, ◌-◌, ◌*◌, ◌≤◌, Bool, true, false, List, [], ◌∷◌, length, take, drop, replicate, refl, sym, ap, ◌∙◌, subst, arith, nat_le}
 use Rattle.std.specs.Prelude.{if◌then◌else◌}
 use Rattle.std.specs.List.{AllByRecursion}
-use Rattle.map_table.specs.Cookies.{IsCookie}
+use Rattle.map_table.specs.Cookies.{IsCookie, no_cookie}
 use Rattle.map_table.specs.declared.cookie.Cookie.{Cookie}
 use Rattle.vdisk_msg.specs.Requested.{ring_pages}
 use Rattle.vio_tag.proofs.Widths.{registration_has_widths}
-use Rattle.vio_tag.specs.Form.{AreCookies, BodyHasWidths, no_cookie}
+use Rattle.vio_tag.specs.Form.{AreCookies, BodyHasWidths}
 use Rattle.vio_handshake.specs.Messages.{own_ring}
-use Rattle.disk_model.specs.Offering.{client_offer, filled, own_cookies, page_cookies}
+use Rattle.channel_model.specs.OwnMemory.{filled, page_cookies}
+use Rattle.disk_model.specs.Offering.{client_offer, own_cookies}
 
 -- FOURTEEN COOKIES, the first of them these
 pub filled_long : (n : ℕ) (cookies : List Cookie) → length (filled n cookies) ≡ n

@@ -15,18 +15,18 @@ use Rattle.ldc_queue.specs.Numbered.{numbered}
 use Rattle.ldc_queue.specs.OneStream.{IsFront, OneWay, live}
 use Rattle.ldc_queue.specs.Transcript.{Turn, numbered_heard, numbered_said}
 use Rattle.vio_handshake.proofs.Places.{AllSaid, Deal, Place}
-use Rattle.disk_model.specs.Agreement.{ServerAgrees}
+use Rattle.lane_laws.specs.Agreement.{ServerAgrees}
 use Rattle.disk_model.specs.DiskEvent.{DiskEvent}
-use Rattle.disk_model.specs.DiskLog.{DiskLog, after, nothing_yet}
+use Rattle.lane_laws.specs.DiskLog.{DiskLog, after, nothing_yet}
 use Rattle.disk_model.specs.LaneState.{IsShape, LaneState, Shape, fresh}
 use Rattle.disk_model.specs.LaneStep.{LaneStep}
-use Rattle.disk_model.specs.Messages.{end_of, is_range, range_if, seq_of, start_of}
-use Rattle.disk_model.specs.Ranges.{range_length, wrapped}
-use Rattle.disk_model.specs.Sayings.{heard, said}
+use Rattle.channel_model.specs.Messages.{end_of, is_range, range_if, seq_of, start_of}
+use Rattle.channel_model.specs.Ranges.{range_length, wrapped}
+use Rattle.channel_model.specs.Sayings.{heard, said}
 use Rattle.disk_model.specs.ServerState.{ServerSession, Work}
-use Rattle.disk_model.specs.TranscriptLog.{TranscriptLog}
-use Rattle.disk_model.specs.WireLog.{WireLog}
-use Rattle.disk_model.specs.WorkLog.{ClientCounts, ServerCounts, length_in, one_in}
+use Rattle.channel_model.specs.TranscriptLog.{TranscriptLog}
+use Rattle.channel_model.specs.WireLog.{WireLog}
+use Rattle.lane_laws.specs.WorkLog.{ClientCounts, ServerCounts, length_in, one_in}
 use Rattle.lane_laws.proofs.AckedFinished.{same_ranges}
 use Rattle.lane_laws.proofs.Agreeing.{client_some}
 use Rattle.lane_laws.proofs.LaneCores.{transcript_is}

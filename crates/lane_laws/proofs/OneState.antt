@@ -10,17 +10,17 @@ use Rattle.vio_tag.specs.declared.message.MsgBody.TheVariants.{DringData}
 use Rattle.vio_tag.specs.Spelling.{canonical}
 use Rattle.vio_handshake.specs.declared.handshake.Handshake.{Handshake}
 use Rattle.vio_handshake.specs.Messages.{ack, info}
-use Rattle.disk_model.specs.Agreement.{AgreesWithLog, ClientAgrees, ClientEndAgrees, LinkAgrees, RangeAgrees, ServerAgrees, ServerEndAgrees}
-use Rattle.disk_model.specs.BlockLog.{Blockage}
+use Rattle.lane_laws.specs.Agreement.{AgreesWithLog, ClientAgrees, ClientEndAgrees, LinkAgrees, RangeAgrees, ServerAgrees, ServerEndAgrees}
+use Rattle.lane_laws.specs.BlockLog.{Blockage}
 use Rattle.disk_model.specs.ClientPutting.{is_announcing}
 use Rattle.disk_model.specs.ClientState.{ClientSession, ClientState}
-use Rattle.disk_model.specs.DiskLog.{DiskLog}
-use Rattle.disk_model.specs.EndLog.{announced_or_owed, answer_left, client_left, is_stuck_with_own, left_of, owed_left, range_left, server_left}
+use Rattle.lane_laws.specs.DiskLog.{DiskLog}
+use Rattle.lane_laws.specs.EndLog.{announced_or_owed, answer_left, client_left, is_stuck_with_own, left_of, owed_left, range_left, server_left}
 use Rattle.disk_model.specs.LaneState.{LaneState}
-use Rattle.disk_model.specs.Ranges.{wrapped}
-use Rattle.disk_model.specs.Sayings.{half_said}
+use Rattle.channel_model.specs.Ranges.{wrapped}
+use Rattle.channel_model.specs.Sayings.{half_said}
 use Rattle.disk_model.specs.ServerState.{ServerSession, ServerState, SlotRange, Work}
-use Rattle.disk_model.specs.WorkLog.{ClientCounts, ServerCounts}
+use Rattle.lane_laws.specs.WorkLog.{ClientCounts, ServerCounts}
 use Rattle.lane_laws.specs.SameEnds.{SameClient, SameServer}
 
 -- LINKS are one where their fields are

@@ -2,13 +2,13 @@
 use Rattle.std.proofs.Common.{◌≡◌, ℕ, zero, suc, ◌+◌, ◌*◌, ◌%◌, ◌^◌, ◌<◌, ◌≤◌, Bool, true, false, List, [], ◌∷◌, length, refl, sym, ap, subst, arith, nat_le}
 use Rattle.std.specs.Prelude.{if◌then◌else◌}
 use Rattle.std.proofs.lemmas.Bool.Decides.{nat_tests}
-use Rattle.map_table.specs.Cookies.{IsCookie}
+use Rattle.map_table.specs.Cookies.{IsCookie, no_cookie}
 use Rattle.map_table.specs.declared.cookie.Cookie.{Cookie}
 use Rattle.map_table.proofs.Each.{each_replicate}
 use Rattle.vdisk_msg.specs.Requested.{ring_pages}
 use Rattle.vio_tag.proofs.AttributeBytes.{disk_attr_reads_back}
 use Rattle.vio_tag.specs.declared.attributes.DiskAttr.{DiskAttr}
-use Rattle.vio_tag.specs.Form.{HasWidths, IsWellFormed, no_cookie}
+use Rattle.vio_tag.specs.Form.{HasWidths, IsWellFormed}
 use Rattle.vio_handshake.specs.Acceptance.{are_aligned, hold_ring, sizes}
 use Rattle.vio_handshake.specs.Attributes.{blocks_of}
 use Rattle.vio_handshake.specs.Offers.{FitsRing}
@@ -16,7 +16,8 @@ use Rattle.vio_handshake.proofs.MessageWidths.{OfferHasWidths, message_has_width
 use Rattle.vio_handshake.proofs.PlaceRows.{Fits}
 use Rattle.vio_handshake.proofs.Places.{Deal, Place, message_at}
 use Rattle.disk_model.specs.LaneState.{Shape}
-use Rattle.disk_model.specs.Offering.{client_offer, disk_of, own_cookies, page_cookies, server_offer}
+use Rattle.channel_model.specs.OwnMemory.{page_cookies}
+use Rattle.disk_model.specs.Offering.{client_offer, disk_of, own_cookies, server_offer}
 use Rattle.lane_laws.proofs.OfferedRing.{cookies_are, few_cookies, filled_front, filled_long, offered_form}
 
 abbrev pub deal : Shape → ℕ → ℕ → Deal

@@ -6,11 +6,11 @@ use Rattle.ldc_link.specs.declared.phase.Role.TheVariants.{Initiator, Responder}
 use Rattle.ldc_queue.specs.declared.end.End.{End}
 use Rattle.ldc_queue.specs.declared.end.End.TheVariants.{A, B}
 use Rattle.ldc_queue.specs.Transcript.{Heard, Said}
-use Rattle.disk_model.specs.HandshakeOrder.{HandshakeOrder}
-use Rattle.disk_model.specs.TranscriptLog.{TranscriptLog, hears, says}
-use Rattle.disk_model.specs.WireEvent.{Joined, Sent, Took, WireEvent}
-use Rattle.disk_model.specs.DiskLog.{after, nothing_yet}
-use Rattle.disk_model.specs.WorkLaws.{OpeningsAt, OpensRightly}
+use Rattle.channel_model.specs.HandshakeOrder.{HandshakeOrder}
+use Rattle.channel_model.specs.TranscriptLog.{TranscriptLog, hears, says}
+use Rattle.channel_model.specs.WireEvent.{Joined, Sent, Took, WireEvent}
+use Rattle.lane_laws.specs.DiskLog.{after, nothing_yet}
+use Rattle.lane_laws.specs.WorkLaws.{OpeningsAt, OpensRightly}
 use Rattle.disk_model.specs.DiskEvent.{Asks, DiskEvent, OnWire}
 use Rattle.disk_model.specs.LaneState.{IsShape, LaneState, Shape, fresh}
 use Rattle.disk_model.specs.LaneStep.{LaneStep}

@@ -11,18 +11,18 @@ use Rattle.ldc_queue.specs.declared.end.End.TheVariants.{A, B}
 use Rattle.ldc_queue.specs.OneStream.{IsFront}
 use Rattle.ldc_queue.specs.Transcript.{Heard as Heard_, Turn}
 use Rattle.vio_tag.specs.declared.cause.Cause.{Cause}
-use Rattle.disk_model.specs.EndPuts.{handshake_risen}
-use Rattle.disk_model.specs.Sayings.{heard, said}
-use Rattle.disk_model.specs.TranscriptLog.{TranscriptLog}
-use Rattle.disk_model.specs.WireAt.{IsOwnReset}
-use Rattle.disk_model.specs.WireLog.{WireLog}
+use Rattle.channel_model.specs.EndPuts.{handshake_risen}
+use Rattle.channel_model.specs.Sayings.{heard, said}
+use Rattle.channel_model.specs.TranscriptLog.{TranscriptLog}
+use Rattle.channel_model.specs.WireAt.{IsOwnReset}
+use Rattle.channel_model.specs.WireLog.{WireLog}
 use Rattle.disk_model.specs.ClientRule as client_rules
 use Rattle.disk_model.specs.ClientState.{ClientSession}
 use Rattle.disk_model.specs.ClientTaking as client
 use Rattle.disk_model.specs.DiskEvent.{DiskEvent}
 use Rattle.disk_model.specs.LaneState.{IsShape, LaneState, Shape, fresh}
 use Rattle.disk_model.specs.LaneStep.{LaneStep}
-use Rattle.disk_model.specs.Seeing.{seen}
+use Rattle.channel_model.specs.Seeing.{seen}
 use Rattle.disk_model.specs.ServerRule as server_rules
 use Rattle.disk_model.specs.ServerState.{ServerSession}
 use Rattle.disk_model.specs.ServerTaking as server

@@ -20,7 +20,7 @@ use Rattle.ldc_link.specs.LinkState.{LinkState}
 use Rattle.ldc_link.specs.Putting.{behind_put, control, first_part, owed_in, part_bytes, part_owed, with_link}
 use Rattle.ldc_link.proofs.Saying.{first_form, same_pair}
 use Rattle.ldc_link.proofs.Spelled.{has_part, spelled_fragment}
-use Rattle.disk_model.specs.Sayings.{half_past, half_said, said, whole_past}
+use Rattle.channel_model.specs.Sayings.{half_past, half_said, said, whole_past}
 
 -- the type of a packet's bytes
 type_of : (p : Packet) → type_at (canonical p) ≡ type_code p.body

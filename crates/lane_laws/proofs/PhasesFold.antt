@@ -21,9 +21,9 @@ use Rattle.ldc_link.specs.Taking.{Heard, LinkTake, TakesBytes, Unheard, count, g
 use Rattle.vio_bytes.specs.Place.{number_at}
 use Rattle.vio_tag.specs.declared.cause.Cause.{Cause}
 use Rattle.vio_tag.specs.declared.cause.Cause.TheVariants as cause
-use Rattle.disk_model.specs.EndLog.{or_stays, phase_by, phase_heard, subtype_named}
-use Rattle.disk_model.specs.EndPuts.{ComesUp, EndsOwn, EndsHandshake, Goes, PutKind, ending, kind_in, put_kind}
-use Rattle.disk_model.specs.TranscriptLog.{is_rdx}
+use Rattle.lane_laws.specs.EndLog.{or_stays, phase_by, phase_heard, subtype_named}
+use Rattle.channel_model.specs.EndPuts.{ComesUp, EndsOwn, EndsHandshake, Goes, PutKind, ending, kind_in, put_kind}
+use Rattle.channel_model.specs.TranscriptLog.{is_rdx}
 use Rattle.lane_laws.proofs.LastSids.{agreed, answered_rtr, asked_rts, given, no_rdx, offered, rdx_by, refused}
 use Rattle.lane_laws.proofs.PartPut.{part_puts}
 

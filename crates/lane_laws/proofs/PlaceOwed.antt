@@ -15,7 +15,8 @@ use Rattle.vio_tag.specs.declared.message.Message.{Message}
 use Rattle.vio_tag.specs.Spelling.{HasLength, canonical}
 use Rattle.disk_model.specs.ClientState.{ClientState}
 use Rattle.disk_model.specs.LaneState.{Shape}
-use Rattle.disk_model.specs.Offering.{own_cookies, page_cookies}
+use Rattle.channel_model.specs.OwnMemory.{page_cookies}
+use Rattle.disk_model.specs.Offering.{own_cookies}
 use Rattle.disk_model.specs.ServerState.{ServerState}
 use Rattle.lane_laws.proofs.ClientPlacing.{ClientAt}
 use Rattle.lane_laws.proofs.ClientTaken.{ClientTook}

@@ -15,9 +15,9 @@ use Rattle.vio_tag.specs.Form.{IsWellFormed}
 use Rattle.vio_tag.specs.Spelling.{SpellsMessage, envelope_at}
 use Rattle.vio_handshake.specs.declared.handshake.Phase.TheVariants.{PeerReadyTaken}
 use Rattle.vio_handshake.proofs.Places.{AttributesAnswered, AttributesSaid, Deal, PeerReadyAnswered, PeerReadySaid, Place, ReadyAnswered, ReadySaid, RingAnswered, RingSaid, VersionAnswered, VersionSaid, message_at}
-use Rattle.disk_model.specs.Messages.{is_range, range_if, range_in}
-use Rattle.disk_model.specs.WorkLog.{length_in, one_in}
-use Rattle.disk_model.specs.EndPuts.{ComesUp, EndsOwn, EndsHandshake, Goes, PutKind, ending, kind_in, put_kind}
+use Rattle.channel_model.specs.Messages.{is_range, range_if, range_in}
+use Rattle.lane_laws.specs.WorkLog.{length_in, one_in}
+use Rattle.channel_model.specs.EndPuts.{ComesUp, EndsOwn, EndsHandshake, Goes, PutKind, ending, kind_in, put_kind}
 use Rattle.lane_laws.proofs.EndPlaced.{EachData, IsData, code_of}
 use Rattle.lane_laws.proofs.OpeningScript.{count_at, said_at, script}
 use Rattle.lane_laws.proofs.RangesSaid.{IsNoData, envelope_reads, formed_code, owed_no_range, said_one}

@@ -5,10 +5,10 @@ use Rattle.ldc_queue.specs.declared.end.ChannelState.{ChannelState}
 use Rattle.ldc_queue.specs.declared.end.ChannelState.TheVariants.{Down, Resetting, Up}
 use Rattle.vdisk_msg.specs.declared.request.Request.{Request}
 use Rattle.vdisk_msg.specs.Requested.{ring_pages}
-use Rattle.disk_model.specs.Agreement.{ClientAgrees, ClientCountsAgree, ServerAgrees}
-use Rattle.disk_model.specs.DiskLog.{DiskLog}
-use Rattle.disk_model.specs.RingLog.{Accepted}
-use Rattle.disk_model.specs.WorkLog.{ClientCounts, ServerCounts}
+use Rattle.lane_laws.specs.Agreement.{ClientAgrees, ClientCountsAgree, ServerAgrees}
+use Rattle.lane_laws.specs.DiskLog.{DiskLog}
+use Rattle.lane_laws.specs.RingLog.{Accepted}
+use Rattle.lane_laws.specs.WorkLog.{ClientCounts, ServerCounts}
 use Rattle.disk_model.specs.ClientState.{ClientSession}
 use Rattle.disk_model.specs.LaneState.{LaneState}
 use Rattle.disk_model.specs.ServerState.{ServerSession, Work}

@@ -4,12 +4,12 @@ use Rattle.std.specs.Prelude.{is_some}
 use Rattle.runs.specs.Lawful.{log_of}
 use Rattle.runs.specs.Run.{Run}
 use Rattle.ldc_link.specs.declared.phase.Role.TheVariants.{Initiator, Responder}
-use Rattle.disk_model.specs.Sayings.{heard, said}
-use Rattle.disk_model.specs.WireLog.{WireLog}
-use Rattle.disk_model.specs.DiskLog.{DiskLog, after, nothing_yet}
-use Rattle.disk_model.specs.QuietLaws.{ClientIsIdle, IsAtRest, ServerIsIdle}
-use Rattle.disk_model.specs.WorkLaws.{IfClient, IfServer}
-use Rattle.disk_model.specs.WorkLog.{ClientCounts, ServerCounts}
+use Rattle.channel_model.specs.Sayings.{heard, said}
+use Rattle.channel_model.specs.WireLog.{WireLog}
+use Rattle.lane_laws.specs.DiskLog.{DiskLog, after, nothing_yet}
+use Rattle.lane_laws.specs.QuietLaws.{ClientIsIdle, IsAtRest, ServerIsIdle}
+use Rattle.lane_laws.specs.WorkLaws.{IfClient, IfServer}
+use Rattle.lane_laws.specs.WorkLog.{ClientCounts, ServerCounts}
 use Rattle.disk_model.specs.ClientRule as client_rules
 use Rattle.disk_model.specs.DiskEvent.{DiskEvent}
 use Rattle.disk_model.specs.LaneState.{IsShape, LaneState, Shape, fresh}

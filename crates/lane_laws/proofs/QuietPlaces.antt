@@ -9,7 +9,7 @@ use Rattle.ldc_queue.specs.Transcript.{Turn}
 use Rattle.vio_tag.specs.declared.message.Message.{Message}
 use Rattle.vio_handshake.specs.declared.handshake.Handshake.{Handshake}
 use Rattle.vio_handshake.proofs.Places.{AllSaid, AttributesAnswered, AttributesSaid, Deal, IsPlace, PeerReadyAnswered, PeerReadySaid, PeerRingAnswered, PeerRingSaid, Place, ReadyAnswered, ReadySaid, RingAnswered, RingSaid, VersionAnswered, VersionSaid, message_at, owed_by, owner}
-use Rattle.disk_model.specs.Sayings.{heard, said}
+use Rattle.channel_model.specs.Sayings.{heard, said}
 use Rattle.disk_model.specs.LaneState.{Shape}
 use Rattle.lane_laws.proofs.EndHearing.{who}
 use Rattle.lane_laws.proofs.EndPlaced.{AtPlace}

@@ -14,26 +14,26 @@ use Rattle.ldc_queue.specs.Transcript.{Turn}
 use Rattle.vio_tag.specs.declared.message.Message.{Message}
 use Rattle.vio_tag.specs.declared.message.MsgBody.TheVariants.{DringData}
 use Rattle.vio_tag.specs.Spelling.{canonical}
-use Rattle.disk_model.specs.Sayings.{half_heard, half_said, said, whole_by, whole_past}
-use Rattle.disk_model.specs.WireEvent.{Blocked, Declines, Idle, Injected, Joined, Lost, Poked, Reset, Sent, Took, WireEvent}
-use Rattle.disk_model.specs.Agreement.{ClientAgrees, ServerCountsAgree, WorkAgrees}
-use Rattle.disk_model.specs.DiskLog.{DiskLog, after}
-use Rattle.disk_model.specs.Messages.{end_of, ended_by, range_ended, range_in, seq_of, start_of, whole_with}
-use Rattle.disk_model.specs.WorkLaws.{Acknowledges, Announces, AcknowledgesRange, IfClient, IfRange, IfServer, RangesAt}
-use Rattle.disk_model.specs.WorkLog.{ClientCounts, ServerCounts, change_client, length_in}
+use Rattle.channel_model.specs.Sayings.{half_heard, half_said, said, whole_by, whole_past}
+use Rattle.channel_model.specs.WireEvent.{Blocked, Declines, Idle, Injected, Joined, Lost, Poked, Reset, Sent, Took, WireEvent}
+use Rattle.lane_laws.specs.Agreement.{ClientAgrees, ServerCountsAgree, WorkAgrees}
+use Rattle.lane_laws.specs.DiskLog.{DiskLog, after}
+use Rattle.channel_model.specs.Messages.{end_of, ended_by, range_ended, range_in, seq_of, start_of, whole_with}
+use Rattle.lane_laws.specs.WorkLaws.{Acknowledges, Announces, AcknowledgesRange, IfClient, IfRange, IfServer, RangesAt}
+use Rattle.lane_laws.specs.WorkLog.{ClientCounts, ServerCounts, change_client, length_in}
 use Rattle.disk_model.specs.ClientPutting.{announcement, client_kind, is_announcing}
 use Rattle.disk_model.specs.ClientRule as client_rules
 use Rattle.disk_model.specs.ClientState.{ClientSession, ClientState, slot_in}
 use Rattle.disk_model.specs.ClientStep.{ClientSends}
-use Rattle.disk_model.specs.EndPuts.{ComesUp, EndsOwn, EndsHandshake, Goes, PutKind}
-use Rattle.disk_model.specs.Seeing.{seen}
+use Rattle.channel_model.specs.EndPuts.{ComesUp, EndsOwn, EndsHandshake, Goes, PutKind}
+use Rattle.channel_model.specs.Seeing.{seen}
 use Rattle.disk_model.specs.ServerPutting.{server_kind}
 use Rattle.disk_model.specs.ServerRule as server_rules
 use Rattle.vio_handshake.specs.declared.handshake.Phase.{Phase}
 use Rattle.disk_model.specs.DiskEvent.{Asks, DiskEvent, OnWire, Calms, Switches, Works}
 use Rattle.disk_model.specs.LaneState.{IsShape, LaneState}
 use Rattle.disk_model.specs.LaneStep.{LaneStep, WireStep}
-use Rattle.disk_model.specs.Ranges.{range_length, wrapped}
+use Rattle.channel_model.specs.Ranges.{range_length, wrapped}
 use Rattle.disk_model.specs.ServerState.{ServerSession, ServerState, SlotRange}
 use Rattle.disk_model.specs.ServerStep.{ServerSends}
 use Rattle.lane_laws.proofs.LaneCounting.{Knows, knows_step}

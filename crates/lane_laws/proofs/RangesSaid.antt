@@ -14,9 +14,9 @@ use Rattle.vio_tag.specs.Form.{HasForm, IsWellFormed}
 use Rattle.vio_tag.specs.Spelling.{SpellsBody, SpellsMessage, canonical, envelope_at, envelope_code, subtype_at}
 use Rattle.vio_handshake.specs.declared.handshake.Phase.{Phase}
 use Rattle.vio_handshake.specs.declared.handshake.Phase.TheVariants.{PeerReadyTaken}
-use Rattle.disk_model.specs.Messages.{end_of, is_range, range_if, range_in, seq_of, start_of}
-use Rattle.disk_model.specs.WorkLog.{length_in, one_in}
-use Rattle.disk_model.specs.Ranges.{range_length}
+use Rattle.channel_model.specs.Messages.{end_of, is_range, range_if, range_in, seq_of, start_of}
+use Rattle.lane_laws.specs.WorkLog.{length_in, one_in}
+use Rattle.channel_model.specs.Ranges.{range_length}
 use Rattle.lane_laws.specs.Counted.{is_ready}
 use Rattle.lane_laws.specs.HandshakeFits.{MayOwe}
 

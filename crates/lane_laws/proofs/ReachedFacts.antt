@@ -3,8 +3,8 @@ use Rattle.std.proofs.Common.{◌≡◌, ◌*◌, ◌≤◌, List, length, ap, �
 use Rattle.runs.specs.Lawful.{log_of, run_lawful}
 use Rattle.runs.specs.Run.{Run}
 use Rattle.ldc_link.specs.Following.{Follows}
-use Rattle.disk_model.specs.DiskLog.{after, nothing_yet}
-use Rattle.disk_model.specs.RequestLaws.{CarriesAt}
+use Rattle.lane_laws.specs.DiskLog.{after, nothing_yet}
+use Rattle.lane_laws.specs.RequestLaws.{CarriesAt}
 use Rattle.disk_model.specs.DiskEvent.{DiskEvent}
 use Rattle.disk_model.specs.LaneState.{IsShape, LaneState, Shape, fresh, pages_of}
 use Rattle.disk_model.specs.LaneStep.{LaneStep}

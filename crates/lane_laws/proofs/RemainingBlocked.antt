@@ -7,15 +7,15 @@ use Rattle.ldc_queue.specs.declared.end.End.{End}
 use Rattle.ldc_queue.specs.declared.end.End.TheVariants.{A, B}
 use Rattle.ldc_queue.specs.Transcript.{Turn}
 use Rattle.ldc_queue.specs.Wire.{Wire}
-use Rattle.disk_model.specs.WireEvent.{Blocked}
-use Rattle.disk_model.specs.DiskLog.{after, nothing_yet}
+use Rattle.channel_model.specs.WireEvent.{Blocked}
+use Rattle.lane_laws.specs.DiskLog.{after, nothing_yet}
 use Rattle.disk_model.specs.ClientPutting.{announcement, announcing, client_holds, holding}
 use Rattle.disk_model.specs.ClientRule.{Announces, ClientRule, Completes, Joins, Publishes, Puts, Idles, Says, Takes, client_rule}
 use Rattle.disk_model.specs.ClientState.{ClientState}
 use Rattle.disk_model.specs.DiskEvent.{DiskEvent, OnWire}
 use Rattle.disk_model.specs.LaneState.{IsShape, LaneState, Shape, fresh}
 use Rattle.disk_model.specs.LaneStep.{LaneStep}
-use Rattle.disk_model.specs.Seeing.{Seen}
+use Rattle.channel_model.specs.Seeing.{Seen}
 use Rattle.disk_model.specs.ServerPutting.{server_holds}
 use Rattle.disk_model.specs.ServerRule as server_rules
 use Rattle.disk_model.specs.ServerState.{ServerState}

@@ -6,9 +6,9 @@ use Rattle.ldc_queue.specs.declared.end.End.{End}
 use Rattle.ldc_queue.specs.declared.end.End.TheVariants.{A, B}
 use Rattle.ldc_queue.specs.Wire.{Wire, upset}
 use Rattle.vio_tag.specs.declared.cause.Cause.{Cause}
-use Rattle.disk_model.specs.WireAt.{IsUp}
-use Rattle.disk_model.specs.WireEvent.{ByRestart, ByScript, ByStep, ByTick, Giver, Reset, giver}
-use Rattle.disk_model.specs.WireLog.{lossy_behind, wire_moved}
+use Rattle.channel_model.specs.WireAt.{IsUp}
+use Rattle.channel_model.specs.WireEvent.{ByRestart, ByScript, ByStep, ByTick, Giver, Reset, giver}
+use Rattle.channel_model.specs.WireLog.{lossy_behind, wire_moved}
 use Rattle.disk_model.specs.ClientState.{ClientState, joined_client}
 use Rattle.disk_model.specs.DiskEvent.{OnWire}
 use Rattle.disk_model.specs.LaneState.{LaneState, Shape, fresh, near_disturbed}

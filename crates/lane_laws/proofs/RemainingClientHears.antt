@@ -27,8 +27,8 @@ use Rattle.disk_model.specs.ClientPutting.{is_announcing}
 use Rattle.disk_model.specs.ClientRule.{Announces, ClientRule, Completes, Joins, Puts, Idles, Takes, client_rule, completes_first, in_session, is_urgent, publishes, puts_first, puts_or_takes, says, takes_first}
 use Rattle.disk_model.specs.ClientState.{ClientSession, ClientState, slot_in}
 use Rattle.disk_model.specs.ClientTaking as hear
-use Rattle.disk_model.specs.Ranges.{is_other, range_length}
-use Rattle.disk_model.specs.Seeing.{Seen}
+use Rattle.channel_model.specs.Ranges.{is_other, range_length}
+use Rattle.channel_model.specs.Seeing.{Seen}
 use Rattle.lane_laws.proofs.Hearing.{heard_leaves}
 use Rattle.lane_laws.proofs.RemainingRows.{FewerBy, take_fewer}
 use Rattle.lane_laws.proofs.RemainingSums.{held_more}

@@ -15,8 +15,8 @@ use Rattle.vio_handshake.specs.Rules.{opens_by_put, handshake_sent}
 use Rattle.vio_handshake.specs.State.{handshake_up}
 use Rattle.disk_model.specs.ClientPutting.{announced, announcement, announcing, client_put, holding, is_announcing, opened_if, session_behind}
 use Rattle.disk_model.specs.ClientState.{ClientSession, ClientState, slot_in}
-use Rattle.disk_model.specs.EndPuts.{ComesUp, EndsOwn, EndsHandshake, Goes, PutKind, ending, kind_in, handshake_behind}
-use Rattle.disk_model.specs.Ranges.{wrapped}
+use Rattle.channel_model.specs.EndPuts.{ComesUp, EndsOwn, EndsHandshake, Goes, PutKind, ending, kind_in, handshake_behind}
+use Rattle.channel_model.specs.Ranges.{wrapped}
 use Rattle.lane_laws.proofs.RemainingHandshake.{range_part, sent_left, up_left}
 use Rattle.lane_laws.proofs.RemainingSums.{held_empty, held_more, held_other, held_own, held_part, part_less, some_part}
 use Rattle.lane_laws.proofs.Sharing.{nothing, some_left}

@@ -11,7 +11,7 @@ use Rattle.disk_model.specs.ClientPutting.{announcement, announcing, client_hold
 use Rattle.disk_model.specs.ClientRule.{Announces, ClientRule, Completes, Joins, Publishes, Puts, Idles, Says, Takes, client_rule}
 use Rattle.disk_model.specs.ClientState.{ClientSession, ClientState}
 use Rattle.disk_model.specs.ClientStep.{ClientCompletes, ClientPublishes, ClientSends}
-use Rattle.disk_model.specs.Seeing.{Seen}
+use Rattle.channel_model.specs.Seeing.{Seen}
 use Rattle.lane_laws.proofs.ClientHolding.{client_held, not_own}
 use Rattle.lane_laws.proofs.RemainingClientPuts.{ClientLowers, announces_lowers, client_put_lowers, says_lowers}
 use Rattle.lane_laws.proofs.RemainingSums.{quiet_put}

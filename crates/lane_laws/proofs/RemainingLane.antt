@@ -10,14 +10,14 @@ use Rattle.ldc_queue.specs.Wire.{Wire, configured, peer_behind, put_for, queue_b
 use Rattle.vio_handshake.specs.declared.handshake.Phase.TheVariants as hand
 use Rattle.vio_handshake.specs.declared.handshake.Phase.{Phase}
 use Rattle.vio_handshake.specs.Rules.{opens_by_put}
-use Rattle.disk_model.specs.WireEvent.{Joined, Sent, WireEvent}
-use Rattle.disk_model.specs.WireLog.{lossy_behind, wire_moved}
+use Rattle.channel_model.specs.WireEvent.{Joined, Sent, WireEvent}
+use Rattle.channel_model.specs.WireLog.{lossy_behind, wire_moved}
 use Rattle.disk_model.specs.ClientRule as client_rules
 use Rattle.disk_model.specs.ClientState.{ClientSession, ClientState, joined_client}
 use Rattle.disk_model.specs.DiskEvent.{Desc, DiskEvent, Done, Finished, Misplaced, Moved, OnWire, Published, Stored, Worked, Works}
 use Rattle.disk_model.specs.LaneState.{LaneState}
 use Rattle.disk_model.specs.LaneStep.{ClientWorks, LaneStep, ServerWorks, WorkStep, near_worked}
-use Rattle.disk_model.specs.Seeing.{Seen, seen}
+use Rattle.channel_model.specs.Seeing.{Seen, seen}
 use Rattle.disk_model.specs.ServerRule as server_rules
 use Rattle.disk_model.specs.ServerState.{ServerState, joined_server}
 use Rattle.lane_laws.proofs.ClientSteps.{client_sends}

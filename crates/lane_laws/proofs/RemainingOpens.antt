@@ -29,8 +29,8 @@ use Rattle.vio_handshake.specs.Rules.{Faults, Goes as GoesOnBy, GoesOpen, Handsh
 use Rattle.disk_model.specs.ClientPutting.{announced, client_put, is_announcing, opened_if, session_behind}
 use Rattle.disk_model.specs.ClientState.{ClientSession, ClientState}
 use Rattle.disk_model.specs.ClientTaking as client
-use Rattle.disk_model.specs.EndPuts.{ending, kind_in, handshake_behind}
-use Rattle.disk_model.specs.Ranges.{is_other, range_length}
+use Rattle.channel_model.specs.EndPuts.{ending, kind_in, handshake_behind}
+use Rattle.channel_model.specs.Ranges.{is_other, range_length}
 use Rattle.lane_laws.specs.RemainingSteps.{OpensLast}
 
 -- THE CLIENT'S SESSION

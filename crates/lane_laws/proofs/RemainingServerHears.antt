@@ -17,7 +17,7 @@ use Rattle.ldc_queue.specs.Fragments.{Fragment}
 use Rattle.vio_tag.specs.declared.cause.Cause.{Cause}
 use Rattle.vio_tag.specs.declared.cause.Cause.TheVariants as the_cause
 use Rattle.vio_tag.specs.declared.message.Message.{Message}
-use Rattle.disk_model.specs.Seeing.{Seen}
+use Rattle.channel_model.specs.Seeing.{Seen}
 use Rattle.disk_model.specs.ServerRule.{Joins, Puts, Says, ServerRule, Takes, answer, in_range, in_session, says, server_rule, serves, takes_first}
 use Rattle.disk_model.specs.ServerState.{ServerSession, ServerState, SlotRange, Work}
 use Rattle.lane_laws.specs.Budget.{one_range, range_left}

@@ -6,8 +6,8 @@ use Rattle.ldc_queue.specs.declared.end.ChannelState.{ChannelState}
 use Rattle.ldc_queue.specs.declared.end.ChannelState.TheVariants.{Down, Up, Resetting}
 use Rattle.ldc_queue.specs.declared.end.End.TheVariants.{A, B}
 use Rattle.ldc_queue.specs.Wire.{Wire, taken_for}
-use Rattle.disk_model.specs.WireEvent.{Took}
-use Rattle.disk_model.specs.WireLog.{wire_moved}
+use Rattle.channel_model.specs.WireEvent.{Took}
+use Rattle.channel_model.specs.WireLog.{wire_moved}
 use Rattle.disk_model.specs.ClientRule as client_rules
 use Rattle.disk_model.specs.ClientState.{ClientState}
 use Rattle.disk_model.specs.DiskEvent.{DiskEvent, OnWire}

@@ -4,14 +4,14 @@ use Rattle.std.specs.Prelude.{zero, suc, slice_get}
 use Rattle.std.proofs.lemmas.List.{drop-append-le, drop-drop}
 use Rattle.vdisk_msg.specs.declared.request.Request.{Request}
 use Rattle.vdisk_msg.specs.Requests.{operation_of}
-use Rattle.disk_model.specs.WorkLog.{WorkLog}
+use Rattle.lane_laws.specs.WorkLog.{WorkLog}
 use Rattle.disk_model.specs.ClientPutting.{announced, announcement, announcing, client_holds, client_kind, client_put, holding, opened_if, session_behind}
 use Rattle.disk_model.specs.ClientRule.{Announces, ClientRule, Completes, Joins, Publishes, Puts, Idles, Says, Takes, client_rule}
 use Rattle.disk_model.specs.ClientState.{ClientSession, ClientState, first_id, joined_client}
 use Rattle.disk_model.specs.ClientStep.{ClientCompletes, ClientPublishes, ClientSends}
 use Rattle.disk_model.specs.ClientTaking.{ClientTakes, GoesOn}
-use Rattle.disk_model.specs.EndPuts.{ComesUp, EndsOwn, EndsHandshake, Goes, PutKind, put_opens}
-use Rattle.disk_model.specs.Seeing.{Seen}
+use Rattle.channel_model.specs.EndPuts.{ComesUp, EndsOwn, EndsHandshake, Goes, PutKind, put_opens}
+use Rattle.channel_model.specs.Seeing.{Seen}
 use Rattle.lane_laws.proofs.ClientHearing.{by_link}
 use Rattle.lane_laws.proofs.Ruling.{client_may}
 use Rattle.lane_laws.specs.RuleFacts.{ClientMay}

@@ -3,9 +3,9 @@ use Rattle.std.proofs.Common.{◌≡◌, ℕ, false, List, [], ◌∷◌, ◌++�
 use Rattle.std.specs.Prelude.{⊤}
 use Rattle.runs.specs.Lawful.{log_append, log_of, run_lawful}
 use Rattle.runs.specs.Run.{Run, run_push}
-use Rattle.disk_model.specs.DiskLog.{DiskLog, after, nothing_yet}
-use Rattle.disk_model.specs.WorkLog.{ClientCounts}
-use Rattle.disk_model.specs.WorkLaws.{Unforged}
+use Rattle.lane_laws.specs.DiskLog.{DiskLog, after, nothing_yet}
+use Rattle.lane_laws.specs.WorkLog.{ClientCounts}
+use Rattle.lane_laws.specs.WorkLaws.{Unforged}
 use Rattle.disk_model.specs.DiskEvent.{Desc, DiskEvent, Done, Works}
 use Rattle.disk_model.specs.LaneState.{IsShape, LaneState, Shape, fresh}
 use Rattle.disk_model.specs.LaneStep.{LaneStep}

@@ -11,16 +11,16 @@ use Rattle.vdisk_msg.specs.declared.request.Request.{Request}
 use Rattle.vdisk_msg.specs.Descriptor.{disk_desc_of}
 use Rattle.vdisk_msg.specs.Requests.{defect}
 use Rattle.vio_bytes.specs.Place.{number_at, put_at}
-use Rattle.disk_model.specs.DiskLog.{DiskLog, after}
-use Rattle.disk_model.specs.RingLog.{Accepted, Done as IsDone, Free, Ready, SlotLog, freed_at, published_at}
-use Rattle.disk_model.specs.WorkLog.{ClientCounts, ServerCounts, change_client}
+use Rattle.lane_laws.specs.DiskLog.{DiskLog, after}
+use Rattle.lane_laws.specs.RingLog.{Accepted, Done as IsDone, Free, Ready, SlotLog, freed_at, published_at}
+use Rattle.lane_laws.specs.WorkLog.{ClientCounts, ServerCounts, change_client}
 use Rattle.disk_model.specs.ClientRule as client_rules
 use Rattle.disk_model.specs.ClientState.{ClientSession}
 use Rattle.disk_model.specs.ClientStep.{published_memory}
 use Rattle.disk_model.specs.DiskEvent.{Done, Published, Works}
 use Rattle.disk_model.specs.LaneState.{LaneState, Shape}
 use Rattle.disk_model.specs.LaneStep.{WorkStep}
-use Rattle.disk_model.specs.Seeing.{seen}
+use Rattle.channel_model.specs.Seeing.{seen}
 use Rattle.lane_laws.proofs.MemorySteps.{got_sound}
 use Rattle.lane_laws.proofs.RingClient.{frees_slot, publishes_slot}
 use Rattle.lane_laws.proofs.RingSessions.{OfClient, of_client, sizes_of}

@@ -5,6 +5,7 @@ use Rattle.std.specs.Prelude.{if◌then◌else◌}
 use Rattle.std.proofs.lemmas.Bool.{leb-true}
 use Rattle.std.proofs.lemmas.Bool.Decides.{nat_tests}
 use Rattle.std.specs.List.{list_all, range_with_len}
+use Rattle.map_table.specs.Cookies.{no_cookie}
 use Rattle.map_table.specs.declared.cookie.Cookie.{Cookie}
 use Rattle.cookie_copy.proofs.InTurn.{spots_follow}
 use Rattle.map_table.specs.declared.table.Entry.{Entry}
@@ -14,8 +15,9 @@ use Rattle.cookie_copy.specs.declared.fault.CopyFault.TheVariants.{Channel, BadA
 use Rattle.cookie_copy.specs.Faults.{first_address_fault, first_copy_fault, held, is_aligned, is_aligned_cookie, is_even_word}
 use Rattle.cookie_copy.specs.Following.{FollowOn}
 use Rattle.cookie_copy.specs.Moved.{moved_spots, spots}
-use Rattle.vdisk_msg.specs.Requested.{buffer_cookies, cookie_count, no_cookie, ring_pages}
-use Rattle.disk_model.specs.Offering.{own_cookies, page_cookies}
+use Rattle.vdisk_msg.specs.Requested.{buffer_cookies, cookie_count, ring_pages}
+use Rattle.channel_model.specs.OwnMemory.{page_cookies}
+use Rattle.disk_model.specs.Offering.{own_cookies}
 
 -- a multiple of 8
 pub even_word : (n : ℕ) → n % 8 ≡ 0 → is_even_word n ≡ true

@@ -8,17 +8,18 @@ use Rattle.dring.specs.Slots.{OneSlot, slot_bytes}
 use Rattle.ldc_queue.specs.declared.end.End.TheVariants.{B}
 use Rattle.vdisk_msg.specs.Descriptor as slot_says
 use Rattle.vdisk_msg.specs.Requested.{buffer_place, size_of}
-use Rattle.disk_model.specs.Agreement.{WorkAgrees, owed_of}
-use Rattle.disk_model.specs.DiskLog.{DiskLog, after}
-use Rattle.disk_model.specs.RingLog.{Accepted, Done, SlotLog, finished_at, id_at}
-use Rattle.disk_model.specs.WorkLog.{ClientCounts, ServerCounts, change_server, rest_of}
+use Rattle.lane_laws.specs.Agreement.{WorkAgrees, owed_of}
+use Rattle.lane_laws.specs.DiskLog.{DiskLog, after}
+use Rattle.lane_laws.specs.RingLog.{Accepted, Done, SlotLog, finished_at, id_at}
+use Rattle.lane_laws.specs.WorkLog.{ClientCounts, ServerCounts, change_server, rest_of}
 use Rattle.disk_model.specs.DiskEvent.{Finished, Moved, Works}
 use Rattle.disk_model.specs.LaneState.{LaneState, pages_of}
 use Rattle.disk_model.specs.LaneStep.{WorkStep, reach}
-use Rattle.disk_model.specs.Seeing.{seen}
+use Rattle.channel_model.specs.Seeing.{seen}
 use Rattle.disk_model.specs.ServerRule as server_rules
 use Rattle.disk_model.specs.ServerState.{Ends, Gathers, Gives, Progress, ServerSession, Work}
-use Rattle.disk_model.specs.ServerWork.{MovesIn, Reach}
+use Rattle.cookie_copy.specs.Reach.{Reach}
+use Rattle.disk_model.specs.ServerWork.{MovesIn}
 use Rattle.lane_laws.proofs.RingLeaves.{LeavesRing, ids_stay, leaves_stand, work_changed}
 use Rattle.lane_laws.proofs.RingServer.{ends_slot}
 use Rattle.lane_laws.proofs.RingSessions.{sizes_of}

@@ -5,11 +5,11 @@ use Rattle.ldc_queue.specs.declared.end.ChannelState.{ChannelState}
 use Rattle.ldc_queue.specs.declared.end.ChannelState.TheVariants.{Down, Resetting, Up}
 use Rattle.ldc_queue.specs.declared.end.End.TheVariants.{A, B}
 use Rattle.ldc_queue.specs.Wire.{peer_behind}
-use Rattle.disk_model.specs.WireEvent.{Blocked, Declines, Idle, Injected, Joined, Lost, Poked, Reset, Sent, Took, WireEvent}
+use Rattle.channel_model.specs.WireEvent.{Blocked, Declines, Idle, Injected, Joined, Lost, Poked, Reset, Sent, Took, WireEvent}
 use Rattle.vdisk_msg.specs.declared.request.Request.{Request}
-use Rattle.disk_model.specs.DiskLog.{DiskLog, after}
-use Rattle.disk_model.specs.RingLog.{Accepted, SlotLog}
-use Rattle.disk_model.specs.WorkLog.{ClientCounts, ServerCounts, change_client, change_server, opened_counts}
+use Rattle.lane_laws.specs.DiskLog.{DiskLog, after}
+use Rattle.lane_laws.specs.RingLog.{Accepted, SlotLog}
+use Rattle.lane_laws.specs.WorkLog.{ClientCounts, ServerCounts, change_client, change_server, opened_counts}
 use Rattle.disk_model.specs.DiskEvent.{DiskEvent, OnWire}
 use Rattle.disk_model.specs.LaneState.{LaneState}
 use Rattle.lane_laws.proofs.RingTable.{map_stands, same_holds}

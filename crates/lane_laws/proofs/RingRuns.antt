@@ -15,12 +15,12 @@ use Rattle.vdisk_msg.specs.declared.desc.DescFault.{DescFault}
 use Rattle.vdisk_msg.specs.declared.desc.DescFault.TheVariants.{Cookies, Operation, Range, Size}
 use Rattle.vdisk_msg.specs.declared.desc.DiskDesc.{DiskDesc}
 use Rattle.vdisk_msg.specs.Pieces.{Finishes, Moves, Piece, Stores, checked_pieces, operation_pieces, pieces, read_pieces, refusal_status, unit_count, write_pieces}
-use Rattle.disk_model.specs.TranscriptLog.{TranscriptLog}
-use Rattle.disk_model.specs.WireEvent.{Blocked, Declines, Idle, Injected, Joined, Lost, Poked, Reset, Sent, Took, WireEvent}
-use Rattle.disk_model.specs.Agreement.{RingAgrees, SlotAgrees}
-use Rattle.disk_model.specs.DiskLog.{DiskLog, after, nothing_yet}
-use Rattle.disk_model.specs.RingLog.{Accepted as IsAccepted, Done as IsDone, Free, Ready, SlotLog, Zeros, no_ring}
-use Rattle.disk_model.specs.WorkLog.{ServerCounts, WorkLog, change_server, moved_rest, opened_counts, rest_of, stored_rest, work_wired}
+use Rattle.channel_model.specs.TranscriptLog.{TranscriptLog}
+use Rattle.channel_model.specs.WireEvent.{Blocked, Declines, Idle, Injected, Joined, Lost, Poked, Reset, Sent, Took, WireEvent}
+use Rattle.lane_laws.specs.Agreement.{RingAgrees, SlotAgrees}
+use Rattle.lane_laws.specs.DiskLog.{DiskLog, after, nothing_yet}
+use Rattle.lane_laws.specs.RingLog.{Accepted as IsAccepted, Done as IsDone, Free, Ready, SlotLog, Zeros, no_ring}
+use Rattle.lane_laws.specs.WorkLog.{ServerCounts, WorkLog, change_server, moved_rest, opened_counts, rest_of, stored_rest, work_wired}
 use Rattle.disk_model.specs.DiskEvent.{Accepted, Admitted, Asks, Desc, DiskEvent, Done, Finished, Full, Misplaced, Moved, Off, OnWire, Published, Refused, Calms, Started, Stopped, Stored, Switches, Works}
 use Rattle.disk_model.specs.LaneState.{IsShape, LaneState, Shape, fresh, pages_of}
 use Rattle.disk_model.specs.LaneStep.{LaneStep}

@@ -12,7 +12,8 @@ use Rattle.vio_bytes.specs.Place.{put_at}
 use Rattle.vio_tag.specs.declared.cause.Cause.{Cause}
 use Rattle.disk_model.specs.Offering.{own_cookies}
 use Rattle.disk_model.specs.ServerState.{ServerState, Work}
-use Rattle.disk_model.specs.ServerWork.{EndFails, Reach, header_of, slots_cookies, with_done, with_status, with_word, word_fault}
+use Rattle.cookie_copy.specs.Reach.{Reach}
+use Rattle.disk_model.specs.ServerWork.{EndFails, header_of, slots_cookies, with_done, with_status, with_word, word_fault}
 use Rattle.lane_laws.proofs.MemoryStanding.{word_long}
 use Rattle.lane_laws.proofs.RingCookies.{copy_up}
 use Rattle.lane_laws.proofs.RingWrites.{one_after_one, ring_word, ring_word_answered}

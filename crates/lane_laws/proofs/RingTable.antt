@@ -7,8 +7,8 @@ use Rattle.std.proofs.lemmas.Option.{slice_get_within}
 use Rattle.dring.proofs.Turning.{one_turn}
 use Rattle.dring.specs.Slots.{OneSlot, free_state, slot_bytes}
 use Rattle.vdisk_msg.specs.declared.request.Request.{Request}
-use Rattle.disk_model.specs.RingLog.{Accepted, Done, Free, Ready, SlotLog, Zeros}
-use Rattle.disk_model.specs.WorkLog.{ClientCounts, ServerCounts}
+use Rattle.lane_laws.specs.RingLog.{Accepted, Done, Free, Ready, SlotLog, Zeros}
+use Rattle.lane_laws.specs.WorkLog.{ClientCounts, ServerCounts}
 use Rattle.lane_laws.proofs.SlotBytes.{more_holds}
 use Rattle.lane_laws.specs.RingSlots.{IdStands, IdsStand, InWork, RingHolds, RingOf, SameSlots, SlotHolds, SlotStands, WorkStands}
 

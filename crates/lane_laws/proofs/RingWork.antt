@@ -12,17 +12,17 @@ use Rattle.vdisk_msg.specs.declared.request.Request.{Request}
 use Rattle.vdisk_msg.specs.Pieces.{pieces}
 use Rattle.vdisk_msg.specs.Requested.{descriptor_of}
 use Rattle.vio_bytes.specs.Place.{put_at}
-use Rattle.disk_model.specs.WireLog.{WireLog}
-use Rattle.disk_model.specs.Agreement.{WorkAgrees}
-use Rattle.disk_model.specs.DiskLog.{DiskLog, after}
-use Rattle.disk_model.specs.RingLog.{Accepted, SlotLog, fetched_at, id_at}
-use Rattle.disk_model.specs.WorkLaws.{FetchesRequest, IfServer, InClient, InServer, Unforged}
-use Rattle.disk_model.specs.WorkLog.{ClientCounts, ServerCounts, change_server}
+use Rattle.channel_model.specs.WireLog.{WireLog}
+use Rattle.lane_laws.specs.Agreement.{WorkAgrees}
+use Rattle.lane_laws.specs.DiskLog.{DiskLog, after}
+use Rattle.lane_laws.specs.RingLog.{Accepted, SlotLog, fetched_at, id_at}
+use Rattle.lane_laws.specs.WorkLaws.{FetchesRequest, IfServer, InClient, InServer, Unforged}
+use Rattle.lane_laws.specs.WorkLog.{ClientCounts, ServerCounts, change_server}
 use Rattle.disk_model.specs.DiskEvent.{Desc, Works}
 use Rattle.disk_model.specs.LaneState.{LaneState, Shape, pages_of}
 use Rattle.disk_model.specs.LaneStep.{WorkStep, reach}
 use Rattle.disk_model.specs.Offering.{own_cookies}
-use Rattle.disk_model.specs.Seeing.{seen}
+use Rattle.channel_model.specs.Seeing.{seen}
 use Rattle.disk_model.specs.ServerRule as server_rules
 use Rattle.disk_model.specs.ServerState.{ServerSession, Work}
 use Rattle.disk_model.specs.ServerWork.{header_of, slot_fetched, with_word}

@@ -11,16 +11,17 @@ use Rattle.vdisk_msg.specs.declared.request.Request.TheVariants.{Flush, Read, Wr
 use Rattle.vdisk_msg.specs.Requested.{size_of}
 use Rattle.vio_bytes.specs.Place.{put_at}
 use Rattle.vio_bytes.specs.Range.{range_at}
-use Rattle.disk_model.specs.WireLog.{WireLog}
-use Rattle.disk_model.specs.DiskLog.{DiskLog}
+use Rattle.channel_model.specs.WireLog.{WireLog}
+use Rattle.lane_laws.specs.DiskLog.{DiskLog}
 use Rattle.disk_model.specs.ClientState.{ClientState}
 use Rattle.disk_model.specs.DiskEvent.{Moved, Works}
 use Rattle.disk_model.specs.LaneState.{LaneState, NearCounts}
 use Rattle.disk_model.specs.LaneStep.{WorkStep, reach}
-use Rattle.disk_model.specs.Seeing.{seen}
+use Rattle.channel_model.specs.Seeing.{seen}
 use Rattle.disk_model.specs.ServerRule as server_rules
 use Rattle.disk_model.specs.ServerState.{Ends, Flushes, Gathers, Gives, Progress, Reads, ServerState, Work, Writes}
-use Rattle.disk_model.specs.ServerWork.{MovesIn, Reach, data_cookies, desc_of, gathered, given, given_memory, in_fault, length_of, out_fault, reads_next, unit_length}
+use Rattle.cookie_copy.specs.Reach.{Reach}
+use Rattle.disk_model.specs.ServerWork.{MovesIn, data_cookies, desc_of, gathered, given, given_memory, in_fault, length_of, out_fault, reads_next, unit_length}
 use Rattle.lane_laws.proofs.Ruling.{server_may}
 use Rattle.lane_laws.specs.RuleFacts.{ServerMay}
 use Rattle.lane_laws.specs.Contents.{ContentsStand, ProgressIs}

@@ -12,14 +12,14 @@ use Rattle.vio_handshake.specs.declared.handshake.Phase.TheVariants.{Open}
 use Rattle.vio_handshake.specs.declared.session.Offer.{Offer}
 use Rattle.vio_handshake.specs.Rules.{HandshakeTake, handshake_take}
 use Rattle.vio_handshake.specs.State.{handshake_up}
-use Rattle.disk_model.specs.Sayings.{half_heard, half_said, heard, said}
-use Rattle.disk_model.specs.Agreement.{ServerAgrees, ServerCountsAgree, WorkAgrees}
-use Rattle.disk_model.specs.Messages.{range_ended, range_in}
-use Rattle.disk_model.specs.WorkLog.{ServerCounts, change_server, length_in, one_in, opened_counts}
-use Rattle.disk_model.specs.EndPuts.{handshake_risen}
+use Rattle.channel_model.specs.Sayings.{half_heard, half_said, heard, said}
+use Rattle.lane_laws.specs.Agreement.{ServerAgrees, ServerCountsAgree, WorkAgrees}
+use Rattle.channel_model.specs.Messages.{range_ended, range_in}
+use Rattle.lane_laws.specs.WorkLog.{ServerCounts, change_server, length_in, one_in, opened_counts}
+use Rattle.channel_model.specs.EndPuts.{handshake_risen}
 use Rattle.disk_model.specs.LaneState.{Shape}
 use Rattle.disk_model.specs.Offering.{server_offer}
-use Rattle.disk_model.specs.Ranges.{range_length, wrapped}
+use Rattle.channel_model.specs.Ranges.{range_length, wrapped}
 use Rattle.disk_model.specs.ServerState.{ServerSession, ServerState, SlotRange, Work, joined_server, restarted_server}
 use Rattle.lane_laws.proofs.ClientTaken.{HearsMessage, HandshakesTo}
 use Rattle.lane_laws.proofs.Awake.{up_empty}

@@ -16,18 +16,18 @@ use Rattle.vio_tag.specs.Spelling.{SpellsBody, canonical, envelope_code}
 use Rattle.vio_handshake.specs.declared.handshake.Handshake.{Handshake}
 use Rattle.vio_handshake.specs.declared.session.Offer.{Offer}
 use Rattle.vio_handshake.specs.State.{handshake_up}
-use Rattle.disk_model.specs.BlockLog.{Blockage, Clear, hearing, is_stuck, stuck}
-use Rattle.disk_model.specs.EndLog.{answered_by, asked_by, handshake_of, link_phase, range_in_work, range_of}
-use Rattle.disk_model.specs.EndPuts.{ComesUp, EndsOwn, EndsHandshake, Goes, PutKind, handshake_behind, handshake_risen}
-use Rattle.disk_model.specs.Messages.{ended_by, is_range, range_if, range_in}
-use Rattle.disk_model.specs.Sayings.{half_heard, half_said, heard}
-use Rattle.disk_model.specs.Seeing.{Seen}
+use Rattle.lane_laws.specs.BlockLog.{Blockage, Clear, hearing, is_stuck, stuck}
+use Rattle.lane_laws.specs.EndLog.{answered_by, asked_by, handshake_of, link_phase, range_in_work, range_of}
+use Rattle.channel_model.specs.EndPuts.{ComesUp, EndsOwn, EndsHandshake, Goes, PutKind, handshake_behind, handshake_risen}
+use Rattle.channel_model.specs.Messages.{ended_by, is_range, range_if, range_in}
+use Rattle.channel_model.specs.Sayings.{half_heard, half_said, heard}
+use Rattle.channel_model.specs.Seeing.{Seen}
 use Rattle.disk_model.specs.ServerPutting.{answered, server_holds, server_kind}
 use Rattle.disk_model.specs.ServerRule.{Fetches, Idles, Joins, Puts, Says, ServerRule, Serves, Takes}
 use Rattle.disk_model.specs.ServerState.{ServerSession, ServerState, SlotRange, joined_server, restarted_server}
 use Rattle.disk_model.specs.ServerStep.{ServerFetches, ServerFinishes, ServerMoves, ServerStores}
-use Rattle.disk_model.specs.ServerWork.{Reach}
-use Rattle.disk_model.specs.TranscriptLog.{is_rdx}
+use Rattle.cookie_copy.specs.Reach.{Reach}
+use Rattle.channel_model.specs.TranscriptLog.{is_rdx}
 use Rattle.lane_laws.proofs.ClientFolds.{LinkIs, joined_down, link_begins, link_hears, link_puts, link_stuck, owes_up}
 use Rattle.lane_laws.proofs.EndPutting.{PutSays}
 use Rattle.lane_laws.proofs.Awake.{is_awake, is_open_up}

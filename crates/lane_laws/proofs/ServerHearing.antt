@@ -15,8 +15,8 @@ use Rattle.vio_tag.specs.Decoding.{Decodes}
 use Rattle.vio_handshake.specs.declared.handshake.Handshake.{Handshake}
 use Rattle.vio_handshake.specs.Rules.{Faults, Goes, GoesOpen, HandshakeTake, handshake_take, sid_fault}
 use Rattle.vio_handshake.specs.State.{handshake_up}
-use Rattle.disk_model.specs.EndPuts.{handshake_risen}
-use Rattle.disk_model.specs.Ranges.{is_other}
+use Rattle.channel_model.specs.EndPuts.{handshake_risen}
+use Rattle.channel_model.specs.Ranges.{is_other}
 use Rattle.disk_model.specs.ServerState.{ServerSession, ServerState, SlotRange}
 use Rattle.disk_model.specs.ServerTaking.{GoesOn, HearsLink, HearsWhole, Resets, ServerTake, ServerTakes, asked, by_handshake, hears_message, in_session, place_of, reads, sid_first, takes_info}
 use Rattle.lane_laws.proofs.Hearing.{heard_leaves}

@@ -25,16 +25,17 @@ use Rattle.vio_tag.specs.Decoding.{Decodes}
 use Rattle.vio_tag.specs.Spelling.{canonical}
 use Rattle.vio_handshake.specs.declared.handshake.Handshake.{Handshake}
 use Rattle.vio_handshake.specs.Rules.{Faults, Goes, GoesOpen, HandshakeTake, fault_or, handshake_hear, handshake_take, sid_fault}
-use Rattle.disk_model.specs.EndPuts.{ComesUp, EndsOwn, EndsHandshake, Goes as Goes_, PutKind, ending, kind_in, put_opens, handshake_behind, handshake_risen}
+use Rattle.channel_model.specs.EndPuts.{ComesUp, EndsOwn, EndsHandshake, Goes as Goes_, PutKind, ending, kind_in, put_opens, handshake_behind, handshake_risen}
 use Rattle.disk_model.specs.Offering.{server_offer}
-use Rattle.disk_model.specs.Ranges.{is_other, wrapped}
-use Rattle.disk_model.specs.Seeing.{Seen}
+use Rattle.channel_model.specs.Ranges.{is_other, wrapped}
+use Rattle.channel_model.specs.Seeing.{Seen}
 use Rattle.disk_model.specs.ServerPutting.{answered, server_holds, server_kind, server_put, session_behind}
 use Rattle.disk_model.specs.ServerRule.{Fetches, Puts, Says, ServerRule, Serves, Takes, answer, server_rule}
 use Rattle.disk_model.specs.ServerState.{ServerSession, ServerState, SlotRange, Work, joined_server, opened_server, restarted_server}
 use Rattle.disk_model.specs.ServerStep.{ServerFails, ServerFetches, ServerFinishes, ServerMoves, ServerSends, ServerStores}
 use Rattle.disk_model.specs.ServerTaking.{GoesOn, HearsLink, HearsWhole, Resets, ServerTake, ServerTakes, asked, by_handshake, hears_message, in_session, place_of, reads, sid_first, takes_info}
-use Rattle.disk_model.specs.ServerWork.{Reach, first_progress}
+use Rattle.cookie_copy.specs.Reach.{Reach}
+use Rattle.disk_model.specs.ServerWork.{first_progress}
 use Rattle.vdisk_msg.specs.Descriptor as slot_says
 use Rattle.channel_laws.specs.EndCore.{holds}
 use Rattle.channel_laws.specs.EndStep.{DecodedFails, EndBegins, EndFails, EndHears, EndRenews, EndSays, EndStays, EndWaits, HandshakeTakes, HearsOwn, Holding, Holds, HoldsOn, HoldsOwed, HoldsOwn, IsOwn, KeepsOwn, LinkFails, MayTake, WholeFails}

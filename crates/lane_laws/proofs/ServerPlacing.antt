@@ -18,11 +18,11 @@ use Rattle.vio_handshake.specs.Rules.{Goes as GoesOn, GoesOpen, handshake_take}
 use Rattle.vio_handshake.specs.State.{begun, joined_handshake, handshake_up}
 use Rattle.vio_handshake.proofs.Agreeable.{same_number}
 use Rattle.vio_handshake.proofs.Places.{AllSaid, AttributesAnswered, AttributesSaid, Deal, IsPlace, PeerReadyAnswered, PeerReadySaid, PeerRingAnswered, PeerRingSaid, Place, ReadyAnswered, ReadySaid, RingAnswered, RingSaid, VersionAnswered, VersionSaid, message_at, next, owed_by, owner, handshake_at}
-use Rattle.disk_model.specs.Sayings.{half_said, heard, said}
-use Rattle.disk_model.specs.WorkLog.{ServerCounts}
-use Rattle.disk_model.specs.EndPuts.{ComesUp, EndsOwn, EndsHandshake, Goes, PutKind, handshake_risen}
+use Rattle.channel_model.specs.Sayings.{half_said, heard, said}
+use Rattle.lane_laws.specs.WorkLog.{ServerCounts}
+use Rattle.channel_model.specs.EndPuts.{ComesUp, EndsOwn, EndsHandshake, Goes, PutKind, handshake_risen}
 use Rattle.disk_model.specs.LaneState.{Shape}
-use Rattle.disk_model.specs.Ranges.{wrapped}
+use Rattle.channel_model.specs.Ranges.{wrapped}
 use Rattle.disk_model.specs.ServerPutting.{answered}
 use Rattle.disk_model.specs.ServerState.{ServerSession, ServerState, SlotRange}
 use Rattle.lane_laws.proofs.ClientPlacing.{HeardOf, more_heard}

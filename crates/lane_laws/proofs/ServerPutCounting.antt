@@ -9,14 +9,14 @@ use Rattle.ldc_packet.specs.declared.packet.Subtype.TheVariants.{Ack}
 use Rattle.ldc_queue.specs.Transcript.{Said, Turn}
 use Rattle.vio_tag.specs.declared.message.Message.{Message}
 use Rattle.vio_tag.specs.Spelling.{canonical}
-use Rattle.disk_model.specs.Sayings.{half_said, heard, said}
-use Rattle.disk_model.specs.Agreement.{ServerAgrees, ServerCountsAgree, WorkAgrees}
-use Rattle.disk_model.specs.Messages.{range_ended, range_in}
-use Rattle.disk_model.specs.WorkLog.{ServerCounts, change_server, length_in, one_in}
-use Rattle.disk_model.specs.EndPuts.{ComesUp, EndsOwn, EndsHandshake, Goes, PutKind, handshake_behind}
+use Rattle.channel_model.specs.Sayings.{half_said, heard, said}
+use Rattle.lane_laws.specs.Agreement.{ServerAgrees, ServerCountsAgree, WorkAgrees}
+use Rattle.channel_model.specs.Messages.{range_ended, range_in}
+use Rattle.lane_laws.specs.WorkLog.{ServerCounts, change_server, length_in, one_in}
+use Rattle.channel_model.specs.EndPuts.{ComesUp, EndsOwn, EndsHandshake, Goes, PutKind, handshake_behind}
 use Rattle.disk_model.specs.LaneState.{Shape}
 use Rattle.disk_model.specs.Offering.{server_offer}
-use Rattle.disk_model.specs.Ranges.{range_length, wrapped}
+use Rattle.channel_model.specs.Ranges.{range_length, wrapped}
 use Rattle.disk_model.specs.ServerPutting.{answered, server_holds, session_behind}
 use Rattle.disk_model.specs.ServerRule.{Fetches, Joins, Puts, Idles, Says, ServerRule, Serves, Takes}
 use Rattle.disk_model.specs.ServerState.{ServerSession, ServerState, SlotRange, Work}

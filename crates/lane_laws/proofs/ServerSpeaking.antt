@@ -13,8 +13,8 @@ use Rattle.vio_tag.specs.declared.message.Message.{Message}
 use Rattle.vio_tag.specs.Spelling.{canonical}
 use Rattle.vio_handshake.specs.Rules.{handshake_sent}
 use Rattle.vio_handshake.specs.State.{handshake_up}
-use Rattle.disk_model.specs.EndPuts.{Goes, PutKind, ending, kind_in, handshake_behind}
-use Rattle.disk_model.specs.Seeing.{Seen}
+use Rattle.channel_model.specs.EndPuts.{Goes, PutKind, ending, kind_in, handshake_behind}
+use Rattle.channel_model.specs.Seeing.{Seen}
 use Rattle.disk_model.specs.ServerPutting.{answered, server_holds, server_kind, server_put, session_behind}
 use Rattle.disk_model.specs.ServerRule.{Fetches, Joins, Puts, Idles, Says, ServerRule, Serves, Takes, answer}
 use Rattle.disk_model.specs.ServerState.{ServerSession, ServerState, SlotRange}

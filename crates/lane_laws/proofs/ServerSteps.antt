@@ -5,12 +5,12 @@ use Rattle.ldc_link.specs.declared.phase.Role.TheVariants.{Initiator, Responder}
 use Rattle.ldc_link.specs.LinkState.{first_phase, fresh_link}
 use Rattle.ldc_queue.specs.declared.end.ChannelState.TheVariants.{Up}
 use Rattle.cookie_copy.specs.declared.fault.CopyFault.{CopyFault}
-use Rattle.disk_model.specs.Seeing.{Seen}
+use Rattle.channel_model.specs.Seeing.{Seen}
 use Rattle.disk_model.specs.ServerPutting.{server_holds, server_put}
 use Rattle.disk_model.specs.ServerRule.{Fetches, Serves, server_rule}
 use Rattle.disk_model.specs.ServerState.{ServerSession, ServerState, Work, joined_server, restarted_server}
 use Rattle.disk_model.specs.ServerStep.{ServerFetches, ServerFinishes, ServerMoves, ServerSends, ServerStores}
-use Rattle.disk_model.specs.ServerWork.{Reach}
+use Rattle.cookie_copy.specs.Reach.{Reach}
 use Rattle.lane_laws.proofs.Ruling.{server_may}
 use Rattle.lane_laws.proofs.ServerSpeaking.{ServerHeld, server_held, server_holds_up, server_put_sound}
 use Rattle.lane_laws.proofs.Sharing.{same_link}

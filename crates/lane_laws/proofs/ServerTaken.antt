@@ -19,11 +19,11 @@ use Rattle.vio_tag.specs.Decoding.{Decodes}
 use Rattle.vio_handshake.specs.declared.handshake.Handshake.{Handshake}
 use Rattle.vio_handshake.specs.Rules.{Faults, Goes, GoesOpen, HandshakeTake, handshake_take, sid_fault}
 use Rattle.vio_handshake.specs.State.{handshake_up}
-use Rattle.disk_model.specs.EndPuts.{handshake_risen}
-use Rattle.disk_model.specs.Ranges.{is_other}
+use Rattle.channel_model.specs.EndPuts.{handshake_risen}
+use Rattle.channel_model.specs.Ranges.{is_other}
 use Rattle.disk_model.specs.ServerState.{ServerSession, ServerState, SlotRange, opened_server}
 use Rattle.disk_model.specs.ServerTaking.{GoesOn, HearsLink, HearsWhole, Resets, ServerTake, ServerTakes, asked, by_handshake, hears_message, in_session, place_of, reads, sid_first, takes_info}
-use Rattle.disk_model.specs.Sayings.{heard}
+use Rattle.channel_model.specs.Sayings.{heard}
 use Rattle.lane_laws.proofs.Awake.{was_up}
 use Rattle.lane_laws.proofs.ClientTaken.{HearsMessage, HandshakesTo, is_the}
 use Rattle.lane_laws.proofs.Hearing.{heard_leaves}

@@ -12,15 +12,16 @@ use Rattle.vdisk_msg.specs.declared.desc.DescFault.{DescFault}
 use Rattle.vdisk_msg.specs.declared.desc.DescFault.TheVariants.{Cookies, Operation, Range, Size}
 use Rattle.vdisk_msg.specs.declared.desc.DiskDesc.{DiskDesc}
 use Rattle.vdisk_msg.specs.Pieces.{Finishes, Piece, Stores, checked_pieces, pieces, read_pieces, unit_count, write_pieces}
-use Rattle.disk_model.specs.Agreement.{ServerAgrees, WorkAgrees, owed_of}
-use Rattle.disk_model.specs.WorkLog.{ServerCounts, change_server, moved_rest, rest_of, stored_rest}
+use Rattle.lane_laws.specs.Agreement.{ServerAgrees, WorkAgrees, owed_of}
+use Rattle.lane_laws.specs.WorkLog.{ServerCounts, change_server, moved_rest, rest_of, stored_rest}
 use Rattle.disk_model.specs.LaneState.{Shape}
-use Rattle.disk_model.specs.Seeing.{Seen}
+use Rattle.channel_model.specs.Seeing.{Seen}
 use Rattle.disk_model.specs.ServerRule.{Serves}
 use Rattle.disk_model.specs.ServerState.{Ends, Flushes, Gathers, Gives, Progress, Reads, ServerSession, ServerState, SlotRange, Work, Writes}
 use Rattle.disk_model.specs.ServerStep.{ServerMoves, ServerStores, with_progress}
 use Rattle.disk_model.specs.ServerWork as server_work
-use Rattle.disk_model.specs.ServerWork.{MovesIn, Reach, StoresIn, desc_of, first_progress, gathers_next, or_ends, reads_next}
+use Rattle.cookie_copy.specs.Reach.{Reach}
+use Rattle.disk_model.specs.ServerWork.{MovesIn, StoresIn, desc_of, first_progress, gathers_next, or_ends, reads_next}
 use Rattle.lane_laws.proofs.Awake.{is_open_up, up_empty}
 use Rattle.lane_laws.proofs.RulesFree.{ServerFree, ServesFree, server_free}
 use Rattle.lane_laws.specs.Counted.{RangeStands, ServerCounted, ServerHolds, ServerOrder, UnitFits, UnitIn}

@@ -7,7 +7,7 @@ use Rattle.ldc_link.specs.Putting.{left_behind_put, part_owed, with_link}
 use Rattle.ldc_packet.specs.declared.packet.Packet.{Packet}
 use Rattle.vio_handshake.specs.declared.handshake.Handshake.{Handshake}
 use Rattle.disk_model.specs.ClientState.{ClientSession}
-use Rattle.disk_model.specs.EndPuts.{ComesUp, EndsOwn, EndsHandshake, Goes, PutKind, handshake_behind}
+use Rattle.channel_model.specs.EndPuts.{ComesUp, EndsOwn, EndsHandshake, Goes, PutKind, handshake_behind}
 use Rattle.vio_tag.specs.declared.message.Message.{Message}
 use Rattle.lane_laws.proofs.Short.{sent_short, up_short}
 use Rattle.lane_laws.specs.Budget.{infos_left}

@@ -8,7 +8,7 @@ use Rattle.vdisk_msg.specs.declared.request.Request.{Request}
 use Rattle.vdisk_msg.specs.Descriptor.{HasWidths, canonical, disk_desc_of}
 use Rattle.vdisk_msg.specs.Requested.{buffer_cookies, buffer_place, cookie_count, descriptor_of, header, size_of, status_word}
 use Rattle.vio_bytes.specs.Place.{put_at}
-use Rattle.disk_model.specs.RingLog.{Accepted, Done, Free, Ready, SlotLog, Zeros}
+use Rattle.lane_laws.specs.RingLog.{Accepted, Done, Free, Ready, SlotLog, Zeros}
 use Rattle.disk_model.specs.ServerWork.{header_of}
 use Rattle.lane_laws.specs.RingSlots.{HoldsIssued, RingOf, SlotHolds}
 

@@ -7,18 +7,18 @@ use Rattle.runs.specs.Run.{Run, run_push}
 use Rattle.dring.specs.Slots.{slot_bytes}
 use Rattle.ldc_queue.specs.declared.end.ChannelState.TheVariants.{Up}
 use Rattle.ldc_queue.specs.declared.end.End.TheVariants.{B}
-use Rattle.disk_model.specs.WireEvent.{Sent, Took}
-use Rattle.disk_model.specs.WireLog.{WireLog}
-use Rattle.disk_model.specs.Agreement.{ClientAgrees, ServerAgrees}
+use Rattle.channel_model.specs.WireEvent.{Sent, Took}
+use Rattle.channel_model.specs.WireLog.{WireLog}
+use Rattle.lane_laws.specs.Agreement.{ClientAgrees, ServerAgrees}
 use Rattle.disk_model.specs.ClientState.{ClientSession}
-use Rattle.disk_model.specs.DiskLog.{DiskLog, after, nothing_yet}
-use Rattle.disk_model.specs.RingLog.{Done, SlotLog}
-use Rattle.disk_model.specs.WorkLaws.{IfServer}
-use Rattle.disk_model.specs.WorkLog.{ClientCounts, ServerCounts, WorkLog}
+use Rattle.lane_laws.specs.DiskLog.{DiskLog, after, nothing_yet}
+use Rattle.lane_laws.specs.RingLog.{Done, SlotLog}
+use Rattle.lane_laws.specs.WorkLaws.{IfServer}
+use Rattle.lane_laws.specs.WorkLog.{ClientCounts, ServerCounts, WorkLog}
 use Rattle.disk_model.specs.DiskEvent.{DiskEvent, OnWire}
 use Rattle.disk_model.specs.LaneState.{IsShape, LaneState, Shape, fresh}
 use Rattle.disk_model.specs.LaneStep.{LaneStep}
-use Rattle.disk_model.specs.Seeing.{seen}
+use Rattle.channel_model.specs.Seeing.{seen}
 use Rattle.disk_model.specs.ServerState.{ServerSession, Work}
 use Rattle.lane_laws.proofs.AckedFinished.{acked_finished}
 use Rattle.lane_laws.proofs.Agreeing.{always_agree, server_alive}

@@ -5,7 +5,7 @@ use Rattle.std.proofs.lemmas.Bool.{cases_lt}
 use Rattle.std.proofs.lemmas.Nat.{mod_below}
 use Rattle.std.proofs.Math.Nat.{add-mod_right}
 use Rattle.dring.proofs.Turning.{one_turn}
-use Rattle.disk_model.specs.RingLog.{Accepted, Done, Free, Ready, SlotLog}
+use Rattle.lane_laws.specs.RingLog.{Accepted, Done, Free, Ready, SlotLog}
 use Rattle.lane_laws.proofs.RingTable.{free_entry, got_other, got_same, same_or_other}
 use Rattle.lane_laws.specs.SlotsInOrder.{SlotOf, SlotsOf}
 

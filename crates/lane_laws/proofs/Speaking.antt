@@ -12,15 +12,15 @@ use Rattle.disk_model.specs.ClientPutting.{client_holds}
 use Rattle.disk_model.specs.ClientRule.{client_rule}
 use Rattle.disk_model.specs.ClientState.{ClientState}
 use Rattle.disk_model.specs.DiskEvent.{DiskEvent}
-use Rattle.disk_model.specs.DiskLog.{after_transcript}
+use Rattle.lane_laws.specs.DiskLog.{after_transcript}
 use Rattle.disk_model.specs.LaneState.{IsShape, LaneState, Shape, fresh}
 use Rattle.disk_model.specs.LaneStep.{LaneStep}
-use Rattle.disk_model.specs.Sayings.{heard, said}
-use Rattle.disk_model.specs.Seeing.{Seen}
+use Rattle.channel_model.specs.Sayings.{heard, said}
+use Rattle.channel_model.specs.Seeing.{Seen}
 use Rattle.disk_model.specs.ServerPutting.{server_holds}
 use Rattle.disk_model.specs.ServerRule.{server_rule}
 use Rattle.disk_model.specs.ServerState.{ServerState}
-use Rattle.disk_model.specs.TranscriptLog.{TranscriptLog, nothing_said}
+use Rattle.channel_model.specs.TranscriptLog.{TranscriptLog, nothing_said}
 use Rattle.channel_laws.proofs.EndResting.{open_rests}
 use Rattle.channel_laws.proofs.EndStanding.{opened_phase}
 use Rattle.channel_laws.proofs.EndUttering.{EndSpeaks, fresh_speaks, speaks_step}

@@ -4,15 +4,15 @@ use Rattle.runs.specs.Lawful.{Lawful, run_lawful}
 use Rattle.runs.specs.Run.{Run}
 use Rattle.ldc_queue.specs.declared.end.End.TheVariants.{A, B}
 use Rattle.vdisk_msg.specs.Requests.{defect}
-use Rattle.disk_model.specs.WireLog.{server_closed}
-use Rattle.disk_model.specs.DiskLog.{DiskLog, after, nothing_yet}
-use Rattle.disk_model.specs.RequestLaws.{AdmissionAt, OnceAt, TurnsAt}
-use Rattle.disk_model.specs.WorkLog.{WorkLog}
+use Rattle.channel_model.specs.WireLog.{server_closed}
+use Rattle.lane_laws.specs.DiskLog.{DiskLog, after, nothing_yet}
+use Rattle.lane_laws.specs.RequestLaws.{AdmissionAt, OnceAt, TurnsAt}
+use Rattle.lane_laws.specs.WorkLog.{WorkLog}
 use Rattle.disk_model.specs.ClientState.{ClientState}
 use Rattle.disk_model.specs.DiskEvent.{Accepted, Admitted, Asks, Calm, CalmReset, CalmRestart, CalmStart, CalmStop, CalmTick, Desc, DiskEvent, Done, Finished, Full, Misplaced, Moved, Off, OnWire, Published, Refused, Calms, Started, Stopped, Stored, Switched, Switches, Worked, Works}
 use Rattle.disk_model.specs.LaneState.{IsShape, LaneState, Shape, fresh}
 use Rattle.disk_model.specs.LaneStep.{LaneStep, RestStep, ServerWorks, TurnStep, WorkStep}
-use Rattle.disk_model.specs.Seeing.{seen}
+use Rattle.channel_model.specs.Seeing.{seen}
 use Rattle.lane_laws.proofs.LaneStepping.{LaneTranscripts, transcripts_step, fresh_transcripts}
 use Rattle.lane_laws.proofs.Requesting.{accepted_stand, completed_next, kept_stand, published_kept, same_stand}
 use Rattle.lane_laws.proofs.StandingSteps.{Behind, on_wire}

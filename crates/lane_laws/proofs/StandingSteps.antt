@@ -3,17 +3,17 @@ use Rattle.std.proofs.Common.{◌≡◌, ℕ, Option, List, refl, sym, ap, ◌�
 use Rattle.ldc_queue.specs.declared.end.End.{End}
 use Rattle.ldc_queue.specs.declared.end.End.TheVariants.{A, B}
 use Rattle.vio_tag.specs.declared.cause.Cause.{Cause}
-use Rattle.disk_model.specs.TranscriptLog.{TranscriptLog}
-use Rattle.disk_model.specs.WireEvent.{Blocked, ByRestart, ByScript, ByStep, ByTick, Declines, Giver, Idle, Injected, Joined, Lost, Poked, Reset, Sent, Took, WireEvent, giver}
-use Rattle.disk_model.specs.WireLog.{WireLog, wire_moved}
-use Rattle.disk_model.specs.DiskLog.{DiskLog, after}
-use Rattle.disk_model.specs.RequestLaws.{TurnOfEnd, TurnOfReset, TurnOfWire}
-use Rattle.disk_model.specs.WorkLog.{WorkLog, work_wired}
+use Rattle.channel_model.specs.TranscriptLog.{TranscriptLog}
+use Rattle.channel_model.specs.WireEvent.{Blocked, ByRestart, ByScript, ByStep, ByTick, Declines, Giver, Idle, Injected, Joined, Lost, Poked, Reset, Sent, Took, WireEvent, giver}
+use Rattle.channel_model.specs.WireLog.{WireLog, wire_moved}
+use Rattle.lane_laws.specs.DiskLog.{DiskLog, after}
+use Rattle.lane_laws.specs.RequestLaws.{TurnOfEnd, TurnOfReset, TurnOfWire}
+use Rattle.lane_laws.specs.WorkLog.{WorkLog, work_wired}
 use Rattle.disk_model.specs.ClientState.{ClientState}
 use Rattle.disk_model.specs.DiskEvent.{DiskEvent, OnWire}
 use Rattle.disk_model.specs.LaneState.{LaneState, Shape}
 use Rattle.disk_model.specs.LaneStep.{EndOnWire, ResetBy, WireStep}
-use Rattle.disk_model.specs.Seeing.{seen}
+use Rattle.channel_model.specs.Seeing.{seen}
 use Rattle.lane_laws.proofs.Requesting.{KeepsRequests, held_kept, joined_kept, kept_stand, same_stand, sent_kept, stays_kept, took_kept}
 use Rattle.lane_laws.proofs.Ruling.{client_may}
 use Rattle.disk_model.specs.ClientRule.{client_rule}

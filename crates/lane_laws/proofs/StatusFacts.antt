@@ -14,23 +14,24 @@ use Rattle.ldc_queue.specs.Transcript.{Heard as Heard_, Said, Turn}
 use Rattle.vio_handshake.proofs.Places.{AllSaid, AttributesAnswered, AttributesSaid, Deal, PeerReadyAnswered, PeerReadySaid, PeerRingAnswered, PeerRingSaid, Place, ReadyAnswered, ReadySaid, RingAnswered, RingSaid, VersionAnswered, VersionSaid}
 use Rattle.vio_handshake.specs.declared.handshake.Phase.TheVariants.{Open}
 use Rattle.vio_handshake.specs.Rules.{opens_by_put}
-use Rattle.disk_model.specs.Sayings.{half_heard, half_said, heard, said}
-use Rattle.disk_model.specs.TranscriptLog.{TranscriptLog}
-use Rattle.disk_model.specs.WireEvent.{Sent, Took}
-use Rattle.disk_model.specs.WireLog.{WireLog}
-use Rattle.disk_model.specs.Agreement.{ClientAgrees}
-use Rattle.disk_model.specs.DiskLog.{DiskLog, after, nothing_yet}
-use Rattle.disk_model.specs.RingLog.{Done}
-use Rattle.disk_model.specs.WorkLaws.{IfServer}
-use Rattle.disk_model.specs.WorkLog.{ClientCounts, ServerCounts, opening_sid}
+use Rattle.channel_model.specs.Sayings.{half_heard, half_said, heard, said}
+use Rattle.channel_model.specs.TranscriptLog.{TranscriptLog}
+use Rattle.channel_model.specs.WireEvent.{Sent, Took}
+use Rattle.channel_model.specs.WireLog.{WireLog}
+use Rattle.lane_laws.specs.Agreement.{ClientAgrees}
+use Rattle.lane_laws.specs.DiskLog.{DiskLog, after, nothing_yet}
+use Rattle.lane_laws.specs.RingLog.{Done}
+use Rattle.lane_laws.specs.WorkLaws.{IfServer}
+use Rattle.channel_model.specs.Messages.{opening_sid}
+use Rattle.lane_laws.specs.WorkLog.{ClientCounts, ServerCounts}
 use Rattle.disk_model.specs.ClientPutting.{client_kind}
 use Rattle.disk_model.specs.ClientRule.{client_rule}
 use Rattle.disk_model.specs.ClientState.{ClientSession, ClientState}
 use Rattle.disk_model.specs.DiskEvent.{DiskEvent, OnWire}
-use Rattle.disk_model.specs.EndPuts.{ComesUp, EndsOwn, EndsHandshake, Goes, PutKind, put_opens}
+use Rattle.channel_model.specs.EndPuts.{ComesUp, EndsOwn, EndsHandshake, Goes, PutKind, put_opens}
 use Rattle.disk_model.specs.LaneState.{IsShape, LaneState, Shape, fresh}
 use Rattle.disk_model.specs.LaneStep.{LaneStep}
-use Rattle.disk_model.specs.Seeing.{seen}
+use Rattle.channel_model.specs.Seeing.{seen}
 use Rattle.disk_model.specs.ServerState.{ServerState}
 use Rattle.lane_laws.proofs.Agreeing.{client_some, server_open}
 use Rattle.lane_laws.proofs.LaneCores.{transcript_is}

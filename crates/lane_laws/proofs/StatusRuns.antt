@@ -6,16 +6,17 @@ use Rattle.runs.specs.Lawful.{Lawful, log_append, log_of, run_lawful}
 use Rattle.runs.specs.Run.{Run, run_push}
 use Rattle.ldc_queue.specs.declared.end.End.TheVariants.{A, B}
 use Rattle.ldc_queue.specs.Transcript.{Said}
-use Rattle.disk_model.specs.Sayings.{half_heard, said}
-use Rattle.disk_model.specs.WireEvent.{Blocked, Declines, Idle, Injected, Joined, Lost, Poked, Reset, Sent, Took, WireEvent}
-use Rattle.disk_model.specs.DiskLog.{DiskLog, after, nothing_yet}
-use Rattle.disk_model.specs.RingLog.{Done as IsDone, Free, SlotLog, finished_at, id_at}
-use Rattle.disk_model.specs.WorkLaws.{IfClient, InClient, Unforged, WorkUnforgedAt, last_of}
-use Rattle.disk_model.specs.WorkLog.{ClientCounts, Opened, ServerCounts, change_server, opening_sid, rest_of}
+use Rattle.channel_model.specs.Sayings.{half_heard, said}
+use Rattle.channel_model.specs.WireEvent.{Blocked, Declines, Idle, Injected, Joined, Lost, Poked, Reset, Sent, Took, WireEvent}
+use Rattle.lane_laws.specs.DiskLog.{DiskLog, after, nothing_yet}
+use Rattle.lane_laws.specs.RingLog.{Done as IsDone, Free, SlotLog, finished_at, id_at}
+use Rattle.lane_laws.specs.WorkLaws.{IfClient, InClient, Unforged, WorkUnforgedAt, last_of}
+use Rattle.channel_model.specs.Messages.{opening_sid}
+use Rattle.lane_laws.specs.WorkLog.{ClientCounts, Opened, ServerCounts, change_server, rest_of}
 use Rattle.disk_model.specs.DiskEvent.{Accepted, Asks, Desc, DiskEvent, Done, Finished, Full, Misplaced, Moved, Off, OnWire, Published, Refused, Calms, Started, Stopped, Stored, Switches, Worked, Works}
 use Rattle.disk_model.specs.LaneState.{IsShape, LaneState, Shape, fresh}
 use Rattle.disk_model.specs.LaneStep.{LaneStep, WorkStep}
-use Rattle.disk_model.specs.Seeing.{seen}
+use Rattle.channel_model.specs.Seeing.{seen}
 use Rattle.disk_model.specs.ServerRule as server_rules
 use Rattle.lane_laws.proofs.RingAlong.{run_fetches, run_status}
 use Rattle.lane_laws.proofs.RingRuns.{before}

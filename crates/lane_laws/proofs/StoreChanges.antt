@@ -15,13 +15,13 @@ use Rattle.vdisk_msg.specs.Requested.{block_of, descriptor_of, size_of}
 use Rattle.vdisk_msg.specs.Requests.{operation_of}
 use Rattle.vio_bytes.specs.Place.{put_at}
 use Rattle.vio_bytes.specs.Range.{range_at}
-use Rattle.disk_model.specs.Agreement.{WorkAgrees}
-use Rattle.disk_model.specs.DiskLog.{DiskLog}
-use Rattle.disk_model.specs.WorkLog.{ClientCounts}
+use Rattle.lane_laws.specs.Agreement.{WorkAgrees}
+use Rattle.lane_laws.specs.DiskLog.{DiskLog}
+use Rattle.lane_laws.specs.WorkLog.{ClientCounts}
 use Rattle.disk_model.specs.DiskEvent.{Desc, Stored as StoredUnit, Works}
 use Rattle.disk_model.specs.LaneState.{LaneState, NearCounts, pages_of, risen}
 use Rattle.disk_model.specs.LaneStep.{ServerWorks, WorkStep, reach, stored_blocks}
-use Rattle.disk_model.specs.Seeing.{seen}
+use Rattle.channel_model.specs.Seeing.{seen}
 use Rattle.disk_model.specs.ServerRule as server_rules
 use Rattle.disk_model.specs.ServerState.{Ends, Flushes, Gathers, Gives, Progress, Reads, ServerState, Work, Writes}
 use Rattle.disk_model.specs.ServerWork.{StoresIn, checked_progress, first_progress, first_progress_of, gathers_next, header_of, unit_length, with_word}

@@ -21,8 +21,8 @@ use Rattle.ldc_link.proofs.Hearing.{heard_step}
 use Rattle.ldc_link.proofs.Spelled.{has_part, spelled_fragment, spelled_part}
 use Rattle.vio_tag.specs.declared.cause.Cause.{Cause}
 use Rattle.vio_tag.specs.declared.cause.Cause.TheVariants as cause
-use Rattle.disk_model.proofs.SameSayings.{half_heard_is}
-use Rattle.disk_model.specs.Sayings.{half_heard, heard, whole_by, whole_past}
+use Rattle.channel_model.proofs.SameSayings.{half_heard_is}
+use Rattle.channel_model.specs.Sayings.{half_heard, heard, whole_by, whole_past}
 
 abbrev pub with_whole : Option (List ℕ) → List (List ℕ) → List (List ℕ)
 with_whole None messages = messages

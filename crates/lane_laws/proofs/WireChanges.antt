@@ -6,9 +6,9 @@ use Rattle.ldc_queue.specs.declared.end.End.{End}
 use Rattle.ldc_queue.specs.declared.end.End.TheVariants.{A, B}
 use Rattle.ldc_queue.specs.Wire.{Wire, peer_behind, upset}
 use Rattle.vdisk_msg.specs.declared.request.Request.{Request}
-use Rattle.disk_model.specs.WireEvent.{Blocked, Declines, Idle, Injected, Joined, Lost, Poked, Reset, Sent, Took, WireEvent}
-use Rattle.disk_model.specs.WireLog.{WireLog, wire_moved}
-use Rattle.disk_model.specs.DiskLog.{DiskLog, after}
+use Rattle.channel_model.specs.WireEvent.{Blocked, Declines, Idle, Injected, Joined, Lost, Poked, Reset, Sent, Took, WireEvent}
+use Rattle.channel_model.specs.WireLog.{WireLog, wire_moved}
+use Rattle.lane_laws.specs.DiskLog.{DiskLog, after}
 use Rattle.disk_model.specs.ClientState.{ClientSession, ever_published_count}
 use Rattle.disk_model.specs.DiskEvent.{DiskEvent, OnWire}
 use Rattle.disk_model.specs.LaneState.{LaneState, NearCounts}

@@ -6,17 +6,17 @@ use Rattle.ldc_queue.specs.declared.end.ChannelState.{ChannelState}
 use Rattle.ldc_queue.specs.declared.end.ChannelState.TheVariants.{Down, Resetting, Up}
 use Rattle.ldc_queue.specs.declared.end.End.TheVariants.{A, B}
 use Rattle.ldc_queue.specs.Wire.{Wire}
-use Rattle.disk_model.specs.WireLog.{WireLog}
-use Rattle.disk_model.specs.DiskLog.{DiskLog, after}
-use Rattle.disk_model.specs.RingLog.{Done as IsDone}
-use Rattle.disk_model.specs.WorkLaws.{IfServer}
-use Rattle.disk_model.specs.WorkLog.{ClientCounts, ServerCounts, change_server}
+use Rattle.channel_model.specs.WireLog.{WireLog}
+use Rattle.lane_laws.specs.DiskLog.{DiskLog, after}
+use Rattle.lane_laws.specs.RingLog.{Done as IsDone}
+use Rattle.lane_laws.specs.WorkLaws.{IfServer}
+use Rattle.lane_laws.specs.WorkLog.{ClientCounts, ServerCounts, change_server}
 use Rattle.disk_model.specs.ClientRule as client_rules
 use Rattle.disk_model.specs.ClientState.{ClientSession, ClientState}
 use Rattle.disk_model.specs.DiskEvent.{Accepted, Admitted, Asks, Calm, CalmReset, CalmRestart, CalmStart, CalmStop, CalmTick, Desc, DiskEvent, Done, Finished, Full, Misplaced, Moved, Off, Published, Refused, Calms, Started, Stopped, Stored, Switched, Switches, Worked, Works}
 use Rattle.disk_model.specs.LaneState.{LaneState, NearCounts, risen}
 use Rattle.disk_model.specs.LaneStep.{LaneStep, RestStep, TurnStep, WorkStep}
-use Rattle.disk_model.specs.Seeing.{seen}
+use Rattle.channel_model.specs.Seeing.{seen}
 use Rattle.disk_model.specs.ServerRule as server_rules
 use Rattle.lane_laws.proofs.RingClientSteps.{completes_slot, publishing}
 use Rattle.lane_laws.proofs.RingSessions.{of_client}

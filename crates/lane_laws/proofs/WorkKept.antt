@@ -4,12 +4,12 @@ use Rattle.std.specs.Prelude.{⊤}
 use Rattle.ldc_queue.specs.Transcript.{Turn}
 use Rattle.disk_model.specs.ClientState.{ClientState}
 use Rattle.disk_model.specs.DiskEvent.{Desc, Done, Finished, Misplaced, Moved, Published, Stored, Worked, Works}
-use Rattle.disk_model.specs.Seeing.{Seen}
+use Rattle.channel_model.specs.Seeing.{Seen}
 use Rattle.disk_model.specs.ServerPutting.{server_holds}
 use Rattle.disk_model.specs.ServerRule as server
 use Rattle.disk_model.specs.ServerState.{ServerState, Work}
 use Rattle.disk_model.specs.ServerStep.{ServerStep}
-use Rattle.disk_model.specs.ServerWork.{Reach}
+use Rattle.cookie_copy.specs.Reach.{Reach}
 use Rattle.lane_laws.proofs.RulesFree.{ServerFree, server_free}
 use Rattle.lane_laws.proofs.ServerTaken.{ServerTook, server_took_what}
 use Rattle.lane_laws.proofs.Lifting.{ClientKeeps, ServerKeeps}

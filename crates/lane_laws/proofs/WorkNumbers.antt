@@ -4,19 +4,19 @@ use Rattle.std.specs.Prelude.{is_some, slice_get}
 use Rattle.std.proofs.lemmas.Bool.Decides.{nat_tests}
 use Rattle.ldc_queue.specs.Transcript.{Turn}
 use Rattle.vdisk_msg.specs.declared.request.Request.{Request}
-use Rattle.disk_model.specs.DiskLog.{DiskLog}
-use Rattle.disk_model.specs.WorkLaws.{InClient, InServer, MayComplete, MayFetch, MayPublish, WorkNumbersAt}
-use Rattle.disk_model.specs.WorkLog.{ClientCounts, ServerCounts}
+use Rattle.lane_laws.specs.DiskLog.{DiskLog}
+use Rattle.lane_laws.specs.WorkLaws.{InClient, InServer, MayComplete, MayFetch, MayPublish, WorkNumbersAt}
+use Rattle.lane_laws.specs.WorkLog.{ClientCounts, ServerCounts}
 use Rattle.disk_model.specs.ClientStep.{ClientCompletes, ClientPublishes}
 use Rattle.disk_model.specs.DiskEvent.{Asks, Desc, DiskEvent, Done, Finished, Misplaced, Moved, OnWire, Published, Calms, Stored, Switches, Worked, Works}
 use Rattle.disk_model.specs.LaneState.{IsShape, LaneState}
 use Rattle.disk_model.specs.LaneStep.{LaneStep, WorkStep, reach}
-use Rattle.disk_model.specs.Seeing.{Seen, seen}
-use Rattle.disk_model.specs.Agreement.{WorkAgrees}
-use Rattle.disk_model.specs.Ranges.{wrapped}
+use Rattle.channel_model.specs.Seeing.{Seen, seen}
+use Rattle.lane_laws.specs.Agreement.{WorkAgrees}
+use Rattle.channel_model.specs.Ranges.{wrapped}
 use Rattle.disk_model.specs.ServerState.{ServerSession, Work}
 use Rattle.disk_model.specs.ServerStep.{ServerFetches}
-use Rattle.disk_model.specs.ServerWork.{Reach}
+use Rattle.cookie_copy.specs.Reach.{Reach}
 use Rattle.ldc_queue.specs.declared.end.End.TheVariants.{A, B}
 use Rattle.lane_laws.proofs.LaneCounting.{Knows}
 use Rattle.lane_laws.proofs.ServerCounting.{own_slots}

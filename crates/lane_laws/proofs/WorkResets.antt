@@ -11,9 +11,9 @@ use Rattle.ldc_queue.specs.declared.end.End.{End}
 use Rattle.ldc_queue.specs.declared.end.End.TheVariants.{A, B}
 use Rattle.vio_tag.specs.declared.cause.Cause.{Cause}
 use Rattle.vio_tag.specs.declared.cause.Cause.TheVariants as the_cause
-use Rattle.disk_model.specs.WireEvent.{Blocked, Declines, Idle, Injected, Joined, Lost, Poked, Reset, Sent, Took, WireEvent}
-use Rattle.disk_model.specs.DiskLog.{DiskLog}
-use Rattle.disk_model.specs.WorkLaws.{ClientFailed, InRange, InServer, OwnReset, ResetOf, WorkResetAt}
+use Rattle.channel_model.specs.WireEvent.{Blocked, Declines, Idle, Injected, Joined, Lost, Poked, Reset, Sent, Took, WireEvent}
+use Rattle.lane_laws.specs.DiskLog.{DiskLog}
+use Rattle.lane_laws.specs.WorkLaws.{ClientFailed, InRange, InServer, OwnReset, ResetOf, WorkResetAt}
 use Rattle.disk_model.specs.ClientRule as client
 use Rattle.disk_model.specs.ClientStep.{ClientFails}
 use Rattle.disk_model.specs.DiskEvent.{Asks, DiskEvent, OnWire, Calms, Switches, Works}
@@ -22,7 +22,8 @@ use Rattle.disk_model.specs.LaneStep.{EndOnWire, LaneStep, WireStep, reach}
 use Rattle.disk_model.specs.ServerRule as server
 use Rattle.disk_model.specs.ServerState.{Ends, Progress, ServerSession, Work}
 use Rattle.disk_model.specs.ServerStep.{ServerFails, WorkFails}
-use Rattle.disk_model.specs.ServerWork.{EndFails, FetchFails, Reach, cause_of, copy_number, fetch_fault, slot_at, slot_fetched}
+use Rattle.cookie_copy.specs.Reach.{Reach, copy_number}
+use Rattle.disk_model.specs.ServerWork.{EndFails, FetchFails, cause_of, fetch_fault, slot_at, slot_fetched}
 use Rattle.lane_laws.proofs.Ruling.{client_may}
 use Rattle.lane_laws.proofs.RulesFree.{ServerFree, ServesFree, server_free}
 use Rattle.lane_laws.specs.RuleFacts.{ClientMay}

@@ -3,10 +3,10 @@ use Rattle.std.proofs.Common.{List, refl, ◌∙◌}
 use Rattle.std.specs.Prelude.{⊤}
 use Rattle.runs.specs.Lawful.{Lawful, log_of, run_lawful}
 use Rattle.runs.specs.Run.{Run}
-use Rattle.disk_model.specs.TranscriptLog.{nothing_said}
-use Rattle.disk_model.specs.DiskLog.{DiskLog, after, after_transcript, nothing_yet}
-use Rattle.disk_model.specs.QuietLaws.{IdleAt}
-use Rattle.disk_model.specs.WorkLaws.{PiecesAt, RangesAt, WorkNumbersAt, WorkResetAt}
+use Rattle.channel_model.specs.TranscriptLog.{nothing_said}
+use Rattle.lane_laws.specs.DiskLog.{DiskLog, after, after_transcript, nothing_yet}
+use Rattle.lane_laws.specs.QuietLaws.{IdleAt}
+use Rattle.lane_laws.specs.WorkLaws.{PiecesAt, RangesAt, WorkNumbersAt, WorkResetAt}
 use Rattle.disk_model.specs.DiskEvent.{DiskEvent}
 use Rattle.disk_model.specs.LaneState.{IsShape, LaneState, Shape, fresh}
 use Rattle.disk_model.specs.LaneStep.{LaneStep}

@@ -1,8 +1,8 @@
 -- What a completion is of: the slot of the first request that isn't done, which the server ended with the status of the completion.
 use Rattle.std.specs.Prelude.{◌≡◌, ℕ, ◌-◌, ◌%◌, ◌≤◌, Some, slice_get}
-use Rattle.disk_model.specs.DiskLog.{DiskLog}
-use Rattle.disk_model.specs.RingLog.{Done}
-use Rattle.disk_model.specs.WorkLog.{ClientCounts}
+use Rattle.lane_laws.specs.DiskLog.{DiskLog}
+use Rattle.lane_laws.specs.RingLog.{Done}
+use Rattle.lane_laws.specs.WorkLog.{ClientCounts}
 use Rattle.disk_model.specs.LaneState.{LaneState}
 
 pub record CompletesSlot (s : LaneState) (l : DiskLog) (id status : ℕ) (k : ClientCounts) : Type 0 where

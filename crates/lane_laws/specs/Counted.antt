@@ -7,16 +7,16 @@ use Rattle.vdisk_msg.specs.Pieces.{unit_count}
 use Rattle.vio_bytes.specs.Place.{number_at}
 use Rattle.vio_tag.specs.declared.message.Message.{Message}
 use Rattle.vio_tag.specs.Spelling.{canonical}
-use Rattle.disk_model.specs.Sayings.{half_said, heard, said}
-use Rattle.disk_model.specs.Agreement.{ClientAgrees, ServerAgrees}
-use Rattle.disk_model.specs.DiskLog.{DiskLog}
-use Rattle.disk_model.specs.Messages.{range_in, subtype_of}
-use Rattle.disk_model.specs.WorkLog.{ClientCounts, ServerCounts, length_in, one_in}
+use Rattle.channel_model.specs.Sayings.{half_said, heard, said}
+use Rattle.lane_laws.specs.Agreement.{ClientAgrees, ServerAgrees}
+use Rattle.lane_laws.specs.DiskLog.{DiskLog}
+use Rattle.channel_model.specs.Messages.{range_in, subtype_of}
+use Rattle.lane_laws.specs.WorkLog.{ClientCounts, ServerCounts, length_in, one_in}
 use Rattle.disk_model.specs.ClientPutting.{announcement, is_announcing}
 use Rattle.disk_model.specs.ClientState.{ClientSession, ClientState}
 use Rattle.disk_model.specs.LaneState.{LaneState, Shape}
 use Rattle.disk_model.specs.Offering.{client_offer, server_offer}
-use Rattle.disk_model.specs.Ranges.{range_length, wrapped}
+use Rattle.channel_model.specs.Ranges.{range_length, wrapped}
 use Rattle.disk_model.specs.ServerRule.{answer}
 use Rattle.disk_model.specs.ServerState.{Gathers, Gives, Progress, Reads, ServerSession, ServerState, SlotRange, Work, Writes}
 use Rattle.disk_model.specs.ServerWork.{desc_of}

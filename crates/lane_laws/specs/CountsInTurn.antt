@@ -1,6 +1,6 @@
 -- The counts of two open sessions, in their order.
 use Rattle.std.specs.Prelude.{◌≤◌}
-use Rattle.disk_model.specs.WorkLog.{ClientCounts, ServerCounts}
+use Rattle.lane_laws.specs.WorkLog.{ClientCounts, ServerCounts}
 
 -- Of the requests that were published the first were announced; of these the server was asked for the first, and fetched,
 -- finished and answered the first of those; and the first of what it answered are acknowledged.

@@ -3,7 +3,7 @@
 use Rattle.std.specs.Prelude.{◌≡◌, ℕ, ◌+◌, ◌*◌, ◌<◌, ◌≤◌, ◌⊎◌, List, [], length, take, Some, slice_get}
 use Rattle.vdisk_msg.specs.declared.request.Request.{Request}
 use Rattle.vdisk_msg.specs.declared.request.Request.TheVariants.{Flush, Read, Write}
-use Rattle.disk_model.specs.DiskLog.{DiskLog}
+use Rattle.lane_laws.specs.DiskLog.{DiskLog}
 use Rattle.disk_model.specs.DiskEvent.{DiskEvent}
 use Rattle.disk_model.specs.LaneState.{LaneState, Shape, fresh}
 use Rattle.disk_model.specs.LaneStep.{LaneStep}

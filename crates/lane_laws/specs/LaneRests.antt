@@ -5,8 +5,8 @@ use Rattle.ldc_link.specs.declared.phase.Role.TheVariants.{Initiator, Responder}
 use Rattle.ldc_link.specs.LinkState.{is_up}
 use Rattle.ldc_queue.specs.Transcript.{Turn}
 use Rattle.vio_handshake.specs.declared.handshake.Phase.TheVariants.{Down, Open}
-use Rattle.disk_model.specs.Sayings.{half_said, heard, said}
-use Rattle.disk_model.specs.TranscriptLog.{TranscriptLog}
+use Rattle.channel_model.specs.Sayings.{half_said, heard, said}
+use Rattle.channel_model.specs.TranscriptLog.{TranscriptLog}
 use Rattle.disk_model.specs.ClientState.{ClientState}
 use Rattle.disk_model.specs.LaneState.{LaneState}
 use Rattle.disk_model.specs.ServerState.{ServerState}

@@ -2,8 +2,8 @@
 use Rattle.std.specs.Prelude.{List}
 use Rattle.runs.specs.Lawful.{log_of}
 use Rattle.ldc_link.specs.Following.{Follows}
-use Rattle.disk_model.specs.TranscriptLog.{TranscriptLog, nothing_said}
-use Rattle.disk_model.specs.DiskLog.{after_transcript}
+use Rattle.channel_model.specs.TranscriptLog.{TranscriptLog, nothing_said}
+use Rattle.lane_laws.specs.DiskLog.{after_transcript}
 use Rattle.disk_model.specs.ClientState.{ClientState}
 use Rattle.disk_model.specs.DiskEvent.{DiskEvent}
 use Rattle.disk_model.specs.ServerState.{ServerState}

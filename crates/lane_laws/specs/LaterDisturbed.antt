@@ -1,7 +1,7 @@
 -- The writes that a read may show though they were issued after it were disturbed with it: each request below `done + m` was pending at a
 -- reset or a stop.
 use Rattle.std.specs.Prelude.{◌≡◌, ◌+◌, ◌≤◌, ◌⊎◌, length}
-use Rattle.disk_model.specs.DiskLog.{DiskLog}
+use Rattle.lane_laws.specs.DiskLog.{DiskLog}
 use Rattle.disk_model.specs.LaneState.{LaneState}
 
 pub record LaterDisturbed (s : LaneState) (l : DiskLog) : Type 0 where

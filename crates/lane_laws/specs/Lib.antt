@@ -1,3 +1,15 @@
+pub mod WorkLog
+pub mod RingLog
+pub mod NearLog
+pub mod BlockLog
+pub mod DiskLog
+pub mod RequestLaws
+pub mod WorkLaws
+pub mod QuietLaws
+pub mod NearLaws
+pub mod May
+pub mod EndLog
+pub mod Agreement
 pub mod Budget
 pub mod CompletedIds
 pub mod HeardStands

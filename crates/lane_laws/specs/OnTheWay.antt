@@ -5,13 +5,13 @@ use Rattle.std.specs.Prelude.{◌≡◌, ℕ, ◌+◌, ◌%◌, ◌<◌, Bool, f
 use Rattle.ldc_queue.specs.declared.end.ChannelState.TheVariants.{Up}
 use Rattle.ldc_queue.specs.Numbered.{numbered}
 use Rattle.ldc_queue.specs.Transcript.{numbered_heard, numbered_said}
-use Rattle.disk_model.specs.DiskLog.{DiskLog}
+use Rattle.lane_laws.specs.DiskLog.{DiskLog}
 use Rattle.disk_model.specs.LaneState.{LaneState}
-use Rattle.disk_model.specs.Messages.{end_of, is_range, seq_of, start_of}
-use Rattle.disk_model.specs.Ranges.{range_length, wrapped}
-use Rattle.disk_model.specs.Sayings.{heard, said}
+use Rattle.channel_model.specs.Messages.{end_of, is_range, seq_of, start_of}
+use Rattle.channel_model.specs.Ranges.{range_length, wrapped}
+use Rattle.channel_model.specs.Sayings.{heard, said}
 use Rattle.disk_model.specs.ServerState.{ServerSession}
-use Rattle.disk_model.specs.WorkLog.{ClientCounts, ServerCounts}
+use Rattle.lane_laws.specs.WorkLog.{ClientCounts, ServerCounts}
 
 -- of what an end said, the ranges of a subtype, INFO 1 or ACK 2, that the other hasn't heard: it heard the first ones
 abbrev pub ranges_behind : ℕ → List (List ℕ) → List (List ℕ) → List (List ℕ)

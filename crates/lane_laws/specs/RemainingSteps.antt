@@ -8,7 +8,7 @@ use Rattle.disk_model.specs.ClientState.{ClientSession, ClientState}
 use Rattle.disk_model.specs.DiskEvent.{Desc, DiskEvent, Done, Finished, Moved, OnWire, Published, Stored, Worked, Works}
 use Rattle.disk_model.specs.LaneState.{LaneState}
 use Rattle.disk_model.specs.ServerState.{ServerSession, ServerState}
-use Rattle.disk_model.specs.WireEvent.{Joined, Sent, Took, WireEvent}
+use Rattle.channel_model.specs.WireEvent.{Joined, Sent, Took, WireEvent}
 use Rattle.ldc_queue.specs.declared.end.ChannelState.{ChannelState}
 use Rattle.ldc_queue.specs.declared.end.ChannelState.TheVariants.{Down, Up, Resetting}
 use Rattle.ldc_queue.specs.declared.end.End.TheVariants.{A, B}

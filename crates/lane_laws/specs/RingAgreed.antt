@@ -4,10 +4,10 @@ use Rattle.runs.specs.Lawful.{log_of}
 use Rattle.runs.specs.Run.{Run}
 use Rattle.cookie_copy.specs.Identity.{IsIdentity}
 use Rattle.ldc_queue.specs.declared.end.ChannelState.TheVariants.{Up}
-use Rattle.disk_model.specs.Agreement.{ClientAgrees, ServerAgrees}
-use Rattle.disk_model.specs.DiskLog.{DiskLog, after, nothing_yet}
-use Rattle.disk_model.specs.WorkLaws.{IfServer}
-use Rattle.disk_model.specs.WorkLog.{ClientCounts, ServerCounts, WorkLog}
+use Rattle.lane_laws.specs.Agreement.{ClientAgrees, ServerAgrees}
+use Rattle.lane_laws.specs.DiskLog.{DiskLog, after, nothing_yet}
+use Rattle.lane_laws.specs.WorkLaws.{IfServer}
+use Rattle.lane_laws.specs.WorkLog.{ClientCounts, ServerCounts, WorkLog}
 use Rattle.disk_model.specs.DiskEvent.{DiskEvent}
 use Rattle.disk_model.specs.LaneState.{LaneState, Shape, fresh, pages_of}
 use Rattle.disk_model.specs.LaneStep.{LaneStep}

@@ -6,8 +6,8 @@ use Rattle.vdisk_msg.specs.Descriptor as slot_says
 use Rattle.vdisk_msg.specs.Pieces.{Finishes, Moves, Piece, Stores}
 use Rattle.vdisk_msg.specs.Requested.{descriptor_of}
 use Rattle.vdisk_msg.specs.Requests.{defect}
-use Rattle.disk_model.specs.RingLog.{Accepted, Done, Free, Ready, SlotLog, Zeros}
-use Rattle.disk_model.specs.WorkLog.{ClientCounts, ServerCounts}
+use Rattle.lane_laws.specs.RingLog.{Accepted, Done, Free, Ready, SlotLog, Zeros}
+use Rattle.lane_laws.specs.WorkLog.{ClientCounts, ServerCounts}
 
 -- the ring of a disk: its blocks, its slots, and the requests that were accepted
 pub record RingOf : Type 0 where

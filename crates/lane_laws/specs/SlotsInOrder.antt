@@ -5,10 +5,10 @@ use Rattle.std.specs.Prelude.{◌≡◌, ℕ, ◌+◌, ◌%◌, ◌<◌, ◌≤�
 use Rattle.dring.specs.Slots.{free_state, slot_bytes}
 use Rattle.ldc_queue.specs.declared.end.ChannelState.TheVariants.{Up}
 use Rattle.ldc_queue.specs.Wire.{Wire}
-use Rattle.disk_model.specs.DiskLog.{DiskLog}
-use Rattle.disk_model.specs.RingLog.{Accepted, Done, Free, Ready, SlotLog}
-use Rattle.disk_model.specs.WorkLaws.{IfServer}
-use Rattle.disk_model.specs.WorkLog.{ClientCounts, ServerCounts, WorkLog}
+use Rattle.lane_laws.specs.DiskLog.{DiskLog}
+use Rattle.lane_laws.specs.RingLog.{Accepted, Done, Free, Ready, SlotLog}
+use Rattle.lane_laws.specs.WorkLaws.{IfServer}
+use Rattle.lane_laws.specs.WorkLog.{ClientCounts, ServerCounts, WorkLog}
 use Rattle.disk_model.specs.LaneState.{LaneState}
 use Rattle.lane_laws.specs.OnTheWay.{OnTheWay}
 use Rattle.lane_laws.specs.RingAgreed.{ring_in}

@@ -1,8 +1,8 @@
 -- How the requests of a lane and its log stand to each other, also where somebody forges packets and memory.
 use Rattle.std.specs.Prelude.{◌≡◌, ℕ, ◌+◌, ◌≤◌, drop, length, Option, Some, None, ⊤}
-use Rattle.disk_model.specs.DiskLog.{DiskLog}
-use Rattle.disk_model.specs.RequestLaws.{AdmissionAt, OnceAt, TurnsAt}
-use Rattle.disk_model.specs.WorkLog.{WorkLog}
+use Rattle.lane_laws.specs.DiskLog.{DiskLog}
+use Rattle.lane_laws.specs.RequestLaws.{AdmissionAt, OnceAt, TurnsAt}
+use Rattle.lane_laws.specs.WorkLog.{WorkLog}
 use Rattle.disk_model.specs.ClientState.{ClientSession, ClientState}
 use Rattle.disk_model.specs.DiskEvent.{DiskEvent}
 use Rattle.disk_model.specs.LaneState.{LaneState}

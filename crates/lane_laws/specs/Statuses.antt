@@ -2,12 +2,12 @@
 -- session of the client's sid.
 use Rattle.std.specs.Prelude.{◌≡◌, ℕ, ◌-◌, List, [], ◌∷◌, length, Option, Some, slice_get}
 use Rattle.ldc_queue.specs.declared.end.ChannelState.TheVariants.{Up}
-use Rattle.disk_model.specs.Sayings.{said}
-use Rattle.disk_model.specs.DiskLog.{DiskLog}
-use Rattle.disk_model.specs.Messages.{sid_of}
-use Rattle.disk_model.specs.RingLog.{Done, SlotLog}
-use Rattle.disk_model.specs.WorkLaws.{IfClient, IfServer, last_of}
-use Rattle.disk_model.specs.WorkLog.{ClientCounts, Opened, ServerCounts}
+use Rattle.channel_model.specs.Sayings.{said}
+use Rattle.lane_laws.specs.DiskLog.{DiskLog}
+use Rattle.channel_model.specs.Messages.{sid_of}
+use Rattle.lane_laws.specs.RingLog.{Done, SlotLog}
+use Rattle.lane_laws.specs.WorkLaws.{IfClient, IfServer, last_of}
+use Rattle.lane_laws.specs.WorkLog.{ClientCounts, Opened, ServerCounts}
 
 abbrev pub KeepsStatus : List SlotLog → List Opened → ClientCounts → Type 0
 KeepsStatus ring opened k = (slot id status : ℕ) → slice_get ring slot ≡ Some (Done id status) → slice_get (last_of k.sid opened) (id - k.base) ≡ Some status

@@ -1,10 +1,10 @@
 -- The queues of a lane: each holds fewer packets than it has entries; and where an event of the wire may stand by them.
 use Rattle.std.specs.Prelude.{◌+◌, ◌≤◌, length}
-use Rattle.disk_model.specs.DiskLog.{DiskLog}
-use Rattle.disk_model.specs.May.{OfWire, sizes_in}
+use Rattle.lane_laws.specs.DiskLog.{DiskLog}
+use Rattle.lane_laws.specs.May.{OfWire, sizes_in}
 use Rattle.disk_model.specs.DiskEvent.{DiskEvent}
-use Rattle.disk_model.specs.WireAt.{Sizes, WireAnswersAt, WireTableAt}
-use Rattle.disk_model.specs.WireLog.{WireLog}
+use Rattle.channel_model.specs.WireAt.{Sizes, WireAnswersAt, WireTableAt}
+use Rattle.channel_model.specs.WireLog.{WireLog}
 
 pub record RoomStands (n : Sizes) (l : WireLog) : Type 0 where
   pub to_a : length l.wire.to_a + 1 ≤ n.entries

@@ -1,8 +1,8 @@
 -- That each descriptor which a server ended got the status 0, as the log has it.
 use Rattle.std.specs.Prelude.{◌≡◌, ℕ, List, [], ◌∷◌, ⊤}
-use Rattle.disk_model.specs.DiskLog.{DiskLog}
-use Rattle.disk_model.specs.RingLog.{Done, SlotLog}
-use Rattle.disk_model.specs.WorkLog.{Opened}
+use Rattle.lane_laws.specs.DiskLog.{DiskLog}
+use Rattle.lane_laws.specs.RingLog.{Done, SlotLog}
+use Rattle.lane_laws.specs.WorkLog.{Opened}
 
 -- in a slot of the ring
 abbrev pub IsZero : SlotLog → Type 0

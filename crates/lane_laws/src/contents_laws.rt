@@ -4,12 +4,12 @@ ghost use Rattle.std.specs.Prelude.{◌≡◌, ℕ, ◌+◌, ◌≤◌, false, l
 ghost use Rattle.runs.specs.Lawful.{log_of, Lawful};
 ghost use Rattle.runs.specs.Run.{Run};
 ghost use Rattle.cookie_copy.specs.declared.fault.CopyFault.{CopyFault};
-ghost use Rattle.disk_model.specs.Agreement.{NearAgrees};
-ghost use Rattle.disk_model.specs.DiskLog.{after, nothing_yet};
+ghost use Rattle.lane_laws.specs.Agreement.{NearAgrees};
+ghost use Rattle.lane_laws.specs.DiskLog.{after, nothing_yet};
 ghost use Rattle.disk_model.specs.DiskEvent.{DiskEvent, Done, Finished, Moved, Works};
 ghost use Rattle.disk_model.specs.LaneState.{fresh, IsShape, LaneState, Shape};
 ghost use Rattle.disk_model.specs.LaneStep.{LaneStep};
-ghost use Rattle.disk_model.specs.NearLaws.{NearAt, NearInOrder};
+ghost use Rattle.lane_laws.specs.NearLaws.{NearAt, NearInOrder};
 ghost use Rattle.disk_model.specs.Served.{Served};
 ghost use Rattle.lane_laws.specs.Contents.{ContentsStand, WorkHeld, WritesHeld};
 ghost use Rattle.lane_laws.specs.Blocks.{after_requests};

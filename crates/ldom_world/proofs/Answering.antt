@@ -11,8 +11,8 @@ use Rattle.disk_model.specs.LaneStep.{LaneStep}
 use Rattle.domain_script.specs.declared.event.Lane.TheVariants.{Disk}
 use Rattle.domain_script.specs.declared.event.Side.{Side}
 use Rattle.domain_script.specs.declared.event.Side.TheVariants.{Client, Server}
-use Rattle.disk_model.specs.WireEvent.{Declines, NothingLost}
-use Rattle.disk_model.specs.WireEvent as wire
+use Rattle.channel_model.specs.WireEvent.{Declines, NothingLost}
+use Rattle.channel_model.specs.WireEvent as wire
 use Rattle.world_laws.specs.Settle.{OfLane, SettleEntry}
 use Rattle.world_laws.specs.Lines.{AnswersCall, AnswersRequest, Asked, Calls, Loses, Resets, Restarts, Starts, Stops, Ticks}
 use Rattle.ldc_queue.specs.declared.end.End.TheVariants.{B}

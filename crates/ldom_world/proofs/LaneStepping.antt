@@ -7,11 +7,11 @@ use Rattle.disk_model.proofs.OwnSteps.{server_resets_own}
 use Rattle.disk_model.specs.ClientStep.{completed_slot}
 use Rattle.disk_model.specs.LaneState.{LaneState}
 use Rattle.disk_model.specs.LaneStep.{LaneStep, ResetBy, ServerOnWire, reach}
-use Rattle.disk_model.specs.Seeing.{seen}
+use Rattle.channel_model.specs.Seeing.{seen}
 use Rattle.disk_model.specs.Served.{Served}
 use Rattle.disk_model.specs.ServerRule.{server_rule}
-use Rattle.disk_model.specs.WireEvent as wire
-use Rattle.disk_model.specs.WireEvent.{ByStep, Giver, giver}
+use Rattle.channel_model.specs.WireEvent as wire
+use Rattle.channel_model.specs.WireEvent.{ByStep, Giver, giver}
 use Rattle.world_laws.specs.CalmEnds.{IsStep}
 use Rattle.world_laws.specs.World.{FaultsAfter, LaneMoves}
 use Rattle.ldc_queue.specs.declared.end.End.TheVariants.{A, B}

@@ -2,7 +2,7 @@
 use Rattle.std.proofs.Common.{◌≡◌, ℕ, Bool, true, false, ◌||◌, Some, List, [], ◌∷◌, refl, sym, ap, subst, ◌∙◌}
 use Rattle.std.specs.Prelude.{◌&&◌}
 use Rattle.disk_model.specs.DiskEvent.{Asks, DiskEvent, Off, OnWire, Switches}
-use Rattle.disk_model.specs.WireEvent as wire
+use Rattle.channel_model.specs.WireEvent as wire
 use Rattle.world_laws.specs.Rounds.{is_calm}
 use Rattle.world_laws.specs.Settle.{OfLane, SettleEntry, entry_of}
 use Rattle.world_laws.specs.Lines.{Line}

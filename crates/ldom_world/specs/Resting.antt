@@ -1,7 +1,7 @@
 -- Which answers of an end's step rest, and which find no room; and which events a settle leaves out.
 use Rattle.std.specs.Prelude.{Bool, true, false}
 use Rattle.disk_model.specs.DiskEvent.{DiskEvent, Off, OnWire, Switches}
-use Rattle.disk_model.specs.WireEvent.{Idle}
+use Rattle.channel_model.specs.WireEvent.{Idle}
 use Rattle.vdisk_client.specs.declared.answers.ClientOut.{ClientOut}
 use Rattle.vdisk_client.specs.declared.answers.ClientOut.TheVariants as client_out
 use Rattle.descriptor_work.specs.declared.answers.ServerOut.{ServerOut}

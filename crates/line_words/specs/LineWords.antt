@@ -1,7 +1,7 @@
 -- The words of an entry's line.
 use Rattle.std.specs.Prelude.{ℕ, Bool, true, false, ◌==◌, if◌then◌else◌, List, [], Option, Some, None, codes}
 use Rattle.cookie_copy.specs.declared.fault.CopyFault.{CopyFault}
-use Rattle.disk_model.specs.ServerWork.{copy_number}
+use Rattle.cookie_copy.specs.Reach.{copy_number}
 use Rattle.vio_tag.specs.CauseText.{copy_word}
 use Rattle.domain_script.specs.declared.event.Side.{Side}
 use Rattle.domain_script.specs.declared.event.Side.TheVariants.{Client, Server}

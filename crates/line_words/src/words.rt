@@ -1,6 +1,6 @@
 // The words of an entry's line.
 ghost use Rattle.std.specs.Prelude.{◌≡◌, ◌≤◌, length};
-ghost use Rattle.disk_model.specs.ServerWork.{copy_number};
+ghost use Rattle.cookie_copy.specs.Reach.{copy_number};
 ghost use Rattle.vio_tag.specs.CauseText.{copy_word};
 ghost use Rattle.line_words.specs.LineWords.{failed_word, fault_word, operation_word, opens_text, side_text, why_word};
 

@@ -13,7 +13,7 @@ use Rattle.ldc_queue.specs.Transcript.{Heard, Said, Turn}
 use Rattle.ldc_queue.specs.Wire.{peer_of}
 use Rattle.runs.specs.Run.{Run}
 use Rattle.map_table.proofs.Each.{each_replicate}
-use Rattle.map_table.specs.Cookies.{IsCookie}
+use Rattle.map_table.specs.Cookies.{IsCookie, no_cookie}
 use Rattle.vio_bytes.specs.Place.{number_at}
 use Rattle.vio_handshake.specs.Acceptance.{hold_ring}
 use Rattle.vio_handshake.specs.Attributes.{address_of}
@@ -21,11 +21,10 @@ use Rattle.vio_handshake.specs.Offers.{FitsRing, Match}
 use Rattle.vio_tag.proofs.AttributeBytes.{net_attr_reads_back}
 use Rattle.vio_tag.specs.declared.attributes.NetAttr.{NetAttr}
 use Rattle.vio_tag.specs.declared.cause.Cause.{Cause}
-use Rattle.vio_tag.specs.Form.{no_cookie}
-use Rattle.disk_model.specs.HandshakeOrder.{HandshakeOrder}
-use Rattle.disk_model.specs.Sayings.{heard, said}
-use Rattle.disk_model.specs.TranscriptLog.{transcript_of}
-use Rattle.disk_model.specs.WireAt.{IsOwnReset, IsUp}
+use Rattle.channel_model.specs.HandshakeOrder.{HandshakeOrder}
+use Rattle.channel_model.specs.Sayings.{heard, said}
+use Rattle.channel_model.specs.TranscriptLog.{transcript_of}
+use Rattle.channel_model.specs.WireAt.{IsOwnReset, IsUp}
 use Rattle.channel_laws.proofs.ConversingRuns.{heard_messages}
 use Rattle.channel_laws.proofs.OpeningOrder.{opens_hearing, opens_saying}
 use Rattle.channel_laws.proofs.Sessions.{open_sessions_one, open_sessions_up}

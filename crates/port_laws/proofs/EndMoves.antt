@@ -21,9 +21,9 @@ use Rattle.vio_tag.specs.declared.message.MsgBody.TheVariants.{Attr, DringData, 
 use Rattle.vio_tag.specs.declared.message.TagFault.{TagFault}
 use Rattle.vio_tag.specs.Decoding.{Decodes}
 use Rattle.vio_tag.specs.Spelling.{SpellsBody, addresses_at, canonical}
-use Rattle.disk_model.specs.EndPuts.{ending, handshake_behind, kind_in, put_kind}
-use Rattle.disk_model.specs.Seeing.{Seen}
-use Rattle.disk_model.specs.ServerWork.{Reach}
+use Rattle.channel_model.specs.EndPuts.{ending, handshake_behind, kind_in, put_kind}
+use Rattle.channel_model.specs.Seeing.{Seen}
+use Rattle.cookie_copy.specs.Reach.{Reach}
 use Rattle.channel_laws.specs.EndCore.{Begins, EndMove, Fails, Hears, Says as SaysPacket, Stays, Waits, holds}
 use Rattle.channel_laws.specs.EndStep.{EndBegins, EndFails, EndHears, EndSays, EndStays, EndStep, EndWaits, HearsWhole, Holding, Holds, HoldsOn, HoldsOwed, HoldsOwn, IsOfSession, KeepsOwn, LinkFails, MayTake, WholeFails, opened_by, risen_at}
 use Rattle.port_model.specs.Fetching.{Fetched, IsFrame, NotReady, Refuses, fetched}

@@ -6,9 +6,9 @@ use Rattle.ldc_link.specs.declared.phase.Role.TheVariants.{Initiator, Responder}
 use Rattle.ldc_link.specs.Putting.{behind_put}
 use Rattle.ldc_queue.specs.declared.end.End.{End}
 use Rattle.ldc_queue.specs.declared.end.End.TheVariants.{A, B}
-use Rattle.disk_model.specs.EndPuts.{handshake_behind}
-use Rattle.disk_model.specs.Seeing.{Seen}
-use Rattle.disk_model.specs.ServerWork.{Reach}
+use Rattle.channel_model.specs.EndPuts.{handshake_behind}
+use Rattle.channel_model.specs.Seeing.{Seen}
+use Rattle.cookie_copy.specs.Reach.{Reach}
 use Rattle.port_model.specs.Fetching.{Fetched, IsFrame, NotReady, Refuses, fetched}
 use Rattle.port_model.specs.NetEndPutting.{answers, net_holds, net_kind, net_opens, net_put, opened_by_put}
 use Rattle.port_model.specs.NetEndRule.{Announces, Fetches, Idles, Joins, NetRule, Publishes, Puts, Replies, Says, Takes, Tells, port_rule}

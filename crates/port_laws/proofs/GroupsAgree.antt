@@ -6,8 +6,8 @@ use Rattle.ldc_queue.specs.declared.end.End.{End}
 use Rattle.ldc_queue.specs.declared.end.End.TheVariants.{A, B}
 use Rattle.runs.specs.Lawful.{Lawful, run_lawful}
 use Rattle.runs.specs.Run.{Run}
-use Rattle.disk_model.specs.Seeing.{Seen}
-use Rattle.disk_model.specs.ServerWork.{Reach}
+use Rattle.channel_model.specs.Seeing.{Seen}
+use Rattle.cookie_copy.specs.Reach.{Reach}
 use Rattle.port_model.specs.Fetching.{Fetched, IsFrame, NotReady, Refuses, fetched}
 use Rattle.port_model.specs.FrameLaws.{JoiningAt, MayJoin}
 use Rattle.port_model.specs.Groups.{is_in}

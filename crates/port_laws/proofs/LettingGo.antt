@@ -21,7 +21,7 @@ use Rattle.vio_tag.specs.declared.message.MsgBody.TheVariants.{Attr, DringData, 
 use Rattle.vio_tag.specs.Form.{HasForm, IsWellFormed}
 use Rattle.vio_tag.specs.Spelling.{SpellsBody, SpellsMessage, envelope_code, subtype_at}
 use Rattle.vio_bytes.specs.Place.{number_at}
-use Rattle.disk_model.specs.Ranges.{is_other, range_length}
+use Rattle.channel_model.specs.Ranges.{is_other, range_length}
 use Rattle.channel_laws.specs.Standing.{is_open_in}
 use Rattle.port_laws.specs.LetsGo.{InOrder, LetsGo, TakeLetsGo, TakeLetsNoneGo, acks}
 use Rattle.port_model.proofs.Refuting.{false_true}

@@ -4,9 +4,9 @@ use Rattle.ldc_link.specs.declared.phase.Role.TheVariants.{Initiator, Responder}
 use Rattle.ldc_queue.specs.declared.end.End.TheVariants.{A, B}
 use Rattle.runs.specs.Lawful.{Lawful, log_append, log_of, run_lawful}
 use Rattle.runs.specs.Run.{Run, run_keeps, run_push}
-use Rattle.disk_model.specs.TranscriptLog.{TranscriptLog}
-use Rattle.disk_model.specs.WireEvent.{WireEvent}
-use Rattle.disk_model.specs.WireLog.{WireLog}
+use Rattle.channel_model.specs.TranscriptLog.{TranscriptLog}
+use Rattle.channel_model.specs.WireEvent.{WireEvent}
+use Rattle.channel_model.specs.WireLog.{WireLog}
 use Rattle.channel_laws.specs.CoreLog as core
 use Rattle.channel_laws.specs.LaneCore.{Beside, CoreEvent, CoreStep, transcript_after, transcript_behind, wire_after}
 use Rattle.port_model.specs.NetEvent.{Asked, CalmTick, Declines, Gives, Injects, Joins, Loses, NetEvent, Pokes, Steps, Ticked, on_wire}

@@ -6,10 +6,10 @@ use Rattle.ldc_queue.specs.declared.end.End.TheVariants.{A, B}
 use Rattle.ldc_queue.specs.Transcript.{Heard, Said, Turn}
 use Rattle.runs.specs.Lawful.{Lawful, log_of}
 use Rattle.runs.specs.Run.{Run}
-use Rattle.disk_model.specs.HandshakeOrder.{HandshakeOrder}
-use Rattle.disk_model.specs.TranscriptLog.{TranscriptLog, hears, says, transcript_of}
-use Rattle.disk_model.specs.WireAt.{WireHeardAt, WireSaidAt}
-use Rattle.disk_model.specs.WireEvent.{WireEvent}
+use Rattle.channel_model.specs.HandshakeOrder.{HandshakeOrder}
+use Rattle.channel_model.specs.TranscriptLog.{TranscriptLog, hears, says, transcript_of}
+use Rattle.channel_model.specs.WireAt.{WireHeardAt, WireSaidAt}
+use Rattle.channel_model.specs.WireEvent.{WireEvent}
 use Rattle.channel_laws.proofs.Numbering.{heard_lawful, said_lawful}
 use Rattle.channel_laws.specs.CoreLog as core
 use Rattle.channel_laws.specs.LaneCore.{end_of, role_of, transcript_behind}

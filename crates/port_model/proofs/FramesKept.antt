@@ -10,9 +10,9 @@ use Rattle.ldc_queue.specs.declared.end.End.{End}
 use Rattle.ldc_queue.specs.declared.end.End.TheVariants.{A, B}
 use Rattle.runs.specs.Run.{run_keeps}
 use Rattle.vio_tag.specs.declared.message.Message.{Message}
-use Rattle.disk_model.specs.EndPuts.{handshake_behind}
-use Rattle.disk_model.specs.Seeing.{Seen}
-use Rattle.disk_model.specs.ServerWork.{Reach}
+use Rattle.channel_model.specs.EndPuts.{handshake_behind}
+use Rattle.channel_model.specs.Seeing.{Seen}
+use Rattle.cookie_copy.specs.Reach.{Reach}
 use Rattle.port_model.specs.Fetching.{Fetched, IsFrame, NotReady, Refuses, fetched}
 use Rattle.port_model.specs.FramesStand.{CountsStand, FramesStand}
 use Rattle.port_model.specs.NetEndPutting.{answer, announcement, answers, groups_answer, holding, holding_own, net_holds, net_kind, net_opens, net_put, opened_by_put}

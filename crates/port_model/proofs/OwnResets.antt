@@ -22,11 +22,11 @@ use Rattle.vio_tag.specs.declared.message.TagFault.{TagFault}
 use Rattle.vnet_msg.specs.declared.desc.NetDesc.{NetDesc}
 use Rattle.vnet_msg.specs.Descriptor.{net_desc_of}
 use Rattle.vnet_msg.specs.Frames.{frame_in, holds_frame, moved_size}
-use Rattle.disk_model.specs.Ranges.{is_other, range_length}
-use Rattle.disk_model.specs.ServerWork.{Reach}
-use Rattle.disk_model.specs.WireEvent.{ByStep, giver}
-use Rattle.disk_model.proofs.OwnCauses.{IsOwn, OwnLink, link_own}
-use Rattle.disk_model.proofs.OwnMessages.{OwnFault, OwnHandshake, handshake_own, sid_own}
+use Rattle.channel_model.specs.Ranges.{is_other, range_length}
+use Rattle.cookie_copy.specs.Reach.{Reach}
+use Rattle.channel_model.specs.WireEvent.{ByStep, giver}
+use Rattle.channel_model.proofs.OwnCauses.{IsOwn, OwnLink, link_own}
+use Rattle.channel_model.proofs.OwnMessages.{OwnFault, OwnHandshake, handshake_own, sid_own}
 use Rattle.port_model.specs.Fetching.{Fetched, IsFrame, NotReady, Refuses, copied, data_cookies, described, fetched, frame_fault, mark_fault, marked, read, slot_read, slots_cookies}
 use Rattle.port_model.specs.Groups.{groups_after}
 use Rattle.port_model.specs.NetEndRule.{Announces, Fetches, Idles, Joins, NetRule, Publishes, Puts, Replies, Says, Takes, Tells}

@@ -15,8 +15,8 @@ use Rattle.vio_tag.specs.declared.cause.Cause.TheVariants as the_cause
 use Rattle.vio_tag.specs.declared.message.Message.{Message}
 use Rattle.vio_tag.specs.Spelling.{canonical, type_code}
 use Rattle.vio_tag.proofs.Deciding.{some_result as some_message}
-use Rattle.disk_model.specs.Seeing.{Seen}
-use Rattle.disk_model.specs.ServerWork.{Reach}
+use Rattle.channel_model.specs.Seeing.{Seen}
+use Rattle.cookie_copy.specs.Reach.{Reach}
 use Rattle.port_model.specs.Fetching.{Fetched, IsFrame, NotReady, Refuses, fetched}
 use Rattle.port_model.specs.Groups.{membership}
 use Rattle.port_model.specs.NetEndPutting.{announcement, answer, answers, groups_answer, cleared_by_put, holding, holding_own, net_holds, net_opens, net_put, opened_by_put}

@@ -13,7 +13,7 @@ use Rattle.vio_tag.specs.declared.cause.Cause.TheVariants as the_cause
 use Rattle.vnet_msg.specs.declared.desc.NetDesc.{NetDesc}
 use Rattle.vnet_msg.specs.Descriptor.{net_desc_of}
 use Rattle.vnet_msg.specs.Frames.{frame_in, header, holds_frame, moved_size}
-use Rattle.disk_model.specs.ServerWork.{Reach, copy_number}
+use Rattle.cookie_copy.specs.Reach.{Reach, copy_number}
 use Rattle.port_model.specs.NetEndState.{NetEndState, peer_ring}
 
 -- a frame, and the peer's memory with its descriptor marked DONE; a state other than READY; or why the end resets

@@ -5,11 +5,11 @@ use Rattle.ldc_queue.specs.declared.end.End.TheVariants.{A, B}
 use Rattle.vio_tag.specs.declared.cause.Cause.{Cause}
 use Rattle.vio_tag.specs.declared.cause.Cause.TheVariants as the_cause
 use Rattle.vnet_msg.specs.Frames.{is_frame_length}
-use Rattle.disk_model.specs.HandshakeOrder.{HandshakeOrder}
-use Rattle.disk_model.specs.Messages.{end_of, range_ended, seq_of, start_of}
-use Rattle.disk_model.specs.Ranges.{wrapped}
-use Rattle.disk_model.specs.Sayings.{half_heard, half_said}
-use Rattle.disk_model.specs.TranscriptLog.{TranscriptLog, hears, says, transcript_of}
+use Rattle.channel_model.specs.HandshakeOrder.{HandshakeOrder}
+use Rattle.channel_model.specs.Messages.{end_of, range_ended, seq_of, start_of}
+use Rattle.channel_model.specs.Ranges.{wrapped}
+use Rattle.channel_model.specs.Sayings.{half_heard, half_said}
+use Rattle.channel_model.specs.TranscriptLog.{TranscriptLog, hears, says, transcript_of}
 use Rattle.port_model.specs.EndLog.{EndLog, SessionLog, held, lost_in, range_of}
 use Rattle.port_model.specs.Groups.{is_in}
 use Rattle.port_model.specs.NetEndStep.{Already, BadLength, Frame, Full, Given, GroupsFull, Joined, Joining, Member, Published, Queued, Reset, Sent, Took}

@@ -3,12 +3,11 @@ use Rattle.std.specs.Prelude.{ℕ, List, [], ◌∷◌, ◌++◌, Option, Some, 
 use Rattle.ldc_queue.specs.declared.end.End.{End}
 use Rattle.ldc_queue.specs.declared.end.End.TheVariants.{A, B}
 use Rattle.ldc_queue.specs.Transcript.{Turn}
-use Rattle.disk_model.specs.Messages.{ended_by}
-use Rattle.disk_model.specs.Sayings.{half_heard, half_said}
-use Rattle.disk_model.specs.TranscriptLog.{TranscriptLog, nothing_said, transcript_moved, transcript_of}
-use Rattle.disk_model.specs.WireEvent.{WireEvent}
-use Rattle.disk_model.specs.WireLog.{WireLog, nothing_on_wire}
-use Rattle.disk_model.specs.WorkLog.{opening_sid}
+use Rattle.channel_model.specs.Messages.{ended_by, opening_sid}
+use Rattle.channel_model.specs.Sayings.{half_heard, half_said}
+use Rattle.channel_model.specs.TranscriptLog.{TranscriptLog, nothing_said, transcript_moved, transcript_of}
+use Rattle.channel_model.specs.WireEvent.{WireEvent}
+use Rattle.channel_model.specs.WireLog.{WireLog, nothing_on_wire}
 use Rattle.port_model.specs.EndLog.{EndLog, ends_log, gives_log, hears_log, no_frames, opens_log, publishes_log, says_log, takes_log}
 use Rattle.port_model.specs.NetEndStep.{Already, BadLength, Blocked, Frame, Full, Given, GroupsFull, Idle, Joined, Joining, Member, NetAnswer, Published, Queued, Reset, Sent, Took}
 use Rattle.port_model.specs.NetEvent.{Asked, Gives, Joins, NetEvent, Steps, Ticked, on_wire}

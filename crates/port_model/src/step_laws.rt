@@ -3,9 +3,9 @@
 ghost use Rattle.std.specs.Prelude.{◌≡◌, ℕ, List, Option};
 ghost use Rattle.ldc_link.specs.declared.phase.Role.{Role};
 ghost use Rattle.vio_tag.specs.declared.cause.Cause.{Cause};
-ghost use Rattle.disk_model.specs.Seeing.{Seen};
-ghost use Rattle.disk_model.specs.ServerWork.{Reach};
-ghost use Rattle.disk_model.specs.WireEvent.{ByStep, giver};
+ghost use Rattle.channel_model.specs.Seeing.{Seen};
+ghost use Rattle.cookie_copy.specs.Reach.{Reach};
+ghost use Rattle.channel_model.specs.WireEvent.{ByStep, giver};
 ghost use Rattle.port_model.specs.NetEndRule.{NetRule};
 ghost use Rattle.port_model.specs.NetEndState.{NetEndState};
 ghost use Rattle.port_model.specs.NetEndStep.{NetAnswer, NetEndStep, NetFails, NetLeft};

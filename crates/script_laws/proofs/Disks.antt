@@ -4,10 +4,10 @@ use Rattle.std.specs.Prelude.{◌&&◌, is_some}
 use Rattle.runs.specs.Lawful.{log_of, run_lawful}
 use Rattle.runs.specs.Run.{Run}
 use Rattle.disk_law.specs.ListState.{ImageState}
-use Rattle.disk_model.specs.DiskLog.{after, nothing_yet}
-use Rattle.disk_model.specs.RequestLaws.{CarriesAt}
-use Rattle.disk_model.specs.Agreement.{ClientAgrees}
-use Rattle.disk_model.specs.WorkLog.{ClientCounts, WorkLog}
+use Rattle.lane_laws.specs.DiskLog.{after, nothing_yet}
+use Rattle.lane_laws.specs.RequestLaws.{CarriesAt}
+use Rattle.lane_laws.specs.Agreement.{ClientAgrees}
+use Rattle.lane_laws.specs.WorkLog.{ClientCounts, WorkLog}
 use Rattle.disk_model.specs.ClientState.{ClientSession, ClientState, is_finished, is_nothing}
 use Rattle.disk_model.specs.DiskEvent.{DiskEvent, Done, Works}
 use Rattle.disk_model.specs.LaneState.{IsShape, LaneState, Shape, fresh}

@@ -2,7 +2,7 @@
 -- says nothing.
 use Rattle.std.proofs.Common.{◌≡◌, ℕ, Bool, true, false, Option, Some, List, [], ◌∷◌, map, refl}
 use Rattle.vio_tag.specs.declared.cause.Cause.{Cause}
-use Rattle.disk_model.specs.WireEvent.{Declines, Reset}
+use Rattle.channel_model.specs.WireEvent.{Declines, Reset}
 use Rattle.disk_model.specs.DiskEvent.{Asks, DiskEvent, Done, OnWire, Calms, Works}
 use Rattle.domain_script.specs.declared.event.DiskDecl.{DiskDecl}
 use Rattle.domain_script.specs.declared.event.Lane.{Lane}

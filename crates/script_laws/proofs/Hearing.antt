@@ -2,15 +2,15 @@
 use Rattle.std.proofs.Common.{◌≡◌, false, List, sym, subst}
 use Rattle.runs.specs.Lawful.{log_of}
 use Rattle.runs.specs.Run.{Run}
-use Rattle.disk_model.specs.DiskLog.{after, nothing_yet}
+use Rattle.lane_laws.specs.DiskLog.{after, nothing_yet}
 use Rattle.disk_model.specs.DiskEvent.{DiskEvent}
 use Rattle.disk_model.specs.LaneState.{IsShape, LaneState, Shape, fresh}
 use Rattle.disk_model.specs.LaneStep.{LaneStep}
 use Rattle.lane_laws.proofs.LaneCores.{transcript_is}
 use Rattle.lane_laws.proofs.HeardFront.{heard_messages, heard_packets}
 use Rattle.lane_laws.specs.LaneTranscripts.{transcript_behind}
-use Rattle.disk_model.specs.TranscriptLog.{TranscriptLog}
-use Rattle.disk_model.specs.WireAt.{IsUp}
+use Rattle.channel_model.specs.TranscriptLog.{TranscriptLog}
+use Rattle.channel_model.specs.WireAt.{IsUp}
 use Rattle.ldc_queue.specs.declared.end.End.{End}
 use Rattle.script_laws.specs.Lanes.{HearsAFront}
 

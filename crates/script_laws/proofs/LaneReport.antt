@@ -9,7 +9,7 @@ use Rattle.std.proofs.lemmas.List.Sums.{sum_by-append}
 use Rattle.ldc_queue.specs.declared.end.End.{End}
 use Rattle.ldc_queue.specs.declared.end.End.TheVariants.{A, B}
 use Rattle.vdisk_msg.specs.Requests.{BadCount, BadRange, Defect}
-use Rattle.disk_model.specs.WireEvent.{Reset}
+use Rattle.channel_model.specs.WireEvent.{Reset}
 use Rattle.disk_law.proofs.Counted.{completed-append}
 use Rattle.disk_law.specs.Issued.{completed}
 use Rattle.disk_law.specs.ListStep as plain

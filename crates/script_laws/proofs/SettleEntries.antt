@@ -2,7 +2,7 @@
 -- didn't run out of rounds: events of lanes alone.
 use Rattle.std.proofs.Common.{◌≡◌, inl, inr, ℕ, ◌+◌, ◌<◌, Bool, true, false, List, [], ◌∷◌, ◌++◌, length, sym, ◌∙◌}
 use Rattle.std.specs.Prelude.{if◌then◌else◌}
-use Rattle.disk_model.specs.WireEvent.{Idle}
+use Rattle.channel_model.specs.WireEvent.{Idle}
 use Rattle.disk_model.specs.DiskEvent.{DiskEvent, Off, OnWire, Switches}
 use Rattle.disk_model.specs.LaneState.{LaneState}
 use Rattle.lane_kinds.proofs.Leading.{few_lead, rounds_lead}

@@ -4,7 +4,7 @@ use Rattle.std.proofs.lemmas.Bool.{eqb-true}
 use Rattle.std.specs.Prelude.{◌&&◌, ◌==◌, if◌then◌else◌, ⊤}
 use Rattle.disk_model.specs.DiskEvent.{DiskEvent, Off, OnWire, Switches}
 use Rattle.disk_model.specs.LaneState.{LaneState}
-use Rattle.disk_model.specs.WireEvent.{Idle, Reset}
+use Rattle.channel_model.specs.WireEvent.{Idle, Reset}
 use Rattle.lane_laws.specs.CalmEnds.{IsStep}
 use Rattle.world_laws.proofs.Counts.{ticks_both}
 use Rattle.world_laws.proofs.RoundCounts.{once, tick_entry}

@@ -5,7 +5,7 @@ use Rattle.runs.specs.Lawful.{log_of}
 use Rattle.runs.specs.Run.{Run, run_append, run_push, run_split}
 use Rattle.disk_law.specs.ListState.{ImageState}
 use Rattle.disk_model.specs.ClientState.{is_finished}
-use Rattle.disk_model.specs.DiskLog.{after, nothing_yet}
+use Rattle.lane_laws.specs.DiskLog.{after, nothing_yet}
 use Rattle.disk_model.specs.DiskEvent.{DiskEvent}
 use Rattle.disk_model.specs.LaneState.{LaneState, Shape, fresh}
 use Rattle.disk_model.specs.LaneStep.{LaneStep}

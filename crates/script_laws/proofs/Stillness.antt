@@ -3,17 +3,17 @@ use Rattle.std.proofs.Common.{◌≡◌, ◌⊎◌, inl, inr, ℕ, ◌+◌, ◌�
 use Rattle.std.specs.Prelude.{◌==◌, if◌then◌else◌, ⊤}
 use Rattle.runs.specs.Lawful.{log_append, log_of}
 use Rattle.runs.specs.Run.{Run, run_append}
-use Rattle.disk_model.specs.Agreement.{AgreesWithLog}
-use Rattle.disk_model.specs.DiskLog.{DiskLog, after, nothing_yet}
-use Rattle.disk_model.specs.QuietLaws.{ClientIsIdle, EndIsIdle, ServerIsIdle}
-use Rattle.disk_model.specs.WorkLaws.{IfClient, IfServer}
-use Rattle.disk_model.specs.WorkLog.{ClientCounts, WorkLog}
+use Rattle.lane_laws.specs.Agreement.{AgreesWithLog}
+use Rattle.lane_laws.specs.DiskLog.{DiskLog, after, nothing_yet}
+use Rattle.lane_laws.specs.QuietLaws.{ClientIsIdle, EndIsIdle, ServerIsIdle}
+use Rattle.lane_laws.specs.WorkLaws.{IfClient, IfServer}
+use Rattle.lane_laws.specs.WorkLog.{ClientCounts, WorkLog}
 use Rattle.disk_model.specs.DiskEvent.{DiskEvent, Off, OnWire, Switches}
 use Rattle.disk_model.specs.LaneState.{IsShape, LaneState, Shape, fresh}
 use Rattle.disk_model.specs.LaneStep.{LaneStep}
-use Rattle.disk_model.specs.WireAt.{IsUp}
-use Rattle.disk_model.specs.WireEvent.{Blocked, Idle}
-use Rattle.disk_model.specs.WireLog.{WireLog}
+use Rattle.channel_model.specs.WireAt.{IsUp}
+use Rattle.channel_model.specs.WireEvent.{Blocked, Idle}
+use Rattle.channel_model.specs.WireLog.{WireLog}
 use Rattle.lane_laws.proofs.AgreementRuns.{run_agrees}
 use Rattle.lane_laws.specs.CalmEnds.{AreStill, HasNoRoom, IsStill}
 use Rattle.lane_kinds.proofs.Sums.{and_left, and_right}

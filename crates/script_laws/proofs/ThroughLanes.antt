@@ -2,7 +2,7 @@
 use Rattle.std.proofs.Common.{◌≡◌, List, [], ◌∷◌, map, refl, ap}
 use Rattle.std.specs.List.{flat_map}
 use Rattle.runs.specs.Run.{Run}
-use Rattle.disk_model.specs.WireEvent.{Reset}
+use Rattle.channel_model.specs.WireEvent.{Reset}
 use Rattle.disk_model.specs.DiskEvent.{Asks, Done, Full, OnWire, Refused, Works}
 use Rattle.domain_script.specs.declared.event.DiskDecl.{DiskDecl}
 use Rattle.domain_script.specs.declared.event.Event.{Event}

@@ -1,11 +1,11 @@
 -- Where nothing disturbed a disk, its reads show the last earlier write alone.
 use Rattle.std.proofs.Common.{◌≡◌, inl, inr, ℕ, false, List, [], ◌∷◌, refl, ◌∙◌, arith}
 use Rattle.runs.specs.Lawful.{log_of}
-use Rattle.disk_model.specs.DiskLog.{DiskLog, after, nothing_yet}
+use Rattle.lane_laws.specs.DiskLog.{DiskLog, after, nothing_yet}
 use Rattle.disk_model.specs.DiskEvent.{Accepted, Asks, DiskEvent, Misplaced, OnWire, Calms, Stopped, Switches, Works}
 use Rattle.disk_model.specs.LaneState.{Shape}
 use Rattle.lane_laws.specs.Headline.{CompletionShows, ShowsLast}
-use Rattle.disk_model.specs.WireEvent.{Joined, Reset, Sent, Took}
+use Rattle.channel_model.specs.WireEvent.{Joined, Reset, Sent, Took}
 use Rattle.world_laws.specs.Along.{happened}
 use Rattle.world_laws.specs.Settle.{SettleEntry}
 use Rattle.ldc_queue.specs.declared.end.End.TheVariants.{A, B}

@@ -1,12 +1,12 @@
 -- What the reads of a disk show, and what its part of an image holds, over an image that tells its bytes.
 use Rattle.std.specs.Prelude.{◌≡◌, ℕ, ◌+◌, ◌*◌, ◌<◌, Bool, true, false, List, [], ◌∷◌, ◌++◌, length, take, Some, slice_get, ⊤}
-use Rattle.disk_model.specs.DiskLog.{DiskLog}
+use Rattle.lane_laws.specs.DiskLog.{DiskLog}
 use Rattle.disk_model.specs.DiskEvent.{DiskEvent, Done, OnWire, Stopped, Switches, Works}
 use Rattle.disk_model.specs.LaneState.{Shape}
 use Rattle.lane_laws.specs.Blocks.{after_requests, block_at}
 use Rattle.lane_laws.specs.Headline.{CompletionShows, HoldsDone, LastWrite}
 use Rattle.lane_laws.specs.ImageStep.{region_of}
-use Rattle.disk_model.specs.WireEvent.{Reset}
+use Rattle.channel_model.specs.WireEvent.{Reset}
 use Rattle.world_laws.specs.Along.{happened}
 use Rattle.world_laws.specs.Settle.{OfLane, SettleEntry}
 use Rattle.script_laws.specs.Told.{log_at}

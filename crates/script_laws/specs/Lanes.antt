@@ -1,16 +1,16 @@
 -- What holds of the lane of each disk along a script's lines, and at their end.
 use Rattle.std.specs.Prelude.{◌≡◌, ℕ, true, false, List, ◌++◌, Some, is_some}
 use Rattle.runs.specs.Run.{Run}
-use Rattle.disk_model.specs.Agreement.{AgreesWithLog}
-use Rattle.disk_model.specs.DiskLog.{DiskLog}
+use Rattle.lane_laws.specs.Agreement.{AgreesWithLog}
+use Rattle.lane_laws.specs.DiskLog.{DiskLog}
 use Rattle.disk_model.specs.LaneState.{LaneState, Shape, fresh}
 use Rattle.disk_model.specs.LaneStep.{LaneStep}
-use Rattle.disk_model.specs.May.{IsLawful}
-use Rattle.disk_model.specs.NearLaws.{NearInOrder}
-use Rattle.disk_model.specs.Sayings.{heard, said}
-use Rattle.disk_model.specs.TranscriptLog.{TranscriptLog, transcript_of}
-use Rattle.disk_model.specs.WireAt.{IsUp}
-use Rattle.disk_model.specs.WorkLog.{ClientCounts, ServerCounts}
+use Rattle.lane_laws.specs.May.{IsLawful}
+use Rattle.lane_laws.specs.NearLaws.{NearInOrder}
+use Rattle.channel_model.specs.Sayings.{heard, said}
+use Rattle.channel_model.specs.TranscriptLog.{TranscriptLog, transcript_of}
+use Rattle.channel_model.specs.WireAt.{IsUp}
+use Rattle.lane_laws.specs.WorkLog.{ClientCounts, ServerCounts}
 use Rattle.lane_laws.specs.CountsInTurn.{CountsInTurn}
 use Rattle.lane_laws.specs.OneSession.{AreOneSession}
 use Rattle.lane_laws.specs.SlotsInOrder.{RingInOrder}

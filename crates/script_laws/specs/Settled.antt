@@ -1,6 +1,6 @@
 -- What a settle comes to in a script.
 use Rattle.std.specs.Prelude.{◌≡◌, ℕ, ◌≤◌, true, false, is_some, List, [], ◌∷◌, ◌++◌, length}
-use Rattle.disk_model.specs.DiskLog.{DiskLog}
+use Rattle.lane_laws.specs.DiskLog.{DiskLog}
 use Rattle.disk_model.specs.DiskEvent.{DiskEvent}
 use Rattle.disk_model.specs.LaneState.{Shape}
 use Rattle.domain_script.specs.declared.event.Event.{Event}

@@ -4,7 +4,7 @@ ghost use Rattle.std.specs.Prelude.{◌≡◌, ◌≢◌, ◌<◌, ◌≤◌, �
 ghost use Rattle.ldc_queue.specs.declared.end.ChannelState.TheVariants.{Up};
 ghost use Rattle.vio_handshake.specs.Rules.{handshake_take};
 ghost use Rattle.vio_handshake.specs.declared.handshake.Phase.TheVariants.{Down};
-ghost use Rattle.disk_model.specs.Ranges.{range_length};
+ghost use Rattle.channel_model.specs.Ranges.{range_length};
 
 use crate::answers::ClientOut;
 use crate::end::ClientEnd;

@@ -27,7 +27,7 @@ impl ClientEnd {
     ghost use Rattle.disk_model.specs.ClientPutting.{announcement, holding, is_announcing};
     ghost use Rattle.disk_model.specs.ClientRule.{Announces, Says, announces, in_session, publishes, puts_first, says};
     ghost use Rattle.disk_model.specs.ClientState.{first_id, opened_session};
-    ghost use Rattle.disk_model.specs.EndPuts.{EndsHandshake, ending, put_opens};
+    ghost use Rattle.channel_model.specs.EndPuts.{EndsHandshake, ending, put_opens};
     ghost use Rattle.vdisk_client.specs.Calls.{Steps, rule_of};
     ghost use Rattle.vdisk_client.specs.Putting.{CanCount, HoldsOwn, PutsHeld, cleared_if, kind_after, noted};
     ghost use Rattle.disk_requests.specs.Room.{HoldsRing};

@@ -4,7 +4,7 @@ use Rattle.std.specs.Prelude.{if◌then◌else◌}
 use Rattle.std.proofs.lemmas.Bool.Decides.{nat_tests}
 use Rattle.std.specs.List.{AllByRecursion}
 use Rattle.vio_bytes.specs.Place.{put_at}
-use Rattle.map_table.specs.Cookies.{IsCookie}
+use Rattle.map_table.specs.Cookies.{IsCookie, no_cookie}
 use Rattle.vdisk_msg.specs.declared.desc.DiskDesc.{DiskDesc}
 use Rattle.vdisk_msg.specs.declared.desc.DescFault.{DescFault}
 use Rattle.vdisk_msg.specs.declared.desc.DescFault.TheVariants.{Cookies, Size, Range}
@@ -14,7 +14,7 @@ use Rattle.vdisk_msg.specs.declared.request.Request.TheVariants.{Read, Write, Fl
 use Rattle.vdisk_msg.specs.Check.{first_defect, has_size, holds_cookies, is_within}
 use Rattle.vdisk_msg.specs.Descriptor.{HasWidths, canonical}
 use Rattle.vdisk_msg.specs.Pieces.{Finishes, checked_pieces, operation_pieces, pieces, read_pieces, unit_count, write_pieces}
-use Rattle.vdisk_msg.specs.Requested.{block_of, buffer_cookies, buffer_place, cookie_count, descriptor_of, header, no_cookie, size_of, status_word}
+use Rattle.vdisk_msg.specs.Requested.{block_of, buffer_cookies, buffer_place, cookie_count, descriptor_of, header, size_of, status_word}
 use Rattle.vdisk_msg.specs.Requests.{blocks_defect, defect, operation_of}
 
 -- a header put into a descriptor

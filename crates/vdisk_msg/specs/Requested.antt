@@ -2,6 +2,7 @@
 use Rattle.std.specs.Prelude.{ℕ, ◌+◌, ◌*◌, ◌/◌, nat_lt, if◌then◌else◌, List, [], ◌∷◌, ◌++◌, replicate}
 use Rattle.byteorder.specs.Endian.{big_bytes}
 use Rattle.vio_bytes.specs.Range.{range_at}
+use Rattle.map_table.specs.Cookies.{no_cookie}
 use Rattle.map_table.specs.declared.cookie.Cookie.{Cookie}
 use Rattle.vdisk_msg.specs.declared.desc.DiskDesc.{DiskDesc}
 use Rattle.vdisk_msg.specs.declared.request.Request.{Request}
@@ -30,10 +31,6 @@ abbrev pub size_of : Request → ℕ
 size_of (Read block count) = 512 * count
 size_of (Write block count fill) = 512 * count
 size_of Flush = 0
-
--- the cookie of no memory
-abbrev pub no_cookie : Cookie
-no_cookie = record { address = 0; size = 0 }
 
 -- The one cookie of a buffer from a place on, with the whole size; a request that moves nothing has none. Page i is
 -- granted at index i.

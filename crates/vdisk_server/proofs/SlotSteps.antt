@@ -15,7 +15,8 @@ use Rattle.vio_tag.specs.declared.cause.Cause.TheVariants as the_cause
 use Rattle.disk_model.specs.ServerRule.{Fetches, ServerRule, server_rule, serves}
 use Rattle.disk_model.specs.ServerState.{Progress, ServerSession, ServerState, Work, joined_server, peer_ring}
 use Rattle.disk_model.specs.ServerStep.{ServerFails, WorkFails}
-use Rattle.disk_model.specs.ServerWork.{CanFetch, EndFails, FetchFails, Reach, copy_number, header_of, slot_at, slot_fetched, with_word, word_fault}
+use Rattle.cookie_copy.specs.Reach.{Reach, copy_number}
+use Rattle.disk_model.specs.ServerWork.{CanFetch, EndFails, FetchFails, header_of, slot_at, slot_fetched, with_word, word_fault}
 use Rattle.descriptor_work.specs.declared.answers.ServerOut.{ServerOut}
 use Rattle.descriptor_work.specs.declared.answers.ServerOut.TheVariants as out
 use Rattle.descriptor_work.specs.Calling.{reach_over}

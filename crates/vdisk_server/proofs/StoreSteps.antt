@@ -6,7 +6,7 @@ use Rattle.disk_model.specs.Served.{StoreDoes, StoreDoesIn}
 use Rattle.disk_model.specs.ServerRule.{Serves as ServesWork, answer, server_rule}
 use Rattle.disk_model.specs.ServerState.{Ends, Flushes, Gathers, Gives, Progress, Reads, ServerSession, ServerState, Work, Writes}
 use Rattle.disk_model.specs.ServerStep.{ServerStep, with_progress}
-use Rattle.disk_model.specs.ServerWork.{Reach}
+use Rattle.cookie_copy.specs.Reach.{Reach}
 use Rattle.descriptor_work.specs.declared.answers.ServerOut.{ServerOut}
 use Rattle.descriptor_work.specs.declared.answers.ServerOut.TheVariants as out
 use Rattle.vio_io.specs.declared.store.Store.{Ghosts}

@@ -4,13 +4,13 @@ use Rattle.std.specs.Prelude.{◌≡◌, ℕ, List, [], Option, ⊤}
 use Rattle.ldc_queue.specs.ChannelView.{ChannelView, channel_with, channel_without_first, configured_channel}
 use Rattle.ldc_queue.specs.declared.end.End.TheVariants.{A, B}
 use Rattle.map_table.specs.declared.table.Entry.{Entry}
-use Rattle.disk_model.specs.WireEvent as wire
+use Rattle.channel_model.specs.WireEvent as wire
 use Rattle.disk_model.specs.DiskEvent.{Desc, DiskEvent, Finished, Moved, OnWire, Stored, Works}
-use Rattle.disk_model.specs.Seeing.{Seen, seen}
+use Rattle.channel_model.specs.Seeing.{Seen, seen}
 use Rattle.disk_model.specs.Served.{StoreDoes}
 use Rattle.disk_model.specs.ServerState.{ServerState}
 use Rattle.disk_model.specs.ServerStep.{ServerStep}
-use Rattle.disk_model.specs.ServerWork.{Reach}
+use Rattle.cookie_copy.specs.Reach.{Reach}
 use Rattle.descriptor_work.specs.Calling.{reach_over}
 use Rattle.descriptor_work.specs.declared.answers.ServerOut.{ServerOut}
 use Rattle.descriptor_work.specs.declared.answers.ServerOut.TheVariants as out

@@ -1,7 +1,7 @@
 // The session of a server: what its client announced, and how far that is done.
 
 ghost use Rattle.std.specs.Prelude.{◌≡◌, ◌<◌};
-ghost use Rattle.disk_model.specs.Ranges.{range_length};
+ghost use Rattle.channel_model.specs.Ranges.{range_length};
 
 /// A range of slots, from `start` to `end` around the ring, as an INFO named it.
 #[derive(Clone, Copy, Debug, PartialEq, Eq)]

@@ -2,7 +2,7 @@
 use Rattle.std.specs.Prelude.{ℕ, ◌+◌, ◌%◌, ◌^◌, Option, Some, None, replicate, ⊤}
 use Rattle.ldc_link.specs.declared.phase.Role.{Role}
 use Rattle.ldc_link.specs.declared.phase.Role.TheVariants.{Initiator, Responder}
-use Rattle.vio_tag.specs.Form.{AreCookies, IsWellFormed, no_cookie}
+use Rattle.vio_tag.specs.Form.{AreCookies, IsWellFormed}
 use Rattle.vio_tag.specs.declared.message.Message.{Message}
 use Rattle.vio_tag.specs.declared.message.MsgBody.TheVariants.{Ver}
 use Rattle.vio_handshake.specs.Messages.{info}
@@ -13,6 +13,7 @@ use Rattle.vio_handshake.specs.declared.session.HsOut.TheVariants.{Nothing, Open
 use Rattle.vio_handshake.specs.declared.handshake.Handshake.{Handshake}
 use Rattle.vio_handshake.specs.declared.handshake.Phase.{Phase}
 use Rattle.vio_handshake.specs.declared.handshake.Phase.TheVariants.{Down, Version, Attributes, OwnRing, PeerRing, PeerRingTaken, OwnReady, PeerReady, PeerReadyTaken, Open}
+use Rattle.map_table.specs.Cookies.{no_cookie}
 
 -- nothing is agreed on
 abbrev pub no_session : Session

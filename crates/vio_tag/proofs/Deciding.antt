@@ -6,7 +6,7 @@ use Rattle.ldc_packet.specs.declared.packet.Subtype.{Subtype}
 use Rattle.ldc_packet.specs.declared.packet.Subtype.TheVariants.{Info, Ack, Nack}
 use Rattle.ldc_packet.specs.Spelling.{subtype_code}
 use Rattle.map_table.specs.declared.cookie.Cookie.{Cookie}
-use Rattle.map_table.specs.Cookies.{cookies_at}
+use Rattle.map_table.specs.Cookies.{cookies_at, no_cookie}
 use Rattle.map_table.proofs.Getting.{length-cookies_at}
 use Rattle.vio_bytes.specs.Place.{number_at}
 use Rattle.vio_tag.specs.declared.message.Message.{Message}
@@ -16,7 +16,7 @@ use Rattle.vio_tag.specs.declared.message.TagFault.{TagFault}
 use Rattle.vio_tag.specs.declared.message.TagFault.TheVariants as fault
 use Rattle.vio_tag.specs.Decoding.{Decodes}
 use Rattle.vio_tag.specs.Fault.{first_fault, is_cookies, is_envelope, is_length, is_subtype, is_type}
-use Rattle.vio_tag.specs.Form.{HasForm, no_cookie}
+use Rattle.vio_tag.specs.Form.{HasForm}
 use Rattle.vio_tag.specs.Spelling.{SpellsBodyOf, addresses_at, bytes_at, count_at, envelope_at, sid_at, subtype_at, type_at}
 
 -- a code of a subtype names it

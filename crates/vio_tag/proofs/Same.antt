@@ -5,11 +5,11 @@ use Rattle.ldc_packet.specs.declared.packet.Subtype.{Subtype}
 use Rattle.ldc_packet.specs.declared.packet.Subtype.TheVariants.{Info, Ack, Nack}
 use Rattle.ldc_packet.specs.Spelling.{subtype_code}
 use Rattle.map_table.specs.declared.cookie.Cookie.{Cookie}
-use Rattle.map_table.specs.Cookies.{cookies_at}
+use Rattle.map_table.specs.Cookies.{cookies_at, no_cookie}
 use Rattle.vio_tag.specs.declared.message.Message.{Message}
 use Rattle.vio_tag.specs.declared.message.MsgBody.{MsgBody}
 use Rattle.vio_tag.specs.declared.message.MsgBody.TheVariants.{Ver, Attr, DringReg, DringUnreg, Rdx, DringData, Mcast, Plain}
-use Rattle.vio_tag.specs.Form.{AreCookies, HasForm, IsWellFormed, no_cookie}
+use Rattle.vio_tag.specs.Form.{AreCookies, HasForm, IsWellFormed}
 use Rattle.vio_tag.specs.Spelling.{SpellsBody, SpellsMessage, envelope_code}
 
 -- a code names one subtype

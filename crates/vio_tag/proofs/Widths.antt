@@ -2,11 +2,11 @@
 -- are none.
 use Rattle.std.proofs.Common.{◌≡◌, ℕ, ◌-◌, ◌^◌, ◌<◌, List, length, take, replicate, sym, subst, arith}
 use Rattle.std.specs.List.{AllByRecursion}
-use Rattle.map_table.specs.Cookies.{IsCookie}
+use Rattle.map_table.specs.Cookies.{IsCookie, no_cookie}
 use Rattle.map_table.specs.declared.cookie.Cookie.{Cookie}
 use Rattle.map_table.proofs.Each.{each_of_both, each_replicate}
 use Rattle.vio_tag.specs.declared.message.MsgBody.TheVariants.{DringReg}
-use Rattle.vio_tag.specs.Form.{AreCookies, BodyHasWidths, no_cookie}
+use Rattle.vio_tag.specs.Form.{AreCookies, BodyHasWidths}
 
 pub registration_has_widths : (ident slots slot_size options count : ℕ) (cookies : List Cookie) → AreCookies count cookies
     → ident < 2 ^ 64 → slots < 2 ^ 32 → slot_size < 2 ^ 32 → options < 2 ^ 16 → length cookies ≡ 14

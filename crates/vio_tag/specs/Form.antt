@@ -1,15 +1,11 @@
 -- Which messages are well formed.
 use Rattle.std.specs.Prelude.{◌≡◌, ℕ, ◌-◌, ◌^◌, ◌<◌, ◌≤◌, ◌⊎◌, List, length, drop, replicate, ⊤}
 use Rattle.std.specs.List.{AllByRecursion}
-use Rattle.map_table.specs.Cookies.{IsCookie}
+use Rattle.map_table.specs.Cookies.{IsCookie, no_cookie}
 use Rattle.map_table.specs.declared.cookie.Cookie.{Cookie}
 use Rattle.vio_tag.specs.declared.message.Message.{Message}
 use Rattle.vio_tag.specs.declared.message.MsgBody.{MsgBody}
 use Rattle.vio_tag.specs.declared.message.MsgBody.TheVariants.{Ver, Attr, DringReg, DringUnreg, Rdx, DringData, Mcast, Plain}
-
--- the cookie of no memory
-abbrev pub no_cookie : Cookie
-no_cookie = record { address = 0; size = 0 }
 
 -- at most 14 cookies, and none after them
 pub record AreCookies (count : ℕ) (cookies : List Cookie) : Type 0 where

@@ -2,11 +2,11 @@
 
 ghost use Rattle.std.specs.Prelude.{◌≡◌, ◌≢◌, ◌-◌, ◌+◌, ◌*◌, ◌≤◌, ◌⊎◌, length, take, drop, replicate, Some, None, OnOk, IfOk, IfErr, IfSome, IfNone, IsTrue, false};
 ghost use Rattle.vio_bytes.specs.Place.{number_at};
-ghost use Rattle.map_table.specs.Cookies.{cookies_at};
+ghost use Rattle.map_table.specs.Cookies.{cookies_at, no_cookie};
 ghost use Rattle.ldc_packet.specs.Spelling.{subtype_code};
 ghost use Rattle.vio_tag.specs.Decoding.{Decodes, decoded};
 ghost use Rattle.vio_tag.specs.Fault.{body_fault, first_fault, is_subtype};
-ghost use Rattle.vio_tag.specs.Form.{HasForm, IsWellFormed, no_cookie};
+ghost use Rattle.vio_tag.specs.Form.{HasForm, IsWellFormed};
 ghost use Rattle.vio_tag.specs.Spelling.{SpellsBodyOf, SpellsMessage, addresses_at, bytes_at, count_at, envelope_at, type_at};
 ghost use Rattle.vio_tag.specs.declared.message.Message.{Message};
 ghost use Rattle.vio_tag.specs.declared.message.TagFault.{TagFault};

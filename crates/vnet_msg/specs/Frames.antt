@@ -2,6 +2,7 @@
 use Rattle.std.specs.Prelude.{ℕ, ◌+◌, ◌-◌, ◌*◌, ◌/◌, ◌≤◌, Bool, ◌&&◌, nat_le, if◌then◌else◌, List, [], ◌∷◌, ◌++◌, length, replicate}
 use Rattle.byteorder.specs.Endian.{big_bytes}
 use Rattle.vio_bytes.specs.Range.{range_at}
+use Rattle.map_table.specs.Cookies.{no_cookie}
 use Rattle.map_table.specs.declared.cookie.Cookie.{Cookie}
 use Rattle.vnet_msg.specs.declared.desc.NetDesc.{NetDesc}
 
@@ -40,9 +41,6 @@ memory_pages slots = 1 + buffer_pages slots
 
 -- THE DESCRIPTOR of a frame of so many bytes in a slot: READY, no acknowledgement is asked for, and one cookie names
 -- the buffer
-abbrev pub no_cookie : Cookie
-no_cookie = record { address = 0; size = 0 }
-
 abbrev pub frame_cookies : ℕ → ℕ → List Cookie
 frame_cookies slot size = record { address = buffer_place slot; size = moved_size size } ∷ no_cookie ∷ no_cookie ∷ []
 

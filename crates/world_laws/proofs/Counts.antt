@@ -2,7 +2,7 @@
 use Rattle.std.proofs.Common.{◌≡◌, ℕ, ◌+◌, ◌≤◌, ◌⊎◌, inl, inr, Bool, true, false, List, ◌++◌, refl, arith}
 use Rattle.std.specs.Prelude.{◌&&◌, ◌==◌, if◌then◌else◌}
 use Rattle.ldc_queue.specs.declared.end.End.{End}
-use Rattle.disk_model.specs.WireEvent.{Blocked}
+use Rattle.channel_model.specs.WireEvent.{Blocked}
 use Rattle.disk_model.specs.DiskEvent.{OnWire}
 use Rattle.lane_kinds.proofs.Stuck.{sum_both}
 use Rattle.lane_kinds.specs.Stuck.{sum_over}

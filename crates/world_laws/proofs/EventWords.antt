@@ -11,12 +11,12 @@ use Rattle.vdisk_msg.specs.declared.request.Request.TheVariants.{Flush, Read, Wr
 use Rattle.vdisk_msg.specs.Requests.{BadCount, BadRange, Defect, defect, given_count, operation_of}
 use Rattle.vio_tag.specs.declared.cause.Cause.{Cause}
 use Rattle.vio_tag.specs.declared.cause.Cause.TheVariants as the_cause
-use Rattle.disk_model.specs.ResetSays.{ResetSays}
-use Rattle.disk_model.specs.WireEvent.{Joined, Reset}
-use Rattle.disk_model.specs.DiskLog.{DiskLog, after, nothing_yet}
-use Rattle.disk_model.specs.May.{May}
-use Rattle.disk_model.specs.RequestLaws.{CarriesAt, carried_count}
-use Rattle.disk_model.specs.WorkLaws.{ResetOf}
+use Rattle.channel_model.specs.ResetSays.{ResetSays}
+use Rattle.channel_model.specs.WireEvent.{Joined, Reset}
+use Rattle.lane_laws.specs.DiskLog.{DiskLog, after, nothing_yet}
+use Rattle.lane_laws.specs.May.{May}
+use Rattle.lane_laws.specs.RequestLaws.{CarriesAt, carried_count}
+use Rattle.lane_laws.specs.WorkLaws.{ResetOf}
 use Rattle.disk_model.specs.DiskEvent.{DiskEvent, Done, OnWire, Stored, Works}
 use Rattle.disk_model.specs.LaneState.{IsShape, LaneState, Shape, fresh}
 use Rattle.disk_model.specs.LaneStep.{EndOnWire, LaneStep}
@@ -26,7 +26,7 @@ use Rattle.lane_laws.proofs.CarriedRuns.{AllStand, all_step, fresh_all}
 use Rattle.lane_laws.proofs.MemorySteps.{carried_long, got_sound}
 use Rattle.lane_laws.specs.MemoryStands.{MemoryStands}
 use Rattle.lane_laws.proofs.EveryRun.{every_run}
-use Rattle.disk_model.specs.TranscriptLog.{transcript_of}
+use Rattle.channel_model.specs.TranscriptLog.{transcript_of}
 use Rattle.world_laws.specs.Words.{AreBlocks, HasWords, IsOperation, NamesFault}
 
 -- OPERATIONS

@@ -4,8 +4,8 @@ use Rattle.std.specs.Prelude.{◌&&◌}
 use Rattle.runs.specs.Run.{run_push}
 use Rattle.ldc_queue.specs.declared.end.End.{End}
 use Rattle.ldc_queue.specs.declared.end.End.TheVariants.{A, B}
-use Rattle.disk_model.specs.WireAt.{IsUp}
-use Rattle.disk_model.specs.WireEvent.{Blocked, Idle}
+use Rattle.channel_model.specs.WireAt.{IsUp}
+use Rattle.channel_model.specs.WireEvent.{Blocked, Idle}
 use Rattle.disk_model.specs.DiskEvent.{DiskEvent, Off, OnWire, Switches}
 use Rattle.disk_model.specs.LaneState.{LaneState, fresh}
 use Rattle.disk_model.specs.LaneStep.{LaneStep}

@@ -4,11 +4,11 @@ use Rattle.std.proofs.Common.{◌≡◌, ℕ, ◌-◌, ◌%◌, false, List, [],
 use Rattle.std.specs.Prelude.{⊤, slice_get}
 use Rattle.runs.specs.Lawful.{Lawful, lawful_split, log_of}
 use Rattle.runs.specs.Run.{Run, run_push}
-use Rattle.disk_model.specs.WireLog.{WireLog}
-use Rattle.disk_model.specs.DiskLog.{DiskLog, after, nothing_yet}
-use Rattle.disk_model.specs.May.{May}
-use Rattle.disk_model.specs.RingLog.{Done as IsDone}
-use Rattle.disk_model.specs.WorkLog.{ClientCounts}
+use Rattle.channel_model.specs.WireLog.{WireLog}
+use Rattle.lane_laws.specs.DiskLog.{DiskLog, after, nothing_yet}
+use Rattle.lane_laws.specs.May.{May}
+use Rattle.lane_laws.specs.RingLog.{Done as IsDone}
+use Rattle.lane_laws.specs.WorkLog.{ClientCounts}
 use Rattle.disk_model.specs.DiskEvent.{Asks, Desc, DiskEvent, Done, Finished, Misplaced, Moved, OnWire, Published, Calms, Stored, Switches, Worked, Works}
 use Rattle.disk_model.specs.LaneState.{IsShape, LaneState, Shape, fresh}
 use Rattle.disk_model.specs.LaneStep.{LaneStep}

@@ -2,7 +2,7 @@
 use Rattle.std.proofs.Common.{◌≡◌, ℕ, ◌+◌, ◌<◌, ◌≤◌, inl, inr, Bool, true, false, List, [], ◌∷◌, ◌++◌, length, replicate, sym, ap, ◌∙◌, subst, arith}
 use Rattle.std.specs.Prelude.{◌&&◌, if◌then◌else◌, ⊤}
 use Rattle.runs.specs.Run.{Run}
-use Rattle.disk_model.specs.WireEvent.{Idle}
+use Rattle.channel_model.specs.WireEvent.{Idle}
 use Rattle.disk_model.specs.DiskEvent.{DiskEvent, Off, OnWire, Switches}
 use Rattle.disk_model.specs.LaneState.{LaneState}
 use Rattle.lane_kinds.proofs.Leading.{front_leads, part_leads}

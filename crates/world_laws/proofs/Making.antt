@@ -5,7 +5,7 @@ use Rattle.disk_law.specs.ListState.{ImageState}
 use Rattle.disk_model.specs.DiskEvent.{Asks, Desc, DiskEvent, Done, Finished, Misplaced, Moved, Off, OnWire, Published, Calms, Stored, Switches, Works}
 use Rattle.disk_model.specs.LaneState.{LaneState}
 use Rattle.disk_model.specs.LaneStep.{LaneStep}
-use Rattle.disk_model.specs.WireEvent.{Idle}
+use Rattle.channel_model.specs.WireEvent.{Idle}
 use Rattle.lane_laws.proofs.StepFalls.{idles}
 use Rattle.ldc_queue.specs.declared.end.End.{End}
 use Rattle.world_laws.specs.Settle.{OfLane, SettleEntry, entry_of}

@@ -10,9 +10,9 @@ use Rattle.vio_tag.specs.declared.cause.Cause.{Cause}
 use Rattle.vio_io.specs.Stores.{WritesRange}
 use Rattle.vdisk_msg.specs.declared.request.Request.{Request}
 use Rattle.vdisk_msg.specs.Requests.{AreSound, after_request, defect, operation_of}
-use Rattle.disk_model.specs.WireEvent.{Blocked, ByStep, Declines, Idle, Injected, Joined, Lost, Poked, Reset, Sent, Took, WireEvent, giver}
+use Rattle.channel_model.specs.WireEvent.{Blocked, ByStep, Declines, Idle, Injected, Joined, Lost, Poked, Reset, Sent, Took, WireEvent, giver}
 use Rattle.disk_law.specs.ListState.{ImageState}
-use Rattle.disk_model.specs.DiskLog.{after, nothing_yet}
+use Rattle.lane_laws.specs.DiskLog.{after, nothing_yet}
 use Rattle.disk_model.specs.ClientState.{ClientState}
 use Rattle.disk_model.specs.DiskEvent.{Asks, Desc, DiskEvent, Done, Finished, Misplaced, Moved, Off, OnWire, Published, Calms, Started, Stopped, Stored, Switches, Works}
 use Rattle.disk_model.specs.LaneState.{LaneState, NearCounts, Shape}

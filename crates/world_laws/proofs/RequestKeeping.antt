@@ -3,8 +3,8 @@ use Rattle.std.proofs.Common.{◌≡◌, ℕ, List, Option, refl, ap, ◌∙◌}
 use Rattle.std.specs.Prelude.{⊤}
 use Rattle.ldc_queue.specs.declared.end.End.{End}
 use Rattle.ldc_queue.specs.declared.end.End.TheVariants.{A, B}
-use Rattle.disk_model.specs.WireEvent.{Blocked, ByRestart, ByScript, ByStep, ByTick, Declines, Giver, Idle, Injected, Joined, Lost, Poked, Reset, Sent, Took, WireEvent, giver}
-use Rattle.disk_model.specs.WireLog.{WireLog, wire_moved}
+use Rattle.channel_model.specs.WireEvent.{Blocked, ByRestart, ByScript, ByStep, ByTick, Declines, Giver, Idle, Injected, Joined, Lost, Poked, Reset, Sent, Took, WireEvent, giver}
+use Rattle.channel_model.specs.WireLog.{WireLog, wire_moved}
 use Rattle.vio_tag.specs.declared.cause.Cause.{Cause}
 use Rattle.disk_model.specs.DiskEvent.{Asks, CalmReset, CalmRestart, CalmStart, CalmStop, CalmTick, Desc, DiskEvent, Done, Finished, Misplaced, Moved, Off, OnWire, Published, Calms, Started, Stopped, Stored, Switches, Worked, Works, Calm}
 use Rattle.disk_model.specs.LaneState.{LaneState}

@@ -5,8 +5,8 @@ use Rattle.runs.specs.Run.{Run}
 use Rattle.disk_law.specs.Issued.{Admission, Admits, CompletesNext, CompletesOnceInOrder, completed, issued}
 use Rattle.disk_law.specs.ListState.{ImageState}
 use Rattle.disk_law.specs.ListStep as plain
-use Rattle.disk_model.specs.DiskLog.{DiskLog, after, nothing_yet}
-use Rattle.disk_model.specs.RequestLaws.{AdmissionAt, IsNext, OnceAt}
+use Rattle.lane_laws.specs.DiskLog.{DiskLog, after, nothing_yet}
+use Rattle.lane_laws.specs.RequestLaws.{AdmissionAt, IsNext, OnceAt}
 use Rattle.disk_model.specs.DiskEvent.{Accepted, Asks, Desc, DiskEvent, Done, Finished, Full, Misplaced, Moved, OnWire, Published, Refused, Calms, Stored, Switches, Works}
 use Rattle.disk_model.specs.LaneState.{IsShape, LaneState, Shape, fresh}
 use Rattle.disk_model.specs.LaneStep.{LaneStep}

@@ -5,7 +5,7 @@ use Rattle.std.proofs.lemmas.Bool.{eqb-true}
 use Rattle.std.specs.Prelude.{◌&&◌, ◌||◌, ◌==◌, if◌then◌else◌}
 use Rattle.ldc_queue.specs.declared.end.End.{End}
 use Rattle.ldc_queue.specs.declared.end.End.TheVariants.{A, B}
-use Rattle.disk_model.specs.WireEvent.{Blocked, Idle}
+use Rattle.channel_model.specs.WireEvent.{Blocked, Idle}
 use Rattle.disk_model.specs.DiskEvent.{DiskEvent, Off, OnWire, Switches}
 use Rattle.disk_model.specs.LaneState.{LaneState}
 use Rattle.lane_laws.specs.CalmEnds.{IsStep}

@@ -5,10 +5,10 @@ use Rattle.runs.specs.Lawful.{Lawful, log_of}
 use Rattle.runs.specs.Run.{Run}
 use Rattle.disk_law.specs.ListStep.{Carries}
 use Rattle.vdisk_msg.specs.declared.request.Request.{Request}
-use Rattle.disk_model.specs.DiskLog.{DiskLog, after, nothing_yet}
-use Rattle.disk_model.specs.RequestLaws.{carried_count}
-use Rattle.disk_model.specs.RequestLaws as request_laws
-use Rattle.disk_model.specs.RingLog.{Done as IsDone}
+use Rattle.lane_laws.specs.DiskLog.{DiskLog, after, nothing_yet}
+use Rattle.lane_laws.specs.RequestLaws.{carried_count}
+use Rattle.lane_laws.specs.RequestLaws as request_laws
+use Rattle.lane_laws.specs.RingLog.{Done as IsDone}
 use Rattle.disk_model.specs.DiskEvent.{Asks, Desc, DiskEvent, Done, Finished, Misplaced, Moved, OnWire, Published, Calms, Stored, Switches, Worked, Works}
 use Rattle.disk_model.specs.LaneState.{IsShape, LaneState, Shape, fresh}
 use Rattle.disk_model.specs.LaneStep.{LaneStep}

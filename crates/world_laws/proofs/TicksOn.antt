@@ -5,7 +5,7 @@ use Rattle.std.specs.Prelude.{◌||◌, if◌then◌else◌}
 use Rattle.runs.specs.Run.{Run, run_append}
 use Rattle.ldc_queue.specs.declared.end.End.TheVariants.{A}
 use Rattle.vio_tag.specs.declared.cause.Cause.TheVariants as the_cause
-use Rattle.disk_model.specs.WireEvent.{Reset}
+use Rattle.channel_model.specs.WireEvent.{Reset}
 use Rattle.disk_model.specs.ClientState.{is_finished}
 use Rattle.disk_model.specs.DiskEvent.{CalmTick, DiskEvent, OnWire, Calms}
 use Rattle.disk_model.specs.LaneState.{LaneState}

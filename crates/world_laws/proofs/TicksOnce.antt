@@ -5,7 +5,7 @@ use Rattle.std.specs.Prelude.{◌&&◌, ◌||◌, ◌==◌, if◌then◌else◌}
 use Rattle.ldc_queue.specs.declared.end.End.{End}
 use Rattle.ldc_queue.specs.declared.end.End.TheVariants.{A, B}
 use Rattle.vio_tag.specs.declared.cause.Cause.TheVariants as the_cause
-use Rattle.disk_model.specs.WireEvent.{Idle, Reset}
+use Rattle.channel_model.specs.WireEvent.{Idle, Reset}
 use Rattle.disk_model.specs.DiskEvent.{DiskEvent, Off, OnWire, Switches}
 use Rattle.disk_model.specs.LaneState.{LaneState}
 use Rattle.lane_kinds.proofs.Counting.{part_counted, settles_counted}

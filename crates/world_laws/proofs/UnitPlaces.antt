@@ -10,7 +10,7 @@ use Rattle.vdisk_msg.specs.Pieces.{unit_count}
 use Rattle.vio_bytes.proofs.Putting.{drop-put_at, length-put_at, take-put_at}
 use Rattle.vio_bytes.specs.Place.{put_at}
 use Rattle.vio_io.specs.Stores.{KeepsOutside}
-use Rattle.disk_model.specs.DiskLog.{DiskLog}
+use Rattle.lane_laws.specs.DiskLog.{DiskLog}
 use Rattle.disk_model.specs.DiskEvent.{Stored}
 use Rattle.disk_model.specs.LaneState.{LaneState}
 use Rattle.disk_model.specs.LaneStep.{ServerWorks}

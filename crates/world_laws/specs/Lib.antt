@@ -27,7 +27,7 @@ pub mod Going
 pub mod Names
 pub mod Issued
 pub mod Added
-pub use Rattle.disk_model.specs.WireEvent
+pub use Rattle.channel_model.specs.WireEvent
 pub use Rattle.disk_model.specs.DiskEvent
 pub use Rattle.disk_model.specs.LaneState
 pub use Rattle.lane_laws.specs.CalmEnds

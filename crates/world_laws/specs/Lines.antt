@@ -5,7 +5,7 @@ use Rattle.ldc_queue.specs.declared.end.End.{End}
 use Rattle.ldc_queue.specs.declared.end.End.TheVariants.{A, B}
 use Rattle.vdisk_msg.specs.declared.request.Request.{Request}
 use Rattle.vio_tag.specs.declared.cause.Cause.TheVariants as the_cause
-use Rattle.disk_model.specs.WireEvent.{Declines, Lost, NothingLost, Reset}
+use Rattle.channel_model.specs.WireEvent.{Declines, Lost, NothingLost, Reset}
 use Rattle.disk_model.specs.DiskEvent.{Accepted, Asks, CalmReset, CalmRestart, CalmStart, CalmStop, CalmTick, DiskEvent, Full, OnWire, Refused, Calms, Started, Stopped, Switches}
 use Rattle.disk_model.specs.LaneState.{LaneState}
 use Rattle.lane_laws.specs.CalmEnds.{IsStep}

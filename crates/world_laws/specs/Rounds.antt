@@ -1,7 +1,7 @@
 -- A round over the lanes of disks: each lane in order makes a step of its client and then one of its server.
 use Rattle.std.specs.Prelude.{Bool, true, false, ◌&&◌, List, [], ◌∷◌, ⊤}
 use Rattle.ldc_queue.specs.declared.end.End.TheVariants.{A, B}
-use Rattle.disk_model.specs.WireEvent.{Blocked, Idle}
+use Rattle.channel_model.specs.WireEvent.{Blocked, Idle}
 use Rattle.disk_model.specs.DiskEvent.{DiskEvent, Off, OnWire, Switches}
 use Rattle.disk_model.specs.LaneState.{LaneState}
 use Rattle.disk_model.specs.LaneStep.{LaneStep}

@@ -3,8 +3,8 @@ use Rattle.std.specs.Prelude.{◌≡◌, ◌⊎◌, ℕ, false, List, Some, slic
 use Rattle.vdisk_msg.specs.declared.request.Request.{Request}
 use Rattle.disk_law.specs.ListStep.{Carries}
 use Rattle.disk_model.specs.DiskEvent.{DiskEvent, Done, Finished, Works}
-use Rattle.disk_model.specs.DiskLog.{DiskLog}
-use Rattle.disk_model.specs.WorkLog.{WorkLog}
+use Rattle.lane_laws.specs.DiskLog.{DiskLog}
+use Rattle.lane_laws.specs.WorkLog.{WorkLog}
 
 -- all went well, or the store failed
 abbrev pub TellsStore : ℕ → Type 0

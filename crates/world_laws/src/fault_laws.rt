@@ -6,7 +6,7 @@ ghost use Rattle.runs.specs.Lawful.{log_of, Lawful};
 ghost use Rattle.runs.specs.Run.{Run};
 ghost use Rattle.vio_io.specs.Causes.{count_after};
 ghost use Rattle.disk_law.specs.ListState.{ImageState};
-ghost use Rattle.disk_model.specs.DiskLog.{after, nothing_yet};
+ghost use Rattle.lane_laws.specs.DiskLog.{after, nothing_yet};
 ghost use Rattle.disk_model.specs.DiskEvent.{DiskEvent, Done, Finished, Works};
 ghost use Rattle.disk_model.specs.LaneState.{fresh, IsShape, LaneState, Shape};
 ghost use Rattle.disk_model.specs.LaneStep.{LaneStep};

@@ -1,7 +1,7 @@
 use Rattle.std.proofs.Common.{◌≡◌, drop, replicate, take, length, ap, ◌∙◌}
 use Rattle.std.proofs.lemmas.List.{drop-replicate, drop_at, length-take-le}
+use Rattle.map_table.specs.Cookies.{no_cookie}
 use Rattle.map_table.proofs.Getting.{length-cookies_at}
-use Rattle.vio_tag.specs.Form.{no_cookie}
 use Rattle.vio_tag.proofs.decoding.ring_cookies.Goals as goal
 
 pub returns-clause-none : goal.returns-clause-none

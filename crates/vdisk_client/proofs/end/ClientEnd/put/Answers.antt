@@ -1,7 +1,7 @@
 use Rattle.std.proofs.Common.{◌≡◌, Bool, subst}
 use Rattle.disk_model.specs.ClientPutting.{is_announcing}
 use Rattle.disk_model.specs.ClientState.{ClientState}
-use Rattle.disk_model.specs.EndPuts.{put_opens}
+use Rattle.channel_model.specs.EndPuts.{put_opens}
 use Rattle.vdisk_client.proofs.HeldPuts.{put_sent}
 use Rattle.vdisk_client.specs.declared.answers.ClientOut.TheVariants as out
 use Rattle.vdisk_client.specs.Putting.{PutsHeld, kind_after, noted}

@@ -1,16 +1,16 @@
 -- Where an event may stand in the log of those before it: one field for each law, so that each can be cited by itself.
 use Rattle.std.specs.Prelude.{◌*◌, List, ⊤}
 use Rattle.runs.specs.Lawful.{Lawful}
-use Rattle.disk_model.specs.ResetSays.{WireResetAt}
-use Rattle.disk_model.specs.WireAt.{Sizes, WireAnswersAt, WireGapAt, WireHeardAt, WireLostAt, WireSaidAt, WireTableAt, WireUnforgedAt}
-use Rattle.disk_model.specs.WireEvent.{WireEvent}
+use Rattle.channel_model.specs.ResetSays.{WireResetAt}
+use Rattle.channel_model.specs.WireAt.{Sizes, WireAnswersAt, WireGapAt, WireHeardAt, WireLostAt, WireSaidAt, WireTableAt, WireUnforgedAt}
+use Rattle.channel_model.specs.WireEvent.{WireEvent}
 use Rattle.disk_model.specs.DiskEvent.{DiskEvent, OnWire}
 use Rattle.disk_model.specs.LaneState.{Shape, pages_of}
-use Rattle.disk_model.specs.DiskLog.{DiskLog, after, nothing_yet}
-use Rattle.disk_model.specs.NearLaws.{NearAt}
-use Rattle.disk_model.specs.QuietLaws.{IdleAt, TickAt, TwoIdleAt}
-use Rattle.disk_model.specs.RequestLaws.{AdmissionAt, CarriesAt, OnceAt, TurnsAt}
-use Rattle.disk_model.specs.WorkLaws.{OpeningsAt, PiecesAt, RangesAt, WorkNumbersAt, WorkResetAt, WorkUnforgedAt, WorksAt}
+use Rattle.lane_laws.specs.DiskLog.{DiskLog, after, nothing_yet}
+use Rattle.lane_laws.specs.NearLaws.{NearAt}
+use Rattle.lane_laws.specs.QuietLaws.{IdleAt, TickAt, TwoIdleAt}
+use Rattle.lane_laws.specs.RequestLaws.{AdmissionAt, CarriesAt, OnceAt, TurnsAt}
+use Rattle.lane_laws.specs.WorkLaws.{OpeningsAt, PiecesAt, RangesAt, WorkNumbersAt, WorkResetAt, WorkUnforgedAt, WorksAt}
 
 abbrev pub sizes_in : DiskLog → Sizes
 sizes_in l = record { entries = l.shape.entries; memory = 8192 * pages_of l.shape }

@@ -5,7 +5,7 @@ use Rattle.ldc_queue.specs.Fragments.{Fragment, fragment_at, is_part}
 use Rattle.ldc_queue.specs.Messages.{half_with}
 use Rattle.ldc_queue.specs.Numbered.{is_numbered}
 use Rattle.ldc_queue.specs.Transcript.{Heard, Said, Turn}
-use Rattle.disk_model.specs.TranscriptLog.{more_if}
+use Rattle.channel_model.specs.TranscriptLog.{more_if}
 
 -- how many packets with numbers of their own, RDX and parts of messages, the end put, and how many it took
 abbrev pub count_said : List Turn → ℕ

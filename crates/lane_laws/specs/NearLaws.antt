@@ -1,8 +1,8 @@
 -- How the counts of what is near stand to one another, where nobody meddles.
 use Rattle.std.specs.Prelude.{◌≡◌, ◌≤◌, false, ⊤}
 use Rattle.disk_model.specs.DiskEvent.{DiskEvent, Done, Works}
-use Rattle.disk_model.specs.DiskLog.{DiskLog}
-use Rattle.disk_model.specs.RequestLaws.{pending_count}
+use Rattle.lane_laws.specs.DiskLog.{DiskLog}
+use Rattle.lane_laws.specs.RequestLaws.{pending_count}
 
 -- Of the pending requests: those that the server finished in its session, and those that were published in an earlier
 -- session, are among the ones that were ever published.

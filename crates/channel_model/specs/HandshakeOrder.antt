@@ -8,7 +8,7 @@ use Rattle.ldc_link.specs.declared.phase.Role.TheVariants.{Initiator, Responder}
 use Rattle.ldc_queue.specs.Fragments.{fragment_at, is_part}
 use Rattle.ldc_queue.specs.Transcript.{Heard, Said, Turn}
 use Rattle.vio_tag.specs.Spelling as message_at
-use Rattle.disk_model.specs.Sayings.{half_heard, half_said}
+use Rattle.channel_model.specs.Sayings.{half_heard, half_said}
 
 -- the packets of a link's own handshake: VERS INFO 1.0, a VERS INFO of major 1, VERS ACK 1.0, RTS and RTR with mode 1, RDX INFO
 pub data Control : Type 0 where

@@ -10,9 +10,9 @@ use Rattle.vio_tag.specs.declared.cause.Cause.{Cause}
 use Rattle.vio_tag.specs.declared.cause.Cause.TheVariants as the_cause
 use Rattle.vio_tag.specs.Fault as message
 use Rattle.vio_tag.specs.Spelling as message_at
-use Rattle.disk_model.specs.Sayings.{half_heard}
-use Rattle.disk_model.specs.TranscriptLog.{TranscriptLog, transcript_of}
-use Rattle.disk_model.specs.WireEvent.{Reset, WireEvent}
+use Rattle.channel_model.specs.Sayings.{half_heard}
+use Rattle.channel_model.specs.TranscriptLog.{TranscriptLog, transcript_of}
+use Rattle.channel_model.specs.WireEvent.{Reset, WireEvent}
 
 -- RTS or RTR with the mode, which isn't unreliable, 1
 pub record HasMode (packet : List ℕ) (found : ℕ) : Type 0 where

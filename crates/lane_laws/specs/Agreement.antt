@@ -13,24 +13,24 @@ use Rattle.vdisk_msg.specs.declared.request.Request.{Request}
 use Rattle.vdisk_msg.specs.Descriptor as slot_says
 use Rattle.vdisk_msg.specs.Pieces.{Finishes, Moves, Piece, Stores, read_pieces, unit_count, write_pieces}
 use Rattle.vdisk_msg.specs.Requested as asks_for
-use Rattle.disk_model.specs.Sayings.{count_heard, count_said, half_heard, half_said}
-use Rattle.disk_model.specs.WireAt.{counts_next}
-use Rattle.disk_model.specs.BlockLog.{Blockage}
+use Rattle.channel_model.specs.Sayings.{count_heard, count_said, half_heard, half_said}
+use Rattle.channel_model.specs.WireAt.{counts_next}
+use Rattle.lane_laws.specs.BlockLog.{Blockage}
 use Rattle.disk_model.specs.ClientPutting.{is_announcing}
 use Rattle.disk_model.specs.ClientRule as client_rules
 use Rattle.disk_model.specs.ClientState.{ClientSession, ClientState, ever_published_count}
-use Rattle.disk_model.specs.EndLog.{client_left, handshake_of, infos_heard, is_stuck_with_own, link_phase, range_in_work, server_left}
+use Rattle.lane_laws.specs.EndLog.{client_left, handshake_of, infos_heard, is_stuck_with_own, link_phase, range_in_work, server_left}
 use Rattle.disk_model.specs.LaneState.{LaneState, Shape}
 use Rattle.disk_model.specs.Offering.{client_offer, server_offer}
-use Rattle.disk_model.specs.Ranges.{wrapped}
-use Rattle.disk_model.specs.Seeing.{seen}
+use Rattle.channel_model.specs.Ranges.{wrapped}
+use Rattle.channel_model.specs.Seeing.{seen}
 use Rattle.disk_model.specs.ServerRule as server_rules
 use Rattle.disk_model.specs.ServerState.{Ends, Flushes, Gathers, Gives, Progress, Reads, ServerSession, ServerState, Work, Writes}
-use Rattle.disk_model.specs.DiskLog.{DiskLog}
-use Rattle.disk_model.specs.TranscriptLog.{TranscriptLog}
-use Rattle.disk_model.specs.NearLog.{NearLog}
-use Rattle.disk_model.specs.RingLog.{Accepted, Done, Free, Ready, SlotLog, Zeros}
-use Rattle.disk_model.specs.WorkLog.{ClientCounts, ServerCounts, WorkLog}
+use Rattle.lane_laws.specs.DiskLog.{DiskLog}
+use Rattle.channel_model.specs.TranscriptLog.{TranscriptLog}
+use Rattle.lane_laws.specs.NearLog.{NearLog}
+use Rattle.lane_laws.specs.RingLog.{Accepted, Done, Free, Ready, SlotLog, Zeros}
+use Rattle.lane_laws.specs.WorkLog.{ClientCounts, ServerCounts, WorkLog}
 
 -- A LINK counts what was said and heard, and holds what came of a message that isn't whole; part of its own message is put where part of
 -- one was said; before it is up it has heard nothing and holds nothing; the version that it offers in place of a refused one is 1.0 or 0.0.

@@ -3,7 +3,7 @@
 ghost use Rattle.std.specs.Prelude.{◌≡◌, List};
 ghost use Rattle.ldc_queue.specs.Messages as in_order;
 ghost use Rattle.ldc_queue.specs.Transcript.{Turn};
-ghost use Rattle.disk_model.specs.Sayings.{half_heard, half_said, heard, said};
+ghost use Rattle.channel_model.specs.Sayings.{half_heard, half_said, heard, said};
 
 /// What a transcript comes to turn by turn, newest first, is what its numbered packets make in their order: the messages that are whole, and
 /// what came of one more. So the law of a channel, that what an end heard is a front of what the other said, speaks of these.

@@ -42,3 +42,11 @@ range_in subtype (Some message) = range_if (is_range subtype message) message
 
 abbrev pub range_ended : ℕ → List ℕ → List ℕ → Option (List ℕ)
 range_ended subtype half packet = range_in subtype (ended_by half packet)
+
+-- the sid of a session that opens: of the message by which it opens
+abbrev pub sid_in : Option (List ℕ) → ℕ
+sid_in None = 0
+sid_in (Some message) = sid_of message
+
+abbrev pub opening_sid : List ℕ → List ℕ → ℕ
+opening_sid half packet = sid_in (ended_by half packet)

@@ -14,17 +14,18 @@ use Rattle.vdisk_msg.specs.Pieces.{Finishes, Moves, Piece, Stores}
 use Rattle.vdisk_msg.specs.Requested as asks_for
 use Rattle.vio_tag.specs.declared.cause.Cause.{Cause}
 use Rattle.vio_tag.specs.declared.cause.Cause.TheVariants as the_cause
-use Rattle.disk_model.specs.HandshakeOrder.{HandshakeOrder}
-use Rattle.disk_model.specs.Sayings.{half_heard, half_said}
-use Rattle.disk_model.specs.TranscriptLog.{TranscriptLog, hears, says}
-use Rattle.disk_model.specs.WireAt.{IsUp}
-use Rattle.disk_model.specs.WireEvent.{Reset, Sent, Took}
+use Rattle.channel_model.specs.HandshakeOrder.{HandshakeOrder}
+use Rattle.channel_model.specs.Sayings.{half_heard, half_said}
+use Rattle.channel_model.specs.TranscriptLog.{TranscriptLog, hears, says}
+use Rattle.channel_model.specs.WireAt.{IsUp}
+use Rattle.channel_model.specs.WireEvent.{Reset, Sent, Took}
 use Rattle.disk_model.specs.DiskEvent.{Desc, DiskEvent, Done, Finished, Misplaced, Moved, OnWire, Published, Stored, Works}
-use Rattle.disk_model.specs.LaneState.{own_table, pages_of}
-use Rattle.disk_model.specs.Ranges.{range_length, wrapped}
-use Rattle.disk_model.specs.DiskLog.{DiskLog}
-use Rattle.disk_model.specs.Messages.{end_of, range_ended, seq_of, start_of}
-use Rattle.disk_model.specs.WorkLog.{ClientCounts, Opened, ServerCounts}
+use Rattle.channel_model.specs.OwnMemory.{own_table}
+use Rattle.disk_model.specs.LaneState.{pages_of}
+use Rattle.channel_model.specs.Ranges.{range_length, wrapped}
+use Rattle.lane_laws.specs.DiskLog.{DiskLog}
+use Rattle.channel_model.specs.Messages.{end_of, range_ended, seq_of, start_of}
+use Rattle.lane_laws.specs.WorkLog.{ClientCounts, Opened, ServerCounts}
 
 -- a session that is open, with its counts
 abbrev pub InClient : Option ClientCounts → (ClientCounts → Type 0) → Type 0

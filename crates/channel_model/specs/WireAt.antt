@@ -14,10 +14,10 @@ use Rattle.ldc_queue.specs.Transcript.{Turn}
 use Rattle.ldc_queue.specs.Wire.{Wire, peer_of, state_of, waiting_for}
 use Rattle.vio_tag.specs.declared.cause.Cause.{Cause}
 use Rattle.vio_tag.specs.declared.cause.Cause.TheVariants as the_cause
-use Rattle.disk_model.specs.Sayings.{count_heard, count_said, half_heard, half_said}
-use Rattle.disk_model.specs.TranscriptLog.{TranscriptLog, transcript_of}
-use Rattle.disk_model.specs.WireEvent.{Blocked, ByRestart, ByScript, ByStep, ByTick, Declined, Declines, Giver, Idle, Injected, InjectedFull, Joined, Lost, NotInjected, NothingLost, PokeRefused, Poked, Reset, Sent, Took, WireEvent, giver}
-use Rattle.disk_model.specs.WireLog.{WireLog}
+use Rattle.channel_model.specs.Sayings.{count_heard, count_said, half_heard, half_said}
+use Rattle.channel_model.specs.TranscriptLog.{TranscriptLog, transcript_of}
+use Rattle.channel_model.specs.WireEvent.{Blocked, ByRestart, ByScript, ByStep, ByTick, Declined, Declines, Giver, Idle, Injected, InjectedFull, Joined, Lost, NotInjected, NothingLost, PokeRefused, Poked, Reset, Sent, Took, WireEvent, giver}
+use Rattle.channel_model.specs.WireLog.{WireLog}
 
 -- the entries of each queue, of which one always stays free, and the bytes of an end's memory
 pub record Sizes : Type 0 where

@@ -6,12 +6,12 @@ use Rattle.ldc_queue.specs.declared.end.End.TheVariants.{A, B}
 use Rattle.vdisk_msg.specs.declared.request.Request.{Request}
 use Rattle.vdisk_msg.specs.Descriptor as slot_says
 use Rattle.vdisk_msg.specs.Pieces.{Finishes, Piece, pieces}
-use Rattle.disk_model.specs.Sayings.{half_heard, half_said}
-use Rattle.disk_model.specs.TranscriptLog.{TranscriptLog}
-use Rattle.disk_model.specs.WireEvent.{Joined, Reset, Sent, Took, WireEvent}
+use Rattle.channel_model.specs.Sayings.{half_heard, half_said}
+use Rattle.channel_model.specs.TranscriptLog.{TranscriptLog}
+use Rattle.channel_model.specs.WireEvent.{Joined, Reset, Sent, Took, WireEvent}
 use Rattle.disk_model.specs.DiskEvent.{Accepted, Asks, Desc, DiskEvent, Done, Finished, Full, Misplaced, Moved, Off, OnWire, Published, Refused, Calms, Started, Stopped, Stored, Switches, Works}
-use Rattle.disk_model.specs.Ranges.{range_length}
-use Rattle.disk_model.specs.Messages.{end_of, ended_by, range_ended, sid_of, start_of}
+use Rattle.channel_model.specs.Ranges.{range_length}
+use Rattle.channel_model.specs.Messages.{end_of, opening_sid, range_ended, start_of}
 
 -- the client's open session, counted without bound: the done ones in it are all that are done less the base
 pub record ClientCounts : Type 0 where
@@ -50,14 +50,6 @@ pub record WorkLog : Type 0 where
 
 abbrev pub no_work : WorkLog
 no_work = record { issued = []; done = 0; disturbed_below = 0; stopped = false; client = None; server = None; opened = [] }
-
--- the sid of a session that opens: of the message by which it opens
-abbrev pub sid_in : Option (List ℕ) → ℕ
-sid_in None = 0
-sid_in (Some message) = sid_of message
-
-abbrev pub opening_sid : List ℕ → List ℕ → ℕ
-opening_sid half packet = sid_in (ended_by half packet)
 
 abbrev pub ended_session : End → WorkLog → WorkLog
 ended_session A l = record l { client = None }

@@ -1,5 +1,5 @@
-use Rattle.disk_model.proofs.SameSayings.{half_heard_is, half_said_is, heard_is, said_is}
-use Rattle.disk_model.proofs.wire_laws.transcripts_count_messages.Goals as goal
+use Rattle.channel_model.proofs.SameSayings.{half_heard_is, half_said_is, heard_is, said_is}
+use Rattle.channel_model.proofs.wire_laws.transcripts_count_messages.Goals as goal
 
 pub returns-clause-said : goal.returns-clause-said
 returns-clause-said c = said_is

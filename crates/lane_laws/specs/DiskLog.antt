@@ -2,15 +2,15 @@
 use Rattle.std.specs.Prelude.{List, Option, Some, None}
 use Rattle.ldc_queue.specs.declared.end.End.{End}
 use Rattle.ldc_queue.specs.declared.end.End.TheVariants.{B}
-use Rattle.disk_model.specs.TranscriptLog.{TranscriptLog, nothing_said, silenced, transcript_moved}
-use Rattle.disk_model.specs.WireEvent.{Idle, WireEvent}
-use Rattle.disk_model.specs.WireLog.{WireLog, nothing_on_wire, server_closed, wire_moved}
-use Rattle.disk_model.specs.BlockLog.{BlockLog, after_block, nothing_blocked}
+use Rattle.channel_model.specs.TranscriptLog.{TranscriptLog, nothing_said, silenced, transcript_moved}
+use Rattle.channel_model.specs.WireEvent.{Idle, WireEvent}
+use Rattle.channel_model.specs.WireLog.{WireLog, nothing_on_wire, server_closed, wire_moved}
+use Rattle.lane_laws.specs.BlockLog.{BlockLog, after_block, nothing_blocked}
 use Rattle.disk_model.specs.DiskEvent.{DiskEvent, OnWire, Stopped, Switches}
 use Rattle.disk_model.specs.LaneState.{Shape}
-use Rattle.disk_model.specs.NearLog.{NearLog, after_near, nothing_near}
-use Rattle.disk_model.specs.RingLog.{SlotLog, after_ring, no_ring}
-use Rattle.disk_model.specs.WorkLog.{WorkLog, after_work, no_work}
+use Rattle.lane_laws.specs.NearLog.{NearLog, after_near, nothing_near}
+use Rattle.lane_laws.specs.RingLog.{SlotLog, after_ring, no_ring}
+use Rattle.lane_laws.specs.WorkLog.{WorkLog, after_work, no_work}
 
 pub record DiskLog : Type 0 where
   pub shape : Shape

@@ -27,15 +27,15 @@ use Rattle.vio_handshake.specs.declared.session.Offer.{Offer}
 use Rattle.vio_handshake.specs.Messages.{info}
 use Rattle.vio_handshake.specs.Rules.{Faults, Goes, GoesOpen, HandshakeTake, handshake_sent, handshake_take}
 use Rattle.vio_handshake.specs.State.{fresh_handshake, no_session}
-use Rattle.disk_model.specs.BlockLog.{Blockage, Clear, Stuck, StuckBefore, is_stuck}
+use Rattle.lane_laws.specs.BlockLog.{Blockage, Clear, Stuck, StuckBefore, is_stuck}
 use Rattle.disk_model.specs.ClientPutting.{announcement}
 use Rattle.disk_model.specs.ClientState.{ClientSession, ClientState}
-use Rattle.disk_model.specs.Messages.{end_of, ended_by, is_range, range_ended, seq_of, start_of}
-use Rattle.disk_model.specs.Sayings.{half_heard, half_said}
+use Rattle.channel_model.specs.Messages.{end_of, ended_by, is_range, range_ended, seq_of, start_of}
+use Rattle.channel_model.specs.Sayings.{half_heard, half_said}
 use Rattle.disk_model.specs.ServerRule.{answer}
 use Rattle.disk_model.specs.ServerState.{ServerSession, ServerState, SlotRange}
-use Rattle.disk_model.specs.TranscriptLog.{is_rdx}
-use Rattle.disk_model.specs.WorkLog.{one_in}
+use Rattle.channel_model.specs.TranscriptLog.{is_rdx}
+use Rattle.lane_laws.specs.WorkLog.{one_in}
 
 -- THE LINK'S PHASE. A control packet that is heard moves it by its fields, a part of a message by none
 abbrev pub subtype_named : ℕ → Subtype

@@ -1,0 +1,3 @@
+pub mod SameSayings
+pub mod OwnCauses
+pub mod OwnMessages

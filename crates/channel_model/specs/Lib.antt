@@ -1,0 +1,12 @@
+pub mod WireEvent
+pub mod WireLog
+pub mod TranscriptLog
+pub mod Sayings
+pub mod WireAt
+pub mod ResetSays
+pub mod HandshakeOrder
+pub mod Seeing
+pub mod Ranges
+pub mod EndPuts
+pub mod Messages
+pub mod OwnMemory
