@@ -6,10 +6,6 @@ use Rattle.byteorder.specs.Endian.{big_bytes}
 use Rattle.vio_bytes.specs.Place.{number_at}
 use Rattle.map_table.specs.declared.cookie.Cookie.{Cookie}
 
--- no memory at all, where fewer cookies are meant than there is room for
-abbrev pub no_cookie : Cookie
-no_cookie = record { address = 0; size = 0 }
-
 -- the cookie of no memory
 abbrev pub no_cookie : Cookie
 no_cookie = record { address = 0; size = 0 }
