@@ -47,7 +47,7 @@ use Rattle.lane_laws.proofs.HandshakesFold.{client_linked, server_linked}
 use Rattle.lane_laws.proofs.LaneCounting.{Knows, knows_step, run_knows}
 use Rattle.lane_laws.proofs.LinkKept.{client_sending, server_sending}
 use Rattle.lane_laws.proofs.PhasesFold.{put_rdx}
-use Rattle.lane_laws.proofs.RangeLaw.{putting}
+use Rattle.lane_laws.proofs.ClientPuts.{putting}
 use Rattle.lane_laws.proofs.RangeSums.{count_heard}
 use Rattle.lane_laws.proofs.RemainingClientHears.{owes_nothing, takes_calm}
 use Rattle.lane_laws.proofs.RulesFree.{ServerFree, TakesFree, server_free}
@@ -117,12 +117,12 @@ held_phase s (client_rules.Takes packet) held is = absurd (cc)
 held_phase s (client_rules.Publishes session request) held is = absurd (cc)
 held_phase s client_rules.Idles held is = absurd (cc)
 
-record SameServer (s held : ServerState) : Type 0 where
-  phase : held.link.phase ≡ s.link.phase
-  handshake : held.handshake ≡ s.handshake
-  session : held.session ≡ s.session
+pub record SameServer (s held : ServerState) : Type 0 where
+  pub phase : held.link.phase ≡ s.link.phase
+  pub handshake : held.handshake ≡ s.handshake
+  pub session : held.session ≡ s.session
 
-same_held_server : (s : ServerState) (rule : server_rules.ServerRule) (held : ServerState) → server_holds rule s ≡ Some held → SameServer s held
+pub same_held_server : (s : ServerState) (rule : server_rules.ServerRule) (held : ServerState) → server_holds rule s ≡ Some held → SameServer s held
 same_held_server s server_rules.Puts held is =
     let same : s ≡ held = cc is in subst (λ (x : ServerState). SameServer s x) same (record { phase = refl; handshake = refl; session = refl })
 same_held_server s (server_rules.Says message) held is =
@@ -466,7 +466,7 @@ client_end s l both cuts = record {
 }
 
 -- THE SERVER
-infos_are : (turns : List Turn) → infos_heard turns ≡ range_count 1 (heard turns)
+pub infos_are : (turns : List Turn) → infos_heard turns ≡ range_count 1 (heard turns)
 infos_are [] = refl
 infos_are (Said packet ∷ turns) = infos_are turns
 infos_are (Heard_ packet ∷ turns) = omega (arith, infos_are turns, count_heard 1 packet turns)

@@ -169,6 +169,8 @@ pub mod UnitsHeld
 pub mod WorkKept
 pub mod PieceLaw
 pub mod RangeLaw
+pub mod LastSaid
+pub mod ClientPuts
 pub mod PacketResets
 pub mod OwnResets
 pub mod UnforgedMoves

@@ -111,10 +111,13 @@ pub fn what_is_done_is_the_next_piece()
         → Lawful PiecesAt after (nothing_yet shape) events }
 {}
 
-/// Along every run of a lane, also where somebody forges packets and memory: an INFO that a client says has the next
-/// number, begins at the slot after the range before it, and names all requests that were published since; an
-/// acknowledgement that a client hears, and goes on with, names announced requests alone; and one that a server says
-/// begins at the slot after the one before it and names all descriptors that were asked for since, the last finished.
+/// Along every run of a lane, also where somebody forges packets and memory: a range is said and heard in a session
+/// alone, and ends within the ring. An INFO that a client says has the next number, begins at the slot after the range
+/// before it, names all requests that were published since, and says that the ring is active. One that a server hears,
+/// and goes on with, has the next number and begins at the slot after the range before it, which is answered. An
+/// acknowledgement that a client hears, and goes on with, begins at the slot after the one before it and names announced
+/// requests alone. One that a server says has the number, the slots and the state of the INFO in work. It begins at the
+/// slot after the one before it and names all descriptors that were asked for since, the last finished.
 pub fn ranges_name_what_was_done()
     ensures { (shape : Shape) (events : List DiskEvent) (s : LaneState)
         → IsShape shape → Run LaneStep (fresh shape) events s
