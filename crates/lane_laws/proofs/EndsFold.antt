@@ -516,8 +516,9 @@ module _ (s : LaneState) (l : DiskLog) (both : BothAre s l) (cuts : Cuts s.serve
       owed_is_left s.server.link (half_said l.transcript.server) l.blocked.server (Some message) s.server.link.to_send (of_server s l both cuts) refl
       (λ some. owed_either s.server message _ is (both.knows.counted.server.holds some)) (λ down. sym is ∙ both.knows.utters.server.free down)
 
-  pub server_end : ServerEndAgrees s.server l.shape l.transcript l.blocked.server
-  server_end = record {
+  pub server_end : s.server.first ≡ l.shape.first → ServerEndAgrees s.server l.shape l.transcript l.blocked.server
+  server_end first = record {
+    first = first;
     blocks = both.knows.counted.server.blocks;
     slots = both.knows.counted.server.slots;
     role = both.knows.all.transcripts.server.role;

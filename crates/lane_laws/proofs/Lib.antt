@@ -187,6 +187,8 @@ pub mod ClientFolds
 pub mod ServerFolds
 pub mod EndsFold
 pub mod OneState
+pub mod FailedRuns
+pub mod WorkNexts
 pub mod AgreementRuns
 pub mod EveryRun
 pub mod HeardAll

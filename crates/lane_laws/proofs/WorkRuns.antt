@@ -75,6 +75,12 @@ serves_step s l event t (working, both) step =
 pub fresh_serves : (shape : Shape) → IsShape shape → Serves (fresh shape) (nothing_yet shape)
 fresh_serves shape sound = (record { grounded = fresh_grounded shape sound; work = tt; table = refl }, record { client = tt; server = tt })
 
+pub run_serves : (shape : Shape) (events : List DiskEvent) (s : LaneState) → IsShape shape → Run LaneStep (fresh shape) events s → Serves s (log_of after (nothing_yet shape) events)
+run_serves shape events s sound run =
+    (run_lawful LaneStep (λ (l : DiskLog) (e : DiskEvent). ⊤) after Serves
+    (λ (x : LaneState) (l : DiskLog) (e : DiskEvent) (y : LaneState) serves step. (tt, serves_step x l e y serves step))
+    (fresh shape) s (nothing_yet shape) events (fresh_serves shape sound) run).1
+
 pub pieces_lawful : (shape : Shape) (events : List DiskEvent) (s : LaneState) → IsShape shape → Run LaneStep (fresh shape) events s → Lawful PiecesAt after (nothing_yet shape) events
 pieces_lawful shape events s sound run =
     (run_lawful LaneStep PiecesAt after Serves
