@@ -47,7 +47,7 @@ use Rattle.lane_laws.proofs.HandshakesFold.{client_linked, server_linked}
 use Rattle.lane_laws.proofs.LaneCounting.{Knows, knows_step, run_knows}
 use Rattle.lane_laws.proofs.LinkKept.{client_sending, server_sending}
 use Rattle.lane_laws.proofs.PhasesFold.{put_rdx}
-use Rattle.lane_laws.proofs.RangeLaw.{putting}
+use Rattle.lane_laws.proofs.ClientPuts.{putting}
 use Rattle.lane_laws.proofs.RangeSums.{count_heard}
 use Rattle.lane_laws.proofs.RemainingClientHears.{owes_nothing, takes_calm}
 use Rattle.lane_laws.proofs.RulesFree.{ServerFree, TakesFree, server_free}
@@ -117,12 +117,12 @@ held_phase s (client_rules.Takes packet) held is = absurd (cc)
 held_phase s (client_rules.Publishes session request) held is = absurd (cc)
 held_phase s client_rules.Idles held is = absurd (cc)
 
-record SameServer (s held : ServerState) : Type 0 where
-  phase : held.link.phase ≡ s.link.phase
-  handshake : held.handshake ≡ s.handshake
-  session : held.session ≡ s.session
+pub record SameServer (s held : ServerState) : Type 0 where
+  pub phase : held.link.phase ≡ s.link.phase
+  pub handshake : held.handshake ≡ s.handshake
+  pub session : held.session ≡ s.session
 
-same_held_server : (s : ServerState) (rule : server_rules.ServerRule) (held : ServerState) → server_holds rule s ≡ Some held → SameServer s held
+pub same_held_server : (s : ServerState) (rule : server_rules.ServerRule) (held : ServerState) → server_holds rule s ≡ Some held → SameServer s held
 same_held_server s server_rules.Puts held is =
     let same : s ≡ held = cc is in subst (λ (x : ServerState). SameServer s x) same (record { phase = refl; handshake = refl; session = refl })
 same_held_server s (server_rules.Says message) held is =
@@ -466,7 +466,7 @@ client_end s l both cuts = record {
 }
 
 -- THE SERVER
-infos_are : (turns : List Turn) → infos_heard turns ≡ range_count 1 (heard turns)
+pub infos_are : (turns : List Turn) → infos_heard turns ≡ range_count 1 (heard turns)
 infos_are [] = refl
 infos_are (Said packet ∷ turns) = infos_are turns
 infos_are (Heard_ packet ∷ turns) = omega (arith, infos_are turns, count_heard 1 packet turns)
@@ -516,8 +516,9 @@ module _ (s : LaneState) (l : DiskLog) (both : BothAre s l) (cuts : Cuts s.serve
       owed_is_left s.server.link (half_said l.transcript.server) l.blocked.server (Some message) s.server.link.to_send (of_server s l both cuts) refl
       (λ some. owed_either s.server message _ is (both.knows.counted.server.holds some)) (λ down. sym is ∙ both.knows.utters.server.free down)
 
-  pub server_end : ServerEndAgrees s.server l.shape l.transcript l.blocked.server
-  server_end = record {
+  pub server_end : s.server.first ≡ l.shape.first → ServerEndAgrees s.server l.shape l.transcript l.blocked.server
+  server_end first = record {
+    first = first;
     blocks = both.knows.counted.server.blocks;
     slots = both.knows.counted.server.slots;
     role = both.knows.all.transcripts.server.role;

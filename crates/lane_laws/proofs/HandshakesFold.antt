@@ -36,7 +36,7 @@ use Rattle.lane_laws.proofs.HandshakesOpen.{no_data}
 use Rattle.lane_laws.proofs.LastSids.{KeepsLast, put_last, take_last}
 use Rattle.lane_laws.proofs.LinkKept.{ClientLeaves, ServerLeaves, client_reads, server_reads}
 use Rattle.lane_laws.proofs.PhasesFold.{heard_phase, rdx_rises}
-use Rattle.lane_laws.proofs.RangeLaw.{ended_with, never_last}
+use Rattle.lane_laws.proofs.LastSaid.{ended_with, never_last}
 use Rattle.lane_laws.proofs.RangesSaid.{IsNoData}
 
 -- THE LINK that took the packet

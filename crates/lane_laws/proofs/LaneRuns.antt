@@ -76,7 +76,7 @@ poked_failed : (e : End) (s : LaneState) (at : ℕ) (bytes : List ℕ) (t : Lane
 poked_failed A s at bytes t step = ap (λ (x : LaneState). x.failed) step.1
 poked_failed B s at bytes t step = absurd step
 
-wire_failed : (s : LaneState) (event : WireEvent) (t : LaneState) → WireStep s event t → t.failed ≡ s.failed
+pub wire_failed : (s : LaneState) (event : WireEvent) (t : LaneState) → WireStep s event t → t.failed ≡ s.failed
 wire_failed s (Joined e lost) t step = end_failed e s (Joined e lost) t step
 wire_failed s (Took e packet opens) t step = end_failed e s (Took e packet opens) t step
 wire_failed s (Sent e packet opens) t step = end_failed e s (Sent e packet opens) t step
@@ -100,12 +100,12 @@ work_failed s (Stored operation block count failed) t step not = served_failed s
 work_failed s (Finished slot status) t step not = served_failed s step.0 (Finished slot status) t step.1 not
 work_failed s Misplaced t step not = absurd step
 
-turn_failed : (s : LaneState) (event : Switched) (t : LaneState) → TurnStep s event t → t.failed ≡ s.failed
+pub turn_failed : (s : LaneState) (event : Switched) (t : LaneState) → TurnStep s event t → t.failed ≡ s.failed
 turn_failed s Stopped t step = ap (λ (x : LaneState). x.failed) step.1
 turn_failed s Started t step = ap (λ (x : LaneState). x.failed) step.1
 turn_failed s Off t step = ap (λ (x : LaneState). x.failed) step.1
 
-rest_failed : (s : LaneState) (event : Calm) (t : LaneState) → RestStep s event t → t.failed ≡ s.failed
+pub rest_failed : (s : LaneState) (event : Calm) (t : LaneState) → RestStep s event t → t.failed ≡ s.failed
 rest_failed s CalmTick t step = ap (λ (x : LaneState). x.failed) step.1
 rest_failed s CalmStop t step = ap (λ (x : LaneState). x.failed) step.1
 rest_failed s CalmStart t step = ap (λ (x : LaneState). x.failed) step.1

@@ -169,6 +169,8 @@ pub mod UnitsHeld
 pub mod WorkKept
 pub mod PieceLaw
 pub mod RangeLaw
+pub mod LastSaid
+pub mod ClientPuts
 pub mod PacketResets
 pub mod OwnResets
 pub mod UnforgedMoves
@@ -185,6 +187,8 @@ pub mod ClientFolds
 pub mod ServerFolds
 pub mod EndsFold
 pub mod OneState
+pub mod FailedRuns
+pub mod WorkNexts
 pub mod AgreementRuns
 pub mod EveryRun
 pub mod HeardAll

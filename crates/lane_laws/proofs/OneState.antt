@@ -1,5 +1,5 @@
--- Two lanes that agree with one log have the same ends.
-use Rattle.std.proofs.Common.{◌≡◌, ℕ, ◌+◌, ◌-◌, ◌%◌, Bool, true, false, Option, Some, None, List, refl, sym, ap, ◌∙◌, arith}
+-- Two lanes that agree with one log are the same, but for their memories and what the log has no bytes of.
+use Rattle.std.proofs.Common.{◌≡◌, ℕ, ◌+◌, ◌-◌, ◌%◌, Bool, true, false, Option, Some, None, List, refl, sym, ap, ◌∙◌, subst, arith}
 use Rattle.std.specs.Prelude.{is_some, ◌&&◌}
 use Rattle.ldc_link.specs.declared.phase.LinkPhase.{LinkPhase}
 use Rattle.ldc_link.specs.declared.phase.Role.{Role}
@@ -10,18 +10,20 @@ use Rattle.vio_tag.specs.declared.message.MsgBody.TheVariants.{DringData}
 use Rattle.vio_tag.specs.Spelling.{canonical}
 use Rattle.vio_handshake.specs.declared.handshake.Handshake.{Handshake}
 use Rattle.vio_handshake.specs.Messages.{ack, info}
-use Rattle.lane_laws.specs.Agreement.{AgreesWithLog, ClientAgrees, ClientEndAgrees, LinkAgrees, RangeAgrees, ServerAgrees, ServerEndAgrees}
+use Rattle.lane_laws.specs.Agreement.{AgreesWithLog, ClientAgrees, ClientEndAgrees, LinkAgrees, NearAgrees, RangeAgrees, ServerAgrees, ServerEndAgrees, WorkAgrees, WorkNextAgrees}
 use Rattle.lane_laws.specs.BlockLog.{Blockage}
 use Rattle.disk_model.specs.ClientPutting.{is_announcing}
 use Rattle.disk_model.specs.ClientState.{ClientSession, ClientState}
 use Rattle.lane_laws.specs.DiskLog.{DiskLog}
 use Rattle.lane_laws.specs.EndLog.{announced_or_owed, answer_left, client_left, is_stuck_with_own, left_of, owed_left, range_left, server_left}
-use Rattle.disk_model.specs.LaneState.{LaneState}
+use Rattle.disk_model.specs.LaneState.{LaneState, NearCounts}
+use Rattle.channel_model.specs.WireLog.{WireLog}
+use Rattle.lane_laws.specs.NearLog.{NearLog}
 use Rattle.channel_model.specs.Ranges.{wrapped}
 use Rattle.channel_model.specs.Sayings.{half_said}
 use Rattle.disk_model.specs.ServerState.{ServerSession, ServerState, SlotRange, Work}
 use Rattle.lane_laws.specs.WorkLog.{ClientCounts, ServerCounts}
-use Rattle.lane_laws.specs.SameEnds.{SameClient, SameServer}
+use Rattle.lane_laws.specs.SameEnds.{SameClient, SameLane, SameServer, SameWork}
 
 -- LINKS are one where their fields are
 abbrev link_with : Role → LinkPhase → ℕ → ℕ → List ℕ → Option (List ℕ) → List ℕ → Bool → LinkState
@@ -90,6 +92,10 @@ same_client s t l one other =
     record {
       link = same_link s.client.link t.client.link l.transcript.client (one.client_end.role ∙ sym other.client_end.role) (one.client_end.phase ∙ sym other.client_end.phase) left one.client_link other.client_link;
       handshake = handshake;
+      blocks = one.client_end.blocks ∙ sym other.client_end.blocks;
+      slots = slots;
+      pending = one.requests.pending ∙ sym other.requests.pending;
+      next_id = one.requests.next ∙ sym other.requests.next;
       session = session;
     }
 
@@ -128,6 +134,27 @@ server_same (Some message) v w half blockage handshake session = refl
 server_same None v w half blockage handshake session =
     same_answer v.session v w half blockage handshake ∙ ap (λ (o : Option ServerSession). answer_left w o half blockage) session
 
+-- the descriptor in work
+works_behind : (o : Option ServerSession) (w : Option Work) (c : ServerCounts) → ServerAgrees o w (Some c) → WorkAgrees w c
+works_behind None w c agrees = absurd agrees
+works_behind (Some session) w c agrees = agrees.1
+
+no_work : (o : Option ServerSession) (w : Option Work) → ServerAgrees o w None → w ≡ None
+no_work None w agrees = agrees
+no_work (Some session) w agrees = absurd agrees
+
+same_descriptor : (v w : Option Work) (c : ServerCounts) → WorkAgrees v c → WorkAgrees w c → WorkNextAgrees v (Some c) → WorkNextAgrees w (Some c) → SameWork v w
+same_descriptor None None c one other next follows = tt
+same_descriptor None (Some w) c one other next follows = absurd (omega (arith, one.1, other.2))
+same_descriptor (Some v) None c one other next follows = absurd (omega (arith, one.2, other.1))
+same_descriptor (Some v) (Some w) c one other next follows =
+    record { bytes = sym one.0 ∙ other.0; next = next.next ∙ sym follows.next; held = next.held ∙ sym follows.held }
+
+same_work : (o p : Option ServerSession) (v w : Option Work) (d : Option ServerCounts) → ServerAgrees o v d → ServerAgrees p w d → WorkNextAgrees v d → WorkNextAgrees w d → SameWork v w
+same_work o p v w None one other next follows =
+    subst (λ (x : Option Work). SameWork x w) (sym (no_work o v one)) (subst (SameWork None) (sym (no_work p w other)) tt)
+same_work o p v w (Some c) one other next follows = same_descriptor v w c (works_behind o v c one) (works_behind p w c other) next follows
+
 pub same_server : (s t : LaneState) (l : DiskLog) → AgreesWithLog s l → AgreesWithLog t l → SameServer s.server t.server
 same_server s t l one other =
     let half = half_said l.transcript.server in
@@ -140,5 +167,34 @@ same_server s t l one other =
     record {
       link = same_link s.server.link t.server.link l.transcript.server (one.server_end.role ∙ sym other.server_end.role) (one.server_end.phase ∙ sym other.server_end.phase) left one.server_link other.server_link;
       handshake = handshake;
+      first = one.server_end.first ∙ sym other.server_end.first;
+      blocks = one.server_end.blocks ∙ sym other.server_end.blocks;
+      slots = one.server_end.slots ∙ sym other.server_end.slots;
       session = session;
+      work = same_work s.server.session t.server.session s.server.work t.server.work l.work.server one.server other.server one.next other.next;
+    }
+
+-- LANES
+abbrev counts_of : ℕ → ℕ → ℕ → NearCounts
+counts_of k m u = record { k = k; m = m; u = u }
+
+same_near : (s t : LaneState) (n : NearLog) → NearAgrees s n → NearAgrees t n → s.near ≡ t.near
+same_near s t n one other =
+    ap (λ (k : ℕ). counts_of k s.near.m s.near.u) (one.k ∙ sym other.k)
+    ∙ ap (λ (m : ℕ). counts_of t.near.k m s.near.u) (one.m ∙ sym other.m)
+    ∙ ap (counts_of t.near.k t.near.m) (one.u ∙ sym other.u)
+
+pub same_lane : (s t : LaneState) (l : DiskLog) → AgreesWithLog s l → AgreesWithLog t l → SameLane s t
+same_lane s t l one other =
+    let clean : s.wire.forged ≡ false → l.wire.forged ≡ false = (λ not. ap (λ (w : WireLog). w.forged) (sym one.wire) ∙ not) in
+    record {
+      shape = one.shape ∙ sym other.shape;
+      wire = one.wire ∙ sym other.wire;
+      client = same_client s t l one other;
+      server = same_server s t l one other;
+      table = one.table ∙ sym other.table;
+      stopped = one.stopped ∙ sym other.stopped;
+      failed = one.failed ∙ sym other.failed;
+      near = λ not. same_near s t l.near (one.near (clean not)) (other.near (clean not));
+      published = λ not. (one.near (clean not)).p ∙ sym (other.near (clean not)).p;
     }

@@ -1,5 +1,5 @@
 -- Which messages name a range of slots, and which agree to RDX: by their bytes, as they were heard and as they are said.
-use Rattle.std.proofs.Common.{◌≡◌, ◌≢◌, ℕ, ◌^◌, ◌<◌, ◌⊎◌, inl, inr, Bool, true, false, Some, None, List, refl, sym, ap, ◌∙◌, subst, arith}
+use Rattle.std.proofs.Common.{◌≡◌, ◌≢◌, ℕ, ◌%◌, ◌^◌, ◌<◌, ◌⊎◌, inl, inr, Bool, true, false, Some, None, List, refl, sym, ap, ◌∙◌, subst, arith}
 use Rattle.std.specs.Prelude.{◌&&◌, ◌==◌, ⊤}
 use Rattle.std.proofs.lemmas.Bool.{and_parts, eqb-true}
 use Rattle.std.proofs.lemmas.Bool.Decides.{nat_tests}
@@ -15,6 +15,7 @@ use Rattle.vio_tag.specs.Spelling.{SpellsBody, SpellsMessage, canonical, envelop
 use Rattle.vio_handshake.specs.declared.handshake.Phase.{Phase}
 use Rattle.vio_handshake.specs.declared.handshake.Phase.TheVariants.{PeerReadyTaken}
 use Rattle.channel_model.specs.Messages.{end_of, is_range, range_if, range_in, seq_of, start_of}
+use Rattle.lane_laws.specs.EndLog.{state_of}
 use Rattle.lane_laws.specs.WorkLog.{length_in, one_in}
 use Rattle.channel_model.specs.Ranges.{range_length}
 use Rattle.lane_laws.specs.Counted.{is_ready}
@@ -178,6 +179,23 @@ start_is s n seq ident start end state small =
 pub end_is : (s : Subtype) (n seq ident start end state : ℕ) → end < 2 ^ 32 → end_of (range_bytes s n seq ident start end state) ≡ end
 end_is s n seq ident start end state small =
     same_end s n seq ident start end state ∙ sym (simple_spells s 0 0 end (omega arith) (omega arith) small).body.3
+
+-- the state, which is a byte
+with_state : Subtype → ℕ → Message
+with_state s state = record { subtype = s; sid = 0; body = DringData 0 0 0 0 state }
+
+same_state : (s : Subtype) (n seq ident start end state : ℕ) → state_of (range_bytes s n seq ident start end state) ≡ state_of (canonical (with_state s (state % 256)))
+unfolding canonical with_state
+same_state s n seq ident start end state = omega arith
+
+state_spells : (s : Subtype) (state : ℕ) → state < 2 ^ 8 → SpellsMessage (canonical (with_state s state)) (record { subtype = s; sid = 0; body = DringData 0 0 0 0 state })
+unfolding with_state
+state_spells s state small =
+    canonical_spells (record { subtype = s; sid = 0; body = DringData 0 0 0 0 state }) tt (omega arith, (omega arith, omega arith, omega arith, omega arith, small))
+
+pub state_is : (s : Subtype) (n seq ident start end state : ℕ) → state_of (range_bytes s n seq ident start end state) ≡ state % 256
+state_is s n seq ident start end state =
+    same_state s n seq ident start end state ∙ sym (state_spells s (state % 256) (omega arith)).body.4
 
 pub is_data : (k n : ℕ) (s : Subtype) (seq ident start end state : ℕ) → subtype_code s ≡ k → is_range k (range_bytes s n seq ident start end state) ≡ true
 is_data k n s seq ident start end state kind =

@@ -72,7 +72,7 @@ asks_more shape turns packet d = change_server (λ (c : ServerCounts). record c 
 -- where no range is heard
 range_same : (slots n : ℕ) (range : Option SlotRange) (c : ServerCounts) → n ≡ 0 → RangeStands slots range c → RangeStands slots range (record c { asked = c.asked + n })
 range_same slots n None c none stands = omega (arith, none, stands)
-range_same slots n (Some range) c none stands = (omega (arith, none, stands.0), stands.1, stands.2, stands.3)
+range_same slots n (Some range) c none stands = (omega (arith, none, stands.0), stands.1, stands.2, stands.3, stands.4)
 
 order_same : (shape : Shape) (o : Option ServerSession) (d : Option ServerCounts) (turns : List Turn) (packet : List ℕ)
     → range_sum shape.slots 1 (heard (Heard_ packet ∷ turns)) ≡ range_sum shape.slots 1 (heard turns)
@@ -258,6 +258,7 @@ record AsksOf (slots : ℕ) (session : ServerSession) (range : SlotRange) (n : �
   begins : range.start < slots
   ends : range.end < slots
   place : range.start ≡ session.asked % slots
+  next : range.seq ≡ session.seq
 
 asked_order : (slots added n : ℕ) (o : Option ServerSession) (d : Option ServerCounts) (turns behind : List Turn) (session next : ServerSession) (range : SlotRange) → o ≡ Some session
     → next ≡ record session { asked = wrapped (session.asked + n); seq = wrapped (session.seq + 1); range = Some range } → AsksOf slots session range n added
@@ -281,6 +282,7 @@ asked_order slots added n (Some s) (Some c) turns behind session next range is s
         asks.begins,
         asks.ends,
         asks.place ∙ ap (λ (x : ServerSession). x.asked % slots) (sym one) ∙ ap (λ (x : ℕ). x % slots) (counts.asked ∙ ap wrapped (sym all)),
+        omega (arith, asks.next, ap (λ (x : ServerSession). x.seq) one, order.seq),
       );
       seq = ap (λ (x : ServerSession). x.seq) same ∙ wraps_more session.seq (range_count 1 (heard turns) + 1) 1 (ap (λ (x : ServerSession). x.seq) (sym one) ∙ order.seq)
           ∙ ap (λ (x : ℕ). wrapped (x + 1)) (sym one_more);
@@ -328,7 +330,7 @@ takes_ask shape v t turns packet sid d opens rests free counted asks =
     let begins : asks.range.start < shape.slots =
     omega (arith, asks.begins, mod_below session.asked v.handshake.draft.peer_slots (omega (arith, asks.ends)), own) in
     let asks_of : AsksOf shape.slots session asks.range n added =
-    record { none = free.range session asks.session_is; adds = adds; length_is = length_is; begins = begins; ends = ends; place = asks.begins ∙ ap (λ (x : ℕ). session.asked % x) own } in
+    record { none = free.range session asks.session_is; adds = adds; length_is = length_is; begins = begins; ends = ends; place = asks.begins ∙ ap (λ (x : ℕ). session.asked % x) own; next = asks.next } in
     let next : ServerSession = record session { asked = wrapped (session.asked + n); seq = wrapped (session.seq + 1); range = Some asks.range } in
     let one_more : range_count 1 (heard (Heard_ packet ∷ turns)) ≡ range_count 1 (heard turns) + 1 =
     omega (

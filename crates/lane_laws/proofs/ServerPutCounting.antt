@@ -99,7 +99,7 @@ answers_more shape turns packet d = change_server (λ (c : ServerCounts). record
 range_same : (slots n : ℕ) (range : Option SlotRange) (c : ServerCounts) → n ≡ 0 → RangeStands slots range c → RangeStands slots range (record c { answered = c.answered + n })
 range_same slots n None c none stands = omega (arith, none, stands)
 range_same slots n (Some range) c none stands =
-    let same : c.answered ≡ c.answered + n = omega (arith, none) in (omega (arith, none, stands.0), stands.1, stands.2, stands.3 ∙ ap (λ (x : ℕ). wrapped x % slots) same)
+    let same : c.answered ≡ c.answered + n = omega (arith, none) in (omega (arith, none, stands.0), stands.1, stands.2, stands.3 ∙ ap (λ (x : ℕ). wrapped x % slots) same, stands.4)
 
 order_same : (shape : Shape) (o : Option ServerSession) (d : Option ServerCounts) (turns : List Turn) (packet : List ℕ)
     → range_sum shape.slots 2 (said (Said packet ∷ turns)) ≡ range_sum shape.slots 2 (said turns) → ServerOrder shape.slots o d turns

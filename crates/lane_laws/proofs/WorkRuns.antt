@@ -10,7 +10,9 @@ use Rattle.lane_laws.specs.WorkLaws.{PiecesAt, RangesAt, WorkNumbersAt, WorkRese
 use Rattle.disk_model.specs.DiskEvent.{DiskEvent}
 use Rattle.disk_model.specs.LaneState.{IsShape, LaneState, Shape, fresh}
 use Rattle.disk_model.specs.LaneStep.{LaneStep}
+use Rattle.lane_laws.proofs.AlongRuns.{reached_lawful}
 use Rattle.lane_laws.proofs.CarriedRuns.{fresh_all}
+use Rattle.lane_laws.proofs.EndsFold.{run_both}
 use Rattle.lane_laws.proofs.LaneCounting.{fresh_counted, knows_step}
 use Rattle.lane_laws.proofs.Speaking.{fresh_rests}
 use Rattle.lane_laws.proofs.Speaking.{lane_utters}
@@ -73,6 +75,12 @@ serves_step s l event t (working, both) step =
 pub fresh_serves : (shape : Shape) → IsShape shape → Serves (fresh shape) (nothing_yet shape)
 fresh_serves shape sound = (record { grounded = fresh_grounded shape sound; work = tt; table = refl }, record { client = tt; server = tt })
 
+pub run_serves : (shape : Shape) (events : List DiskEvent) (s : LaneState) → IsShape shape → Run LaneStep (fresh shape) events s → Serves s (log_of after (nothing_yet shape) events)
+run_serves shape events s sound run =
+    (run_lawful LaneStep (λ (l : DiskLog) (e : DiskEvent). ⊤) after Serves
+    (λ (x : LaneState) (l : DiskLog) (e : DiskEvent) (y : LaneState) serves step. (tt, serves_step x l e y serves step))
+    (fresh shape) s (nothing_yet shape) events (fresh_serves shape sound) run).1
+
 pub pieces_lawful : (shape : Shape) (events : List DiskEvent) (s : LaneState) → IsShape shape → Run LaneStep (fresh shape) events s → Lawful PiecesAt after (nothing_yet shape) events
 pieces_lawful shape events s sound run =
     (run_lawful LaneStep PiecesAt after Serves
@@ -80,4 +88,6 @@ pieces_lawful shape events s sound run =
     (fresh shape) s (nothing_yet shape) events (fresh_serves shape sound) run).0
 
 pub ranges_lawful : (shape : Shape) (events : List DiskEvent) (s : LaneState) → IsShape shape → Run LaneStep (fresh shape) events s → Lawful RangesAt after (nothing_yet shape) events
-ranges_lawful = grounded_lawful RangesAt ranges_at
+ranges_lawful shape events s sound run =
+    reached_lawful RangesAt shape (λ past x event t behind step.
+    ranges_at x (log_of after (nothing_yet shape) past) event t (run_grounded shape past x sound behind).sound (run_both shape past x sound behind) step) events s run

@@ -20,7 +20,7 @@ use Rattle.disk_model.specs.ClientPutting.{is_announcing}
 use Rattle.disk_model.specs.ClientRule as client_rules
 use Rattle.disk_model.specs.ClientState.{ClientSession, ClientState, ever_published_count}
 use Rattle.lane_laws.specs.EndLog.{client_left, handshake_of, infos_heard, is_stuck_with_own, link_phase, range_in_work, server_left}
-use Rattle.disk_model.specs.LaneState.{LaneState, Shape}
+use Rattle.disk_model.specs.LaneState.{LaneState, Shape, pages_of}
 use Rattle.disk_model.specs.Offering.{client_offer, server_offer}
 use Rattle.channel_model.specs.Ranges.{wrapped}
 use Rattle.channel_model.specs.Seeing.{seen}
@@ -31,6 +31,8 @@ use Rattle.channel_model.specs.TranscriptLog.{TranscriptLog}
 use Rattle.lane_laws.specs.NearLog.{NearLog}
 use Rattle.lane_laws.specs.RingLog.{Accepted, Done, Free, Ready, SlotLog, Zeros}
 use Rattle.lane_laws.specs.WorkLog.{ClientCounts, ServerCounts, WorkLog}
+use Rattle.lane_laws.specs.WorkNext.{bytes_held, count_held, next_by, without_bytes}
+use Rattle.channel_model.specs.OwnMemory.{own_table}
 
 -- A LINK counts what was said and heard, and holds what came of a message that isn't whole; part of its own message is put where part of
 -- one was said; before it is up it has heard nothing and holds nothing; the version that it offers in place of a refused one is 1.0 or 0.0.
@@ -84,6 +86,16 @@ WorkAgrees None c = (c.owed ≡ []) × (c.descs ≡ c.finished)
 WorkAgrees (Some work) c =
     (c.desc ≡ work.bytes) × (c.owed ≡ owed_of (slot_says.disk_desc_of work.bytes) work.progress) × (c.descs ≡ c.finished + 1)
 
+-- WHAT COMES NEXT of it is told by its operation and by that; of the bytes that are held of a unit the log tells only how many they are
+pub record NextAgrees (work : Work) (c : ServerCounts) : Type 0 where
+  pub next : without_bytes work.progress ≡ next_by (slot_says.disk_desc_of c.desc).operation c.owed
+  pub held : length (bytes_held work.progress) ≡ count_held (slot_says.disk_desc_of c.desc).size (next_by (slot_says.disk_desc_of c.desc).operation c.owed)
+
+abbrev pub WorkNextAgrees : Option Work → Option ServerCounts → Type 0
+WorkNextAgrees None d = ⊤
+WorkNextAgrees (Some work) None = ⊥
+WorkNextAgrees (Some work) (Some c) = NextAgrees work c
+
 abbrev pub ServerAgrees : Option ServerSession → Option Work → Option ServerCounts → Type 0
 ServerAgrees None work None = work ≡ None
 ServerAgrees (Some s) work (Some c) = ServerCountsAgree s c × WorkAgrees work c
@@ -136,7 +148,9 @@ abbrev pub RangeAgrees : Option ServerSession → List Turn → Type 0
 RangeAgrees None turns = ⊤
 RangeAgrees (Some s) turns = (s.seq ≡ wrapped (infos_heard turns + 1)) × (s.range ≡ range_in_work turns)
 
+-- and the server has its region of the store
 pub record ServerEndAgrees (v : ServerState) (shape : Shape) (transcript : TranscriptLog) (blockage : Blockage) : Type 0 where
+  pub first : v.first ≡ shape.first
   pub blocks : v.blocks ≡ shape.blocks
   pub slots : v.slots ≡ shape.slots
   pub role : v.link.role ≡ Responder
@@ -148,7 +162,9 @@ pub record ServerEndAgrees (v : ServerState) (shape : Shape) (transcript : Trans
 pub record AgreesWithLog (s : LaneState) (l : DiskLog) : Type 0 where
   pub shape : s.shape ≡ l.shape
   pub wire : s.wire ≡ l.wire
+  pub table : s.table ≡ own_table (pages_of l.shape)
   pub stopped : s.stopped ≡ l.work.stopped
+  pub failed : s.failed ≡ l.failed
   pub client_link : LinkAgrees s.client.link l.transcript.client
   pub server_link : LinkAgrees s.server.link l.transcript.server
   pub sids : s.client.handshake.last_sid ≡ l.transcript.links % 2 ^ 32
@@ -157,6 +173,7 @@ pub record AgreesWithLog (s : LaneState) (l : DiskLog) : Type 0 where
   pub requests : RequestsAgree s.client l.work
   pub client : ClientAgrees s.client.session l.work.done l.work.client
   pub server : ServerAgrees s.server.session s.server.work l.work.server
+  pub next : WorkNextAgrees s.server.work l.work.server
   pub near : l.wire.forged ≡ false → NearAgrees s l.near
   pub idle : IdleAgrees s l.last_idle
   pub ring : l.wire.forged ≡ false → RingAgrees s.memory l.shape.slots l.work.issued l.ring

@@ -1,6 +1,6 @@
 -- What an end's session counts, also where somebody forges packets and memory: the ranges of slots that the end said and heard, each message
 -- of the link being the one that is owed or the end's own.
-use Rattle.std.specs.Prelude.{◌≡◌, ℕ, ◌+◌, ◌%◌, ◌<◌, ◌≤◌, ◌⊎◌, ◌&&◌, ◌==◌, Bool, true, false, is_some, List, [], ◌∷◌, ◌++◌, length, Option, Some, None, ⊤}
+use Rattle.std.specs.Prelude.{◌≡◌, ℕ, ◌+◌, ◌%◌, ◌^◌, ◌<◌, ◌≤◌, ◌⊎◌, ◌&&◌, ◌==◌, Bool, true, false, is_some, List, [], ◌∷◌, ◌++◌, length, Option, Some, None, ⊤}
 use Rattle.ldc_link.specs.declared.phase.Role.TheVariants.{Initiator, Responder}
 use Rattle.ldc_queue.specs.Transcript.{Turn}
 use Rattle.vdisk_msg.specs.Pieces.{unit_count}
@@ -93,12 +93,13 @@ HoldsEither v bytes = HoldsOwed v.handshake.owed bytes ⊎ HoldsAnswer v bytes
 abbrev pub ServerHolds : ServerState → List Turn → Type 0
 ServerHolds v turns = 1 ≤ length v.link.to_send → HoldsEither v (half_said turns ++ v.link.to_send)
 
--- without a range all that was asked for is answered; a range is what isn't, and begins where so many slots went before; each range that was
--- heard before it has its answer
+-- without a range all that was asked for is answered; a range is what isn't, begins where so many slots went before, and has a number of 8
+-- bytes; each range that was heard before it has its answer
 abbrev pub RangeStands : ℕ → Option SlotRange → ServerCounts → Type 0
 RangeStands slots None d = d.answered ≡ d.asked
 RangeStands slots (Some range) d =
     (d.asked ≡ d.answered + range_length slots range.start range.end) × (range.start < slots) × (range.end < slots) × (range.start ≡ wrapped d.answered % slots)
+    × (range.seq < 2 ^ 64)
 
 pub record InServerOrder (slots : ℕ) (session : ServerSession) (d : ServerCounts) (turns : List Turn) : Type 0 where
   pub asked : d.asked ≡ range_sum slots 1 (heard turns)

@@ -1,12 +1,12 @@
 -- What happened to a disk's lane, in groups: each law looks at its own, and each group reads those before it.
-use Rattle.std.specs.Prelude.{List, Option, Some, None}
+use Rattle.std.specs.Prelude.{Bool, false, ◌||◌, List, Option, Some, None}
 use Rattle.ldc_queue.specs.declared.end.End.{End}
 use Rattle.ldc_queue.specs.declared.end.End.TheVariants.{B}
 use Rattle.channel_model.specs.TranscriptLog.{TranscriptLog, nothing_said, silenced, transcript_moved}
 use Rattle.channel_model.specs.WireEvent.{Idle, WireEvent}
 use Rattle.channel_model.specs.WireLog.{WireLog, nothing_on_wire, server_closed, wire_moved}
 use Rattle.lane_laws.specs.BlockLog.{BlockLog, after_block, nothing_blocked}
-use Rattle.disk_model.specs.DiskEvent.{DiskEvent, OnWire, Stopped, Switches}
+use Rattle.disk_model.specs.DiskEvent.{DiskEvent, OnWire, Stopped, Stored, Switches, Works}
 use Rattle.disk_model.specs.LaneState.{Shape}
 use Rattle.lane_laws.specs.NearLog.{NearLog, after_near, nothing_near}
 use Rattle.lane_laws.specs.RingLog.{SlotLog, after_ring, no_ring}
@@ -20,6 +20,8 @@ pub record DiskLog : Type 0 where
   pub ring : List SlotLog
   pub near : NearLog
   pub blocked : BlockLog
+  -- a call of the server's store failed
+  pub failed : Bool
   -- the end whose idle step was the last event
   pub last_idle : Option End
 
@@ -32,6 +34,7 @@ nothing_yet shape = record {
   ring = no_ring shape.slots;
   near = nothing_near;
   blocked = nothing_blocked;
+  failed = false;
   last_idle = None;
 }
 
@@ -44,6 +47,10 @@ abbrev pub after_transcript : TranscriptLog → DiskEvent → TranscriptLog
 after_transcript l (OnWire event) = transcript_moved l event
 after_transcript l (Switches Stopped) = silenced B l
 after_transcript l _ = l
+
+abbrev pub after_failed : Bool → DiskEvent → Bool
+after_failed before (Works (Stored operation block count failed)) = before || failed
+after_failed before _ = before
 
 abbrev pub idle_in : WireEvent → Option End
 idle_in (Idle e) = Some e
@@ -63,5 +70,6 @@ after l event = record {
   ring = after_ring l.shape.slots l.work l.ring event;
   near = after_near l.work.done l.near event;
   blocked = after_block l.blocked event;
+  failed = after_failed l.failed event;
   last_idle = after_idle event;
 }

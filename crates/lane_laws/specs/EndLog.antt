@@ -120,8 +120,11 @@ handshake_of role offer last (Heard packet ∷ turns) =
 
 -- THE SERVER'S RANGE is the last INFO that it heard, until it said its ACK; its next INFO has the number behind that
 -- of the last
+abbrev pub state_of : List ℕ → ℕ
+state_of message = number_at 1 32 message
+
 abbrev pub range_of : List ℕ → SlotRange
-range_of message = record { seq = seq_of message; start = start_of message; end = end_of message; state = number_at 1 32 message }
+range_of message = record { seq = seq_of message; start = start_of message; end = end_of message; state = state_of message }
 
 abbrev pub asked_by : Option (List ℕ) → Option SlotRange → Option SlotRange
 asked_by None range = range

@@ -1,4 +1,5 @@
 pub mod WorkLog
+pub mod WorkNext
 pub mod RingLog
 pub mod NearLog
 pub mod BlockLog

@@ -7,6 +7,7 @@ use Rattle.cookie_copy.specs.Faults.{both_up, first_copy_fault}
 use Rattle.ldc_link.specs.declared.phase.Role.TheVariants.{Initiator, Responder}
 use Rattle.ldc_queue.specs.declared.end.End.{End}
 use Rattle.ldc_queue.specs.declared.end.End.TheVariants.{A, B}
+use Rattle.ldc_queue.specs.Transcript.{Turn}
 use Rattle.vdisk_msg.specs.declared.desc.DiskDesc.{DiskDesc}
 use Rattle.vdisk_msg.specs.declared.request.Request.{Request}
 use Rattle.vdisk_msg.specs.Descriptor as slot_says
@@ -22,9 +23,11 @@ use Rattle.channel_model.specs.WireEvent.{Reset, Sent, Took}
 use Rattle.disk_model.specs.DiskEvent.{Desc, DiskEvent, Done, Finished, Misplaced, Moved, OnWire, Published, Stored, Works}
 use Rattle.channel_model.specs.OwnMemory.{own_table}
 use Rattle.disk_model.specs.LaneState.{pages_of}
+use Rattle.disk_model.specs.ServerState.{SlotRange}
 use Rattle.channel_model.specs.Ranges.{range_length, wrapped}
 use Rattle.lane_laws.specs.DiskLog.{DiskLog}
 use Rattle.channel_model.specs.Messages.{end_of, range_ended, seq_of, start_of}
+use Rattle.lane_laws.specs.EndLog.{infos_heard, range_in_work, state_of}
 use Rattle.lane_laws.specs.WorkLog.{ClientCounts, Opened, ServerCounts}
 
 -- a session that is open, with its counts
@@ -35,6 +38,15 @@ InClient (Some c) holds = holds c
 abbrev pub InServer : Option ServerCounts → (ServerCounts → Type 0) → Type 0
 InServer None holds = ⊥
 InServer (Some c) holds = holds c
+
+-- and one that may be open
+abbrev pub IfClient : Option ClientCounts → (ClientCounts → Type 0) → Type 0
+IfClient None holds = ⊤
+IfClient (Some c) holds = holds c
+
+abbrev pub IfServer : Option ServerCounts → (ServerCounts → Type 0) → Type 0
+IfServer None holds = ⊤
+IfServer (Some c) holds = holds c
 
 -- THE NUMBERS: ids that are published count up from the base and are accepted, a completion was acknowledged, a descriptor is the next of
 -- those asked for
@@ -71,8 +83,10 @@ WorksAt l (Works (Finished slot status)) = IsUp B l.wire.wire
 WorksAt l (Works Misplaced) = ⊥
 WorksAt l _ = ⊤
 
--- THE RANGES: an INFO has the next number, begins after the range before and names all that was published since; an ACK that is heard names
--- announced ones alone; and one that is said begins after the ACK before and names all that was asked since, the last of it finished
+-- THE RANGES are said and heard in a session alone, and end within the ring. An INFO that is said has the next number, begins after the
+-- range before and names all that was published since, as active. One that is heard has the next number, begins after the range before and
+-- comes where all before it is answered. An ACK that is heard begins after the ACK before and names announced ones alone. One that is said is
+-- that of the range in work: it names all that was asked since the ACK before, the last of it finished.
 abbrev pub IfRange : Option (List ℕ) → (List ℕ → Type 0) → Type 0
 IfRange None holds = ⊤
 IfRange (Some message) holds = holds message
@@ -80,31 +94,47 @@ IfRange (Some message) holds = holds message
 pub record Announces (slots : ℕ) (c : ClientCounts) (message : List ℕ) : Type 0 where
   pub next : seq_of message ≡ wrapped (c.infos + 1)
   pub begins : start_of message ≡ c.announced % slots
+  pub ends : end_of message < slots
   pub published : c.announced + range_length slots (start_of message) (end_of message) ≡ c.published
+  pub active : state_of message ≡ 1
 
-abbrev pub Acknowledges : ℕ → ClientCounts → List ℕ → Type 0
-Acknowledges slots c message = c.acked + range_length slots (start_of message) (end_of message) ≤ c.announced
+pub record AsksFor (slots : ℕ) (turns : List Turn) (c : ServerCounts) (message : List ℕ) : Type 0 where
+  pub next : seq_of message ≡ wrapped (infos_heard turns + 1)
+  pub begins : start_of message ≡ c.asked % slots
+  pub ends : end_of message < slots
+  pub answered : c.answered ≡ c.asked
 
-pub record AcknowledgesRange (slots : ℕ) (c : ServerCounts) (message : List ℕ) : Type 0 where
+pub record Acknowledges (slots : ℕ) (c : ClientCounts) (message : List ℕ) : Type 0 where
+  pub begins : start_of message ≡ c.acked % slots
+  pub ends : end_of message < slots
+  pub announced : c.acked + range_length slots (start_of message) (end_of message) ≤ c.announced
+
+-- its number, its slots and the byte of its state are those of the INFO
+pub record AcknowledgesRange (slots : ℕ) (turns : List Turn) (c : ServerCounts) (message : List ℕ) : Type 0 where
+  pub range : SlotRange
+  pub in_work : range_in_work turns ≡ Some range
+  pub seq : seq_of message ≡ range.seq
+  pub start : start_of message ≡ range.start
+  pub end : end_of message ≡ range.end
+  pub state : state_of message ≡ range.state % 256
   pub begins : start_of message ≡ c.answered % slots
+  pub ends : end_of message < slots
   pub asked : c.answered + range_length slots (start_of message) (end_of message) ≡ c.asked
   pub finished : c.finished ≡ c.asked
 
-abbrev pub IfClient : Option ClientCounts → (ClientCounts → Type 0) → Type 0
-IfClient None holds = ⊤
-IfClient (Some c) holds = holds c
+abbrev pub OfClientRange : DiskLog → Option (List ℕ) → (ClientCounts → List ℕ → Type 0) → Type 0
+OfClientRange l range holds = IfRange range (λ (message : List ℕ). InClient l.work.client (λ (c : ClientCounts). holds c message))
 
-abbrev pub IfServer : Option ServerCounts → (ServerCounts → Type 0) → Type 0
-IfServer None holds = ⊤
-IfServer (Some c) holds = holds c
+abbrev pub OfServerRange : DiskLog → Option (List ℕ) → (ServerCounts → List ℕ → Type 0) → Type 0
+OfServerRange l range holds = IfRange range (λ (message : List ℕ). InServer l.work.server (λ (c : ServerCounts). holds c message))
 
 abbrev pub RangesAt : DiskLog → DiskEvent → Type 0
-RangesAt l (OnWire (Sent A packet opens)) =
-    IfClient l.work.client (λ (c : ClientCounts). IfRange (range_ended 1 (half_said l.transcript.client) packet) (Announces l.shape.slots c))
-RangesAt l (OnWire (Took A packet opens)) =
-    IfClient l.work.client (λ (c : ClientCounts). IfRange (range_ended 2 (half_heard l.transcript.client) packet) (Acknowledges l.shape.slots c))
+RangesAt l (OnWire (Sent A packet opens)) = OfClientRange l (range_ended 1 (half_said l.transcript.client) packet) (Announces l.shape.slots)
+RangesAt l (OnWire (Took B packet opens)) =
+    OfServerRange l (range_ended 1 (half_heard l.transcript.server) packet) (AsksFor l.shape.slots l.transcript.server)
+RangesAt l (OnWire (Took A packet opens)) = OfClientRange l (range_ended 2 (half_heard l.transcript.client) packet) (Acknowledges l.shape.slots)
 RangesAt l (OnWire (Sent B packet opens)) =
-    IfServer l.work.server (λ (c : ServerCounts). IfRange (range_ended 2 (half_said l.transcript.server) packet) (AcknowledgesRange l.shape.slots c))
+    OfServerRange l (range_ended 2 (half_said l.transcript.server) packet) (AcknowledgesRange l.shape.slots l.transcript.server)
 RangesAt l _ = ⊤
 
 -- THE PIECES: what is done is what the last descriptor owes next

@@ -18,7 +18,7 @@ ghost use Rattle.disk_model.specs.DiskEvent.{DiskEvent, OnWire, Worked, Works};
 ghost use Rattle.disk_model.specs.LaneState.{fresh, IsShape, LaneState, Shape};
 ghost use Rattle.disk_model.specs.LaneStep.{LaneStep};
 ghost use Rattle.lane_laws.specs.Remaining.{remaining};
-ghost use Rattle.lane_laws.specs.SameEnds.{SameClient, SameServer};
+ghost use Rattle.lane_laws.specs.SameEnds.{SameLane};
 ghost use Rattle.lane_laws.specs.CalmEnds.{AreStill, HaveFinished, IsCalm, IsStep, StepKeeps};
 ghost use Rattle.lane_laws.specs.Laws.{GapAt, LostAt, ResetAt, SaidAt, UnforgedAt};
 ghost use Rattle.lane_laws.specs.NewSessions.{EndsSessions, OpensAmong, WorkOf};
@@ -111,10 +111,13 @@ pub fn what_is_done_is_the_next_piece()
         → Lawful PiecesAt after (nothing_yet shape) events }
 {}
 
-/// Along every run of a lane, also where somebody forges packets and memory: an INFO that a client says has the next
-/// number, begins at the slot after the range before it, and names all requests that were published since; an
-/// acknowledgement that a client hears, and goes on with, names announced requests alone; and one that a server says
-/// begins at the slot after the one before it and names all descriptors that were asked for since, the last finished.
+/// Along every run of a lane, also where somebody forges packets and memory: a range is said and heard in a session
+/// alone, and ends within the ring. An INFO that a client says has the next number, begins at the slot after the range
+/// before it, names all requests that were published since, and says that the ring is active. One that a server hears,
+/// and goes on with, has the next number and begins at the slot after the range before it, which is answered. An
+/// acknowledgement that a client hears, and goes on with, begins at the slot after the one before it and names announced
+/// requests alone. One that a server says has the number, the slots and the state of the INFO in work. It begins at the
+/// slot after the one before it and names all descriptors that were asked for since, the last finished.
 pub fn ranges_name_what_was_done()
     ensures { (shape : Shape) (events : List DiskEvent) (s : LaneState)
         → IsShape shape → Run LaneStep (fresh shape) events s
@@ -156,24 +159,28 @@ pub fn sessions_open_in_order()
 {}
 
 /// At each moment of a lane, also where somebody forges packets and memory, its state and its log agree: the shape, the
-/// wire and whether the server is stopped are the same. Each link counts what its end said and heard since it last
-/// began, and holds what came of a message; its phase is the one to which that led, and so is the end's handshake, whole.
-/// What an end has still to send is what it owes without the parts that it put, where it put one or was blocked with
-/// that, and else nothing; so a client announces exactly where it was blocked with that. The client's last sid is how
-/// often its link came up; what is pending was accepted and isn't done; the sessions' counts are those of the log. So
-/// are the server's next number and the range that it has in work, and what a descriptor in work owes yet. An end whose
-/// idle step was the last event has nothing to do yet. Where nobody forged, the near counts and the slots of the ring
-/// are those of the log too.
+/// wire, and whether the server is stopped or a call of its store failed, are the same. Each link counts what its end
+/// said and heard since it last began, and holds what came of a message; its phase is the one to which that led, and so
+/// is the end's handshake, whole. What an end has still to send is what it owes without the parts that it put, where it
+/// put one or was blocked with that, and else nothing; so a client announces exactly where it was blocked with that. The
+/// client's last sid is how often its link came up; what is pending was accepted and isn't done; the sessions' counts
+/// are those of the log. So are the server's next number and the range that it has in work, its region of the store,
+/// what a descriptor in work owes yet, and which piece of it comes next, with how many bytes are held of its unit. The
+/// table grants each page of the client's memory. An end whose idle step was the last event has nothing to do yet. Where
+/// nobody forged, the near counts and the slots of the ring are those of the log too.
 pub fn a_lane_agrees_with_its_log()
     ensures { (shape : Shape) (events : List DiskEvent) (s : LaneState)
         → IsShape shape → Run LaneStep (fresh shape) events s
         → AgreesWithLog s (log_of after (nothing_yet shape) events) }
 {}
 
-/// Two lanes that agree with one log have the same ends: the same links, the same handshakes and the same sessions, whole.
+/// Two lanes that agree with one log are the same: their shapes and wires, and each end with its link, handshake and
+/// session. So are the pending requests and the next id, the server's region and its descriptor in work, the table, and
+/// whether the server is stopped or a call of its store failed. Where nobody forged, so are how near the images are and
+/// how many requests were ever published. Left out are the memories, and the bytes of a unit that the server holds, but
+/// for how many they are; the bytes of the last completion; and on forged lanes how many requests were ever published.
 pub fn one_log_has_one_state()
-    ensures clients { (s t : LaneState) (l : DiskLog) → AgreesWithLog s l → AgreesWithLog t l → SameClient s.client t.client }
-    ensures servers { (s t : LaneState) (l : DiskLog) → AgreesWithLog s l → AgreesWithLog t l → SameServer s.server t.server }
+    ensures { (s t : LaneState) (l : DiskLog) → AgreesWithLog s l → AgreesWithLog t l → SameLane s t }
 {}
 
 /// Along every run of a lane, where nobody forged until then and no packet was lost since the queues were last emptied:

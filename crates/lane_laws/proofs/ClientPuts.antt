@@ -1,0 +1,35 @@
+-- The client as it puts a packet: what it holds then, and what it has said after it.
+use Rattle.std.proofs.Common.{ℕ, Bool, List}
+use Rattle.ldc_queue.specs.declared.end.End.TheVariants.{A}
+use Rattle.lane_laws.specs.DiskLog.{DiskLog}
+use Rattle.disk_model.specs.ClientPutting.{client_kind, is_announcing}
+use Rattle.disk_model.specs.ClientRule as client_rules
+use Rattle.disk_model.specs.ClientState.{ClientState}
+use Rattle.disk_model.specs.ClientStep.{ClientSends}
+use Rattle.channel_model.specs.Seeing.{seen}
+use Rattle.disk_model.specs.LaneState.{LaneState}
+use Rattle.lane_laws.proofs.LaneCounting.{Knows}
+use Rattle.lane_laws.proofs.ClientHolding.{client_held}
+use Rattle.lane_laws.proofs.HeldLinks.{held_link}
+use Rattle.lane_laws.proofs.ClientWorkCounting.{client_holds_counting}
+use Rattle.lane_laws.proofs.EndPutting.{PutSays, put_says}
+use Rattle.lane_laws.proofs.Ruling.{client_may}
+use Rattle.lane_laws.specs.Counted.{ClientCounted}
+use Rattle.lane_laws.specs.Sound.{ClientSound}
+
+pub record Putting (s : LaneState) (l : DiskLog) (packet : List ℕ) (held : ClientState) : Type 0 where
+  pub sound : ClientSound held
+  pub counted : ClientCounted l.shape held l.transcript.client l.work.done l.work.client
+  pub says : PutSays (client_kind held) (is_announcing held.session) held.link l.transcript.client packet
+
+pub putting : (s : LaneState) (l : DiskLog) (packet : List ℕ) (opens : Bool) (t : ClientState) (new : List ℕ) → Knows s l
+    → (sends : ClientSends s.client (seen A s.shape.entries s.wire.wire) s.memory packet opens t new) → Putting s l packet sends.held
+putting s l packet opens t new knows sends =
+    let at = seen A s.shape.entries s.wire.wire in
+    let rule = client_rules.client_rule s.client at in
+    record {
+      sound = (client_held s.client at rule sends.held (client_may s.client at) sends.holds knows.all.transcripts.client).sound;
+      counted = client_holds_counting l.shape s.client at rule sends.held l.transcript.client l.work.done l.work.client knows.all.transcripts.client knows.rests.client knows.utters.client
+          (client_may s.client at) sends.holds knows.counted.client;
+      says = put_says (is_announcing sends.held.session) sends.held.link t.link l.transcript.client packet (held_link s.client at rule sends.held l.transcript.client sends.holds knows.all.transcripts.follows_a) sends.packet;
+    }
