@@ -31,8 +31,7 @@ use Rattle.channel_laws.proofs.Conversations.{held_phase}
 use Rattle.channel_laws.proofs.ConversingRuns.{HeardFrom, converse_keeps, first_converse, hears_next}
 use Rattle.channel_laws.proofs.EndCases.{EndTook, NoMessage, PutControl, PutMore, PutOwn, PutReady, PutHandshake, PutWhat, Rises, TookOwn, TookHandshake, TookWhat, end_put, end_took, put_down}
 use Rattle.channel_laws.proofs.EndResting.{held_handshake}
-use Rattle.channel_laws.proofs.EndStanding.{first_down, held_stands, holds_some, opened_phase}
-use Rattle.channel_laws.proofs.HandshakeCases.{AttributesAgreed, AttributesAsked, AttributesRefused, Declined, OneRingAgreed, Opened, PeerAgreed, ReadyAgreed, ReadyAsked, RingAgreed, RingAsked, RingRefused, RowTaken, VersionAgreed, VersionAsked, VersionRefused}
+use Rattle.channel_laws.proofs.EndStanding.{first_down, held_stands, holds_some, open_declines, opened_phase}
 use Rattle.channel_laws.proofs.HandshakePlaces.{AtPlace, HandshakesAt, IsOwn, Matches, begun_at, deal, hears_at, hears_own_at, offer_in, open_at, owes_at, own_heard, peer_said, same_at, says_at, says_own_at, who}
 use Rattle.channel_laws.proofs.Lifting.{ActsKeep, BothStand}
 use Rattle.channel_laws.proofs.LinkPlaced.{first_links, links_keep, ready_at}
@@ -325,23 +324,6 @@ never_declined m d bytes of is form spells declined =
       | inr two ↦ omega (arith, same, two, declined_code d.subtype d.body form declined)
     ]
 
-open_takes : (h t : Handshake) (message : Message) (opens : Bool) → h.phase ≡ Open → RowTaken h message t opens → is_declined message.subtype message.body ≡ true
-open_takes h t message opens up (Declined test is not) = test
-open_takes h t message opens up (VersionAgreed minor class r at m low is not) = absurd (cc (sym up ∙ at))
-open_takes h t message opens up (VersionAsked minor class r at m is not) = absurd (cc (sym up ∙ at))
-open_takes h t message opens up (VersionRefused major minor class other low r at m is not) = absurd (cc (sym up ∙ at))
-open_takes h t message opens up (AttributesAgreed bytes r at m test is not) = absurd (cc (sym up ∙ at))
-open_takes h t message opens up (AttributesAsked bytes r at m test is not) = absurd (cc (sym up ∙ at))
-open_takes h t message opens up (AttributesRefused bytes r at m is not) = absurd (cc (sym up ∙ at))
-open_takes h t message opens up (RingAgreed ident slots slot_size options count cookies r at both m is not) = absurd (cc (sym up ∙ at))
-open_takes h t message opens up (OneRingAgreed ident slots slot_size options count cookies r at one m is not) = absurd (cc (sym up ∙ at))
-open_takes h t message opens up (PeerAgreed ident slots slot_size options count cookies r at m is not) = absurd (cc (sym up ∙ at))
-open_takes h t message opens up (RingAsked ident slots slot_size options count cookies at m test is not) = absurd (cc (sym up ∙ at))
-open_takes h t message opens up (RingRefused ident slots slot_size options count cookies at m is not) = absurd (cc (sym up ∙ at))
-open_takes h t message opens up (ReadyAgreed r at m is not) = absurd (cc (sym up ∙ at))
-open_takes h t message opens up (ReadyAsked at m is not) = absurd (cc (sym up ∙ at))
-open_takes h t message opens up (Opened r at m is now) = absurd (cc (sym up ∙ at))
-
 none_after : (xs rest : List (List ℕ)) (bytes : List ℕ) → [] ≡ (xs ++ bytes ∷ []) ++ rest → ⊥
 none_after [] rest bytes is = cc is
 none_after (x ∷ xs) rest bytes is = cc is
@@ -463,7 +445,7 @@ took_handshakes asks answers role s t packet opens fits stands up first hears co
                   let own = last_own took_message.bytes there last took_message.messages in
                   let opened : c.handshake.phase ≡ Open = ap (λ (h : Handshake). h.phase) there.is ∙ open_there there.place last in
                   absurd (never_declined own.message message took_message.bytes own.body own.is took_message.form took_message.spells
-                  (open_takes c.handshake t.handshake message opens opened handshake.row)))
+                  (open_declines c.handshake t.handshake message opens opened handshake.row).2))
             ]
 
 -- ALL ACTS

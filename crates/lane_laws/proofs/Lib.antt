@@ -19,7 +19,6 @@ pub mod FallsInTurn
 pub mod Fitting
 pub mod HeardAsSaid
 pub mod HeardFront
-pub mod Hearing
 pub mod IdleRuns
 pub mod LaneCounting
 pub mod LaneMoves
@@ -98,11 +97,9 @@ pub mod SlotsAlong
 pub mod SlotsOrdered
 pub mod SlotsStepping
 pub mod SlotsWriting
-pub mod StaysDown
 pub mod StandingRuns
 pub mod StandingSteps
 pub mod TableRuns
-pub mod WholeHeard
 pub mod TickSteps
 pub mod FlightClient
 pub mod FlightServer
