@@ -4,7 +4,6 @@ pub mod ClientCounting
 pub mod ClientHearing
 pub mod ClientHolding
 pub mod ClientInSession
-pub mod ClientPlacing
 pub mod ClientPutCounting
 pub mod ClientSending
 pub mod ClientSteps
@@ -12,8 +11,6 @@ pub mod ClientTaken
 pub mod ClientWorkCounting
 pub mod CountedRuns
 pub mod DataHeard
-pub mod EndHearing
-pub mod EndPlaced
 pub mod EndPutting
 pub mod FallsInTurn
 pub mod Fitting
@@ -22,14 +19,11 @@ pub mod HeardFront
 pub mod IdleRuns
 pub mod LaneCounting
 pub mod LaneMoves
-pub mod LanePlaces
-pub mod LanePlacing
 pub mod LaneStepping
 pub mod MemoryStanding
 pub mod MemorySteps
 pub mod OfferedRing
 pub mod OpeningDeal
-pub mod OpeningScript
 pub mod OneSession
 pub mod OnTheWay
 pub mod OpenRuns
@@ -37,9 +31,6 @@ pub mod PartPut
 pub mod NoOwnReset
 pub mod NoRefusal
 pub mod PlaceOwed
-pub mod PlacedSums
-pub mod PlacesAlong
-pub mod PlacesHeld
 pub mod QueueOffers
 pub mod RangeSums
 pub mod RangeTurns
@@ -83,7 +74,6 @@ pub mod ServerCounting
 pub mod ServerEndCounting
 pub mod ServerHearing
 pub mod ServerInSession
-pub mod ServerPlacing
 pub mod ServerPutCounting
 pub mod ServerSpeaking
 pub mod ServerSteps
@@ -185,7 +175,6 @@ pub mod OneState
 pub mod AgreementRuns
 pub mod EveryRun
 pub mod HeardAll
-pub mod QuietPlaces
 pub mod QuietEnds
 pub mod AlongRuns
 pub mod TwoIdle
@@ -208,3 +197,4 @@ pub mod Awake
 pub mod HeldLinks
 pub mod EndMoves
 pub mod Speaking
+pub mod RangesTold

@@ -215,7 +215,7 @@ said_info s t l packet opens knows sends = of l.work.client (putting s l packet 
         let put = putting s l packet opens t.client t.memory knows sends in by_kind (client_kind held) l packet held c put.sound counted put.says
 
 -- AN ACK THAT IS SAID answers the whole range
-in_server_order : (slots : ℕ) (o : Option ServerSession) (session : ServerSession) (c : ServerCounts) (turns : List Turn) → o ≡ Some session → ServerOrder slots o (Some c) turns
+pub in_server_order : (slots : ℕ) (o : Option ServerSession) (session : ServerSession) (c : ServerCounts) (turns : List Turn) → o ≡ Some session → ServerOrder slots o (Some c) turns
     → InServerOrder slots session c turns
 in_server_order slots None session c turns is order = absurd (cc is)
 in_server_order slots (Some other) session c turns is order =
