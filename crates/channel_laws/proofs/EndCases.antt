@@ -10,6 +10,7 @@ use Rattle.ldc_link.specs.declared.phase.LinkPhase.{LinkPhase}
 use Rattle.ldc_link.specs.declared.phase.LinkPhase.TheVariants as phase
 use Rattle.ldc_link.specs.declared.phase.Role.{Role}
 use Rattle.ldc_link.specs.declared.phase.Role.TheVariants.{Initiator, Responder}
+use Rattle.ldc_link.specs.Following.{Follows}
 use Rattle.ldc_link.specs.LinkState.{LinkState, cleared, is_established, is_up}
 use Rattle.ldc_link.specs.Putting.{control}
 use Rattle.ldc_link.specs.Taking.{Heard, TakesBytes, answer_to, counted}
@@ -80,6 +81,40 @@ put_down before bytes next (VersionAnswered at is goes) = (ap is_established at,
 put_down before bytes next (VersionRefused major at is goes) = (ap is_established at, ap is_established goes)
 put_down before bytes next (ModeOffered at is goes) = (ap is_established at, ap is_established goes)
 put_down before bytes next (ModeAnswered at is goes) = (ap is_established at, ap is_established goes)
+
+-- A LINK that heard a packet stays up where it was, and nothing is whole by it where it wasn't
+pub record HearsUp (k m : LinkState) (turns : List Turn) (bytes : List ℕ) : Type 0 where
+  pub on : HearsOn turns bytes m.whole
+  pub quiet : is_up k ≡ false → m.whole ≡ None
+  pub up : is_up k ≡ true → is_up m ≡ true
+
+pub link_hears : (k m : LinkState) (turns : List Turn) (bytes : List ℕ) → k.whole ≡ None → Follows k turns → TakesBytes k bytes (Heard m) → HearsUp k m turns bytes
+link_hears k m turns bytes none follows takes = by_how (link_heard k m bytes takes)
+  where
+    on : HearsOn turns bytes m.whole
+    on = hears_on k m turns bytes none follows (link_heard k m bytes takes)
+
+    by_how : LinkHeard k bytes m → HearsUp k m turns bytes
+    by_how (ControlHeard next taken is) = record {
+      on = on;
+      quiet = λ down. ap (λ (x : LinkState). x.whole) is ∙ none;
+      up = λ up. let never : true ≡ false = sym up ∙ (taken_down k.phase bytes next taken).0 in absurd (cc never);
+    }
+    by_how (ReadyHeard at packet number is) = record { on = on; quiet = λ down. ap (λ (x : LinkState). x.whole) is ∙ none; up = λ up. ap is_up is }
+    by_how (PartHeard at part may number is) = record {
+      on = on;
+      quiet = λ down. let never : true ≡ false = sym (ap is_established at) ∙ down in absurd (cc never);
+      up = λ up. ap is_up is ∙ up;
+    }
+
+-- an initiator's never comes up by what it hears
+pub asking_down : (k m : LinkState) (bytes : List ℕ) → IsPhaseOf Initiator k.phase → is_up k ≡ false → TakesBytes k bytes (Heard m) → is_up m ≡ false
+asking_down k m bytes of down takes = by_how (link_heard k m bytes takes)
+  where
+    by_how : LinkHeard k bytes m → is_up m ≡ false
+    by_how (ControlHeard next taken is) = ap is_up is ∙ (taken_down k.phase bytes next taken).1
+    by_how (ReadyHeard at packet number is) = absurd (subst (IsPhaseOf Initiator) at of)
+    by_how (PartHeard at part may number is) = let never : true ≡ false = sym (ap is_established at) ∙ down in absurd (cc never)
 
 -- a handshake begins only as a responder's link comes up
 risen_not : (role : Role) (b a : Bool) (h g : Handshake) → (b ≡ false) ⊎ (a ≡ true) → (if b && not a then g else h) ≡ h

@@ -32,7 +32,7 @@ use Rattle.vio_tag.specs.Spelling.{canonical}
 use Rattle.channel_model.specs.Sayings.{half_said}
 use Rattle.channel_laws.proofs.EndCases.{EndTook, NoMessage, PutControl, PutMore, PutOwn, PutReady, PutHandshake, PutWhat, Rises, TookOwn, TookHandshake, TookWhat, end_put, end_took, put_down}
 use Rattle.channel_laws.proofs.HandshakeCases.{AttributesAgreed, AttributesAsked, AttributesRefused, Declined, OneRingAgreed, Opened, Opens, Owes, OwnReadyFollows, PeerAgreed, ReadyAgreed, ReadyAsked, ReadyFollows, RingAgreed, RingAsked, RingFollows, RingRefused, RowSent, RowTaken, VersionAgreed, VersionAsked, VersionRefused, row_sent}
-use Rattle.channel_laws.proofs.LinkCases.{ControlHeard, ControlPut, ControlTaken, LinkHeard, ModeAnswered, ModeOffered, PartHeard, ReadyHeard, VersionAnswered, VersionOffered, behind_part, behind_ready}
+use Rattle.channel_laws.proofs.LinkCases.{ControlHeard, ControlPut, ControlTaken, LinkHeard, ModeAnswered, ModeOffered, PartHeard, ReadyHeard, VersionAnswered, VersionOffered, behind_part, behind_ready, link_heard}
 use Rattle.channel_laws.proofs.LinkCases as link_cases
 use Rattle.channel_laws.proofs.Short.{ComesShort, answered_short, message_comes, said_short, short_within}
 use Rattle.channel_laws.proofs.TurnCases.{SaysLast, SaysMore, SaysNothing}
@@ -191,6 +191,9 @@ heard_sending k m bytes (ReadyHeard at packet number is) =
 heard_sending k m bytes (PartHeard at part may number is) =
     record { left = ap (λ (x : LinkState). x.to_send) is; begun = ap (λ (x : LinkState). x.begun) is; role = ap (λ (x : LinkState). x.role) is }
 
+pub heard_leaves : (k m : LinkState) (bytes : List ℕ) → TakesBytes k bytes (Heard m) → SameSending k m
+heard_leaves k m bytes takes = heard_sending k m bytes (link_heard k m bytes takes)
+
 by_answer : (b c : Bool) → IsPhaseOf Responder (if b then phase.OwesVersAck else if c then phase.OwesVersNack 0 else phase.OwesVersNack 1)
 by_answer true c = tt
 by_answer false true = tt
@@ -259,7 +262,7 @@ declined_short Info (DringUnreg ident) test = tt
 declined_short Info (Plain envelope) test = tt
 declined_short subtype body test = absurd (cc test)
 
-few_offered : (role : Role) (offer : Offer) (h : Handshake) → HandshakeStands role offer h → h.offer.count ≤ 14
+pub few_offered : (role : Role) (offer : Offer) (h : Handshake) → HandshakeStands role offer h → h.offer.count ≤ 14
 few_offered role offer h stands = omega (arith, ap (λ (o : Offer). o.count) stands.offer_is, stands.few)
 
 pub row_goes : (role : Role) (offer : Offer) (h t : Handshake) (message : Message) (opens : Bool) → ComesShort message.body → HandshakeStands role offer h → RowTaken h message t opens
@@ -313,7 +316,7 @@ sent_goes role offer h t opens stands (Owes follows is not) =
       opened = sym (ap (λ (b : Bool). b || is_open_in h.phase) not);
     })
 
-up_stands : (role : Role) (offer : Offer) (h : Handshake) → HandshakeStands role offer h → HandshakeStands role offer (handshake_up h) × (is_open_in (handshake_up h).phase ≡ false)
+pub up_stands : (role : Role) (offer : Offer) (h : Handshake) → HandshakeStands role offer h → HandshakeStands role offer (handshake_up h) × (is_open_in (handshake_up h).phase ≡ false)
 up_stands role offer h stands = by_role h.role
   where
     by_role : (r : Role) → HandshakeStands role offer (begun r (joined_handshake h)) × (is_open_in (begun r (joined_handshake h)).phase ≡ false)
@@ -322,8 +325,8 @@ up_stands role offer h stands = by_role h.role
 
 -- in an open session it takes nothing but what it declines
 pub open_declines : (h t : Handshake) (message : Message) (opens : Bool) → h.phase ≡ Open → RowTaken h message t opens
-    → (t ≡ record h { owed = t.owed }) × (opens ≡ false)
-open_declines h t message opens up (Declined test is not) = (is ∙ ap (λ o. record h { owed = o }) (sym (ap (λ (x : Handshake). x.owed) is)), not)
+    → (t ≡ record h { owed = t.owed }) × (opens ≡ false) × (is_declined message.subtype message.body ≡ true)
+open_declines h t message opens up (Declined test is not) = (is ∙ ap (λ o. record h { owed = o }) (sym (ap (λ (x : Handshake). x.owed) is)), not, test)
 open_declines h t message opens up (VersionAgreed minor class r at m low is not) = absurd (cc (sym up ∙ at))
 open_declines h t message opens up (VersionAsked minor class r at m is not) = absurd (cc (sym up ∙ at))
 open_declines h t message opens up (VersionRefused major minor class other low r at m is not) = absurd (cc (sym up ∙ at))

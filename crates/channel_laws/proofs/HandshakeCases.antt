@@ -10,7 +10,7 @@ use Rattle.map_table.specs.declared.cookie.Cookie.{Cookie}
 use Rattle.vio_tag.specs.declared.cause.Cause.{Cause}
 use Rattle.vio_tag.specs.declared.message.Message.{Message}
 use Rattle.vio_tag.specs.declared.message.MsgBody.{MsgBody}
-use Rattle.vio_tag.specs.declared.message.MsgBody.TheVariants.{Attr, DringReg, Rdx, Ver}
+use Rattle.vio_tag.specs.declared.message.MsgBody.TheVariants.{Attr, DringReg, DringUnreg, Plain, Rdx, Ver}
 use Rattle.vio_handshake.proofs.PlaceRows.{GoesTo}
 use Rattle.vio_handshake.specs.Acceptance.{accepts_ring}
 use Rattle.vio_handshake.specs.Attributes.{accepts_answered, accepts_said, answered_attributes, said_attributes}
@@ -19,6 +19,7 @@ use Rattle.vio_handshake.specs.declared.handshake.Phase.{Phase}
 use Rattle.vio_handshake.specs.declared.handshake.Phase.TheVariants.{Attributes, Open, OwnReady, OwnRing, PeerReady, PeerReadyTaken, PeerRing, PeerRingTaken, Version}
 use Rattle.vio_handshake.specs.Messages.{ack, info, nack, own_ring}
 use Rattle.vio_handshake.specs.Rules.{Faults, Goes, GoesOpen, HandshakeTake, agrees_minor, answered, asked, behind_ring, fault_or, is_declined, knows, opens_by_put, own_named, owes, peer_named, put_in, refuses_version, ring_asked, row, handshake_hear, handshake_sent, handshake_take, sid_fault}
+use Rattle.channel_laws.specs.EndStep.{IsOfSession}
 
 -- A MESSAGE THAT WAS TAKEN: what the handshake is after it, and whether its session opens by it
 pub data RowTaken (h : Handshake) (message : Message) (t : Handshake) (opens : Bool) : Type 0 where
@@ -187,26 +188,49 @@ opens_took h t message is =
     let took : TookIs h message (GoesOpen t) = subst (TookIs h message) is (took_is h message) in
     record { sid = took.sid; row = took.row; takes = inr is }
 
--- an initiator's session never opens by one
-opens_row : (h t : Handshake) (message : Message) → h.role ≡ Initiator → RowTaken h message t true → ⊥
-opens_row h t message role (Opened other at is goes opens) = let never : Initiator ≡ Responder = sym role ∙ other in cc never
-opens_row h t message role (Declined test goes opens) = cc opens
-opens_row h t message role (VersionAgreed minor class r at is low goes opens) = cc opens
-opens_row h t message role (VersionAsked minor class r at is goes opens) = cc opens
-opens_row h t message role (VersionRefused major minor class other low r at is goes opens) = cc opens
-opens_row h t message role (AttributesAgreed bytes r at is test goes opens) = cc opens
-opens_row h t message role (AttributesAsked bytes r at is test goes opens) = cc opens
-opens_row h t message role (AttributesRefused bytes r at is goes opens) = cc opens
-opens_row h t message role (RingAgreed ident slots slot_size options count cookies r at both is goes opens) = cc opens
-opens_row h t message role (OneRingAgreed ident slots slot_size options count cookies r at one is goes opens) = cc opens
-opens_row h t message role (PeerAgreed ident slots slot_size options count cookies r at is goes opens) = cc opens
-opens_row h t message role (RingAsked ident slots slot_size options count cookies at is test goes opens) = cc opens
-opens_row h t message role (RingRefused ident slots slot_size options count cookies at is goes opens) = cc opens
-opens_row h t message role (ReadyAgreed r at is goes opens) = cc opens
-opens_row h t message role (ReadyAsked at is goes opens) = cc opens
+-- only a responder's session opens by one: by the agreement to RDX
+pub opens_row : (h t : Handshake) (message : Message) → RowTaken h message t true → (h.role ≡ Responder) × (message ≡ ack message.sid Rdx)
+opens_row h t message (Opened other at is goes opens) = (other, is)
+opens_row h t message (Declined test goes opens) = absurd (cc opens)
+opens_row h t message (VersionAgreed minor class r at is low goes opens) = absurd (cc opens)
+opens_row h t message (VersionAsked minor class r at is goes opens) = absurd (cc opens)
+opens_row h t message (VersionRefused major minor class other low r at is goes opens) = absurd (cc opens)
+opens_row h t message (AttributesAgreed bytes r at is test goes opens) = absurd (cc opens)
+opens_row h t message (AttributesAsked bytes r at is test goes opens) = absurd (cc opens)
+opens_row h t message (AttributesRefused bytes r at is goes opens) = absurd (cc opens)
+opens_row h t message (RingAgreed ident slots slot_size options count cookies r at both is goes opens) = absurd (cc opens)
+opens_row h t message (OneRingAgreed ident slots slot_size options count cookies r at one is goes opens) = absurd (cc opens)
+opens_row h t message (PeerAgreed ident slots slot_size options count cookies r at is goes opens) = absurd (cc opens)
+opens_row h t message (RingAsked ident slots slot_size options count cookies at is test goes opens) = absurd (cc opens)
+opens_row h t message (RingRefused ident slots slot_size options count cookies at is goes opens) = absurd (cc opens)
+opens_row h t message (ReadyAgreed r at is goes opens) = absurd (cc opens)
+opens_row h t message (ReadyAsked at is goes opens) = absurd (cc opens)
 
 pub never_opens : (h t : Handshake) (message : Message) → h.role ≡ Initiator → HandshakeTook h message t true → ⊥
-never_opens h t message role took = opens_row h t message role took.row
+never_opens h t message role took = let never : Initiator ≡ Responder = sym role ∙ (opens_row h t message took.row).0 in cc never
+
+-- it takes none of its session's
+declined_apart : (subtype : Subtype) (body : MsgBody) → is_declined subtype body ≡ true → IsOfSession body → ⊥
+declined_apart Info (DringUnreg ident) test of = of
+declined_apart Info (Plain envelope) test of = of
+declined_apart subtype body test of = cc test
+
+pub row_apart : (h t : Handshake) (message : Message) (opens : Bool) → RowTaken h message t opens → IsOfSession message.body → ⊥
+row_apart h t message opened (Declined test goes opens) of = declined_apart message.subtype message.body test of
+row_apart h t message opened (VersionAgreed minor class r at is low goes opens) of = subst IsOfSession (ap (λ (x : Message). x.body) is) of
+row_apart h t message opened (VersionAsked minor class r at is goes opens) of = subst IsOfSession (ap (λ (x : Message). x.body) is) of
+row_apart h t message opened (VersionRefused major minor class other low r at is goes opens) of = subst IsOfSession (ap (λ (x : Message). x.body) is) of
+row_apart h t message opened (AttributesAgreed bytes r at is test goes opens) of = subst IsOfSession (ap (λ (x : Message). x.body) is) of
+row_apart h t message opened (AttributesAsked bytes r at is test goes opens) of = subst IsOfSession (ap (λ (x : Message). x.body) is) of
+row_apart h t message opened (AttributesRefused bytes r at is goes opens) of = subst IsOfSession (ap (λ (x : Message). x.body) is) of
+row_apart h t message opened (RingAgreed ident slots slot_size options count cookies r at both is goes opens) of = subst IsOfSession (ap (λ (x : Message). x.body) is) of
+row_apart h t message opened (OneRingAgreed ident slots slot_size options count cookies r at one is goes opens) of = subst IsOfSession (ap (λ (x : Message). x.body) is) of
+row_apart h t message opened (PeerAgreed ident slots slot_size options count cookies r at is goes opens) of = subst IsOfSession (ap (λ (x : Message). x.body) is) of
+row_apart h t message opened (RingAsked ident slots slot_size options count cookies at is test goes opens) of = subst IsOfSession (ap (λ (x : Message). x.body) is) of
+row_apart h t message opened (RingRefused ident slots slot_size options count cookies at is goes opens) of = subst IsOfSession (ap (λ (x : Message). x.body) is) of
+row_apart h t message opened (ReadyAgreed r at is goes opens) of = subst IsOfSession (ap (λ (x : Message). x.body) is) of
+row_apart h t message opened (ReadyAsked at is goes opens) of = subst IsOfSession (ap (λ (x : Message). x.body) is) of
+row_apart h t message opened (Opened other at is goes opens) of = subst IsOfSession (ap (λ (x : Message). x.body) is) of
 
 -- ONCE ITS MESSAGE WAS PUT: the next is owed, or an initiator's session opens, or nothing is owed
 abbrev pub NothingFollows : Phase → Type 0

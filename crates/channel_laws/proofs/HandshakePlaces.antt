@@ -24,10 +24,13 @@ use Rattle.vio_handshake.proofs.MessageWidths.{OfferHasWidths, message_has_width
 use Rattle.vio_handshake.proofs.PlaceRows.{Fits, GoesTo, put_at, take_at}
 use Rattle.vio_handshake.proofs.Places.{AllSaid, AttributesAnswered, AttributesSaid, Deal, IsPlace, PeerReadyAnswered, PeerReadySaid, PeerRingAnswered, PeerRingSaid, Place, ReadyAnswered, ReadySaid, RingAnswered, RingSaid, VersionAnswered, VersionSaid, message_at, next, owed_by, owner, phase_at, handshake_at}
 use Rattle.channel_model.specs.Sayings.{heard, said}
+use Rattle.channel_laws.proofs.EndStanding.{opened_phase}
 use Rattle.channel_laws.proofs.Script.{PeerSaid, all_before, bytes_at, hears_beyond, hears_next, not_last, other_next, said_at, said_by, says_next, script}
+use Rattle.channel_laws.specs.EndCore.{EndCore}
 use Rattle.channel_laws.specs.EndStep.{IsOfSession}
 use Rattle.channel_laws.specs.LaneCore.{OfferFits}
 use Rattle.channel_laws.specs.Sides.{Sides, other}
+use Rattle.channel_laws.specs.Standing.{EndStands, is_open_in}
 
 -- A MESSAGE OF THE SESSION that a deal makes
 pub record IsOwn (d : Deal) (bytes : List ℕ) : Type 0 where
@@ -172,9 +175,13 @@ pub owes_at : (both : Bool) (d : Deal) (r : Role) (n : Place) → owner n ≡ So
 owes_at both d Initiator n own = ap (λ (w : Option Role). owed_by Initiator w (message_at d n)) own
 owes_at both d Responder n own = ap (λ (w : Option Role). owed_by Responder w (message_at d n)) own
 
-owes_none : (both : Bool) (d : Deal) (r : Role) (n : Place) → n ≡ AllSaid → (handshake_at both d r n).owed ≡ None
+pub owes_none : (both : Bool) (d : Deal) (r : Role) (n : Place) → n ≡ AllSaid → (handshake_at both d r n).owed ≡ None
 owes_none both d Initiator n last = ap (λ (m : Place). owed_by Initiator (owner m) (message_at d m)) last
 owes_none both d Responder n last = ap (λ (m : Place). owed_by Responder (owner m) (message_at d m)) last
+
+pub owes_not : (both : Bool) (d : Deal) (r : Role) (n : Place) → owner n ≡ Some (other r) → (handshake_at both d r n).owed ≡ None
+owes_not both d Initiator n turn = ap (λ (w : Option Role). owed_by Initiator w (message_at d n)) turn
+owes_not both d Responder n turn = ap (λ (w : Option Role). owed_by Responder w (message_at d n)) turn
 
 pub open_at : (both : Bool) (r : Role) (n : Place) → phase_at both r n ≡ Open → n ≡ AllSaid
 open_at both Initiator AllSaid is = refl
@@ -183,6 +190,20 @@ open_at true Responder RingAnswered is = absurd (cc is)
 open_at false Responder RingAnswered is = absurd (cc is)
 open_at both Initiator _ is = absurd (cc is)
 open_at both Responder _ is = absurd (cc is)
+
+pub open_place : (both : Bool) (d : Deal) (r : Role) (c : EndCore) (turns : List Turn) → EndStands r c turns → (at : AtPlace both d r c.handshake turns) → c.is_open ≡ true
+    → at.place ≡ AllSaid
+open_place both d r c turns stands at opened =
+    open_at both r at.place (ap (λ (h : Handshake). h.phase) (sym at.is) ∙ opened_phase c.handshake.phase (sym stands.opened ∙ opened))
+
+pub place_open : (both : Bool) (d : Deal) (r : Role) (c : EndCore) (turns : List Turn) → EndStands r c turns → (at : AtPlace both d r c.handshake turns) → at.place ≡ AllSaid
+    → c.is_open ≡ true
+place_open both d r c turns stands at last =
+    stands.opened ∙ ap (λ (h : Handshake). is_open_in h.phase) at.is ∙ ap (λ (n : Place). is_open_in (handshake_at both d r n).phase) last ∙ by_role r
+  where
+    by_role : (x : Role) → is_open_in (handshake_at both d x AllSaid).phase ≡ true
+    by_role Initiator = refl
+    by_role Responder = refl
 
 -- ITS LINK COMES UP: it said and heard nothing
 pub begun_at : (both : Bool) (d : Deal) (r : Role) (h : Handshake) (turns : List Turn) → h.role ≡ r → h.offer ≡ (handshake_at both d r VersionSaid).offer → (r ≡ Responder → h.last_sid ≡ d.last)
@@ -231,18 +252,9 @@ says_at both d r h turns now bytes message at owed is said_now heard_now =
             mine_are = tt;
             theirs_are = tt;
           }
-      | inr (inl turn) ↦ absurd (never_owed (ap (λ (x : Handshake). x.owed) at.is) turn)
+      | inr (inl turn) ↦ (let wrong : Some message ≡ None = sym owed ∙ ap (λ (x : Handshake). x.owed) at.is ∙ owes_not both d r at.place turn in absurd (cc wrong))
       | inr (inr last) ↦ (let wrong : Some message ≡ None = sym owed ∙ ap (λ (x : Handshake). x.owed) at.is ∙ owes_none both d r at.place last in absurd (cc wrong))
     ]
-  where
-    never_owed : h.owed ≡ (handshake_at both d r at.place).owed → owner at.place ≡ Some (other r) → ⊥
-    never_owed same turn = by_role r (sym owed ∙ same) turn
-      where
-        by_role : (x : Role) → Some message ≡ (handshake_at both d x at.place).owed → owner at.place ≡ Some (other x) → ⊥
-        by_role Initiator is_owed turn_is =
-            let wrong : Some message ≡ None = is_owed ∙ ap (λ (w : Option Role). owed_by Initiator w (message_at d at.place)) turn_is in cc wrong
-        by_role Responder is_owed turn_is =
-            let wrong : Some message ≡ None = is_owed ∙ ap (λ (w : Option Role). owed_by Responder w (message_at d at.place)) turn_is in cc wrong
 
 -- IT SAYS a message of its session
 pub says_own_at : (both : Bool) (d : Deal) (r : Role) (h g : Handshake) (turns now : List Turn) (bytes : List ℕ) → (at : AtPlace both d r h turns) → g ≡ h → at.place ≡ AllSaid
@@ -329,11 +341,11 @@ hears_at asks answers sid r h g turns now bytes message peer fits small at turn 
     }
 
 -- it hears a message of its session
-pub own_heard : (both : Bool) (d : Deal) (r : Role) (h peer : Handshake) (turns now peer_turns : List Turn) (bytes : List ℕ) → (at : AtPlace both d r h turns) → at.place ≡ AllSaid
-    → AtPlace both d (other r) peer peer_turns → IsFront (heard now) (said peer_turns) → heard now ≡ heard turns ++ bytes ∷ [] → IsOwn d bytes
-own_heard both d r h peer turns now peer_turns bytes at last peer_at front heard_now =
-    let all : heard now ≡ (script both d (other r) ++ at.theirs) ++ bytes ∷ [] =
-    heard_now ∙ ap (λ (xs : List (List ℕ)). xs ++ bytes ∷ []) (at.heard_is ∙ ap (λ (n : Place). said_at both d (other r) n ++ at.theirs) last
+pub own_heard : (both : Bool) (d : Deal) (r : Role) (h peer : Handshake) (turns peer_turns : List Turn) (bytes : List ℕ) → (at : AtPlace both d r h turns) → at.place ≡ AllSaid
+    → AtPlace both d (other r) peer peer_turns → IsFront (heard turns ++ bytes ∷ []) (said peer_turns) → IsOwn d bytes
+own_heard both d r h peer turns peer_turns bytes at last peer_at front =
+    let all : heard turns ++ bytes ∷ [] ≡ (script both d (other r) ++ at.theirs) ++ bytes ∷ [] =
+    ap (λ (xs : List (List ℕ)). xs ++ bytes ∷ []) (at.heard_is ∙ ap (λ (n : Place). said_at both d (other r) n ++ at.theirs) last
     ∙ ap (λ (ps : List Place). said_by d (other r) ps ++ at.theirs) (all_before both)) in
     let beyond = hears_beyond both d (other r) (said peer_turns) at.theirs bytes (peer_said both d (other r) peer peer_turns peer_at)
     (subst (λ (xs : List (List ℕ)). IsFront xs (said peer_turns)) all front) in

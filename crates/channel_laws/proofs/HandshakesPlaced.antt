@@ -24,16 +24,15 @@ use Rattle.vio_handshake.specs.declared.handshake.Phase.TheVariants.{Open}
 use Rattle.vio_handshake.specs.declared.session.Offer.{Offer}
 use Rattle.vio_handshake.specs.Rules.{is_declined, handshake_sent}
 use Rattle.vio_handshake.specs.State.{begun, joined_handshake, next_sid, handshake_up}
-use Rattle.vio_handshake.proofs.Places.{AllSaid, IsPlace, Place, VersionSaid, last_at, handshake_at}
+use Rattle.vio_handshake.proofs.Places.{AllSaid, Deal, IsPlace, Place, VersionSaid, last_at, handshake_at}
 use Rattle.channel_model.specs.Sayings.{half_said, heard, said}
 use Rattle.channel_model.specs.TranscriptLog.{nothing_said}
 use Rattle.channel_laws.proofs.Conversations.{held_phase}
 use Rattle.channel_laws.proofs.ConversingRuns.{HeardFrom, converse_keeps, first_converse, hears_next}
 use Rattle.channel_laws.proofs.EndCases.{EndTook, NoMessage, PutControl, PutMore, PutOwn, PutReady, PutHandshake, PutWhat, Rises, TookOwn, TookHandshake, TookWhat, end_put, end_took, put_down}
 use Rattle.channel_laws.proofs.EndResting.{held_handshake}
-use Rattle.channel_laws.proofs.EndStanding.{first_down, held_stands, holds_some, opened_phase}
-use Rattle.channel_laws.proofs.HandshakeCases.{AttributesAgreed, AttributesAsked, AttributesRefused, Declined, OneRingAgreed, Opened, PeerAgreed, ReadyAgreed, ReadyAsked, RingAgreed, RingAsked, RingRefused, RowTaken, VersionAgreed, VersionAsked, VersionRefused}
-use Rattle.channel_laws.proofs.HandshakePlaces.{AtPlace, HandshakesAt, IsOwn, Matches, begun_at, deal, hears_at, hears_own_at, offer_in, open_at, owes_at, own_heard, peer_said, same_at, says_at, says_own_at, who}
+use Rattle.channel_laws.proofs.EndStanding.{first_down, held_stands, holds_some, open_declines, open_up, opened_phase}
+use Rattle.channel_laws.proofs.HandshakePlaces.{AtPlace, HandshakesAt, IsOwn, Matches, begun_at, deal, hears_at, hears_own_at, offer_in, open_at, open_place, owes_at, own_heard, peer_said, same_at, says_at, says_own_at, who}
 use Rattle.channel_laws.proofs.Lifting.{ActsKeep, BothStand}
 use Rattle.channel_laws.proofs.LinkPlaced.{first_links, links_keep, ready_at}
 use Rattle.channel_laws.proofs.TurnCases.{SaysLast}
@@ -311,6 +310,14 @@ own_code (DringData seq ident start end state) of = inl refl
 own_code (Mcast set count addresses) of = inr refl
 own_code _ of = absurd of
 
+pub own_envelope : (d : Deal) (bytes : List ℕ) → IsOwn d bytes → 0x0042 ≤ envelope_at bytes
+own_envelope d bytes own =
+    let same = ap envelope_at own.is ∙ envelope_reads own.message own.body in
+    elim (own_code own.message.body own.body) [
+      | inl one ↦ omega (arith, same, one)
+      | inr two ↦ omega (arith, same, two)
+    ]
+
 declined_code : (s : Subtype) (b : MsgBody) → HasForm b → is_declined s b ≡ true → envelope_code b ≤ 0x0041
 declined_code Info (DringUnreg ident) form is = omega arith
 declined_code Info (Plain envelope) (inl form) is = omega (arith, form)
@@ -325,28 +332,11 @@ never_declined m d bytes of is form spells declined =
       | inr two ↦ omega (arith, same, two, declined_code d.subtype d.body form declined)
     ]
 
-open_takes : (h t : Handshake) (message : Message) (opens : Bool) → h.phase ≡ Open → RowTaken h message t opens → is_declined message.subtype message.body ≡ true
-open_takes h t message opens up (Declined test is not) = test
-open_takes h t message opens up (VersionAgreed minor class r at m low is not) = absurd (cc (sym up ∙ at))
-open_takes h t message opens up (VersionAsked minor class r at m is not) = absurd (cc (sym up ∙ at))
-open_takes h t message opens up (VersionRefused major minor class other low r at m is not) = absurd (cc (sym up ∙ at))
-open_takes h t message opens up (AttributesAgreed bytes r at m test is not) = absurd (cc (sym up ∙ at))
-open_takes h t message opens up (AttributesAsked bytes r at m test is not) = absurd (cc (sym up ∙ at))
-open_takes h t message opens up (AttributesRefused bytes r at m is not) = absurd (cc (sym up ∙ at))
-open_takes h t message opens up (RingAgreed ident slots slot_size options count cookies r at both m is not) = absurd (cc (sym up ∙ at))
-open_takes h t message opens up (OneRingAgreed ident slots slot_size options count cookies r at one m is not) = absurd (cc (sym up ∙ at))
-open_takes h t message opens up (PeerAgreed ident slots slot_size options count cookies r at m is not) = absurd (cc (sym up ∙ at))
-open_takes h t message opens up (RingAsked ident slots slot_size options count cookies at m test is not) = absurd (cc (sym up ∙ at))
-open_takes h t message opens up (RingRefused ident slots slot_size options count cookies at m is not) = absurd (cc (sym up ∙ at))
-open_takes h t message opens up (ReadyAgreed r at m is not) = absurd (cc (sym up ∙ at))
-open_takes h t message opens up (ReadyAsked at m is not) = absurd (cc (sym up ∙ at))
-open_takes h t message opens up (Opened r at m is now) = absurd (cc (sym up ∙ at))
-
 none_after : (xs rest : List (List ℕ)) (bytes : List ℕ) → [] ≡ (xs ++ bytes ∷ []) ++ rest → ⊥
 none_after [] rest bytes is = cc is
 none_after (x ∷ xs) rest bytes is = cc is
 
-up_or : (x : ChannelState) → (x ≡ Up) ⊎ (x ≡ Up → ⊥)
+pub up_or : (x : ChannelState) → (x ≡ Up) ⊎ (x ≡ Up → ⊥)
 up_or Up = inl refl
 up_or Down = inr (λ is. cc is)
 up_or Resetting = inr (λ is. cc is)
@@ -355,27 +345,36 @@ link_or : (b : Bool) → (b ≡ true) ⊎ (b ≡ false)
 link_or true = inl refl
 link_or false = inr refl
 
--- a message that it heard was said by the other, whose link is up
+-- a message that it hears was said by the other, whose link is up
+pub link_place : (asks answers : Offer) (role : Role) (s : Sides) (messages : List (List ℕ)) (bytes : List ℕ) → EndStands (other role) s.theirs.core s.theirs.turns
+    → (at : HandshakesAt asks answers role s) → s.theirs.state ≡ Up → IsFront (messages ++ bytes ∷ []) (said s.theirs.turns)
+    → AtPlace asks.both_rings (deal asks answers at.sid) (other role) s.theirs.core.handshake s.theirs.turns
+link_place asks answers role s messages bytes stands at up front =
+    elim (link_or (is_up s.theirs.core.link)) [
+      | inl now_up ↦ at.theirs up now_up
+      | inr down ↦ absurd (none_after messages front.0 bytes (sym (stands.below down).said_none ∙ front.1))
+    ]
+
 pub peer_place : (asks answers : Offer) (role : Role) (s : Sides) (now before : List Turn) (bytes : List ℕ) → EndStands (other role) s.theirs.core s.theirs.turns
     → (at : HandshakesAt asks answers role s) → HeardFrom s now → heard now ≡ heard before ++ bytes ∷ []
     → AtPlace asks.both_rings (deal asks answers at.sid) (other role) s.theirs.core.handshake s.theirs.turns
 peer_place asks answers role s now before bytes stands at from grows =
     elim (up_or s.theirs.state) [
-      | inl up ↦ by_link up
+      | inl up ↦ link_place asks answers role s (heard before) bytes stands at up (subst (λ (xs : List (List ℕ)). IsFront xs (said s.theirs.turns)) grows from.front)
       | inr not ↦ (
           let nothing : [] ≡ (heard before ++ bytes ∷ []) ++ [] = sym (from.none not) ∙ grows ∙ sym (append-nil (heard before ++ bytes ∷ [])) in
           absurd (none_after (heard before) [] bytes nothing))
     ]
-  where
-    by_link : s.theirs.state ≡ Up → AtPlace asks.both_rings (deal asks answers at.sid) (other role) s.theirs.core.handshake s.theirs.turns
-    by_link up =
-        elim (link_or (is_up s.theirs.core.link)) [
-          | inl now_up ↦ at.theirs up now_up
-          | inr down ↦ (
-              let nothing : [] ≡ (heard before ++ bytes ∷ []) ++ from.front.0 =
-              sym (stands.below down).said_none ∙ from.front.1 ∙ ap (λ (xs : List (List ℕ)). xs ++ from.front.0) grows in
-              absurd (none_after (heard before) from.front.0 bytes nothing))
-        ]
+
+-- and where its session is open it is one of the session
+pub next_own : (asks answers : Offer) (role : Role) (s : Sides) (bytes : List ℕ) → BothStand role s → (at : HandshakesAt asks answers role s) → s.mine.state ≡ Up
+    → s.mine.core.is_open ≡ true → s.theirs.state ≡ Up → IsFront (heard s.mine.turns ++ bytes ∷ []) (said s.theirs.turns) → IsOwn (deal asks answers at.sid) bytes
+next_own asks answers role s bytes stands at up opened their_up front =
+    let both = asks.both_rings in
+    let d = deal asks answers at.sid in
+    let here = at.mine up (open_up role s.mine.core s.mine.turns stands.mine opened) in
+    own_heard both d role s.mine.core.handshake s.theirs.core.handshake s.mine.turns s.theirs.turns bytes here (open_place both d role s.mine.core s.mine.turns stands.mine here opened)
+    (link_place asks answers role s (heard s.mine.turns) bytes stands.theirs at their_up front) front
 
 took_handshakes : (asks answers : Offer) (role : Role) (s : Sides) (t : EndCore) (packet : List ℕ) (opens : Bool) → Matches asks answers → BothStand role s → s.mine.state ≡ Up
     → slice_get s.mine.waiting 0 ≡ Some packet → EndHears role s.mine.core packet opens t → Converse role s → HandshakesAt asks answers role s → HandshakesAt asks answers role (took packet t s)
@@ -423,7 +422,8 @@ took_handshakes asks answers role s t packet opens fits stands up first hears co
     last_own : (bytes : List ℕ) → (there : AtPlace both (deal asks answers at.sid) role c.handshake s.mine.turns) → there.place ≡ AllSaid → heard now ≡ heard s.mine.turns ++ bytes ∷ []
         → IsOwn (deal asks answers at.sid) bytes
     last_own bytes there last grows =
-        own_heard both (deal asks answers at.sid) role c.handshake s.theirs.core.handshake s.mine.turns now s.theirs.turns bytes there last (peer bytes grows) front grows
+        own_heard both (deal asks answers at.sid) role c.handshake s.theirs.core.handshake s.mine.turns s.theirs.turns bytes there last (peer bytes grows)
+        (subst (λ (xs : List (List ℕ)). IsFront xs (said s.theirs.turns)) grows front)
 
     open_there : (n : Place) → n ≡ AllSaid → (handshake_at both (deal asks answers at.sid) role n).phase ≡ Open
     open_there n is = ap (λ (m : Place). (handshake_at both (deal asks answers at.sid) role m).phase) is ∙ by_role role
@@ -463,7 +463,7 @@ took_handshakes asks answers role s t packet opens fits stands up first hears co
                   let own = last_own took_message.bytes there last took_message.messages in
                   let opened : c.handshake.phase ≡ Open = ap (λ (h : Handshake). h.phase) there.is ∙ open_there there.place last in
                   absurd (never_declined own.message message took_message.bytes own.body own.is took_message.form took_message.spells
-                  (open_takes c.handshake t.handshake message opens opened handshake.row)))
+                  (open_declines c.handshake t.handshake message opens opened handshake.row).2))
             ]
 
 -- ALL ACTS

@@ -32,3 +32,4 @@ pub mod Opening
 pub mod OpeningRows
 pub mod OpeningOrder
 pub mod ToyRuns
+pub mod WhoseTurn

@@ -107,12 +107,12 @@ one_more : (b : Bool) (bytes : List ℕ) (xs ys : List (List ℕ)) → one_if b 
 one_more true bytes xs ys = refl
 one_more false bytes xs ys = refl
 
-said_by-append : (d : Deal) (r : Role) (xs ys : List Place) → said_by d r (xs ++ ys) ≡ said_by d r xs ++ said_by d r ys
+pub said_by-append : (d : Deal) (r : Role) (xs ys : List Place) → said_by d r (xs ++ ys) ≡ said_by d r xs ++ said_by d r ys
 said_by-append d r [] ys = refl
 said_by-append d r (n ∷ xs) ys =
     ap (one_if (is_role r (owner n)) (bytes_at d n)) (said_by-append d r xs ys) ∙ one_more (is_role r (owner n)) (bytes_at d n) (said_by d r xs) (said_by d r ys)
 
-own_role : (r : Role) (who : Option Role) → who ≡ Some r → is_role r who ≡ true
+pub own_role : (r : Role) (who : Option Role) → who ≡ Some r → is_role r who ≡ true
 own_role Initiator who is = ap (is_role Initiator) is
 own_role Responder who is = ap (is_role Responder) is
 
@@ -152,9 +152,9 @@ pub front_of : (both : Bool) (d : Deal) (r : Role) (n : Place) → script both d
 front_of both d r n = ap (said_by d r) (split_take (index both n) (all_places both)) ∙ said_by-append d r (before both n) (drop (index both n) (all_places both))
 
 -- TWO LISTS that begin alike
-same_next : (xs ys zs : List (List ℕ)) (y z : List ℕ) → xs ++ y ∷ ys ≡ xs ++ z ∷ zs → y ≡ z
-same_next [] ys zs y z is = cc is
-same_next (x ∷ xs) ys zs y z is = same_next xs ys zs y z (let tails : xs ++ y ∷ ys ≡ xs ++ z ∷ zs = cc is in tails)
+pub same_next : {X : Type 0} (xs ys zs : List X) (y z : X) → xs ++ y ∷ ys ≡ xs ++ z ∷ zs → y ≡ z
+same_next {X} [] ys zs y z is = cc is
+same_next {X} (x ∷ xs) ys zs y z is = same_next xs ys zs y z (let tails : xs ++ y ∷ ys ≡ xs ++ z ∷ zs = cc is in tails)
 
 same_rest : (xs ys zs : List (List ℕ)) → xs ++ ys ≡ xs ++ zs → ys ≡ zs
 same_rest [] ys zs is = is

@@ -25,9 +25,9 @@ use Rattle.channel_model.specs.WireAt.{IsUp}
 use Rattle.channel_laws.proofs.ConversingRuns.{converse_keeps, first_converse, heard_messages, unheard}
 use Rattle.channel_laws.proofs.CoreRuns.{Knows, knows_run}
 use Rattle.channel_laws.proofs.EndResting.{StandsResting, open_rests}
-use Rattle.channel_laws.proofs.EndStanding.{open_up, opened_phase}
+use Rattle.channel_laws.proofs.EndStanding.{open_up}
 use Rattle.channel_laws.proofs.EndUttering.{each_front}
-use Rattle.channel_laws.proofs.HandshakePlaces.{AtPlace, deal, open_at}
+use Rattle.channel_laws.proofs.HandshakePlaces.{AtPlace, deal, open_place}
 use Rattle.channel_laws.proofs.HandshakesPlaced.{Meets, first_meets, meets_keep}
 use Rattle.channel_laws.specs.Conversing.{Converse}
 use Rattle.channel_laws.specs.CoreLog.{CoreLog, after, nothing_yet}
@@ -49,7 +49,7 @@ not_among : (message : Message) (messages : List (List ℕ)) → messages ≡ []
 not_among message [] is among = among
 not_among message (bytes ∷ messages) is among = cc is
 
-open_heard : (role : Role) (c : EndCore) (turns : List Turn) → StandsResting role c turns → c.is_open ≡ true → heard turns ≡ [] → ⊥
+pub open_heard : (role : Role) (c : EndCore) (turns : List Turn) → StandsResting role c turns → c.is_open ≡ true → heard turns ≡ [] → ⊥
 open_heard Initiator c turns knows is none =
     let version = (open_rests Initiator c turns knows is).version in
     not_among (ack c.handshake.draft.sid (Ver 1 c.handshake.draft.minor version.0)) (heard turns) none version.1
@@ -110,10 +110,7 @@ one_in false d is = record {
 
 open_done : (both : Bool) (d : Deal) (role : Role) (c : EndCore) (turns : List Turn) → EndStands role c turns → c.is_open ≡ true → AtPlace both d role c.handshake turns
     → c.handshake ≡ handshake_at both d role AllSaid
-open_done both d role c turns stands is at =
-    let opened = opened_phase c.handshake.phase (sym stands.opened ∙ is) in
-    let last = open_at both role at.place (ap (λ (h : Handshake). h.phase) (sym at.is) ∙ opened) in
-    at.is ∙ ap (handshake_at both d role) last
+open_done both d role c turns stands is at = at.is ∙ ap (handshake_at both d role) (open_place both d role c turns stands at is)
 
 pub one_session : (asks answers : Offer) (s : LaneCore) (l : CoreLog) → Knows (Meets asks answers) s l → s.wire.forged ≡ false → s.a.is_open ≡ true → s.b.is_open ≡ true
     → AreOneSession s.a.handshake s.b.handshake

@@ -1,15 +1,13 @@
 -- What a handshake owes has at most 256 bytes, where its offer has at most 14 cookies and the messages that it took were decoded.
-use Rattle.std.proofs.Common.{◌≡◌, ℕ, ◌*◌, ◌≤◌, Bool, true, false, List, [], ◌∷◌, length, take, drop, refl, ap, arith}
+use Rattle.std.proofs.Common.{◌≡◌, ℕ, ◌*◌, ◌≤◌, List, [], ◌∷◌, length, take, drop, refl, ap, arith}
 use Rattle.std.specs.Prelude.{⊤}
 use Rattle.std.proofs.lemmas.List.{length-take}
 use Rattle.map_table.specs.Cookies.{cookies_bytes}
 use Rattle.map_table.specs.declared.cookie.Cookie.{Cookie}
-use Rattle.vio_handshake.specs.Attributes.{answered_attributes, client_attributes, port_attributes, said_attributes, server_attributes}
+use Rattle.vio_handshake.proofs.MessageWidths.{answered_long, said_long}
+use Rattle.vio_handshake.specs.Attributes.{answered_attributes, said_attributes}
 use Rattle.vio_handshake.specs.declared.session.Offer.{Offer}
 use Rattle.vio_tag.proofs.Canonical.{length_canonical}
-use Rattle.vio_tag.specs.Attributes.{disk_attr_bytes, disk_attr_of, net_attr_bytes}
-use Rattle.vio_tag.specs.declared.attributes.DiskAttr.{DiskAttr}
-use Rattle.vio_tag.specs.declared.attributes.NetAttr.{NetAttr}
 use Rattle.vio_tag.specs.declared.message.Message.{Message}
 use Rattle.vio_tag.specs.declared.message.MsgBody.{MsgBody}
 use Rattle.vio_tag.specs.declared.message.MsgBody.TheVariants.{Attr, DringData, DringReg, DringUnreg, Mcast, Plain, Rdx, Ver}
@@ -69,22 +67,6 @@ pub some_bytes : (message : Message) → 1 ≤ length (canonical message)
 some_bytes message = omega (arith, length_canonical message)
 
 -- attributes have 48 bytes
-disk_long : (attr : DiskAttr) → length (disk_attr_bytes attr) ≡ 48
-disk_long attr = refl
-
-net_long : (attr : NetAttr) → length (net_attr_bytes attr) ≡ 48
-net_long attr = refl
-
-said_long : (both : Bool) (a : Offer) (minor : ℕ) → a.both_rings ≡ both → length (said_attributes a minor) ≡ 48
-unfolding said_attributes
-said_long true a minor is = rw (is) (net_long (port_attributes a minor))
-said_long false a minor is = rw (is) (disk_long client_attributes)
-
-answered_long : (both : Bool) (b : Offer) (minor : ℕ) (bytes : List ℕ) → b.both_rings ≡ both → length (answered_attributes b minor bytes) ≡ 48
-unfolding answered_attributes
-answered_long true b minor bytes is = rw (is) (net_long (port_attributes b minor))
-answered_long false b minor bytes is = rw (is) (disk_long (server_attributes b minor (disk_attr_of bytes)))
-
 pub said_short : (a : Offer) (minor : ℕ) → length (said_attributes a minor) ≤ 48
 said_short a minor = omega (arith, said_long a.both_rings a minor refl)
 

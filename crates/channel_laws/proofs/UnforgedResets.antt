@@ -32,7 +32,7 @@ use Rattle.channel_laws.proofs.ConversingRuns.{HeardFrom, hears_next}
 use Rattle.channel_laws.proofs.CoreRuns.{Knows}
 use Rattle.channel_laws.proofs.EndCases.{stays_risen}
 use Rattle.channel_laws.proofs.EndStanding.{opened_phase}
-use Rattle.channel_laws.proofs.HandshakePlaces.{AtPlace, Matches, deal, deal_fits, message_at_spelled, message_is, open_at, owes_at, peer_said, place_bytes, who}
+use Rattle.channel_laws.proofs.HandshakePlaces.{AtPlace, Matches, deal, deal_fits, message_at_spelled, message_is, open_place, owes_at, peer_said, place_bytes, place_open, who}
 use Rattle.channel_laws.proofs.HandshakesPlaced.{Meets, meets_keep, peer_place}
 use Rattle.channel_laws.proofs.Lifting.{BothStand}
 use Rattle.channel_laws.proofs.LinkCases.{ControlHeard, LinkHeard, PartHeard, ReadyHeard, link_heard}
@@ -47,7 +47,6 @@ use Rattle.channel_laws.specs.EndStep.{DecodedFails, EndFails, EndStep, LinkFail
 use Rattle.channel_laws.specs.LaneCore.{CoreEvent, CoreFits, CoreStep, LaneCore, OnChannel, end_of, fresh_core, reset_move}
 use Rattle.channel_laws.specs.Resetting.{IsGapBehindLoss, LiesInMessage, LiesInSession}
 use Rattle.channel_laws.specs.Sides.{Sides, other, sides_of, swapped}
-use Rattle.channel_laws.specs.Standing.{is_open_in}
 
 -- A MESSAGE that became whole: the link was up before
 whole_up : (k m : LinkState) (packet bytes : List ℕ) → k.whole ≡ None → m.whole ≡ Some bytes → LinkHeard k packet m → is_up k ≡ true
@@ -89,9 +88,6 @@ side_fails asks answers role s packet cause fits stands meets parts up first fai
         same : risen_at role c.link m c.handshake ≡ c.handshake
         same = stays_risen role c.link m c.handshake (inr was)
 
-        never_open : c.is_open ≡ true → at.place ≡ AllSaid
-        never_open opened = open_at both role at.place (ap (λ (h : Handshake). h.phase) (sym at.is) ∙ opened_phase c.handshake.phase (sym stands.mine.opened ∙ opened))
-
         by_decoded : owner at.place ≡ Some (other role) → (d : Result Message TagFault) → Decodes bytes d → DecodedFails (risen_at role c.link m c.handshake) c.is_open d cause → ⊥
         by_decoded turn_is d decodes bad_message = by_result d decodes bad_message
           where
@@ -107,17 +103,10 @@ side_fails asks answers role s packet cause fits stands meets parts up first fai
                 (handshake_at both (deal asks answers meets.handshakes.sid) role (next both at.place)) cause
                 (ap (λ (h : Handshake). handshake_take h one) (same ∙ at.is) ∙ ap (handshake_take (handshake_at both (deal asks answers meets.handshakes.sid) role at.place)) named)
                 (take_at both (deal asks answers meets.handshakes.sid) role at.place (deal_fits asks answers meets.handshakes.sid fits.matched) at.here turn_is) refused
-            by_result (Ok one) reads (inr own) = not_last (other role) at.place turn_is (never_open own.opened)
+            by_result (Ok one) reads (inr own) = not_last (other role) at.place turn_is (open_place both (deal asks answers meets.handshakes.sid) role c s.mine.turns stands.mine at own.opened)
             by_result (Err fault) reads is_fault =
                 let spells = message_at_spelled asks answers meets.handshakes.sid at.place bytes fits meets.handshakes.small is in
                 let wrong : Some fault ≡ None = sym reads.fault ∙ spelled_no_fault bytes (message_at (deal asks answers meets.handshakes.sid) at.place) spells.0 spells.1 in cc wrong
-
-        open_there : (n : Place) → n ≡ AllSaid → is_open_in (handshake_at both (deal asks answers meets.handshakes.sid) role n).phase ≡ true
-        open_there n is = ap (λ (x : Place). is_open_in (handshake_at both (deal asks answers meets.handshakes.sid) role x).phase) is ∙ by_role role
-          where
-            by_role : (r : Role) → is_open_in (handshake_at both (deal asks answers meets.handshakes.sid) r AllSaid).phase ≡ true
-            by_role Initiator = refl
-            by_role Responder = refl
 
         by_turn : LiesInMessage c packet
         by_turn =
@@ -127,7 +116,7 @@ side_fails asks answers role s packet cause fits stands meets parts up first fai
                   sym fails.may.owed ∙ ap (λ (h : Handshake). h.owed) at.is ∙ owes_at both (deal asks answers meets.handshakes.sid) role at.place own in absurd (cc wrong))
               | inr (inl turn_is) ↦ absurd (by_decoded turn_is bad.0 bad.1 bad.2)
               | inr (inr last) ↦ record {
-                opened = stands.mine.opened ∙ ap (λ (h : Handshake). is_open_in h.phase) at.is ∙ open_there at.place last;
+                opened = place_open both (deal asks answers meets.handshakes.sid) role c s.mine.turns stands.mine at last;
                 ends = record { part = on.ends.part; stop = on.ends.stop };
               }
             ]

@@ -1,6 +1,6 @@
 -- Where nobody forged and the server runs, of two calm steps, one of each end, neither finds no room: both idle, and where nothing was lost
 -- both ends have finished.
-use Rattle.std.proofs.Common.{◌≡◌, ℕ, ◌+◌, ◌≤◌, inl, inr, Bool, true, false, Some, List, [], ◌∷◌, length, refl, sym, ap, ◌∙◌, subst, arith, length-drop}
+use Rattle.std.proofs.Common.{◌≡◌, ℕ, ◌+◌, ◌≤◌, ◌⊎◌, inl, inr, Bool, true, false, Some, List, [], ◌∷◌, length, refl, sym, ap, ◌∙◌, subst, arith, length-drop}
 use Rattle.std.specs.Prelude.{is_some, ◌&&◌, slice_get}
 use Rattle.runs.specs.Lawful.{log_of}
 use Rattle.runs.specs.Run.{Run}
@@ -30,17 +30,18 @@ use Rattle.disk_model.specs.ServerRule as server_rules
 use Rattle.disk_model.specs.ServerState.{ServerState}
 use Rattle.lane_laws.proofs.LaneCores.{transcript_is}
 use Rattle.lane_laws.proofs.HeardFront.{heard_messages}
-use Rattle.lane_laws.proofs.LanePlacing.{LanePlaced}
-use Rattle.lane_laws.proofs.PlacesAlong.{run_placed}
 use Rattle.lane_laws.specs.LaneTranscripts.{transcript_behind}
 use Rattle.lane_laws.proofs.CalmSteps.{ClientCalm, ServerCalm, client_calm, no_room, server_calm, are_still, waits_up_a, waits_up_b}
 use Rattle.lane_laws.proofs.IdleLaw.{none_waits}
 use Rattle.lane_laws.proofs.IdleRules.{client_idles, server_idles}
 use Rattle.channel_laws.specs.LinkPlaces.{live_phase, phase_at}
-use Rattle.lane_laws.proofs.LaneChannel.{lane_links}
+use Rattle.lane_laws.proofs.LaneChannel.{answers_of, asks_of, lane_links, lane_meets}
+use Rattle.lane_laws.specs.ChannelEnds.{server_core}
+use Rattle.channel_laws.proofs.HandshakePlaces.{deal, open_place}
+use Rattle.channel_laws.proofs.WhoseTurn.{never_both}
+use Rattle.vio_handshake.proofs.Places.{AllSaid}
 use Rattle.lane_laws.proofs.NeverBoth.{client_owes, holds_urgent, many_wait, server_owes}
 use Rattle.lane_laws.proofs.QuietEnds.{BothRest, Finished, quiet_ends}
-use Rattle.lane_laws.proofs.QuietPlaces.{never_both}
 use Rattle.lane_laws.proofs.WorkNumbers.{Grounded, at_client, at_server}
 use Rattle.lane_laws.proofs.WorkRuns.{run_grounded}
 use Rattle.lane_laws.specs.CalmEnds.{AreStill, HaveFinished, IsCalm}
@@ -83,10 +84,16 @@ both_wait shape events s c v at up_a up_b holds full_b holds_v full_a =
     let first = first_of s.wire.wire.to_a many_a in
     let owed = client_owes l.shape s.client l.transcript.client l.work.done l.work.client grounded.knows.counted.client phase_a (holds_urgent s.client (at_client s) first.0 c first.1 holds) in
     let owing = server_owes l.shape s.server (at_server s) l.transcript.server l.work.server v grounded.knows.counted.server phase_b holds_v in
-    let placed : LanePlaced shape s l.transcript = run_placed shape events s at.sound at.run (sym (ap (λ (w : WireLog). w.forged) grounded.knows.all.stands.wire) ∙ at.clean) in
+    let on = lane_meets shape events s at.sound at.run at.clean in
+    let d = deal (asks_of shape) (answers_of shape) on.meets.handshakes.sid in
+    let there = on.meets.handshakes.theirs up_b (ap is_established phase_b) in
+    let owns : (is_some s.server.handshake.owed ≡ true) ⊎ (there.place ≡ AllSaid) =
+    elim owing [
+      | inl owes ↦ inl owes
+      | inr opened ↦ inr (open_place false d Responder (server_core s.server) l.transcript.server on.stand.theirs there opened)
+    ] in
     let transcript : l.transcript ≡ transcript_behind events = transcript_is (nothing_yet shape) events in
-    never_both shape placed.sid s.client.handshake s.server.handshake (is_some s.client.session) (is_some s.server.session) l.transcript.client l.transcript.server ((placed.client up_a).up (ap is_established phase_a))
-    ((placed.server up_b).up (ap is_established phase_b)) owed owing
+    never_both false d s.client.handshake s.server.handshake l.transcript.client l.transcript.server (on.meets.handshakes.mine up_a (ap is_established phase_a)) there owed owns
     (subst (λ (x : TranscriptLog). IsFront (heard x.server) (said x.client)) (sym transcript) (heard_messages shape events s B at.sound at.run at.clean up_b))
     (subst (λ (x : TranscriptLog). IsFront (heard x.client) (said x.server)) (sym transcript) (heard_messages shape events s A at.sound at.run at.clean up_a))
 

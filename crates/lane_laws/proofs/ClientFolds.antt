@@ -37,12 +37,12 @@ use Rattle.lane_laws.proofs.ClientTaken.{ClientAcked, ClientHandshakes, ClientHe
 use Rattle.lane_laws.proofs.EndPutting.{PutSays}
 use Rattle.lane_laws.proofs.Awake.{is_awake, is_open_up}
 use Rattle.lane_laws.proofs.HandshakesFold.{LinkTook, asker_up, heard_folds, heard_rdx, hears_message, hears_part, last_is, moves_to, puts_message, puts_part, puts_rdx, stays_by_range}
-use Rattle.lane_laws.proofs.LinkKept.{SameSending}
+use Rattle.channel_laws.proofs.EndStanding.{SameSending}
 use Rattle.lane_laws.proofs.PhasesFold.{comes}
 use Rattle.lane_laws.proofs.RangesSaid.{is_data, owed_no_range}
 use Rattle.lane_laws.proofs.RulesFree.{puts_owe}
 use Rattle.lane_laws.proofs.Ruling.{client_may}
-use Rattle.lane_laws.proofs.Short.{some_bytes}
+use Rattle.channel_laws.proofs.Short.{some_bytes}
 use Rattle.lane_laws.specs.LinkMoves.{IsAsking}
 use Rattle.lane_laws.specs.Counted.{ClientHolds, HoldsOwed}
 use Rattle.lane_laws.specs.HandshakeFits.{Fits, MayOwe, OwedFits}

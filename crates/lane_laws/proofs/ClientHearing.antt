@@ -18,15 +18,15 @@ use Rattle.disk_model.specs.ClientPutting.{is_announcing}
 use Rattle.disk_model.specs.ClientState.{ClientSession, ClientState, slot_in}
 use Rattle.disk_model.specs.ClientTaking.{ClientTake, ClientTakes, GoesOn, HearsLink, HearsWhole, Resets, acknowledged, by_handshake, hears_message, in_session, reads, sid_first, takes_ack}
 use Rattle.channel_model.specs.Ranges.{is_other, range_length}
-use Rattle.lane_laws.proofs.Hearing.{heard_leaves}
-use Rattle.lane_laws.proofs.Short.{ComesShort, TakesShort, message_comes, take_short}
+use Rattle.channel_laws.proofs.Short.{ComesShort, message_comes}
+use Rattle.lane_laws.proofs.Short.{TakesShort, take_short}
 use Rattle.lane_laws.proofs.Sharing.{in_order}
 use Rattle.lane_laws.specs.LinkMoves.{IsAsking, SameTranscript, TakesOne}
 use Rattle.lane_laws.specs.Standing.{SessionStands}
 use Rattle.lane_laws.specs.Sound.{ClientSound, CountsInOrder, InOrder, OwesShort}
 use Rattle.ldc_link.specs.declared.phase.Role.TheVariants.{Initiator}
 use Rattle.channel_laws.proofs.LinkCases.{link_heard}
-use Rattle.channel_laws.proofs.EndStanding.{heard_of}
+use Rattle.channel_laws.proofs.EndStanding.{heard_leaves, heard_of}
 
 -- the client after a link that heard a packet
 pub record TakenBy (s : ClientState) (m : LinkState) (t : ClientState) : Type 0 where
@@ -130,11 +130,11 @@ pub record ClientTook (s : ClientState) (packet : List ℕ) (t : ClientState) : 
 taken_sound : (s : ClientState) (packet : List ℕ) (m : LinkState) (t : ClientState) → ClientSound s → TakesBytes s.link packet (Heard m) → TakenBy s m t → ClientSound t
 taken_sound s packet m t sound takes taken =
     let asking : IsAsking m.phase = heard_of Initiator s.link m packet sound.asking (link_heard s.link m packet takes) in
-    let sends : t.link.to_send ≡ s.link.to_send = taken.sends ∙ (heard_leaves s.link m packet takes).0 in
+    let sends : t.link.to_send ≡ s.link.to_send = taken.sends ∙ (heard_leaves s.link m packet takes).left in
     let long : length t.link.to_send ≡ length s.link.to_send = ap length sends in
     let pending : length s.pending ≡ length t.pending = ap length (sym taken.pending) in
     record {
-      role = taken.role ∙ (heard_leaves s.link m packet takes).1 ∙ sound.role;
+      role = taken.role ∙ (heard_leaves s.link m packet takes).role ∙ sound.role;
       asking = subst IsAsking (sym taken.link.phase) asking;
       short = taken.short;
       held = omega (arith, long, sound.held);

@@ -12,7 +12,7 @@ use Rattle.disk_model.specs.ClientRule.{Announces, ClientRule, Completes, Joins,
 use Rattle.disk_model.specs.ClientState.{ClientSession, ClientState, slot_in}
 use Rattle.channel_model.specs.Ranges.{wrapped}
 use Rattle.channel_model.specs.Seeing.{Seen}
-use Rattle.lane_laws.proofs.Short.{short_within, some_bytes}
+use Rattle.channel_laws.proofs.Short.{short_within, some_bytes}
 use Rattle.lane_laws.proofs.Sharing.{in_order, owed_short, same_link}
 use Rattle.lane_laws.specs.LinkMoves.{SameTranscript}
 use Rattle.lane_laws.specs.RuleFacts.{ClientMay}

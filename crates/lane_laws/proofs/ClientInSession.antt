@@ -17,7 +17,7 @@ use Rattle.vio_tag.specs.declared.cause.Cause.TheVariants as the_cause
 use Rattle.vio_tag.specs.declared.message.Message.{Message}
 use Rattle.vio_tag.specs.Spelling.{SpellsMessage}
 use Rattle.vio_handshake.proofs.Agreeable.{same_number}
-use Rattle.vio_handshake.proofs.Places.{AllSaid, Place, handshake_at}
+use Rattle.vio_handshake.proofs.Places.{AllSaid, Deal, Place, handshake_at}
 use Rattle.vio_handshake.specs.declared.handshake.Handshake.{Handshake}
 use Rattle.vio_handshake.specs.Rules.{sid_fault}
 use Rattle.channel_model.specs.Sayings.{heard, said}
@@ -33,29 +33,21 @@ use Rattle.disk_model.specs.LaneState.{IsShape, LaneState, Shape, fresh}
 use Rattle.disk_model.specs.LaneStep.{LaneStep}
 use Rattle.channel_model.specs.Ranges.{is_other, range_length}
 use Rattle.disk_model.specs.ServerState.{ServerSession}
+use Rattle.channel_laws.proofs.EndStanding.{open_up}
+use Rattle.channel_laws.proofs.HandshakePlaces.{AtPlace, deal, open_place}
+use Rattle.channel_laws.specs.Sides.{sides_of}
 use Rattle.lane_laws.proofs.Agreeing.{front_sum, range_answered}
-use Rattle.lane_laws.proofs.LaneCores.{transcript_is}
+use Rattle.lane_laws.proofs.LaneCores.{shape_of, transcript_is}
 use Rattle.lane_laws.proofs.DataHeard.{data_spells, decodes_to, read_data}
-use Rattle.lane_laws.proofs.EndHearing.{hears_data}
-use Rattle.lane_laws.proofs.Awake.{is_open_up}
-use Rattle.lane_laws.proofs.EndPlaced.{AtPlace, IsData, sum_of}
 use Rattle.lane_laws.proofs.HeardFront.{heard_messages}
-use Rattle.lane_laws.proofs.LaneCounting.{Knows, run_knows}
-use Rattle.lane_laws.proofs.LanePlaces.{counted_client, counted_server}
-use Rattle.lane_laws.proofs.LanePlacing.{LanePlaced, server_said}
-use Rattle.lane_laws.proofs.OpeningDeal.{deal}
-use Rattle.lane_laws.proofs.PlacedSums.{placed_sum}
-use Rattle.lane_laws.proofs.PlacesAlong.{run_placed}
+use Rattle.lane_laws.proofs.LaneCounting.{Knows, counted_client, counted_server, run_knows}
 use Rattle.lane_laws.proofs.RangeSums.{sum_more}
+use Rattle.lane_laws.proofs.LaneChannel.{answers_of, asks_of, lane_meets}
 use Rattle.lane_laws.proofs.RangesSaid.{said_range}
-use Rattle.lane_laws.specs.Counted.{ServerOrder, acked_of, announced_of, range_sum}
+use Rattle.lane_laws.proofs.RangesTold.{EachSaid, IsData, next_data, they_tell}
+use Rattle.lane_laws.specs.Counted.{ServerOrder, acked_of, announced_of, range_count, range_sum}
 use Rattle.lane_laws.specs.LaneTranscripts.{transcript_behind}
-use Rattle.lane_laws.specs.ChannelEnds.{client_core}
-
--- the shape of a log stays
-pub shape_of : (l : DiskLog) (events : List DiskEvent) → (log_of after l events).shape ≡ l.shape
-shape_of l [] = refl
-shape_of l (event ∷ events) = shape_of (after l event) events
+use Rattle.lane_laws.specs.ChannelEnds.{client_core, core_of}
 
 -- IT TAKES an acknowledgement that names its ring, begins after those that it took, and ends where it announced
 pub same_is : (one other : ℕ) → one ≡ other → is_other one other ≡ false
@@ -117,29 +109,26 @@ answered_asked slots (Some s) None turns order = absurd order
 answered_asked slots (Some s) (Some d) turns order = omega (arith, order.answered, order.asked, range_answered slots s.range d order.range)
 
 -- the next answer of the server is one that the client takes
-ack_fits : (shape : Shape) (sid : ℕ) (c : ClientState) (session : ClientSession) (turns : List Turn) (bytes : List ℕ)
-    → (at : AtPlace (deal shape sid 0) Initiator c.handshake (is_some c.session) turns) → at.place ≡ AllSaid → c.session ≡ Some session → c.slots ≡ shape.slots → shape.slots ≤ 256
-    → acked_of c.session ≡ range_sum shape.slots 2 (heard turns) → (is : IsData Responder (deal shape sid 0) (length at.theirs) (sum_of Responder (deal shape sid 0) at.theirs) bytes)
+ack_fits : (shape : Shape) (d : Deal) (c : ClientState) (session : ClientSession) (turns : List Turn) (bytes : List ℕ)
+    → (at : AtPlace false d Initiator c.handshake turns) → at.place ≡ AllSaid → c.session ≡ Some session → c.slots ≡ shape.slots → shape.slots ≤ 256
+    → acked_of c.session ≡ range_sum shape.slots 2 (heard turns) → (is : IsData Responder shape.slots d.sid (range_count 2 (heard turns)) (range_sum shape.slots 2 (heard turns)) bytes)
     → range_sum shape.slots 2 (heard turns ++ bytes ∷ []) ≤ session.announced
-    → AckFits c session sid sid (sum_of Responder (deal shape sid 0) at.theirs % shape.slots) is.end
-ack_fits shape sid c session turns bytes at last open_is slots few acked is most =
-    let d = deal shape sid 0 in
-    let sum = sum_of Responder d at.theirs in
-    let counted : session.acked ≡ range_sum shape.slots 2 (heard turns) = ap acked_of (sym open_is) ∙ acked in
-    let same : session.acked ≡ sum =
-    counted ∙ ap (range_sum shape.slots 2) at.heard_is ∙ placed_sum d Responder at.place shape.slots 2 at.theirs (inr refl) in
+    → AckFits c session d.sid d.sid (range_sum shape.slots 2 (heard turns) % shape.slots) is.end
+ack_fits shape d c session turns bytes at last open_is slots few acked is most =
+    let sum = range_sum shape.slots 2 (heard turns) in
+    let counted : session.acked ≡ sum = ap acked_of (sym open_is) ∙ acked in
     let ends = is.ends in
     let start_small : sum % shape.slots < 2 ^ 32 = omega (arith, mod_below sum shape.slots (omega (arith, ends)), few) in
     let end_small : is.end < 2 ^ 32 = omega (arith, ends, few) in
     let adds : length_in shape.slots (range_in 2 (Some bytes)) ≡ range_length shape.slots (sum % shape.slots) is.end =
     ap (λ (b : List ℕ). length_in shape.slots (range_in 2 (Some b))) is.bytes_are
-    ∙ said_range shape.slots 2 sid Ack is.seq sid (sum % shape.slots) is.end is.state refl start_small end_small in
+    ∙ said_range shape.slots 2 d.sid Ack is.seq d.sid (sum % shape.slots) is.end is.state refl start_small end_small in
     let own : range_length c.slots (sum % shape.slots) is.end ≡ range_length shape.slots (sum % shape.slots) is.end =
     ap (λ (n : ℕ). range_length n (sum % shape.slots) is.end) slots in
     record {
-      sid = ap (λ (h : Handshake). h.sid) at.handshake_is ∙ ap (λ (n : Place). (handshake_at false d Initiator n).sid) last;
-      named = ap (λ (h : Handshake). h.draft.ident_own) at.handshake_is ∙ ap (λ (n : Place). (handshake_at false d Initiator n).draft.ident_own) last;
-      begins = ap (λ (n : ℕ). session.acked % n) slots ∙ ap (λ (x : ℕ). x % shape.slots) same;
+      sid = ap (λ (h : Handshake). h.sid) at.is ∙ ap (λ (n : Place). (handshake_at false d Initiator n).sid) last;
+      named = ap (λ (h : Handshake). h.draft.ident_own) at.is ∙ ap (λ (n : Place). (handshake_at false d Initiator n).draft.ident_own) last;
+      begins = ap (λ (n : ℕ). session.acked % n) slots ∙ ap (λ (x : ℕ). x % shape.slots) counted;
       ends = omega (arith, ends, slots);
       within = omega (arith, own, adds, counted, sum_more shape.slots 2 (heard turns) bytes, most);
     }
@@ -153,19 +142,21 @@ client_hears_in_session shape events s session k bytes take sound run clean open
     let l = log_of after (nothing_yet shape) events in
     let knows : Knows s l = run_knows shape events s sound run in
     let shape_is : l.shape ≡ shape = shape_of (nothing_yet shape) events in
-    let placed : LanePlaced shape s l.transcript = run_placed shape events s sound run clean in
-    let sid = placed.sid in
-    let d = deal shape sid 0 in
+    let clean_s : s.wire.forged ≡ false = ap (λ (w : WireLog). w.forged) knows.all.stands.wire ∙ clean in
+    let on = lane_meets shape events s sound run clean_s in
+    let sid = on.meets.handshakes.sid in
+    let d = deal (asks_of shape) (answers_of shape) sid in
     let open_one : is_some s.client.session ≡ true = ap is_some open_is in
-    let at = (placed.client up_a).up (is_open_up Initiator (client_core s.client) l.transcript.client knows.rests.client open_one) in
-    let last : at.place ≡ AllSaid = at.opens open_one in
+    let at = on.meets.handshakes.mine up_a (open_up Initiator (client_core s.client) l.transcript.client on.stand.mine open_one) in
+    let last : at.place ≡ AllSaid = open_place false d Initiator (client_core s.client) l.transcript.client on.stand.mine at open_one in
     let client = counted_client shape s l shape_is knows in
     let server = counted_server shape s l shape_is knows in
-    let peer = server_said shape sid s.server l.transcript.server knows.utters.server (placed.server up_b) in
-    let is : IsData Responder d (length at.theirs) (sum_of Responder d at.theirs) bytes =
-    hears_data d Initiator s.client.handshake (is_some s.client.session) l.transcript.client (said l.transcript.server) bytes at last peer front in
+    let tells : EachSaid Responder shape.slots 0 0 (said l.transcript.server) =
+    subst (λ (x : Shape). EachSaid Responder x.slots 0 0 (said l.transcript.server)) shape_is (they_tell shape events s sound run clean).server in
+    let sum = range_sum shape.slots 2 (heard l.transcript.client) in
+    let is : IsData Responder shape.slots sid (range_count 2 (heard l.transcript.client)) sum bytes =
+    next_data shape Initiator (sides_of (core_of s) l.transcript) bytes on up_a open_one up_b front tells in
     let transcript : l.transcript ≡ transcript_behind events = transcript_is (nothing_yet shape) events in
-    let clean_s : s.wire.forged ≡ false = ap (λ (w : WireLog). w.forged) knows.all.stands.wire ∙ clean in
     let front_b : IsFront (heard l.transcript.server) (said l.transcript.client) =
     subst (λ (t : TranscriptLog). IsFront (heard t.server) (said t.client)) (sym transcript) (heard_messages shape events s B sound run clean_s up_b) in
     let announced : session.announced ≡ range_sum shape.slots 1 (said l.transcript.client) = ap announced_of (sym open_is) ∙ client.announced in
@@ -177,11 +168,11 @@ client_hears_in_session shape events s session k bytes take sound run clean open
       front_sum shape.slots 1 (heard l.transcript.server) (said l.transcript.client) front_b,
       announced,
     ) in
-    let fits = ack_fits shape sid s.client session l.transcript.client bytes at last open_is client.slots sound.most_slots client.acked is most in
-    let start = sum_of Responder d at.theirs % shape.slots in
+    let fits = ack_fits shape d s.client session l.transcript.client bytes at last open_is client.slots sound.most_slots client.acked is most in
+    let start = sum % shape.slots in
     let ends = is.ends in
-    let small = placed.small in
-    let below : start < 2 ^ 32 = omega (arith, mod_below (sum_of Responder d at.theirs) shape.slots (omega (arith, ends)), sound.most_slots) in
+    let small = on.meets.handshakes.small in
+    let below : start < 2 ^ 32 = omega (arith, mod_below sum shape.slots (omega (arith, ends)), sound.most_slots) in
     let spells : SpellsMessage bytes (read_data Ack sid sid start is.end bytes) =
     subst (λ (b : List ℕ). SpellsMessage b (read_data Ack sid sid start is.end b)) (sym is.bytes_are)
     (data_spells Ack sid is.seq sid start is.end is.state small (omega (arith, small)) below (omega (arith, ends, sound.most_slots))) in

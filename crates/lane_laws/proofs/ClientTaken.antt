@@ -25,9 +25,9 @@ use Rattle.disk_model.specs.ClientTaking.{ClientTake, ClientTakes, GoesOn, Hears
 use Rattle.channel_model.specs.Ranges.{is_other, range_length}
 use Rattle.channel_model.specs.Sayings.{heard}
 use Rattle.lane_laws.proofs.Awake.{was_up}
-use Rattle.lane_laws.proofs.Hearing.{heard_leaves}
-use Rattle.lane_laws.proofs.StaysDown.{asking_down}
-use Rattle.lane_laws.proofs.WholeHeard.{HearsOn, link_hears, with_whole}
+use Rattle.channel_laws.proofs.EndStanding.{heard_leaves}
+use Rattle.channel_laws.proofs.EndCases.{HearsUp, asking_down, link_hears}
+use Rattle.channel_laws.proofs.TurnCases.{with_whole}
 use Rattle.lane_laws.specs.LinkMoves.{IsAsking}
 
 -- a message is whole by the packet
@@ -184,25 +184,25 @@ by_bytes s turns packet k bytes (Ok message) left up stays messages decodes =
 by_bytes s turns packet k bytes (Err fault) left up stays messages decodes = tt
 
 by_whole : (s : ClientState) (k : LinkState) (turns : List Turn) (packet : List ℕ) (whole : Option (List ℕ)) (answer : ClientTake) → TakesBytes s.link packet (Heard k) → k.to_send ≡ s.link.to_send
-    → HearsOn s.link k turns packet → k.whole ≡ whole → HearsWhole (record s { link = k }) whole answer → TookOn s turns packet answer
+    → HearsUp s.link k turns packet → k.whole ≡ whole → HearsWhole (record s { link = k }) whole answer → TookOn s turns packet answer
 by_whole s k turns packet None answer takes left hears none is =
     subst (λ (x : ClientTake). TookOn s turns packet x) (sym is) (inl (record {
       link = k;
       left = left;
       up = hears.up;
       still = λ asking down. asking_down s.link k packet asking down takes;
-      messages = hears.messages ∙ ap (λ (w : Option (List ℕ)). with_whole w (heard turns)) none;
+      messages = hears.on.messages ∙ ap (λ (w : Option (List ℕ)). with_whole w (heard turns)) none;
       is = refl;
     }))
 by_whole s k turns packet (Some bytes) answer takes left hears some is =
     subst (λ (x : ClientTake). TookOn s turns packet x) (sym is.2)
     (by_bytes s turns packet (cleared k) bytes is.0 left (was_up (is_up s.link) k.whole bytes hears.quiet some)
-    (hears.up (was_up (is_up s.link) k.whole bytes hears.quiet some)) (hears.messages ∙ ap (λ (w : Option (List ℕ)). with_whole w (heard turns)) some) is.1)
+    (hears.up (was_up (is_up s.link) k.whole bytes hears.quiet some)) (hears.on.messages ∙ ap (λ (w : Option (List ℕ)). with_whole w (heard turns)) some) is.1)
 
 by_link : (s : ClientState) (turns : List Turn) (packet : List ℕ) (link : LinkTake) (t : ClientState) → Follows s.link turns → s.link.whole ≡ None
     → TakesBytes s.link packet link → HearsLink s link (GoesOn t) → ClientTook s turns packet t
 by_link s turns packet (Heard k) t follows none takes hears =
-    by_whole s k turns packet k.whole (GoesOn t) takes (heard_leaves s.link k packet takes).0 (link_hears s.link k turns packet none follows takes) refl hears
+    by_whole s k turns packet k.whole (GoesOn t) takes (heard_leaves s.link k packet takes).left (link_hears s.link k turns packet none follows takes) refl hears
 by_link s turns packet (Unheard cause) t follows none takes hears = absurd (cc)
 
 pub client_took_what : (s : ClientState) (turns : List Turn) (packet : List ℕ) (t : ClientState) → Follows s.link turns → s.link.whole ≡ None

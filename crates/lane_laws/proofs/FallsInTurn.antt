@@ -24,7 +24,10 @@ use Rattle.lane_laws.specs.Counted.{range_sum}
 use Rattle.lane_laws.specs.Remaining.{asked_in, total}
 use Rattle.lane_laws.specs.RemainingSteps.{total_at, AllDo, DoesSomething}
 use Rattle.ldc_queue.specs.Transcript.{Heard as Heard_, Turn}
-use Rattle.lane_laws.proofs.PlaceOwed.{client_owed, server_owed}
+use Rattle.lane_laws.proofs.PlaceOwed.{end_owed}
+use Rattle.lane_laws.proofs.LaneChannel.{lane_meets_next}
+use Rattle.lane_laws.specs.ChannelEnds.{client_core, server_core}
+use Rattle.ldc_link.specs.declared.phase.Role.TheVariants.{Initiator, Responder}
 use Rattle.lane_laws.proofs.RemainingTakes.{client_took_falls, server_took_falls}
 use Rattle.lane_laws.proofs.Ruling.{client_may, server_may}
 use Rattle.lane_laws.specs.RemainingTurn.{ClientInTurn, ServerInTurn}
@@ -42,22 +45,8 @@ use Rattle.disk_model.specs.LaneState.{IsShape, LaneState, Shape, fresh}
 use Rattle.disk_model.specs.LaneStep.{LaneStep, EndOnWire}
 use Rattle.vio_handshake.specs.declared.session.Offer.{Offer}
 use Rattle.channel_model.specs.Seeing.{seen}
-use Rattle.lane_laws.proofs.ClientTaken.{client_took_what}
 use Rattle.lane_laws.proofs.LaneCounting.{Knows, run_knows}
-use Rattle.lane_laws.proofs.LanePlacing.{LanePlaced}
-use Rattle.lane_laws.proofs.PlacesAlong.{run_placed}
-use Rattle.lane_laws.proofs.RemainingClientHears.{owes_nothing}
 use Rattle.lane_laws.specs.Remaining.{remaining}
-
--- the places after one more event
-placed_behind : (shape : Shape) (events : List DiskEvent) (s : LaneState) (event : DiskEvent) (t : LaneState) → IsShape shape → Run LaneStep (fresh shape) events s → LaneStep s event t → t.wire.forged ≡ false
-    → LanePlaced shape t (after (log_of after (nothing_yet shape) events) event).transcript
-placed_behind shape events s event t sound run step clean =
-    let more : List DiskEvent = events ++ event ∷ [] in
-    let then_run : Run LaneStep (fresh shape) more t = run_push LaneStep (fresh shape) s t events event run step in
-    let behind : log_of after (nothing_yet shape) more ≡ after (log_of after (nothing_yet shape) events) event = log_append after (nothing_yet shape) events (event ∷ []) in
-    let clean_more : (log_of after (nothing_yet shape) more).wire.forged ≡ false = ap (λ (w : WireLog). w.forged) (sym (run_knows shape more t sound then_run).all.stands.wire) ∙ clean in
-    subst (λ (x : DiskLog). LanePlaced shape t x.transcript) behind (run_placed shape more t sound then_run clean_more)
 
 pub client_in_turn : (shape : Shape) (events : List DiskEvent) (s : LaneState) (packet : List ℕ) (opens : Bool) (t : LaneState) → IsShape shape → Run LaneStep (fresh shape) events s → s.wire.forged ≡ false
     → LaneStep s (OnWire (Took A packet opens)) t → ClientInTurn s.client t.client
@@ -66,13 +55,12 @@ client_in_turn shape events s packet opens t sound run clean step =
     let at = seen A s.shape.entries s.wire.wire in
     let knows : Knows s l = run_knows shape events s sound run in
     let may : ClientMay s.client at (client_rules.Takes packet) = subst (ClientMay s.client at) step.step.0 (client_may s.client at) in
-    let placed = placed_behind shape events s (OnWire (Took A packet opens)) t sound run step (ap (λ (x : LaneState). x.wire.forged) step.is ∙ clean) in
-    let took = client_took_what s.client l.transcript.client packet t.client knows.all.transcripts.follows_a knows.rests.client.whole step.step.1 in
+    let on = lane_meets_next shape events s (OnWire (Took A packet opens)) t sound run step (ap (λ (x : LaneState). x.wire.forged) step.is ∙ clean) in
     let up : t.wire.wire.end_a ≡ Up = ap (λ (x : LaneState). x.wire.wire.end_a) step.is ∙ may.0 in
     record {
       one_ring = ap (λ (o : Offer). o.both_rings) knows.counted.client.handshake.offer_is;
       whole = knows.rests.client.whole;
-      owed = client_owed shape placed.sid s.client t.client l.transcript.client packet sound.most_slots placed.small (owes_nothing s.client at packet step.step.0) took (placed.client up);
+      owed = end_owed shape on.meets.handshakes.sid Initiator (client_core t.client) (Heard_ packet ∷ l.transcript.client) sound on.meets.handshakes.small on.stand.mine (on.meets.handshakes.mine up);
     }
 
 pub client_falls : (shape : Shape) (events : List DiskEvent) (s : LaneState) (packet : List ℕ) (opens : Bool) (t : LaneState) → IsShape shape → Run LaneStep (fresh shape) events s → s.wire.forged ≡ false
@@ -156,7 +144,7 @@ server_in_turn shape events s packet opens t sound run clean step =
     let knows : Knows s l = run_knows shape events s sound run in
     let may : ServerMay s.server at (server_rules.Takes packet) = subst (ServerMay s.server at) step.1.step.1.0 (server_may s.server at) in
     let free : TakesFree s.server = subst (ServerFree s.server) step.1.step.1.0 (server_free s.server at) in
-    let placed = placed_behind shape events s (OnWire (Took B packet opens)) t sound run step (ap (λ (x : LaneState). x.wire.forged) step.1.is ∙ clean) in
+    let on = lane_meets_next shape events s (OnWire (Took B packet opens)) t sound run step (ap (λ (x : LaneState). x.wire.forged) step.1.is ∙ clean) in
     let took = server_took_what s.server l.transcript.server packet t.server opens knows.all.transcripts.follows_b knows.rests.server.whole step.1.step.1.1 in
     let up : t.wire.wire.end_b ≡ Up = ap (λ (x : LaneState). x.wire.wire.end_b) step.1.is ∙ may.0 in
     record {
@@ -164,7 +152,7 @@ server_in_turn shape events s packet opens t sound run clean step =
       one_ring = ap (λ (o : Offer). o.both_rings) knows.counted.server.handshake.offer_is;
       whole = knows.rests.server.whole;
       fits = (steps_stand shape events s run).fit;
-      owed = server_owed shape placed.sid s.server t.server l.transcript.server (Heard_ packet ∷ l.transcript.server) packet opens sound.most_slots placed.small free.owed took (placed.server up);
+      owed = end_owed shape on.meets.handshakes.sid Responder (server_core t.server) (Heard_ packet ∷ l.transcript.server) sound on.meets.handshakes.small on.stand.theirs (on.meets.handshakes.theirs up);
       link = λ m takes. takes_fine s.server.link m packet (waits_offering shape events s packet sound run clean may.1) takes;
       opened = λ is.
           let none = opens_new s.server t.server l.transcript.server packet knows.rests.server (subst (λ (b : Bool). ServerTook s.server l.transcript.server packet t.server b) is took) in

@@ -1,7 +1,7 @@
 -- What holds of two ends on a channel holds of a disk's lane: what is said and heard, its links, its sids.
-use Rattle.std.proofs.Common.{◌≡◌, ℕ, ◌%◌, false, List, [], ◌∷◌, Option, refl, sym, ap, ◌∙◌, subst, map, arith}
-use Rattle.runs.specs.Lawful.{Lawful, log_of}
-use Rattle.runs.specs.Run.{Run}
+use Rattle.std.proofs.Common.{◌≡◌, ℕ, ◌%◌, false, List, [], ◌∷◌, ◌++◌, Option, refl, sym, ap, ◌∙◌, subst, map, arith}
+use Rattle.runs.specs.Lawful.{Lawful, log_append, log_of}
+use Rattle.runs.specs.Run.{Run, run_push}
 use Rattle.ldc_link.specs.declared.phase.Role.{Role}
 use Rattle.ldc_link.specs.declared.phase.Role.TheVariants.{Initiator, Responder}
 use Rattle.ldc_queue.specs.declared.end.End.TheVariants.{A, B}
@@ -39,7 +39,7 @@ use Rattle.channel_laws.specs.LinkPlaces.{LinksAt}
 use Rattle.channel_laws.specs.Sides.{Sides, sides_of, swapped}
 use Rattle.channel_laws.specs.Standing.{EndStands}
 use Rattle.lane_laws.proofs.LaneCores.{lane_cores, lane_fits, said_in_log}
-use Rattle.lane_laws.proofs.OpeningDeal.{deal_fits}
+use Rattle.lane_laws.proofs.OpeningDeal.{offers_match}
 use Rattle.lane_laws.specs.ChannelEnds.{client_core, core_event, core_of, server_core}
 use Rattle.lane_laws.specs.HeardStands.{HeardAt}
 use Rattle.lane_laws.specs.Laws.{SaidAt}
@@ -114,9 +114,7 @@ lane_links shape events s sound run clean =
     (links_placed shape.entries (asks_of shape) (answers_of shape) (map core_event events) (core_of s) (lane_fits shape sound) (lane_cores shape events s sound run) clean)
 
 matched : (shape : Shape) → IsShape shape → Match (asks_of shape) (answers_of shape)
-matched shape sound =
-    let fits = deal_fits shape 0 0 (omega (arith, sound.some_slots)) sound.most_slots (omega (arith, sound.most_blocks)) in
-    record { kind = refl; ring = fits.ring; device = fits.device }
+matched shape sound = offers_match shape.blocks shape.slots (omega (arith, sound.some_slots)) sound.most_slots (omega (arith, sound.most_blocks))
 
 pub lane_matches : (shape : Shape) → IsShape shape → Matches (asks_of shape) (answers_of shape)
 lane_matches shape sound =
@@ -145,6 +143,13 @@ lane_meets shape events s sound run clean =
       parts_mine = parts.a.parts;
       parts_theirs = parts.b.parts;
     })
+
+-- after one more event
+pub lane_meets_next : (shape : Shape) (events : List DiskEvent) (s : LaneState) (event : DiskEvent) (t : LaneState) → IsShape shape → Run LaneStep (fresh shape) events s → LaneStep s event t
+    → t.wire.forged ≡ false → OnLane shape Initiator (sides_of (core_of t) (after (log_of after (nothing_yet shape) events) event).transcript)
+lane_meets_next shape events s event t sound run step clean =
+    subst (λ (l : DiskLog). OnLane shape Initiator (sides_of (core_of t) l.transcript)) (log_append after (nothing_yet shape) events (event ∷ []))
+    (lane_meets shape (events ++ event ∷ []) t sound (run_push LaneStep (fresh shape) s t events event run step) clean)
 
 -- from its server's side
 pub lane_meets_other : (shape : Shape) (events : List DiskEvent) (s : LaneState) → IsShape shape → Run LaneStep (fresh shape) events s → s.wire.forged ≡ false

@@ -21,7 +21,7 @@ use Rattle.cookie_copy.specs.Reach.{Reach}
 use Rattle.channel_laws.specs.EndStep.{EndHears, EndStays, EndStep}
 use Rattle.channel_laws.specs.LaneCore.{CoreFits, CoreStands, CoreStep, WireStands, at_end, fresh_core, move_of, reset_move, transcript_after, transcript_behind, wire_after, wire_move}
 use Rattle.lane_laws.proofs.ClientMoves.{client_asked, client_begins, client_completed, client_fails, client_hears, client_published, client_same, client_says, client_waits}
-use Rattle.lane_laws.proofs.OpeningDeal.{client_widths, server_widths}
+use Rattle.lane_laws.proofs.OpeningDeal.{client_fits, server_fits}
 use Rattle.lane_laws.proofs.ServerMoves.{server_begins, server_fails, server_fetched, server_finished, server_hears, server_moved, server_renews, server_same, server_says, server_stored, server_waits}
 use Rattle.lane_laws.proofs.TableRuns.{QueuesStand, fresh_queues, queues_step}
 use Rattle.lane_laws.specs.ChannelEnds.{client_core, core_event, core_of, server_core}
@@ -104,31 +104,12 @@ lane_steps shape events s event t sound run step =
 
 -- what its ends offer fits
 pub lane_fits : (shape : Shape) → IsShape shape → CoreFits shape.entries (client_offer shape.blocks shape.slots) (server_offer shape.blocks shape.slots)
-lane_fits shape sound =
-    let asks = client_widths shape.blocks shape.slots sound.most_slots in
-    let answers = server_widths shape.blocks shape.slots in
-    record {
-      some_entries = omega (arith, sound.some_entries);
-      most_entries = sound.most_entries;
-      asks_fit = record {
-        minor = asks.minor;
-        class = asks.class;
-        slots = asks.slots;
-        slot_size = asks.slot_size;
-        room = asks.room;
-        cookies = asks.cookies;
-        form = asks.form;
-      };
-      answers_fit = record {
-        minor = answers.minor;
-        class = answers.class;
-        slots = answers.slots;
-        slot_size = answers.slot_size;
-        room = answers.room;
-        cookies = answers.cookies;
-        form = answers.form;
-      };
-    }
+lane_fits shape sound = record {
+  some_entries = omega (arith, sound.some_entries);
+  most_entries = sound.most_entries;
+  asks_fit = client_fits shape.blocks shape.slots sound.most_slots;
+  answers_fit = server_fits shape.blocks shape.slots;
+}
 
 -- WHAT WAS SAID AND HEARD is the same
 transcripts_same : (l : TranscriptLog) (events : List DiskEvent) → log_of transcript_after l (map core_event events) ≡ log_of after_transcript l events
@@ -138,6 +119,11 @@ transcripts_same l (event ∷ events) =
 
 pub said_same : (events : List DiskEvent) → transcript_behind (map core_event events) ≡ lane.transcript_behind events
 said_same events = transcripts_same nothing_said events
+
+-- the shape of a log stays
+pub shape_of : (l : DiskLog) (events : List DiskEvent) → (log_of after l events).shape ≡ l.shape
+shape_of l [] = refl
+shape_of l (event ∷ events) = shape_of (after l event) events
 
 pub transcript_is : (l : DiskLog) (events : List DiskEvent) → (log_of after l events).transcript ≡ log_of after_transcript l.transcript events
 transcript_is l [] = refl

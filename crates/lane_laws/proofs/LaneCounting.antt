@@ -345,3 +345,10 @@ pub run_knows : (shape : Shape) (events : List DiskEvent) (s : LaneState) → Is
 run_knows shape events s sound run =
     (run_lawful LaneStep (λ (l : DiskLog) (e : DiskEvent). ⊤) after Knows knows_step (fresh shape) s (nothing_yet shape) events
     (record { all = fresh_all shape sound; rests = fresh_rests shape sound; utters = lane_utters (fresh shape) nothing_said (fresh_rests shape sound); counted = fresh_counted shape }) run).1
+
+-- the shape of the log is the lane's
+pub counted_client : (shape : Shape) (s : LaneState) (l : DiskLog) → l.shape ≡ shape → Knows s l → ClientCounted shape s.client l.transcript.client l.work.done l.work.client
+counted_client shape s l is knows = subst (λ (x : Shape). ClientCounted x s.client l.transcript.client l.work.done l.work.client) is knows.counted.client
+
+pub counted_server : (shape : Shape) (s : LaneState) (l : DiskLog) → l.shape ≡ shape → Knows s l → ServerCounted shape s.server l.transcript.server l.work.server
+counted_server shape s l is knows = subst (λ (x : Shape). ServerCounted x s.server l.transcript.server l.work.server) is knows.counted.server

@@ -4,7 +4,6 @@ pub mod ClientCounting
 pub mod ClientHearing
 pub mod ClientHolding
 pub mod ClientInSession
-pub mod ClientPlacing
 pub mod ClientPutCounting
 pub mod ClientSending
 pub mod ClientSteps
@@ -12,25 +11,19 @@ pub mod ClientTaken
 pub mod ClientWorkCounting
 pub mod CountedRuns
 pub mod DataHeard
-pub mod EndHearing
-pub mod EndPlaced
 pub mod EndPutting
 pub mod FallsInTurn
 pub mod Fitting
 pub mod HeardAsSaid
 pub mod HeardFront
-pub mod Hearing
 pub mod IdleRuns
 pub mod LaneCounting
 pub mod LaneMoves
-pub mod LanePlaces
-pub mod LanePlacing
 pub mod LaneStepping
 pub mod MemoryStanding
 pub mod MemorySteps
 pub mod OfferedRing
 pub mod OpeningDeal
-pub mod OpeningScript
 pub mod OneSession
 pub mod OnTheWay
 pub mod OpenRuns
@@ -38,9 +31,6 @@ pub mod PartPut
 pub mod NoOwnReset
 pub mod NoRefusal
 pub mod PlaceOwed
-pub mod PlacedSums
-pub mod PlacesAlong
-pub mod PlacesHeld
 pub mod QueueOffers
 pub mod RangeSums
 pub mod RangeTurns
@@ -84,7 +74,6 @@ pub mod ServerCounting
 pub mod ServerEndCounting
 pub mod ServerHearing
 pub mod ServerInSession
-pub mod ServerPlacing
 pub mod ServerPutCounting
 pub mod ServerSpeaking
 pub mod ServerSteps
@@ -98,11 +87,9 @@ pub mod SlotsAlong
 pub mod SlotsOrdered
 pub mod SlotsStepping
 pub mod SlotsWriting
-pub mod StaysDown
 pub mod StandingRuns
 pub mod StandingSteps
 pub mod TableRuns
-pub mod WholeHeard
 pub mod TickSteps
 pub mod FlightClient
 pub mod FlightServer
@@ -192,7 +179,6 @@ pub mod WorkNexts
 pub mod AgreementRuns
 pub mod EveryRun
 pub mod HeardAll
-pub mod QuietPlaces
 pub mod QuietEnds
 pub mod AlongRuns
 pub mod TwoIdle
@@ -215,3 +201,4 @@ pub mod Awake
 pub mod HeldLinks
 pub mod EndMoves
 pub mod Speaking
+pub mod RangesTold

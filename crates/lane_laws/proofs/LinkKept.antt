@@ -1,16 +1,10 @@
 -- What an end makes of a packet leaves its link as the packet left it, but for the message that was seen.
 use Rattle.std.proofs.Common.{◌≡◌, ℕ, Bool, true, false, Option, Some, None, List, refl, sym, ap, subst}
 use Rattle.std.specs.Prelude.{nat_eq, nat_le, nat_lt, ◌&&◌, ◌+◌, if◌then◌else◌, take, ⊤, Result, Ok, Err}
-use Rattle.ldc_link.specs.declared.phase.LinkPhase.{LinkPhase}
 use Rattle.ldc_link.specs.LinkState.{LinkState, cleared, is_up}
 use Rattle.ldc_link.specs.Taking.{Heard, LinkTake, TakesBytes, Unheard, count, goes_to, in_mode, may_come, phase_behind_rdx, phase_behind_rtr, phase_behind_rts, phase_behind_vers, takes_body, takes_decoded, takes_part, with_part}
-use Rattle.ldc_packet.specs.declared.packet.Body.{Body}
-use Rattle.ldc_packet.specs.declared.packet.Body.TheVariants.{Part, Rdx, Rtr, Rts, Vers}
-use Rattle.ldc_packet.specs.declared.packet.PacketFault.{PacketFault}
-use Rattle.ldc_packet.specs.declared.packet.Packet.{Packet}
 use Rattle.ldc_packet.specs.declared.packet.Subtype.{Subtype}
 use Rattle.ldc_packet.specs.declared.packet.Subtype.TheVariants.{Ack, Info, Nack}
-use Rattle.ldc_queue.specs.Fragments.{Fragment}
 use Rattle.vio_tag.specs.declared.cause.Cause.{Cause}
 use Rattle.vio_tag.specs.declared.cause.Cause.TheVariants as the_cause
 use Rattle.vio_tag.specs.declared.message.Message.{Message}
@@ -24,48 +18,7 @@ use Rattle.channel_model.specs.EndPuts.{handshake_risen}
 use Rattle.channel_model.specs.Ranges.{is_other, range_length}
 use Rattle.disk_model.specs.ServerState.{ServerSession, ServerState, SlotRange}
 use Rattle.disk_model.specs.ServerTaking as server
-
--- A LINK leaves what it has to send as it is, and what was begun of it
-pub record SameSending (k m : LinkState) : Type 0 where
-  pub left : m.to_send ≡ k.to_send
-  pub begun : m.begun ≡ k.begun
-
-abbrev Leaves : LinkState → LinkTake → Type 0
-Leaves k (Heard m) = SameSending k m
-Leaves k (Unheard cause) = ⊤
-
-goes_leaves : (k : LinkState) (r : Result LinkPhase Cause) → Leaves k (goes_to k r)
-goes_leaves k (Ok ph) = record { left = refl; begun = refl }
-goes_leaves k (Err cause) = tt
-
-turn_leaves : (k : LinkState) (test : Bool) (answer : LinkTake) (cause : Cause) → Leaves k answer → Leaves k (if test then count answer else Unheard cause)
-turn_leaves k true (Heard m) cause leaves = record { left = leaves.left; begun = leaves.begun }
-turn_leaves k true (Unheard other) cause leaves = tt
-turn_leaves k false answer cause leaves = tt
-
-part_leaves : (k : LinkState) (up come : Bool) (part : Fragment) (one other : Cause)
-    → Leaves k (if up then (if come then Heard (with_part k part) else Unheard one) else Unheard other)
-part_leaves k true true part one other = record { left = refl; begun = refl }
-part_leaves k true false part one other = tt
-part_leaves k false come part one other = tt
-
-body_leaves : (k : LinkState) (s : Subtype) (n : ℕ) (b : Body) → Leaves k (takes_body k s n b)
-body_leaves k s n (Vers major minor) = goes_leaves k (phase_behind_vers k.phase s major minor)
-body_leaves k s n (Rts mode) = goes_leaves k (in_mode mode (phase_behind_rts k.phase s))
-body_leaves k s n (Rtr mode) = goes_leaves k (in_mode mode (phase_behind_rtr k.phase s))
-body_leaves k s n Rdx =
-    turn_leaves k (nat_eq n k.take_next) (goes_to k (phase_behind_rdx k.phase s)) (the_cause.Gap k.take_next n) (goes_leaves k (phase_behind_rdx k.phase s))
-body_leaves k s n (Part start stop len bytes) =
-    let part : Fragment = record { start = start; stop = stop; bytes = take len bytes } in
-    turn_leaves k (nat_eq n k.take_next) (takes_part k part) (the_cause.Gap k.take_next n)
-    (part_leaves k (is_up k) (may_come k.half_heard part) part the_cause.Fragment the_cause.Unexpected)
-
-decoded_leaves : (k : LinkState) (d : Result Packet PacketFault) → Leaves k (takes_decoded k d)
-decoded_leaves k (Ok p) = body_leaves k p.subtype p.seqid p.body
-decoded_leaves k (Err fault) = tt
-
-heard_leaves : (k m : LinkState) (bytes : List ℕ) → TakesBytes k bytes (Heard m) → SameSending k m
-heard_leaves k m bytes takes = subst (Leaves k) (sym takes.is) (decoded_leaves k takes.decoded)
+use Rattle.channel_laws.proofs.EndStanding.{SameSending, heard_leaves}
 
 by_same : (k m n : LinkState) → SameSending k m → n ≡ m → SameSending k n
 by_same k m n same is = subst (SameSending k) (sym is) same
@@ -115,7 +68,7 @@ client_whole s t k None same is =
     let mine : t ≡ record s { link = k } = cc in
     by_same s.link k t.link same (ap (λ (x : ClientState). x.link) mine)
 client_whole s t k (Some bytes) same is =
-    by_same s.link (cleared k) t.link (record { left = same.left; begun = same.begun })
+    by_same s.link (cleared k) t.link (record { left = same.left; begun = same.begun; role = same.role })
     (subst (ClientLeaves (record s { link = cleared k })) (sym is.2) (client_reads (record s { link = cleared k }) is.0))
 
 pub client_sending : (s t : ClientState) (bytes : List ℕ) → client.ClientTakes s bytes (client.GoesOn t) → SameSending s.link t.link
@@ -170,7 +123,7 @@ server_whole s t opens k None same is =
     subst (ServerLeaves (record s { link = k; handshake = handshake_risen s.link k s.handshake })) (sym is) refl in
     by_same s.link k t.link same mine
 server_whole s t opens k (Some bytes) same is =
-    by_same s.link (cleared k) t.link (record { left = same.left; begun = same.begun })
+    by_same s.link (cleared k) t.link (record { left = same.left; begun = same.begun; role = same.role })
     (subst (ServerLeaves (record s { link = cleared k; handshake = handshake_risen s.link k s.handshake })) (sym is.2)
     (server_reads (record s { link = cleared k; handshake = handshake_risen s.link k s.handshake }) is.0))
 

@@ -14,7 +14,6 @@ use Rattle.ldc_queue.specs.declared.end.End.TheVariants.{A, B}
 use Rattle.ldc_queue.specs.Numbered.{numbered}
 use Rattle.ldc_queue.specs.OneStream.{IsFront, OneWay, live}
 use Rattle.ldc_queue.specs.Transcript.{Turn, numbered_heard, numbered_said}
-use Rattle.vio_handshake.proofs.Places.{AllSaid, Deal, Place}
 use Rattle.lane_laws.specs.Agreement.{ServerAgrees}
 use Rattle.disk_model.specs.DiskEvent.{DiskEvent}
 use Rattle.lane_laws.specs.DiskLog.{DiskLog, after, nothing_yet}
@@ -27,22 +26,15 @@ use Rattle.disk_model.specs.ServerState.{ServerSession, Work}
 use Rattle.channel_model.specs.TranscriptLog.{TranscriptLog}
 use Rattle.channel_model.specs.WireLog.{WireLog}
 use Rattle.lane_laws.specs.WorkLog.{ClientCounts, ServerCounts, length_in, one_in}
+use Rattle.channel_laws.proofs.HandshakesPlaced.{up_or}
+use Rattle.channel_laws.proofs.Sessions.{open_heard}
 use Rattle.lane_laws.proofs.AckedFinished.{same_ranges}
 use Rattle.lane_laws.proofs.Agreeing.{client_some}
-use Rattle.lane_laws.proofs.LaneCores.{transcript_is}
-use Rattle.lane_laws.proofs.ClientInSession.{shape_of}
-use Rattle.lane_laws.proofs.EndHearing.{PeerSaid}
-use Rattle.lane_laws.proofs.EndPlaced.{EachData, IsData, code_of, subtype_of, sum_of}
-use Rattle.lane_laws.proofs.Awake.{is_open_up}
+use Rattle.lane_laws.proofs.LaneCores.{shape_of, transcript_is}
 use Rattle.lane_laws.proofs.HeardFront.{heard_messages, unheard_client, lane_converses}
-use Rattle.lane_laws.proofs.LaneCounting.{Knows, run_knows}
-use Rattle.lane_laws.proofs.LanePlaces.{counted_client, counted_server}
-use Rattle.lane_laws.proofs.LanePlacing.{LanePlaced, client_said, server_said, up_or}
-use Rattle.lane_laws.proofs.OpeningDeal.{deal}
-use Rattle.lane_laws.proofs.OpeningScript.{said_at}
-use Rattle.lane_laws.proofs.PlacedSums.{kind_of, placed_ranges, placed_sum}
-use Rattle.lane_laws.proofs.PlacesAlong.{run_placed}
-use Rattle.lane_laws.proofs.RangesSaid.{end_is, is_data, seq_is, start_is}
+use Rattle.lane_laws.proofs.LaneCounting.{Knows, counted_client, counted_server, run_knows}
+use Rattle.lane_laws.proofs.RangesSaid.{end_is, is_data, other_envelope, seq_is, start_is}
+use Rattle.lane_laws.proofs.RangesTold.{EachSaid, IsApart, IsData, IsEither, code_of, subtype_of, they_tell}
 use Rattle.lane_laws.proofs.ServerCounting.{wraps_more}
 use Rattle.lane_laws.specs.Counted.{ServerOrder, range_count, range_sum}
 use Rattle.lane_laws.specs.LaneTranscripts.{transcript_behind}
@@ -54,64 +46,86 @@ same_names slots from other to goal messages begins ends names =
     subst (λ (n : ℕ). NameAll slots n goal messages) begins (subst (λ (n : ℕ). NameAll slots from n messages) ends names)
 
 -- WHAT IS SAID names all from the first number on
-data_is : (r : Role) (d : Deal) (count sum : ℕ) (bytes : List ℕ) → IsData r d count sum bytes → is_range (code_of r) bytes ≡ true
-data_is Initiator d count sum bytes is = ap (is_range 1) is.bytes_are ∙ is_data 1 d.sid Info is.seq d.sid (sum % d.asks.slots) is.end is.state refl
-data_is Responder d count sum bytes is = ap (is_range 2) is.bytes_are ∙ is_data 2 d.sid Ack is.seq d.sid (sum % d.asks.slots) is.end is.state refl
+data_is : (r : Role) (slots sid count sum : ℕ) (bytes : List ℕ) → IsData r slots sid count sum bytes → is_range (code_of r) bytes ≡ true
+data_is Initiator slots sid count sum bytes is = ap (is_range 1) is.bytes_are ∙ is_data 1 sid Info is.seq sid (sum % slots) is.end is.state refl
+data_is Responder slots sid count sum bytes is = ap (is_range 2) is.bytes_are ∙ is_data 2 sid Ack is.seq sid (sum % slots) is.end is.state refl
 
-data_begins : (r : Role) (d : Deal) (count sum : ℕ) (bytes : List ℕ) → d.asks.slots ≤ 256 → (is : IsData r d count sum bytes) → start_of bytes ≡ sum % d.asks.slots
-data_begins r d count sum bytes few is =
+data_begins : (r : Role) (slots sid count sum : ℕ) (bytes : List ℕ) → slots ≤ 256 → (is : IsData r slots sid count sum bytes) → start_of bytes ≡ sum % slots
+data_begins r slots sid count sum bytes few is =
     let ends = is.ends in
-    ap start_of is.bytes_are
-    ∙ start_is (subtype_of r) d.sid is.seq d.sid (sum % d.asks.slots) is.end is.state (omega (arith, mod_below sum d.asks.slots (omega (arith, ends)), few))
+    ap start_of is.bytes_are ∙ start_is (subtype_of r) sid is.seq sid (sum % slots) is.end is.state (omega (arith, mod_below sum slots (omega (arith, ends)), few))
 
-data_ends : (r : Role) (d : Deal) (count sum : ℕ) (bytes : List ℕ) → d.asks.slots ≤ 256 → (is : IsData r d count sum bytes) → end_of bytes ≡ is.end
-data_ends r d count sum bytes few is =
-    let ends = is.ends in ap end_of is.bytes_are ∙ end_is (subtype_of r) d.sid is.seq d.sid (sum % d.asks.slots) is.end is.state (omega (arith, ends, few))
+data_ends : (r : Role) (slots sid count sum : ℕ) (bytes : List ℕ) → slots ≤ 256 → (is : IsData r slots sid count sum bytes) → end_of bytes ≡ is.end
+data_ends r slots sid count sum bytes few is =
+    let ends = is.ends in ap end_of is.bytes_are ∙ end_is (subtype_of r) sid is.seq sid (sum % slots) is.end is.state (omega (arith, ends, few))
 
-names_data : (r : Role) (d : Deal) (count sum : ℕ) (messages : List (List ℕ)) → d.asks.slots ≤ 256 → EachData r d count sum messages
-    → NameAll d.asks.slots sum (sum + sum_of r d messages) (filter (is_range (code_of r)) messages)
-names_data r d count sum [] few each = omega arith
-names_data r d count sum (bytes ∷ messages) few each =
-    let is = each.0 in
-    let rest = filter (is_range (code_of r)) messages in
-    let test : is_range (code_of r) bytes ≡ true = data_is r d count sum bytes is in
-    let spans : length_in d.asks.slots (range_if (is_range (code_of r) bytes) bytes) ≡ range_length d.asks.slots (start_of bytes) (end_of bytes) =
-    ap (λ (b : Bool). length_in d.asks.slots (range_if b bytes)) test in
-    let ends : end_of bytes ≡ is.end = data_ends r d count sum bytes few is in
-    subst (λ (b : Bool). NameAll d.asks.slots sum (sum + sum_of r d (bytes ∷ messages)) (cond b (bytes ∷ rest) rest)) (sym test) (
-      data_begins r d count sum bytes few is,
+not_one : (b : Bool) (bytes : List ℕ) → range_if b bytes ≡ None → b ≡ false
+not_one true bytes none = absurd (cc none)
+not_one false bytes none = refl
+
+apart_not : (k : ℕ) (bytes : List ℕ) → IsApart bytes → is_range k bytes ≡ false
+apart_not k bytes apart = not_one (is_range k bytes) bytes (other_envelope k bytes (λ is. absurd (omega (arith, is, apart))))
+
+-- one more message before those that are named, and before those whose seq go up
+one_named : (r : Role) (slots count sum most : ℕ) (bytes : List ℕ) (rest : List (List ℕ)) → slots ≤ 256 → IsEither r slots count sum bytes
+    → NameAll slots (sum + length_in slots (range_if (is_range (code_of r) bytes) bytes)) (sum + length_in slots (range_if (is_range (code_of r) bytes) bytes) + most) rest
+    → NameAll slots sum (sum + (length_in slots (range_if (is_range (code_of r) bytes) bytes) + most)) (cond (is_range (code_of r) bytes) (bytes ∷ rest) rest)
+one_named r slots count sum most bytes rest few (inl data_of) behind =
+    let is = data_of.2 in
+    let added = length_in slots (range_if (is_range (code_of r) bytes) bytes) in
+    let test : is_range (code_of r) bytes ≡ true = data_is r slots data_of.0 count sum bytes is in
+    let spans : added ≡ range_length slots (start_of bytes) (end_of bytes) = ap (λ (b : Bool). length_in slots (range_if b bytes)) test in
+    let ends : end_of bytes ≡ is.end = data_ends r slots data_of.0 count sum bytes few is in
+    subst (λ (b : Bool). NameAll slots sum (sum + (added + most)) (cond b (bytes ∷ rest) rest)) (sym test) (
+      data_begins r slots data_of.0 count sum bytes few is,
       omega (arith, ends, is.ends),
-      same_names d.asks.slots (sum + length_in d.asks.slots (range_if (is_range (code_of r) bytes) bytes)) (sum + range_length d.asks.slots (start_of bytes) (end_of bytes))
-          (sum + length_in d.asks.slots (range_if (is_range (code_of r) bytes) bytes) + sum_of r d messages) (sum + sum_of r d (bytes ∷ messages)) rest
-          (ap (λ (n : ℕ). sum + n) spans) (omega arith) (names_data r d (count + 1) (sum + length_in d.asks.slots (range_if (is_range (code_of r) bytes) bytes)) messages few each.1),
+      same_names slots (sum + added) (sum + range_length slots (start_of bytes) (end_of bytes)) (sum + added + most) (sum + (added + most)) rest
+          (ap (λ (n : ℕ). sum + n) spans) (omega arith) behind,
     )
+one_named r slots count sum most bytes rest few (inr apart) behind =
+    let added = length_in slots (range_if (is_range (code_of r) bytes) bytes) in
+    let test : is_range (code_of r) bytes ≡ false = apart_not (code_of r) bytes apart in
+    let none : added ≡ 0 = ap (λ (b : Bool). length_in slots (range_if b bytes)) test in
+    subst (λ (b : Bool). NameAll slots sum (sum + (added + most)) (cond b (bytes ∷ rest) rest)) (sym test)
+    (same_names slots (sum + added) sum (sum + added + most) (sum + (added + most)) rest (omega (arith, none)) (omega arith) behind)
+
+names_said : (r : Role) (slots count sum : ℕ) (messages : List (List ℕ)) → slots ≤ 256 → EachSaid r slots count sum messages
+    → NameAll slots sum (sum + range_sum slots (code_of r) messages) (filter (is_range (code_of r)) messages)
+names_said r slots count sum [] few each = omega arith
+names_said r slots count sum (bytes ∷ messages) few each =
+    one_named r slots count sum (range_sum slots (code_of r) messages) bytes (filter (is_range (code_of r)) messages) few each.0
+    (names_said r slots (count + one_in (range_if (is_range (code_of r) bytes) bytes)) (sum + length_in slots (range_if (is_range (code_of r) bytes) bytes)) messages few each.1)
 
 -- an INFO has the next seq
-seqs_data : (d : Deal) (count sum : ℕ) (messages : List (List ℕ)) → EachData Initiator d count sum messages → SeqsFrom (wrapped (count + 1)) (filter (is_range 1) messages)
-seqs_data d count sum [] each = tt
-seqs_data d count sum (bytes ∷ messages) each =
-    let is = each.0 in
-    let rest = filter (is_range 1) messages in
+one_next : (slots count sum : ℕ) (bytes : List ℕ) (rest : List (List ℕ)) → IsEither Initiator slots count sum bytes
+    → SeqsFrom (wrapped (count + one_in (range_if (is_range 1 bytes) bytes) + 1)) rest → SeqsFrom (wrapped (count + 1)) (cond (is_range 1 bytes) (bytes ∷ rest) rest)
+one_next slots count sum bytes rest (inl data_of) behind =
+    let is = data_of.2 in
     let number : is.seq ≡ wrapped (count + 1) = is.number in
-    let next : wrapped (count + 1 + 1) ≡ wrapped (wrapped (count + 1) + 1) = sym (wraps_more (wrapped (count + 1)) (count + 1) 1 refl) in
-    subst (λ (b : Bool). SeqsFrom (wrapped (count + 1)) (cond b (bytes ∷ rest) rest)) (sym (data_is Initiator d count sum bytes is)) (
-      ap seq_of is.bytes_are ∙ seq_is Info d.sid is.seq d.sid (sum % d.asks.slots) is.end is.state (omega (arith, number)) ∙ number,
-      subst (λ (n : ℕ). SeqsFrom n rest) next (seqs_data d (count + 1) _ messages each.1),
+    let test : is_range 1 bytes ≡ true = data_is Initiator slots data_of.0 count sum bytes is in
+    let one : one_in (range_if (is_range 1 bytes) bytes) ≡ 1 = ap (λ (b : Bool). one_in (range_if b bytes)) test in
+    let next : wrapped (count + one_in (range_if (is_range 1 bytes) bytes) + 1) ≡ wrapped (wrapped (count + 1) + 1) =
+    ap (λ (n : ℕ). wrapped (count + n + 1)) one ∙ sym (wraps_more (wrapped (count + 1)) (count + 1) 1 refl) in
+    subst (λ (b : Bool). SeqsFrom (wrapped (count + 1)) (cond b (bytes ∷ rest) rest)) (sym test) (
+      ap seq_of is.bytes_are ∙ seq_is Info data_of.0 is.seq data_of.0 (sum % slots) is.end is.state (omega (arith, number)) ∙ number,
+      subst (λ (n : ℕ). SeqsFrom n rest) next behind,
     )
+one_next slots count sum bytes rest (inr apart) behind =
+    let test : is_range 1 bytes ≡ false = apart_not 1 bytes apart in
+    let none : count + one_in (range_if (is_range 1 bytes) bytes) + 1 ≡ count + 1 = omega (arith, ap (λ (b : Bool). one_in (range_if b bytes)) test) in
+    subst (λ (b : Bool). SeqsFrom (wrapped (count + 1)) (cond b (bytes ∷ rest) rest)) (sym test) (subst (λ (n : ℕ). SeqsFrom (wrapped n) rest) none behind)
 
-peer_names : (shape : Shape) (sid : ℕ) (r : Role) (messages : List (List ℕ)) → shape.slots ≤ 256 → PeerSaid (deal shape sid 0) r messages
-    → NameAll shape.slots 0 (range_sum shape.slots (code_of r) messages) (filter (is_range (code_of r)) messages)
-peer_names shape sid r messages few peer =
-    let d = deal shape sid 0 in
-    let k = code_of r in
-    let all : 0 + sum_of r d peer.more ≡ range_sum shape.slots k messages =
-    omega (arith, ap (range_sum shape.slots k) peer.is, placed_sum d r peer.place shape.slots k peer.more (kind_of r)) in
-    subst (λ (xs : List (List ℕ)). NameAll shape.slots 0 (range_sum shape.slots k messages) xs) (sym (ap (filter (is_range k)) peer.is ∙ placed_ranges d r peer.place k peer.more (kind_of r)))
-    (same_names shape.slots 0 0 (0 + sum_of r d peer.more) (range_sum shape.slots k messages) (filter (is_range k) peer.more) refl all (names_data r d 0 0 peer.more few peer.are))
+seqs_said : (slots count sum : ℕ) (messages : List (List ℕ)) → EachSaid Initiator slots count sum messages → SeqsFrom (wrapped (count + 1)) (filter (is_range 1) messages)
+seqs_said slots count sum [] each = tt
+seqs_said slots count sum (bytes ∷ messages) each =
+    one_next slots count sum bytes (filter (is_range 1) messages) each.0
+    (seqs_said slots (count + one_in (range_if (is_range 1 bytes) bytes)) (sum + length_in slots (range_if (is_range 1 bytes) bytes)) messages each.1)
 
-peer_seqs : (shape : Shape) (sid : ℕ) (messages : List (List ℕ)) → PeerSaid (deal shape sid 0) Initiator messages → SeqsFrom 1 (filter (is_range 1) messages)
-peer_seqs shape sid messages peer =
-    subst (SeqsFrom 1) (sym (ap (filter (is_range 1)) peer.is ∙ placed_ranges (deal shape sid 0) Initiator peer.place 1 peer.more (inl refl))) (seqs_data (deal shape sid 0) 0 0 peer.more peer.are)
+all_named : (slots : ℕ) (r : Role) (messages : List (List ℕ)) → slots ≤ 256 → EachSaid r slots 0 0 messages
+    → NameAll slots 0 (range_sum slots (code_of r) messages) (filter (is_range (code_of r)) messages)
+all_named slots r messages few each =
+    same_names slots 0 0 (0 + range_sum slots (code_of r) messages) (range_sum slots (code_of r) messages) (filter (is_range (code_of r)) messages) refl (omega arith)
+    (names_said r slots 0 0 messages few each)
 
 -- BEHIND A FRONT the rest is named
 one_past : (slots subtype from to sum : ℕ) (b : Bool) (bytes : List ℕ) (rest behind : List (List ℕ)) → ((n : ℕ) → NameAll slots n to rest → NameAll slots (n + sum) to behind)
@@ -191,16 +205,12 @@ server_up : (shape : Shape) (events : List DiskEvent) (s : LaneState) → IsShap
 server_up shape events s sound run clean up_a now =
     let l = log_of after (nothing_yet shape) events in
     let knows : Knows s l = run_knows shape events s sound run in
-    let placed : LanePlaced shape s l.transcript = run_placed shape events s sound run clean in
-    let d = deal shape placed.sid 0 in
-    let at = (placed.client up_a).up (is_open_up Initiator (client_core s.client) l.transcript.client knows.rests.client now) in
     let clean_s : s.wire.forged ≡ false = ap (λ (w : WireLog). w.forged) knows.all.stands.wire ∙ clean in
     elim (up_or s.wire.wire.end_b) [
       | inl up ↦ up
       | inr not ↦
           let none : heard l.transcript.client ≡ [] = ap (λ (t : TranscriptLog). heard t.client) (transcript_is (nothing_yet shape) events) ∙ unheard_client shape events s sound run clean_s up_a not in
-          let never : [] ≡ said_at d Responder AllSaid ++ at.theirs = sym none ∙ at.heard_is ∙ ap (λ (n : Place). said_at d Responder n ++ at.theirs) (at.opens now) in
-          absurd (cc never)
+          absurd (open_heard Initiator (client_core s.client) l.transcript.client (record { stands = knows.rests.client.stands; rests = knows.rests.client.rests }) now none)
     ]
 
 -- ALL OF IT
@@ -217,13 +227,13 @@ on_the_way shape events s k sound run clean is up =
     let up_a : s.wire.wire.end_a ≡ Up = ap (λ (w : WireLog). w.wire.end_a) wire ∙ up in
     let now : is_some s.client.session ≡ true = client_some s.client.session l.work.done l.work.client k is knows.counted.client.agrees in
     let up_b : s.wire.wire.end_b ≡ Up = server_up shape events s sound run clean up_a now in
-    let placed : LanePlaced shape s l.transcript = run_placed shape events s sound run clean in
     let client = counted_client shape s l shape_is knows in
     let server = counted_server shape s l shape_is knows in
     let counts = same_ranges s.client.session l.work.done l.work.client k is client.agrees in
     let place : PlaceIs shape.slots s.server.session l.work.server l.transcript.server = place_is shape.slots s.server.session s.server.work l.work.server l.transcript.server server.order server.agrees in
-    let asks = client_said shape placed.sid s.client l.transcript.client knows.utters.client (placed.client up_a) in
-    let answers = server_said shape placed.sid s.server l.transcript.server knows.utters.server (placed.server up_b) in
+    let tells = they_tell shape events s sound run clean in
+    let asks : EachSaid Initiator shape.slots 0 0 (said l.transcript.client) = subst (λ (x : Shape). EachSaid Initiator x.slots 0 0 (said l.transcript.client)) shape_is tells.client in
+    let answers : EachSaid Responder shape.slots 0 0 (said l.transcript.server) = subst (λ (x : Shape). EachSaid Responder x.slots 0 0 (said l.transcript.server)) shape_is tells.server in
     let front_a : IsFront (heard l.transcript.client) (said l.transcript.server) =
     subst (λ (t : TranscriptLog). IsFront (heard t.client) (said t.server)) transcript (heard_messages shape events s A sound run clean_s up_a) in
     let front_b : IsFront (heard l.transcript.server) (said l.transcript.client) =
@@ -238,11 +248,11 @@ on_the_way shape events s k sound run clean is up =
       server_up = ap (λ (w : WireLog). w.wire.end_b) (sym wire) ∙ up_b;
       infos = subst (λ (x : Shape). NameAll x.slots (asked_by l.work.server) k.announced (ranges_behind 1 (said l.transcript.client) (heard l.transcript.server))) (sym shape_is)
           (behind_names shape.slots 1 (asked_by l.work.server) (range_sum shape.slots 1 (said l.transcript.client)) k.announced (heard l.transcript.server) (said l.transcript.client) front_b
-          (peer_names shape placed.sid Initiator (said l.transcript.client) sound.most_slots asks) place.asked (sym (counts.announced ∙ client.announced)));
-      seqs = behind_seqs (expected_by s.server.session) (heard l.transcript.server) (said l.transcript.client) front_b (peer_seqs shape placed.sid (said l.transcript.client) asks) place.seq;
+          (all_named shape.slots Initiator (said l.transcript.client) sound.most_slots asks) place.asked (sym (counts.announced ∙ client.announced)));
+      seqs = behind_seqs (expected_by s.server.session) (heard l.transcript.server) (said l.transcript.client) front_b (seqs_said shape.slots 0 0 (said l.transcript.client) asks) place.seq;
       acks = subst (λ (x : Shape). NameAll x.slots k.acked (answered_by l.work.server) (ranges_behind 2 (said l.transcript.server) (heard l.transcript.client))) (sym shape_is)
           (behind_names shape.slots 2 k.acked (range_sum shape.slots 2 (said l.transcript.server)) (answered_by l.work.server) (heard l.transcript.client) (said l.transcript.server) front_a
-          (peer_names shape placed.sid Responder (said l.transcript.server) sound.most_slots answers) (sym (counts.acked ∙ client.acked)) place.answered);
+          (all_named shape.slots Responder (said l.transcript.server) sound.most_slots answers) (sym (counts.acked ∙ client.acked)) place.answered);
       to_server = subst (λ (w : WireLog). WaitsOrLost (numbered_said l.transcript.client) (numbered_heard l.transcript.server) (numbered w.wire.to_b) w.lossy) wire
           (subst (λ (t : TranscriptLog). WaitsOrLost (numbered_said t.client) (numbered_heard t.server) (numbered s.wire.wire.to_b) s.wire.lossy) transcript to_b);
       to_client = subst (λ (w : WireLog). WaitsOrLost (numbered_said l.transcript.server) (numbered_heard l.transcript.client) (numbered w.wire.to_a) w.lossy) wire

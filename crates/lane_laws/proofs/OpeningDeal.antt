@@ -1,4 +1,4 @@
--- The deal that the ends of a disk's lane make: their offers match, and the messages are of their fields' widths.
+-- The offers of a disk's lane match, and their numbers are of their fields' widths.
 use Rattle.std.proofs.Common.{◌≡◌, ℕ, zero, suc, ◌+◌, ◌*◌, ◌%◌, ◌^◌, ◌<◌, ◌≤◌, Bool, true, false, List, [], ◌∷◌, length, refl, sym, ap, subst, arith, nat_le}
 use Rattle.std.specs.Prelude.{if◌then◌else◌}
 use Rattle.std.proofs.lemmas.Bool.Decides.{nat_tests}
@@ -8,20 +8,13 @@ use Rattle.map_table.proofs.Each.{each_replicate}
 use Rattle.vdisk_msg.specs.Requested.{ring_pages}
 use Rattle.vio_tag.proofs.AttributeBytes.{disk_attr_reads_back}
 use Rattle.vio_tag.specs.declared.attributes.DiskAttr.{DiskAttr}
-use Rattle.vio_tag.specs.Form.{HasWidths, IsWellFormed}
 use Rattle.vio_handshake.specs.Acceptance.{are_aligned, hold_ring, sizes}
 use Rattle.vio_handshake.specs.Attributes.{blocks_of}
-use Rattle.vio_handshake.specs.Offers.{FitsRing}
-use Rattle.vio_handshake.proofs.MessageWidths.{OfferHasWidths, message_has_widths, message_is_well_formed}
-use Rattle.vio_handshake.proofs.PlaceRows.{Fits}
-use Rattle.vio_handshake.proofs.Places.{Deal, Place, message_at}
-use Rattle.disk_model.specs.LaneState.{Shape}
+use Rattle.vio_handshake.specs.Offers.{FitsRing, Match}
 use Rattle.channel_model.specs.OwnMemory.{page_cookies}
 use Rattle.disk_model.specs.Offering.{client_offer, disk_of, own_cookies, server_offer}
+use Rattle.channel_laws.specs.LaneCore.{OfferFits}
 use Rattle.lane_laws.proofs.OfferedRing.{cookies_are, few_cookies, filled_front, filled_long, offered_form}
-
-abbrev pub deal : Shape → ℕ → ℕ → Deal
-deal shape sid last = record { asks = client_offer shape.blocks shape.slots; answers = server_offer shape.blocks shape.slots; sid = sid; last = last }
 
 -- THE RING is aligned, and its cookies hold it
 aligned_pages : (page n : ℕ) → are_aligned (page_cookies page n) ≡ true
@@ -75,17 +68,16 @@ blocks_back blocks slots few =
       physical = omega arith;
     }))
 
-pub deal_fits : (shape : Shape) (sid last : ℕ) → 1 ≤ shape.slots → shape.slots ≤ 256 → shape.blocks < 2 ^ 64 → Fits false (deal shape sid last)
-deal_fits shape sid last some few blocks = record {
+pub offers_match : (blocks slots : ℕ) → 1 ≤ slots → slots ≤ 256 → blocks < 2 ^ 64 → Match (client_offer blocks slots) (server_offer blocks slots)
+offers_match blocks slots some few most = record {
   kind = refl;
-  peer_kind = refl;
-  ring = fits_ring shape.blocks shape.slots some few;
-  device = (refl, subst (λ (n : ℕ). n < 2 ^ 64) (sym (blocks_back shape.blocks shape.slots blocks)) blocks);
+  ring = fits_ring blocks slots some few;
+  device = (refl, subst (λ (n : ℕ). n < 2 ^ 64) (sym (blocks_back blocks slots most)) most);
 }
 
--- THE MESSAGES
-pub client_widths : (blocks slots : ℕ) → slots ≤ 256 → OfferHasWidths (client_offer blocks slots)
-client_widths blocks slots few = record {
+-- THE NUMBERS are of their fields' widths
+pub client_fits : (blocks slots : ℕ) → slots ≤ 256 → OfferFits (client_offer blocks slots)
+client_fits blocks slots few = record {
   minor = omega arith;
   class = omega arith;
   slots = omega (arith, few);
@@ -95,8 +87,8 @@ client_widths blocks slots few = record {
   form = offered_form blocks slots few;
 }
 
-pub server_widths : (blocks slots : ℕ) → OfferHasWidths (server_offer blocks slots)
-server_widths blocks slots = record {
+pub server_fits : (blocks slots : ℕ) → OfferFits (server_offer blocks slots)
+server_fits blocks slots = record {
   minor = omega arith;
   class = omega arith;
   slots = omega arith;
@@ -105,9 +97,3 @@ server_widths blocks slots = record {
   cookies = each_replicate IsCookie 14 no_cookie (record { address = omega arith; size = omega arith });
   form = record { most = omega arith; none = refl };
 }
-
-pub place_widths : (shape : Shape) (sid last : ℕ) (n : Place) → shape.slots ≤ 256 → sid < 2 ^ 32 → HasWidths (message_at (deal shape sid last) n)
-place_widths shape sid last n few small = message_has_widths (deal shape sid last) n (client_widths shape.blocks shape.slots few) (server_widths shape.blocks shape.slots) small
-
-pub place_form : (shape : Shape) (sid last : ℕ) (n : Place) → shape.slots ≤ 256 → IsWellFormed (message_at (deal shape sid last) n)
-place_form shape sid last n few = message_is_well_formed (deal shape sid last) n (client_widths shape.blocks shape.slots few) (server_widths shape.blocks shape.slots)

@@ -35,7 +35,8 @@ use Rattle.lane_laws.proofs.ClientMoves.{client_refuses}
 use Rattle.lane_laws.proofs.LaneChannel.{OnLane, answers_of, asks_of, lane_matches, lane_meets, lane_meets_other, transcript_in}
 use Rattle.lane_laws.proofs.Ruling.{client_may, server_may}
 use Rattle.lane_laws.proofs.ServerMoves.{server_refuses}
-use Rattle.lane_laws.proofs.WholeHeard.{link_hears, with_whole}
+use Rattle.channel_laws.proofs.EndCases.{link_hears}
+use Rattle.channel_laws.proofs.TurnCases.{with_whole}
 use Rattle.lane_laws.specs.ChannelEnds.{core_of}
 use Rattle.lane_laws.specs.RuleFacts.{ClientMay, ServerMay}
 
@@ -115,7 +116,7 @@ client_packet shape events s packet cause sound run clean rule takes =
       is = one.1;
       message = message;
       next = next_of sides packet message (with_whole k.whole (heard sides.mine.turns)) (hears_next Initiator sides packet k on.meets.converse may.0 may.1 on.stand.mine.link.follows took)
-          (link_hears s.client.link k sides.mine.turns packet on.stand.mine.link.seen on.stand.mine.link.follows took).messages
+          (link_hears s.client.link k sides.mine.turns packet on.stand.mine.link.seen on.stand.mine.link.follows took).on.messages
           (ap (λ (w : Option (List ℕ)). with_whole w (heard sides.mine.turns)) is);
       link = k;
       hears = hears;
@@ -159,7 +160,7 @@ server_packet shape events s packet cause sound run clean rule takes =
       is = one.1;
       message = message;
       next = next_of sides packet message (with_whole k.whole (heard sides.mine.turns)) (hears_next Responder sides packet k on.meets.converse may.0 may.1 on.stand.mine.link.follows took)
-          (link_hears s.server.link k sides.mine.turns packet on.stand.mine.link.seen on.stand.mine.link.follows took).messages
+          (link_hears s.server.link k sides.mine.turns packet on.stand.mine.link.seen on.stand.mine.link.follows took).on.messages
           (ap (λ (w : Option (List ℕ)). with_whole w (heard sides.mine.turns)) is);
       link = k;
       hears = hears;

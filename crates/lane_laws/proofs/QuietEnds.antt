@@ -15,11 +15,7 @@ use Rattle.disk_model.specs.DiskEvent.{DiskEvent}
 use Rattle.disk_model.specs.LaneState.{IsShape, LaneState, Shape, fresh}
 use Rattle.disk_model.specs.LaneStep.{LaneStep}
 use Rattle.disk_model.specs.ServerRule as server_rules
-use Rattle.lane_laws.proofs.EndPlaced.{AtPlace}
 use Rattle.lane_laws.proofs.LaneCounting.{Knows}
-use Rattle.lane_laws.proofs.LanePlacing.{LanePlaced}
-use Rattle.lane_laws.proofs.OpeningDeal.{deal}
-use Rattle.lane_laws.proofs.PlacesAlong.{run_placed}
 use Rattle.lane_laws.proofs.Ruling.{client_may, server_may}
 use Rattle.lane_laws.specs.Counted.{acked_of, announced_of, range_sum}
 use Rattle.lane_laws.specs.RuleFacts.{ClientMay, ServerMay}
@@ -27,8 +23,10 @@ use Rattle.lane_laws.proofs.Counting.{OfClient, OfServer, of_client, of_server}
 use Rattle.lane_laws.proofs.HeardAll.{BothQuiet, HeardAll, heard_all}
 use Rattle.lane_laws.proofs.IdleLaw.{idle_client, idle_server, none_waits}
 use Rattle.lane_laws.proofs.IdleRules.{ClientIdles, ServerIdles, client_idles, server_idles}
-use Rattle.lane_laws.proofs.LaneChannel.{lane_meets}
-use Rattle.lane_laws.proofs.QuietPlaces.{both_said_all}
+use Rattle.lane_laws.proofs.LaneChannel.{answers_of, asks_of, lane_meets}
+use Rattle.lane_laws.specs.ChannelEnds.{client_core, server_core}
+use Rattle.channel_laws.proofs.HandshakePlaces.{deal, place_open}
+use Rattle.channel_laws.proofs.WhoseTurn.{both_done}
 use Rattle.lane_laws.proofs.WorkNumbers.{Grounded, at_client, at_server, order_of}
 
 -- TWO ENDS AT REST: resting is the next step of each
@@ -91,11 +89,11 @@ quiet_ends shape events s sound run clean whole grounded rest =
     let knows : Knows s l = grounded.knows in
     let on = lane_meets shape events s sound run clean in
     let all : HeardAll s l.transcript = heard_all s l.transcript quiet on.meets.converse on.meets.links in
-    let placed : LanePlaced shape s l.transcript = run_placed shape events s sound run (sym (ap (λ (w : WireLog). w.forged) knows.all.stands.wire) ∙ clean) in
-    let at : AtPlace (deal shape placed.sid 0) Initiator s.client.handshake (is_some s.client.session) l.transcript.client = (placed.client quiet.up_a).up all.client_up in
-    let there : AtPlace (deal shape placed.sid 0) Responder s.server.handshake (is_some s.server.session) l.transcript.server = (placed.server quiet.up_b).up all.server_up in
-    let places = both_said_all shape placed.sid s.client.handshake s.server.handshake (is_some s.client.session) (is_some s.server.session) l.transcript.client l.transcript.server at there
+    let d = deal (asks_of shape) (answers_of shape) on.meets.handshakes.sid in
+    let at = on.meets.handshakes.mine quiet.up_a all.client_up in
+    let there = on.meets.handshakes.theirs quiet.up_b all.server_up in
+    let places = both_done false d s.client.handshake s.server.handshake l.transcript.client l.transcript.server at there
     (client_idles s.client (at_client s) rest.client).rests.rests.owed (server_idles s.server (at_server s) rest.server).owed all.to_server all.to_client in
-    let client_open : is_some s.client.session ≡ true = at.opened places.0 in
-    let server_open : is_some s.server.session ≡ true = there.opened places.1 in
+    let client_open : is_some s.client.session ≡ true = place_open false d Initiator (client_core s.client) l.transcript.client on.stand.mine at places.0 in
+    let server_open : is_some s.server.session ≡ true = place_open false d Responder (server_core s.server) l.transcript.server on.stand.theirs there places.1 in
     record { at_rest = finished_all s l grounded rest all client_open server_open; client = client_open; server = server_open }

@@ -61,7 +61,7 @@ use Rattle.lane_laws.specs.LaneRests.{ServerRests}
 use Rattle.lane_laws.specs.Sound.{ClientSound, InOrder}
 use Rattle.lane_laws.proofs.Counting.{OfClient, OfServer, of_client, of_server, slot_of_count}
 
-order_in : (slots : ℕ) (o : Option ServerSession) (session : ServerSession) (d : Option ServerCounts) (c : ServerCounts) (turns : List Turn) → o ≡ Some session → d ≡ Some c
+pub order_in : (slots : ℕ) (o : Option ServerSession) (session : ServerSession) (d : Option ServerCounts) (c : ServerCounts) (turns : List Turn) → o ≡ Some session → d ≡ Some c
     → ServerOrder slots o d turns → InServerOrder slots session c turns
 order_in slots o session d c turns is counts order =
     subst (λ (e : Option ServerCounts). ServerOrder slots (Some session) e turns) counts (subst (λ (p : Option ServerSession). ServerOrder slots p d turns) is order)

@@ -29,7 +29,7 @@ use Rattle.disk_model.specs.ClientState.{ClientSession, ClientState, slot_in}
 use Rattle.disk_model.specs.ClientTaking as hear
 use Rattle.channel_model.specs.Ranges.{is_other, range_length}
 use Rattle.channel_model.specs.Seeing.{Seen}
-use Rattle.lane_laws.proofs.Hearing.{heard_leaves}
+use Rattle.channel_laws.proofs.EndStanding.{heard_leaves}
 use Rattle.lane_laws.proofs.RemainingRows.{FewerBy, take_fewer}
 use Rattle.lane_laws.proofs.RemainingSums.{held_more}
 use Rattle.lane_laws.specs.LinkMoves.{IsAsking}
@@ -288,7 +288,7 @@ by_link s t bytes (Heard m) asking none turn takes hears =
     let few = heard_few s.link m bytes asking takes in
     let heard : ClientHears (record s { link = m }) t = by_whole (record s { link = m }) t m.whole (known_whole s.link m turn.whole few.1) none turn.one_ring turn.owed hears in
     let sends : held_left (is_announcing s.session) m.to_send s.handshake.owed ≡ held_left (is_announcing s.session) s.link.to_send s.handshake.owed =
-    ap (λ (xs : List ℕ). held_left (is_announcing s.session) xs s.handshake.owed) (heard_leaves s.link m bytes takes).0 in
+    ap (λ (xs : List ℕ). held_left (is_announcing s.session) xs s.handshake.owed) (heard_leaves s.link m bytes takes).left in
     record {
       packets = omega (arith, heard.packets, few.0 (later s.handshake.role s.handshake.phase), sends);
       pending = heard.pending;

@@ -20,7 +20,7 @@ use Rattle.channel_model.specs.Ranges.{wrapped}
 use Rattle.lane_laws.proofs.RemainingHandshake.{range_part, sent_left, up_left}
 use Rattle.lane_laws.proofs.RemainingSums.{held_empty, held_more, held_other, held_own, held_part, part_less, some_part}
 use Rattle.lane_laws.proofs.Sharing.{nothing, some_left}
-use Rattle.lane_laws.proofs.Short.{some_bytes}
+use Rattle.channel_laws.proofs.Short.{some_bytes}
 use Rattle.lane_laws.specs.LinkMoves.{IsAsking}
 use Rattle.lane_laws.specs.Remaining.{client_left, client_packets, client_puts, client_sum, held_left, later, parts, parts_owed}
 use Rattle.lane_laws.specs.Sound.{ClientSound, CountsInOrder}

@@ -11,7 +11,7 @@ use Rattle.vio_handshake.specs.declared.handshake.Phase.TheVariants.{Open, OwnRe
 use Rattle.vio_handshake.specs.Messages.{ack, info, own_ring}
 use Rattle.vio_handshake.specs.Rules.{put_in, handshake_sent}
 use Rattle.vio_handshake.specs.State.{begun, joined_handshake, next_sid, handshake_up}
-use Rattle.lane_laws.proofs.Short.{short_within}
+use Rattle.channel_laws.proofs.Short.{short_within}
 use Rattle.lane_laws.specs.Remaining.{later, parts, parts_owed}
 use Rattle.lane_laws.specs.Sound.{OwesShort}
 

@@ -24,7 +24,7 @@ use Rattle.lane_laws.proofs.RemainingSums.{answers_empty, answers_more, answers_
 use Rattle.lane_laws.proofs.Ruling.{server_may}
 use Rattle.lane_laws.proofs.ServerSpeaking.{range_few, server_held}
 use Rattle.lane_laws.proofs.Sharing.{nothing, some_left}
-use Rattle.lane_laws.proofs.Short.{some_bytes}
+use Rattle.channel_laws.proofs.Short.{some_bytes}
 use Rattle.lane_laws.specs.Budget.{one_range, range_left}
 use Rattle.lane_laws.specs.Remaining.{answers_held, asked_in, later, parts, parts_owed, server_left, server_packets, server_puts, serving_left}
 use Rattle.lane_laws.specs.RuleFacts.{ServerMay, ServerSays}

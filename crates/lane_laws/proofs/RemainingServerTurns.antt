@@ -26,7 +26,7 @@ use Rattle.channel_model.specs.Seeing.{Seen}
 use Rattle.disk_model.specs.ServerRule.{Takes, server_rule}
 use Rattle.disk_model.specs.ServerState.{ServerSession, ServerState, SlotRange, Work, opened_server}
 use Rattle.disk_model.specs.ServerTaking as hear
-use Rattle.lane_laws.proofs.Hearing.{heard_leaves}
+use Rattle.channel_laws.proofs.EndStanding.{heard_leaves}
 use Rattle.lane_laws.proofs.RemainingRows.{FewerBy, take_fewer}
 use Rattle.lane_laws.proofs.RemainingServerHears.{Comes, Quiet, established, heard_few, quiet_takes}
 use Rattle.lane_laws.proofs.RemainingHandshake.{up_left}
@@ -249,7 +249,7 @@ by_link most s u packet opens (Heard m) quiet turn takes hears =
     let owed : x.handshake.owed ≡ None = risen_owed b s.handshake turn.role quiet.owed in
     let puts = risen_packets b s.link m s.handshake (few.0 (turn.link m takes)) refl in
     let answers : answers_held m.to_send x.handshake.owed (range_left s.session) ≡ answers_held s.link.to_send s.handshake.owed (range_left s.session) =
-    ap (λ (xs : List ℕ). answers_held xs x.handshake.owed (range_left s.session)) (heard_leaves s.link m packet takes).0
+    ap (λ (xs : List ℕ). answers_held xs x.handshake.owed (range_left s.session)) (heard_leaves s.link m packet takes).left
     ∙ ap (λ (o : Option Message). answers_held s.link.to_send o (range_left s.session)) (owed ∙ sym quiet.owed) in
     onto most s x u (omega (arith, puts, answers)) refl refl
     (by_whole most x u opens m.whole (known_whole s.link m turn.whole few.1)

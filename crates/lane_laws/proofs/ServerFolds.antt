@@ -33,14 +33,14 @@ use Rattle.lane_laws.proofs.EndPutting.{PutSays}
 use Rattle.lane_laws.proofs.Awake.{is_awake, is_open_up}
 use Rattle.lane_laws.proofs.HandshakesFold.{LinkTook, answerer_up, heard_none, heard_rdx, heard_some, hears_message, hears_part, hears_rdx, last_is, moves_to, puts_message, puts_part, puts_rdx, said_none, said_some, stays_by_range}
 use Rattle.lane_laws.proofs.HandshakesOpen.{no_data}
-use Rattle.lane_laws.proofs.LinkKept.{SameSending}
+use Rattle.channel_laws.proofs.EndStanding.{SameSending}
 use Rattle.lane_laws.proofs.PhasesFold.{comes}
 use Rattle.lane_laws.proofs.RangesSaid.{heard_no_range, is_data, owed_no_range, range_is}
 use Rattle.lane_laws.proofs.RulesFree.{AnswersFree, ServerFree, TakesFree, server_free}
 use Rattle.lane_laws.proofs.ServerCounting.{opens_new}
 use Rattle.lane_laws.proofs.ServerPutCounting.{put_as, some_owed, the_answer}
 use Rattle.lane_laws.proofs.ServerTaken.{ServerAsked, ServerHandshakes, ServerHearsPart, ServerTook, opened_or}
-use Rattle.lane_laws.proofs.Short.{some_bytes}
+use Rattle.channel_laws.proofs.Short.{some_bytes}
 use Rattle.lane_laws.specs.Counted.{HoldsAnswer, HoldsOwed, ServerHolds}
 use Rattle.lane_laws.specs.HandshakeFits.{Fits, MayOwe, OwedFits}
 use Rattle.lane_laws.specs.LaneRests.{ServerRests, ServerUtters}

@@ -19,8 +19,9 @@ use Rattle.channel_model.specs.EndPuts.{handshake_risen}
 use Rattle.channel_model.specs.Ranges.{is_other}
 use Rattle.disk_model.specs.ServerState.{ServerSession, ServerState, SlotRange}
 use Rattle.disk_model.specs.ServerTaking.{GoesOn, HearsLink, HearsWhole, Resets, ServerTake, ServerTakes, asked, by_handshake, hears_message, in_session, place_of, reads, sid_first, takes_info}
-use Rattle.lane_laws.proofs.Hearing.{heard_leaves}
-use Rattle.lane_laws.proofs.Short.{ComesShort, TakesShort, message_comes, take_short, up_short}
+use Rattle.channel_laws.proofs.EndStanding.{heard_leaves}
+use Rattle.channel_laws.proofs.Short.{ComesShort, message_comes}
+use Rattle.lane_laws.proofs.Short.{TakesShort, take_short, up_short}
 use Rattle.lane_laws.specs.LinkMoves.{SameTranscript, TakesOne}
 use Rattle.lane_laws.specs.Sound.{OwesShort, ServerSound}
 
@@ -103,8 +104,8 @@ pub record ServerTook (s : ServerState) (packet : List ℕ) (t : ServerState) : 
 
 taken_sound : (s : ServerState) (packet : List ℕ) (m : LinkState) (t : ServerState) → ServerSound s → TakesBytes s.link packet (Heard m) → TakenBy m t → ServerSound t
 taken_sound s packet m t sound takes taken =
-    let long : length t.link.to_send ≡ length s.link.to_send = ap length (taken.sends ∙ (heard_leaves s.link m packet takes).0) in
-    record { role = taken.role ∙ (heard_leaves s.link m packet takes).1 ∙ sound.role; short = taken.short; held = omega (arith, long, sound.held) }
+    let long : length t.link.to_send ≡ length s.link.to_send = ap length (taken.sends ∙ (heard_leaves s.link m packet takes).left) in
+    record { role = taken.role ∙ (heard_leaves s.link m packet takes).role ∙ sound.role; short = taken.short; held = omega (arith, long, sound.held) }
 
 pub server_takes : (s : ServerState) (packet : List ℕ) (t : ServerState) (opens : Bool) → ServerSound s → ServerTakes s packet (GoesOn t opens) → ServerTook s packet t
 server_takes s packet t opens sound takes =

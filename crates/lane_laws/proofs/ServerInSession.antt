@@ -16,7 +16,7 @@ use Rattle.vio_tag.specs.declared.cause.Cause.{Cause}
 use Rattle.vio_tag.specs.declared.cause.Cause.TheVariants as the_cause
 use Rattle.vio_tag.specs.declared.message.Message.{Message}
 use Rattle.vio_tag.specs.Spelling.{SpellsMessage}
-use Rattle.vio_handshake.proofs.Places.{AllSaid, Place, handshake_at}
+use Rattle.vio_handshake.proofs.Places.{AllSaid, Deal, Place, handshake_at}
 use Rattle.vio_handshake.specs.declared.handshake.Handshake.{Handshake}
 use Rattle.channel_model.specs.Sayings.{heard, said}
 use Rattle.channel_model.specs.WireLog.{WireLog}
@@ -29,21 +29,19 @@ use Rattle.disk_model.specs.LaneStep.{LaneStep}
 use Rattle.channel_model.specs.Ranges.{is_other, wrapped}
 use Rattle.disk_model.specs.ServerState.{ServerSession, ServerState, SlotRange}
 use Rattle.disk_model.specs.ServerTaking.{GoesOn, HearsWhole, Resets, ServerTake, asked, hears_message, place_of, reads, sid_first, takes_info}
+use Rattle.channel_laws.proofs.EndStanding.{open_up}
+use Rattle.channel_laws.proofs.HandshakePlaces.{AtPlace, deal, open_place}
+use Rattle.channel_laws.specs.Sides.{sides_of, swapped}
 use Rattle.lane_laws.proofs.Agreeing.{asked_within}
-use Rattle.lane_laws.proofs.ClientInSession.{no_fault, same_is, shape_of}
+use Rattle.lane_laws.proofs.ClientInSession.{no_fault, same_is}
 use Rattle.lane_laws.proofs.DataHeard.{data_spells, decodes_to, read_data, seq_reads}
-use Rattle.lane_laws.proofs.EndHearing.{hears_data}
-use Rattle.lane_laws.proofs.Awake.{is_open_up}
-use Rattle.lane_laws.proofs.EndPlaced.{AtPlace, IsData, sum_of}
-use Rattle.lane_laws.proofs.LaneCounting.{Knows, run_knows}
-use Rattle.lane_laws.proofs.LanePlaces.{counted_server}
-use Rattle.lane_laws.proofs.LanePlacing.{LanePlaced, client_said}
-use Rattle.lane_laws.proofs.OpeningDeal.{deal}
-use Rattle.lane_laws.proofs.PlacedSums.{placed_count, placed_sum}
-use Rattle.lane_laws.proofs.PlacesAlong.{run_placed}
+use Rattle.lane_laws.proofs.LaneCounting.{Knows, counted_server, run_knows}
+use Rattle.lane_laws.proofs.LaneChannel.{answers_of, asks_of, lane_meets_other}
+use Rattle.lane_laws.proofs.LaneCores.{shape_of}
+use Rattle.lane_laws.proofs.RangesTold.{EachSaid, IsData, next_data, they_tell}
 use Rattle.lane_laws.proofs.ServerTaken.{still}
 use Rattle.lane_laws.specs.Counted.{ServerOrder, range_count, range_sum}
-use Rattle.lane_laws.specs.ChannelEnds.{server_core}
+use Rattle.lane_laws.specs.ChannelEnds.{core_of, server_core}
 
 -- IT TAKES an INFO that names the ring of the session, has the next number, and begins where the range before ended
 past : (b : Bool) (x y : ServerTake) → b ≡ false → (if b then x else y) ≡ y
@@ -97,29 +95,26 @@ number_of slots (Some s) None turns session is order = absurd order
 number_of slots (Some s) (Some c) turns session is order = let same : s ≡ session = cc is in ap (λ (x : ServerSession). x.seq) (sym same) ∙ order.seq
 
 -- the next range of the client is one that the server takes
-info_fits : (shape : Shape) (sid : ℕ) (v : ServerState) (session : ServerSession) (turns : List Turn) (bytes : List ℕ)
-    → (at : AtPlace (deal shape sid 0) Responder v.handshake (is_some v.session) turns) → at.place ≡ AllSaid → shape.slots ≤ 256 → sid < 2 ^ 32
+info_fits : (shape : Shape) (d : Deal) (v : ServerState) (session : ServerSession) (turns : List Turn) (bytes : List ℕ)
+    → (at : AtPlace false d Responder v.handshake turns) → at.place ≡ AllSaid → d.asks.slots ≡ shape.slots → shape.slots ≤ 256 → d.sid < 2 ^ 32
     → session.seq ≡ wrapped (range_count 1 (heard turns) + 1) → session.asked ≡ range_sum shape.slots 1 (heard turns)
-    → (is : IsData Initiator (deal shape sid 0) (length at.theirs) (sum_of Initiator (deal shape sid 0) at.theirs) bytes)
-    → InfoFits v session sid sid (range_read (sum_of Initiator (deal shape sid 0) at.theirs % shape.slots) is.end bytes)
-info_fits shape sid v session turns bytes at last few small number asked_is is =
-    let d = deal shape sid 0 in
-    let sum = sum_of Initiator d at.theirs in
-    let same : session.asked ≡ sum = asked_is ∙ ap (range_sum shape.slots 1) at.heard_is ∙ placed_sum d Initiator at.place shape.slots 1 at.theirs (inl refl) in
-    let count : range_count 1 (heard turns) ≡ length at.theirs = ap (range_count 1) at.heard_is ∙ placed_count d Initiator at.place at.theirs at.theirs_are in
+    → (is : IsData Initiator shape.slots d.sid (range_count 1 (heard turns)) (range_sum shape.slots 1 (heard turns)) bytes)
+    → InfoFits v session d.sid d.sid (range_read (range_sum shape.slots 1 (heard turns) % shape.slots) is.end bytes)
+info_fits shape d v session turns bytes at last offered few small number same is =
+    let sum = range_sum shape.slots 1 (heard turns) in
     let ends = is.ends in
     let next = is.number in
     let start_small : sum % shape.slots < 2 ^ 32 = omega (arith, mod_below sum shape.slots (omega (arith, ends)), few) in
     let end_small : is.end < 2 ^ 32 = omega (arith, ends, few) in
     let fits : is.seq < 2 ^ 64 = omega (arith, next) in
     let read : number_at 8 8 bytes ≡ is.seq =
-    ap (number_at 8 8) is.bytes_are ∙ seq_reads Info sid is.seq sid (sum % shape.slots) is.end is.state small fits (omega (arith, small)) start_small end_small in
+    ap (number_at 8 8) is.bytes_are ∙ seq_reads Info d.sid is.seq d.sid (sum % shape.slots) is.end is.state small fits (omega (arith, small)) start_small end_small in
     let slots : v.handshake.draft.peer_slots ≡ shape.slots =
-    ap (λ (h : Handshake). h.draft.peer_slots) at.handshake_is ∙ ap (λ (n : Place). (handshake_at false d Responder n).draft.peer_slots) last in
+    ap (λ (h : Handshake). h.draft.peer_slots) at.is ∙ ap (λ (n : Place). (handshake_at false d Responder n).draft.peer_slots) last ∙ offered in
     record {
-      sid = ap (λ (h : Handshake). h.sid) at.handshake_is ∙ ap (λ (n : Place). (handshake_at false d Responder n).sid) last;
-      named = ap (λ (h : Handshake). h.draft.ident_peer) at.handshake_is ∙ ap (λ (n : Place). (handshake_at false d Responder n).draft.ident_peer) last;
-      number = number ∙ ap (λ (x : ℕ). wrapped (x + 1)) count ∙ sym next ∙ sym read;
+      sid = ap (λ (h : Handshake). h.sid) at.is ∙ ap (λ (n : Place). (handshake_at false d Responder n).sid) last;
+      named = ap (λ (h : Handshake). h.draft.ident_peer) at.is ∙ ap (λ (n : Place). (handshake_at false d Responder n).draft.ident_peer) last;
+      number = number ∙ sym next ∙ sym read;
       begins = ap (λ (n : ℕ). session.asked % n) slots ∙ ap (λ (x : ℕ). x % shape.slots) same;
       ends = omega (arith, ends, slots);
     }
@@ -133,25 +128,27 @@ server_hears_in_session shape events s session k bytes take sound run clean open
     let l = log_of after (nothing_yet shape) events in
     let knows : Knows s l = run_knows shape events s sound run in
     let shape_is : l.shape ≡ shape = shape_of (nothing_yet shape) events in
-    let placed : LanePlaced shape s l.transcript = run_placed shape events s sound run clean in
-    let sid = placed.sid in
-    let d = deal shape sid 0 in
-    let open_one : is_some s.server.session ≡ true = ap is_some open_is in
-    let link : is_up s.server.link ≡ true = is_open_up Responder (server_core s.server) l.transcript.server knows.rests.server open_one in
-    let at = (placed.server up_b).up link in
-    let last : at.place ≡ AllSaid = at.opens open_one in
-    let peer = client_said shape sid s.client l.transcript.client knows.utters.client (placed.client up_a) in
-    let is : IsData Initiator d (length at.theirs) (sum_of Initiator d at.theirs) bytes =
-    hears_data d Responder s.server.handshake (is_some s.server.session) l.transcript.server (said l.transcript.client) bytes at last peer front in
     let clean_s : s.wire.forged ≡ false = ap (λ (w : WireLog). w.forged) knows.all.stands.wire ∙ clean in
+    let on = lane_meets_other shape events s sound run clean_s in
+    let sid = on.meets.handshakes.sid in
+    let d = deal (asks_of shape) (answers_of shape) sid in
+    let open_one : is_some s.server.session ≡ true = ap is_some open_is in
+    let link : is_up s.server.link ≡ true = open_up Responder (server_core s.server) l.transcript.server on.stand.mine open_one in
+    let at = on.meets.handshakes.mine up_b link in
+    let last : at.place ≡ AllSaid = open_place false d Responder (server_core s.server) l.transcript.server on.stand.mine at open_one in
+    let tells : EachSaid Initiator shape.slots 0 0 (said l.transcript.client) =
+    subst (λ (x : Shape). EachSaid Initiator x.slots 0 0 (said l.transcript.client)) shape_is (they_tell shape events s sound run clean).client in
+    let sum = range_sum shape.slots 1 (heard l.transcript.server) in
+    let is : IsData Initiator shape.slots sid (range_count 1 (heard l.transcript.server)) sum bytes =
+    next_data shape Responder (swapped (sides_of (core_of s) l.transcript)) bytes on up_b open_one up_a front tells in
     let asked_is : session.asked ≡ range_sum shape.slots 1 (heard l.transcript.server) =
     (asked_within shape events s session sound run clean_s up_b open_is).asked ∙ ap (λ (x : Shape). range_sum x.slots 1 (heard l.transcript.server)) shape_is in
     let number = number_of shape.slots s.server.session l.work.server l.transcript.server session open_is (counted_server shape s l shape_is knows).order in
-    let fits = info_fits shape sid s.server session l.transcript.server bytes at last sound.most_slots placed.small number asked_is is in
-    let start = sum_of Initiator d at.theirs % shape.slots in
+    let fits = info_fits shape d s.server session l.transcript.server bytes at last refl sound.most_slots on.meets.handshakes.small number asked_is is in
+    let start = sum % shape.slots in
     let ends = is.ends in
-    let small = placed.small in
-    let below : start < 2 ^ 32 = omega (arith, mod_below (sum_of Initiator d at.theirs) shape.slots (omega (arith, ends)), sound.most_slots) in
+    let small = on.meets.handshakes.small in
+    let below : start < 2 ^ 32 = omega (arith, mod_below sum shape.slots (omega (arith, ends)), sound.most_slots) in
     let spells : SpellsMessage bytes (read_data Info sid sid start is.end bytes) =
     subst (λ (b : List ℕ). SpellsMessage b (read_data Info sid sid start is.end b)) (sym is.bytes_are)
     (data_spells Info sid is.seq sid start is.end is.state small (omega (arith, small)) below (omega (arith, ends, sound.most_slots))) in

@@ -46,7 +46,7 @@ use Rattle.lane_laws.proofs.Ruling.{server_may}
 use Rattle.lane_laws.proofs.RulesFree.{ServerFree, TakesFree, server_free}
 use Rattle.lane_laws.proofs.ServerSpeaking.{range_few}
 use Rattle.lane_laws.proofs.Sharing.{some_left}
-use Rattle.lane_laws.proofs.Short.{some_bytes}
+use Rattle.channel_laws.proofs.Short.{some_bytes}
 use Rattle.lane_laws.specs.Budget.{one_range, range_left}
 use Rattle.lane_laws.specs.ChannelEnds.{answers_to_begin, server_core}
 use Rattle.lane_laws.specs.RuleFacts.{ServerMay, ServerSays}

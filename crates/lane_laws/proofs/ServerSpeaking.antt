@@ -18,12 +18,13 @@ use Rattle.channel_model.specs.Seeing.{Seen}
 use Rattle.disk_model.specs.ServerPutting.{answered, server_holds, server_kind, server_put, session_behind}
 use Rattle.disk_model.specs.ServerRule.{Fetches, Joins, Puts, Idles, Says, ServerRule, Serves, Takes, answer}
 use Rattle.disk_model.specs.ServerState.{ServerSession, ServerState, SlotRange}
-use Rattle.lane_laws.proofs.Short.{short_within}
+use Rattle.channel_laws.proofs.Short.{short_within}
 use Rattle.lane_laws.proofs.Sharing.{behind_short, owed_short, put_within, same_link}
 use Rattle.lane_laws.specs.Budget.{one_range, range_left}
 use Rattle.lane_laws.specs.LinkMoves.{SameTranscript}
 use Rattle.lane_laws.specs.RuleFacts.{ServerMay, ServerSays}
-use Rattle.lane_laws.specs.Sound.{IsShort, ServerSound}
+use Rattle.channel_laws.specs.Standing.{IsShort}
+use Rattle.lane_laws.specs.Sound.{ServerSound}
 
 -- it owes one answer at most
 range_one : (range : Option SlotRange) → one_range range ≤ 1

@@ -26,8 +26,9 @@ use Rattle.disk_model.specs.ServerTaking.{GoesOn, HearsLink, HearsWhole, Resets,
 use Rattle.channel_model.specs.Sayings.{heard}
 use Rattle.lane_laws.proofs.Awake.{was_up}
 use Rattle.lane_laws.proofs.ClientTaken.{HearsMessage, HandshakesTo, is_the}
-use Rattle.lane_laws.proofs.Hearing.{heard_leaves}
-use Rattle.lane_laws.proofs.WholeHeard.{HearsOn, link_hears, with_whole}
+use Rattle.channel_laws.proofs.EndStanding.{heard_leaves}
+use Rattle.channel_laws.proofs.EndCases.{HearsUp, link_hears}
+use Rattle.channel_laws.proofs.TurnCases.{with_whole}
 
 pub record ServerHearsPart (s : ServerState) (turns : List Turn) (packet : List ℕ) (t : ServerState) (opens : Bool) : Type 0 where
   pub link : LinkState
@@ -160,13 +161,13 @@ still true false h is = absurd (cc)
 still false c h is = refl
 
 by_whole : (s : ServerState) (k : LinkState) (turns : List Turn) (packet : List ℕ) (whole : Option (List ℕ)) (answer : ServerTake) → k.to_send ≡ s.link.to_send
-    → HearsOn s.link k turns packet → k.whole ≡ whole → HearsWhole (record s { link = k; handshake = handshake_risen s.link k s.handshake }) whole answer → TookOn s turns packet answer
+    → HearsUp s.link k turns packet → k.whole ≡ whole → HearsWhole (record s { link = k; handshake = handshake_risen s.link k s.handshake }) whole answer → TookOn s turns packet answer
 by_whole s k turns packet None answer left hears none is =
     subst (λ (x : ServerTake). TookOn s turns packet x) (sym is) (inl (record {
       link = k;
       left = left;
       up = hears.up;
-      messages = hears.messages ∙ ap (λ (w : Option (List ℕ)). with_whole w (heard turns)) none;
+      messages = hears.on.messages ∙ ap (λ (w : Option (List ℕ)). with_whole w (heard turns)) none;
       is = refl;
       opens_is = refl;
     }))
@@ -175,12 +176,12 @@ by_whole s k turns packet (Some bytes) answer left hears some is =
     let same : handshake_risen s.link k s.handshake ≡ s.handshake = still (is_up k) (is_up s.link) s.handshake up in
     subst (λ (x : ServerTake). TookOn s turns packet x) (sym is.2)
     (subst (λ (h : Handshake). TookOn s turns packet (reads (record s { link = cleared k; handshake = h }) is.0)) (sym same)
-    (by_bytes s turns packet (cleared k) bytes is.0 left up (hears.up up) (hears.messages ∙ ap (λ (w : Option (List ℕ)). with_whole w (heard turns)) some) is.1))
+    (by_bytes s turns packet (cleared k) bytes is.0 left up (hears.up up) (hears.on.messages ∙ ap (λ (w : Option (List ℕ)). with_whole w (heard turns)) some) is.1))
 
 by_link : (s : ServerState) (turns : List Turn) (packet : List ℕ) (link : LinkTake) (t : ServerState) (opens : Bool) → Follows s.link turns → s.link.whole ≡ None
     → TakesBytes s.link packet link → HearsLink s link (GoesOn t opens) → ServerTook s turns packet t opens
 by_link s turns packet (Heard k) t opens follows none takes hears =
-    by_whole s k turns packet k.whole (GoesOn t opens) (heard_leaves s.link k packet takes).0 (link_hears s.link k turns packet none follows takes) refl hears
+    by_whole s k turns packet k.whole (GoesOn t opens) (heard_leaves s.link k packet takes).left (link_hears s.link k turns packet none follows takes) refl hears
 by_link s turns packet (Unheard cause) t opens follows none takes hears = absurd (cc)
 
 pub server_took_what : (s : ServerState) (turns : List Turn) (packet : List ℕ) (t : ServerState) (opens : Bool) → Follows s.link turns → s.link.whole ≡ None

@@ -12,7 +12,8 @@ use Rattle.vio_tag.specs.declared.message.Message.{Message}
 use Rattle.lane_laws.proofs.Short.{sent_short, up_short}
 use Rattle.lane_laws.specs.Budget.{infos_left}
 use Rattle.lane_laws.specs.LinkMoves.{SameTranscript}
-use Rattle.lane_laws.specs.Sound.{CountsInOrder, InOrder, IsShort, OwedIsShort, OwesShort}
+use Rattle.channel_laws.specs.Standing.{IsShort, OwedIsShort}
+use Rattle.lane_laws.specs.Sound.{CountsInOrder, InOrder, OwesShort}
 
 pub same_link : (k : LinkState) → SameTranscript k k
 same_link k = record { phase = refl; put_next = refl; take_next = refl; half = refl }

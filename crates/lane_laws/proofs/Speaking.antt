@@ -33,7 +33,7 @@ use Rattle.channel_laws.specs.Utterances.{SaysEach}
 use Rattle.lane_laws.proofs.ClientMoves.{client_waits}
 use Rattle.lane_laws.proofs.EndMoves.{step_a, step_b, transcript_same}
 use Rattle.lane_laws.proofs.LaneStepping.{LaneTranscripts, fresh_transcripts, transcripts_step}
-use Rattle.lane_laws.proofs.OpeningDeal.{client_widths, server_widths}
+use Rattle.lane_laws.proofs.OpeningDeal.{client_fits, server_fits}
 use Rattle.lane_laws.proofs.ServerMoves.{server_waits}
 use Rattle.lane_laws.specs.ChannelEnds.{client_core, core_event, server_core}
 use Rattle.lane_laws.specs.LaneRests.{ClientRests, ClientUtters, EndRests, EndUtters, LaneRests, LaneUtters, ServerRests, ServerUtters}
@@ -93,8 +93,8 @@ rests_step s event t transcript transcripts rests step =
 
 pub fresh_rests : (shape : Shape) → IsShape shape → LaneRests (fresh shape) nothing_said
 fresh_rests shape sound =
-    let asks = client_widths shape.blocks shape.slots sound.most_slots in
-    let answers = server_widths shape.blocks shape.slots in
+    let asks = client_fits shape.blocks shape.slots sound.most_slots in
+    let answers = server_fits shape.blocks shape.slots in
     record {
       client = rests_of Initiator (client_core (fresh shape).client) [] (fresh_speaks Initiator (client_core (fresh shape).client).offer asks.form.most);
       server = rests_of Responder (server_core (fresh shape).server) [] (fresh_speaks Responder (server_core (fresh shape).server).offer answers.form.most);

@@ -33,25 +33,24 @@ use Rattle.disk_model.specs.LaneState.{IsShape, LaneState, Shape, fresh}
 use Rattle.disk_model.specs.LaneStep.{LaneStep}
 use Rattle.channel_model.specs.Seeing.{seen}
 use Rattle.disk_model.specs.ServerState.{ServerState}
+use Rattle.channel_laws.proofs.EndStanding.{open_up}
+use Rattle.channel_laws.proofs.HandshakePlaces.{AtPlace, deal, open_place, place_open}
+use Rattle.channel_laws.proofs.Script.{said_at}
+use Rattle.channel_laws.specs.Sides.{sides_of}
+use Rattle.channel_laws.specs.Standing.{EndStands}
+use Rattle.lane_laws.proofs.LaneChannel.{OnLane, answers_of, asks_of, lane_meets, lane_meets_next}
 use Rattle.lane_laws.proofs.Agreeing.{client_some, server_open}
 use Rattle.lane_laws.proofs.LaneCores.{transcript_is}
-use Rattle.lane_laws.proofs.ClientPlacing.{ClientAt}
 use Rattle.lane_laws.proofs.Speaking.{client_blocked_rests}
 use Rattle.lane_laws.proofs.HeardFront.{heard_messages}
 use Rattle.lane_laws.proofs.LaneCounting.{Knows, few_slots, run_knows}
-use Rattle.lane_laws.proofs.LanePlacing.{LanePlaced}
 use Rattle.lane_laws.proofs.NoOwnReset.{run_known}
-use Rattle.lane_laws.proofs.OpeningDeal.{deal}
-use Rattle.lane_laws.proofs.OpeningScript.{said_at}
 use Rattle.lane_laws.proofs.OpenRuns.{held_open}
-use Rattle.lane_laws.proofs.PlacesAlong.{run_placed}
 use Rattle.lane_laws.proofs.RingRuns.{before}
 use Rattle.lane_laws.proofs.RingWork.{Known, ids_in, turn_in}
 use Rattle.lane_laws.proofs.Ruling.{client_may}
 use Rattle.lane_laws.proofs.ServerCounting.{opens_new}
 use Rattle.lane_laws.proofs.ServerEndCounting.{server_puts_counting}
-use Rattle.lane_laws.proofs.Awake.{is_open_up}
-use Rattle.lane_laws.proofs.ServerPlacing.{ServerPlaced}
 use Rattle.lane_laws.proofs.ServerTaken.{server_took_what}
 use Rattle.lane_laws.proofs.SlotsAlong.{run_slots}
 use Rattle.lane_laws.proofs.SlotsOrdered.{finished_more}
@@ -64,16 +63,16 @@ use Rattle.lane_laws.specs.SlotsInOrder.{SlotsIn, SlotsInOrder, SlotsOf}
 use Rattle.lane_laws.specs.TableStands.{TableAt}
 use Rattle.lane_laws.proofs.StatusSteps.{NoneDone, front_named, hears_fifth, says_fifth}
 use Rattle.lane_laws.specs.Statuses.{IsNamed}
-use Rattle.lane_laws.specs.ChannelEnds.{client_core, server_core}
+use Rattle.lane_laws.specs.ChannelEnds.{client_core, core_of, server_core}
 
 -- WHAT IS KNOWN before an event and after it
 pub record Around (shape : Shape) (s : LaneState) (l : DiskLog) (event : DiskEvent) (t : LaneState) : Type 0 where
   pub known : Known s l
   pub knows : Knows s l
-  pub placed : LanePlaced shape s l.transcript
+  pub on : OnLane shape Initiator (sides_of (core_of s) l.transcript)
   pub table : TableAt l event
   pub next : Knows t (after l event)
-  pub next_placed : LanePlaced shape t (after l event).transcript
+  pub next_on : OnLane shape Initiator (sides_of (core_of t) (after l event).transcript)
   pub front : t.wire.wire.end_b ≡ Up → IsFront (heard (after l event).transcript.server) (said (after l event).transcript.client)
   pub slots : SlotsInOrder (after l event)
 
@@ -92,16 +91,16 @@ around shape events s event t sound run step clean =
     record {
       known = run_known shape events s sound run clean_before;
       knows = run_knows shape events s sound run;
-      placed = run_placed shape events s sound run clean_before;
+      on = lane_meets shape events s sound run (ap (λ (w : WireLog). w.forged) (run_knows shape events s sound run).all.stands.wire ∙ clean_before);
       table = (lawful_split TableAt after (nothing_yet shape) events (event ∷ []) (table_lawful shape more t sound then_run)).1.0;
       next = subst (Knows t) behind next;
-      next_placed = subst (λ (x : DiskLog). LanePlaced shape t x.transcript) behind (run_placed shape more t sound then_run clean_more);
+      next_on = lane_meets_next shape events s event t sound run step clean_t;
       front = λ up. subst (λ (x : TranscriptLog). IsFront (heard x.server) (said x.client)) transcript (heard_messages shape more t B sound then_run clean_t up);
       slots = subst SlotsInOrder behind (run_slots shape more t sound then_run clean_more);
     }
 
 -- BEFORE THE LAST PLACE the client has said, and the server heard, at most four messages
-few_at : (d : Deal) (n : Place) → n ≢ AllSaid → length (said_at d Initiator n ++ []) ≤ 4
+few_at : (d : Deal) (n : Place) → n ≢ AllSaid → length (said_at false d Initiator n ++ []) ≤ 4
 few_at d VersionSaid far = omega arith
 few_at d VersionAnswered far = omega arith
 few_at d AttributesSaid far = omega arith
@@ -116,8 +115,8 @@ few_at d PeerReadySaid far = omega arith
 few_at d PeerReadyAnswered far = omega arith
 few_at d AllSaid far = absurd (far refl)
 
-five_at : (d : Deal) (n : Place) (more : List (List ℕ)) → n ≡ AllSaid → 5 ≤ length (said_at d Initiator n ++ more)
-five_at d n more last = subst (λ (p : Place). 5 ≤ length (said_at d Initiator p ++ more)) (sym last) (omega arith)
+five_at : (d : Deal) (n : Place) (more : List (List ℕ)) → n ≡ AllSaid → 5 ≤ length (said_at false d Initiator n ++ more)
+five_at d n more last = subst (λ (p : Place). 5 ≤ length (said_at false d Initiator p ++ more)) (sym last) (omega arith)
 
 not_open : (b : Bool) → b ≡ false → b ≡ true → ⊥
 not_open b closed is = let never : false ≡ true = sym closed ∙ is in absurd (cc never)
@@ -149,30 +148,29 @@ sends_new shape s l packet t now step =
     let closed : put_opens (client_kind held) held.handshake ≡ false = kind_opens (client_kind held) held (rests.opened (same ∙ open_one)) in
     let never : true ≡ false = sends.opens_is ∙ closed in absurd (cc never))
 
-few_said : (shape : Shape) (sid : ℕ) (c : ClientState) (turns : List Turn) → ClientUtters c turns → ClientAt shape sid c turns → c.session ≡ None → length (said turns) ≤ 4
-few_said shape sid c turns utters placed none = by_up (is_up c.link) refl
+few_said : (d : Deal) (c : ClientState) (turns : List Turn) → EndStands Initiator (client_core c) turns → (is_up c.link ≡ true → AtPlace false d Initiator c.handshake turns) → c.session ≡ None
+    → length (said turns) ≤ 4
+few_said d c turns stands there none = by_up (is_up c.link) refl
   where
     by_up : (b : Bool) → is_up c.link ≡ b → length (said turns) ≤ 4
-    by_up false is = omega (arith, ap length (utters.silent is))
+    by_up false is = omega (arith, ap length (stands.below is).said_none)
     by_up true is =
-        let at = placed.up is in
-        let far : at.place ≢ AllSaid = λ last. not_open (is_some c.session) (ap is_some none) (at.opened last) in
-        omega (
-          arith,
-          ap length (at.said_is ∙ ap (λ (xs : List (List ℕ)). said_at (deal shape sid 0) Initiator at.place ++ xs) (at.only far).0),
-          few_at (deal shape sid 0) at.place far,
-        )
+        let at = there is in
+        let far : at.place ≢ AllSaid = λ last. not_open (is_some c.session) (ap is_some none) (place_open false d Initiator (client_core c) turns stands at last) in
+        omega (arith, ap length (at.said_is ∙ ap (λ (xs : List (List ℕ)). said_at false d Initiator at.place ++ xs) (at.only far).0), few_at d at.place far)
 
 pub names_session : (shape : Shape) (s : LaneState) (l : DiskLog) (packet : List ℕ) (t : LaneState) → Around shape s l (OnWire (Sent A packet true)) t → LaneStep s (OnWire (Sent A packet true)) t
     → IsNamed (opening_sid (half_said l.transcript.client) packet) (said (Said packet ∷ l.transcript.client))
 names_session shape s l packet t now step =
     let up : s.wire.wire.end_a ≡ Up = ap (λ (w : WireLog). w.wire.end_a) now.knows.all.stands.wire ∙ now.table.0 in
     let up_t : t.wire.wire.end_a ≡ Up = ap (λ (x : LaneState). x.wire.wire.end_a) step.is ∙ up in
-    let few = few_said shape now.placed.sid s.client l.transcript.client now.knows.utters.client (now.placed.client up) (sends_new shape s l packet t now step) in
+    let few = few_said (deal (asks_of shape) (answers_of shape) now.on.meets.handshakes.sid) s.client l.transcript.client now.on.stand.mine (now.on.meets.handshakes.mine up) (sends_new shape s l packet t now step) in
     let open_one : is_some t.client.session ≡ true = client_some t.client.session _ _ _ refl now.next.counted.client.agrees in
-    let at = (now.next_placed.client up_t).up (is_open_up Initiator (client_core t.client) (Said packet ∷ l.transcript.client) now.next.rests.client open_one) in
+    let d = deal (asks_of shape) (answers_of shape) now.next_on.meets.handshakes.sid in
+    let behind : List Turn = Said packet ∷ l.transcript.client in
+    let at = now.next_on.meets.handshakes.mine up_t (open_up Initiator (client_core t.client) behind now.next_on.stand.mine open_one) in
     says_fifth packet l.transcript.client few
-    (subst (λ (xs : List (List ℕ)). 5 ≤ length xs) (sym at.said_is) (five_at (deal shape now.next_placed.sid 0) at.place at.mine (at.opens open_one)))
+    (subst (λ (xs : List (List ℕ)). 5 ≤ length xs) (sym at.said_is) (five_at d at.place at.mine (open_place false d Initiator (client_core t.client) behind now.next_on.stand.mine at open_one)))
 
 -- and no server whose end is up works
 none_server : (q : Option ServerCounts) (s : LaneState) (l : DiskLog) → s.client.session ≡ None → ClientAgrees s.client.session l.work.done l.work.client → IfServer q (OneRing s l.work) → q ≡ None
@@ -186,19 +184,16 @@ opens_alone shape s l packet t now step up =
     none_server l.work.server s l (sends_new shape s l packet t now step) now.known.agree.client (now.known.agree.ring up)
 
 -- A SESSION OF THE SERVER opens
-few_heard : (shape : Shape) (sid : ℕ) (v : ServerState) (turns : List Turn) → ServerPlaced shape sid v turns → v.session ≡ None → length (heard turns) ≤ 4
-few_heard shape sid v turns placed none = by_up (is_up v.link) refl
+few_heard : (d : Deal) (v : ServerState) (turns : List Turn) → EndStands Responder (server_core v) turns → (is_up v.link ≡ true → AtPlace false d Responder v.handshake turns) → v.session ≡ None
+    → length (heard turns) ≤ 4
+few_heard d v turns stands there none = by_up (is_up v.link) refl
   where
     by_up : (b : Bool) → is_up v.link ≡ b → length (heard turns) ≤ 4
-    by_up false is = omega (arith, ap length (placed.down is))
+    by_up false is = omega (arith, ap length (stands.below is).heard_none)
     by_up true is =
-        let at = placed.up is in
-        let far : at.place ≢ AllSaid = λ last. not_open (is_some v.session) (ap is_some none) (at.opened last) in
-        omega (
-          arith,
-          ap length (at.heard_is ∙ ap (λ (xs : List (List ℕ)). said_at (deal shape sid 0) Initiator at.place ++ xs) (at.only far).1),
-          few_at (deal shape sid 0) at.place far,
-        )
+        let at = there is in
+        let far : at.place ≢ AllSaid = λ last. not_open (is_some v.session) (ap is_some none) (place_open false d Responder (server_core v) turns stands at last) in
+        omega (arith, ap length (at.heard_is ∙ ap (λ (xs : List (List ℕ)). said_at false d Initiator at.place ++ xs) (at.only far).1), few_at d at.place far)
 
 pub hears_session : (shape : Shape) (s : LaneState) (l : DiskLog) (packet : List ℕ) (t : LaneState) → Around shape s l (OnWire (Took B packet true)) t → LaneStep s (OnWire (Took B packet true)) t
     → IsNamed (opening_sid (half_heard l.transcript.server) packet) (said l.transcript.client)
@@ -206,11 +201,13 @@ hears_session shape s l packet t now step =
     let up : s.wire.wire.end_b ≡ Up = ap (λ (w : WireLog). w.wire.end_b) now.knows.all.stands.wire ∙ now.table.0 in
     let up_t : t.wire.wire.end_b ≡ Up = ap (λ (x : LaneState). x.wire.wire.end_b) step.1.is ∙ up in
     let took = server_took_what s.server l.transcript.server packet t.server true now.knows.all.transcripts.follows_b now.knows.rests.server.whole step.1.step.1.1 in
-    let few = few_heard shape now.placed.sid s.server l.transcript.server (now.placed.server up) (opens_new s.server t.server l.transcript.server packet now.knows.rests.server took) in
+    let few = few_heard (deal (asks_of shape) (answers_of shape) now.on.meets.handshakes.sid) s.server l.transcript.server now.on.stand.theirs (now.on.meets.handshakes.theirs up) (opens_new s.server t.server l.transcript.server packet now.knows.rests.server took) in
     let open_one : is_some t.server.session ≡ true = server_open t.server.session t.server.work _ _ refl now.next.counted.server.agrees in
-    let at = (now.next_placed.server up_t).up (is_open_up Responder (server_core t.server) (Heard_ packet ∷ l.transcript.server) now.next.rests.server open_one) in
+    let d = deal (asks_of shape) (answers_of shape) now.next_on.meets.handshakes.sid in
+    let behind : List Turn = Heard_ packet ∷ l.transcript.server in
+    let at = now.next_on.meets.handshakes.theirs up_t (open_up Responder (server_core t.server) behind now.next_on.stand.theirs open_one) in
     let named = hears_fifth packet l.transcript.server few
-    (subst (λ (xs : List (List ℕ)). 5 ≤ length xs) (sym at.heard_is) (five_at (deal shape now.next_placed.sid 0) at.place at.theirs (at.opens open_one))) in
+    (subst (λ (xs : List (List ℕ)). 5 ≤ length xs) (sym at.heard_is) (five_at d at.place at.theirs (open_place false d Responder (server_core t.server) behind now.next_on.stand.theirs at open_one))) in
     front_named (opening_sid (half_heard l.transcript.server) packet) (heard (Heard_ packet ∷ l.transcript.server)) (said l.transcript.client) (now.front up_t) named
 
 -- where the client's session is open no slot is DONE yet

@@ -2,29 +2,13 @@
 use Rattle.std.specs.Prelude.{◌≡◌, ℕ, ◌+◌, ◌<◌, ◌≤◌, true, length, Option, Some, None, ⊤}
 use Rattle.ldc_link.specs.declared.phase.Role.TheVariants.{Initiator, Responder}
 use Rattle.vio_handshake.specs.declared.handshake.Handshake.{Handshake}
-use Rattle.vio_tag.specs.declared.message.Message.{Message}
-use Rattle.vio_tag.specs.declared.message.MsgBody.{MsgBody}
-use Rattle.vio_tag.specs.declared.message.MsgBody.TheVariants.{Ver, Attr, DringReg, DringUnreg, Rdx, DringData, Mcast, Plain}
+use Rattle.channel_laws.specs.Standing.{OwedIsShort}
 use Rattle.disk_model.specs.ClientPutting.{is_announcing}
 use Rattle.disk_model.specs.ClientState.{ClientSession, ClientState}
 use Rattle.disk_model.specs.ServerState.{ServerState}
 use Rattle.lane_laws.specs.LinkMoves.{IsAsking}
 
--- a message of at most 256 bytes, as a handshake of a disk owes it
-abbrev pub IsShort : MsgBody → Type 0
-IsShort (Ver major minor class) = ⊤
-IsShort (Attr bytes) = length bytes ≤ 48
-IsShort (DringReg ident slots slot_size options count cookies) = count ≤ 14
-IsShort (DringUnreg ident) = ⊤
-IsShort Rdx = ⊤
-IsShort (DringData seq ident start end state) = ⊤
-IsShort (Mcast set count addresses) = ⊥
-IsShort (Plain envelope) = ⊤
-
-abbrev pub OwedIsShort : Option Message → Type 0
-OwedIsShort None = ⊤
-OwedIsShort (Some message) = IsShort message.body
-
+-- what its handshake owes has at most 256 bytes
 pub record OwesShort (h : Handshake) : Type 0 where
   pub offered : h.offer.count ≤ 14
   pub owed : OwedIsShort h.owed

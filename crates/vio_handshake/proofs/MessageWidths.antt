@@ -28,12 +28,12 @@ disk_long attr = refl
 net_long : (attr : NetAttr) → length (net_attr_bytes attr) ≡ 48
 net_long attr = refl
 
-said_long : (both : Bool) (a : Offer) (minor : ℕ) → a.both_rings ≡ both → length (said_attributes a minor) ≡ 48
+pub said_long : (both : Bool) (a : Offer) (minor : ℕ) → a.both_rings ≡ both → length (said_attributes a minor) ≡ 48
 unfolding said_attributes
 said_long true a minor is = rw (is) (net_long (port_attributes a minor))
 said_long false a minor is = rw (is) (disk_long client_attributes)
 
-answered_long : (both : Bool) (b : Offer) (minor : ℕ) (bytes : List ℕ) → b.both_rings ≡ both → length (answered_attributes b minor bytes) ≡ 48
+pub answered_long : (both : Bool) (b : Offer) (minor : ℕ) (bytes : List ℕ) → b.both_rings ≡ both → length (answered_attributes b minor bytes) ≡ 48
 unfolding answered_attributes
 answered_long true b minor bytes is = rw (is) (net_long (port_attributes b minor))
 answered_long false b minor bytes is = rw (is) (disk_long (server_attributes b minor (disk_attr_of bytes)))

@@ -1,0 +1,189 @@
+-- Two ends in a handshake whose messages each heard as the other said them: never do both owe one; and where neither does and each heard all, both
+-- have said all.
+use Rattle.std.proofs.Common.{◌≡◌, ◌≢◌, ℕ, zero, suc, ◌+◌, ◌<◌, ◌≤◌, ◌⊎◌, inl, inr, Bool, true, false, Option, Some, None, List, [], ◌∷◌, ◌++◌, take, length, refl, sym, ap, ◌∙◌, subst, arith, length-append, nat_le}
+use Rattle.std.specs.Prelude.{is_some}
+use Rattle.std.proofs.lemmas.Bool.{leb-false, leb-true}
+use Rattle.std.proofs.lemmas.List.{length-take}
+use Rattle.ldc_link.specs.declared.phase.Role.{Role}
+use Rattle.ldc_link.specs.declared.phase.Role.TheVariants.{Initiator, Responder}
+use Rattle.ldc_queue.specs.OneStream.{IsFront}
+use Rattle.ldc_queue.specs.Transcript.{Turn}
+use Rattle.vio_handshake.specs.declared.handshake.Handshake.{Handshake}
+use Rattle.vio_handshake.proofs.Places.{AllSaid, Deal, IsPlace, Place, message_at, owner}
+use Rattle.channel_model.specs.Sayings.{heard, said}
+use Rattle.channel_laws.proofs.HandshakePlaces.{AtPlace, owes_at, owes_none, owes_not, who}
+use Rattle.channel_laws.proofs.Script.{all_places, before, behind, bytes_at, index, last_or, next_at, not_last, one_if, own_role, said_at, said_by, said_by-append, same_next}
+use Rattle.channel_laws.specs.Sides.{other}
+
+-- THE ORDER OF PLACES: before a later one all was said that comes at an earlier one
+past : (xs ys : List Place) (n : Place) (j : ℕ) → length xs < j → (rest : List Place) × (take j (xs ++ n ∷ ys) ≡ xs ++ n ∷ rest)
+past [] ys n zero less = absurd (omega (arith, less))
+past [] ys n (suc j) less = (take j ys, refl)
+past (x ∷ xs) ys n zero less = absurd (omega (arith, less))
+past (x ∷ xs) ys n (suc j) less = let more = past xs ys n j (omega (arith, less)) in (more.0, ap (λ (ps : List Place). x ∷ ps) more.1)
+
+before_long : (both : Bool) (n : Place) → IsPlace both n → n ≢ AllSaid → (length (before both n) ≡ index both n) × (index both n < length (all_places both))
+before_long both n here far =
+    let split : length (all_places both) ≡ length (before both n) + 1 + length (behind both n) =
+    omega (arith, ap length (next_at both n here far).split, length-append (before both n) (n ∷ behind both n)) in
+    (omega (arith, split, length-take (index both n) (all_places both)), omega (arith, split, length-take (index both n) (all_places both)))
+
+all_long : (both : Bool) → index both AllSaid ≡ length (all_places both)
+all_long true = refl
+all_long false = refl
+
+before_last : (both : Bool) (n m : Place) → IsPlace both n → n ≢ AllSaid → m ≡ AllSaid → index both n < index both m
+before_last both n m here far last = omega (arith, (before_long both n here far).1, all_long both, ap (index both) last)
+
+later : (both : Bool) (d : Deal) (r : Role) (n m : Place) → IsPlace both n → owner n ≡ Some r → index both n < index both m → length (said_at both d r n) < length (said_at both d r m)
+later both d r n m here own less =
+    let far = not_last r n own in
+    let rest = past (before both n) (behind both n) n (index both m) (omega (arith, (before_long both n here far).0, less)) in
+    let more : said_at both d r m ≡ said_at both d r n ++ bytes_at d n ∷ said_by d r rest.0 =
+    ap (said_by d r) (ap (take (index both m)) (next_at both n here far).split ∙ rest.1) ∙ said_by-append d r (before both n) (n ∷ rest.0)
+    ∙ ap (λ (b : Bool). said_at both d r n ++ one_if b (bytes_at d n) (said_by d r rest.0)) (own_role r (owner n) own) in
+    omega (arith, ap length more, length-append (said_at both d r n) (bytes_at d n ∷ said_by d r rest.0))
+
+same_place : (both : Bool) (n m : Place) → IsPlace both n → IsPlace both m → n ≢ AllSaid → m ≢ AllSaid → index both n ≡ index both m → n ≡ m
+same_place both n m here there far far_m same =
+    same_next (before both n) (behind both n) (behind both m) n m
+    (sym (next_at both n here far).split ∙ (next_at both m there far_m).split ∙ ap (λ (i : ℕ). take i (all_places both) ++ m ∷ behind both m) (sym same))
+
+data Order (n m : ℕ) : Type 0 where
+  Earlier : n < m → Order n m
+  Same : n ≡ m → Order n m
+  Later : m < n → Order n m
+
+order : (n m : ℕ) → Order n m
+order n m = by_tests (nat_le m n) (nat_le n m) refl refl
+  where
+    by_tests : (a b : Bool) → nat_le m n ≡ a → nat_le n m ≡ b → Order n m
+    by_tests false b one other = Earlier (leb-false m n one)
+    by_tests true false one other = Later (leb-false n m other)
+    by_tests true true one other = let most = leb-true m n one in let least = leb-true n m other in Same (omega (arith, most, least))
+
+-- what an end at a place said and heard, counted
+record Counts (both : Bool) (d : Deal) (mine theirs : Role) (n : Place) (told taken : ℕ) : Type 0 where
+  told_least : length (said_at both d mine n) ≤ told
+  taken_least : length (said_at both d theirs n) ≤ taken
+  told_is : n ≢ AllSaid → told ≡ length (said_at both d mine n)
+  taken_is : n ≢ AllSaid → taken ≡ length (said_at both d theirs n)
+
+counts : (both : Bool) (d : Deal) (r : Role) (h : Handshake) (turns : List Turn) → (at : AtPlace both d r h turns)
+    → Counts both d r (other r) at.place (length (said turns)) (length (heard turns))
+counts both d r h turns at =
+    let told = length-append (said_at both d r at.place) at.mine in
+    let taken = length-append (said_at both d (other r) at.place) at.theirs in
+    record {
+      told_least = omega (arith, ap length at.said_is, told);
+      taken_least = omega (arith, ap length at.heard_is, taken);
+      told_is = λ far. omega (arith, ap length at.said_is, told, ap length (at.only far).0);
+      taken_is = λ far. omega (arith, ap length at.heard_is, taken, ap length (at.only far).1);
+    }
+
+-- WHO OWES a message says the next, and who owes none waits for the other or is through
+owes_own : (both : Bool) (d : Deal) (r : Role) (h : Handshake) (turns : List Turn) → (at : AtPlace both d r h turns) → is_some h.owed ≡ true → owner at.place ≡ Some r
+owes_own both d r h turns at owed =
+    elim (who r at.place) [
+      | inl own ↦ own
+      | inr (inl turn) ↦ (let wrong : true ≡ false = sym owed ∙ ap (λ (x : Handshake). is_some x.owed) at.is ∙ ap is_some (owes_not both d r at.place turn) in absurd (cc wrong))
+      | inr (inr last) ↦ (let wrong : true ≡ false = sym owed ∙ ap (λ (x : Handshake). is_some x.owed) at.is ∙ ap is_some (owes_none both d r at.place last) in absurd (cc wrong))
+    ]
+
+owes_nothing : (both : Bool) (d : Deal) (r : Role) (h : Handshake) (turns : List Turn) → (at : AtPlace both d r h turns) → h.owed ≡ None
+    → (owner at.place ≡ Some (other r)) ⊎ (at.place ≡ AllSaid)
+owes_nothing both d r h turns at none =
+    elim (who r at.place) [
+      | inl own ↦ (let wrong : None ≡ Some (message_at d at.place) = sym none ∙ ap (λ (x : Handshake). x.owed) at.is ∙ owes_at both d r at.place own in absurd (cc wrong))
+      | inr rest ↦ rest
+    ]
+
+both_own : (n m : Place) → n ≡ m → owner n ≡ Some Initiator → owner m ≡ Some Responder → ⊥
+both_own n m same one other = let wrong : Some Initiator ≡ Some Responder = sym one ∙ ap owner same ∙ other in cc wrong
+
+front_less : (xs ys : List (List ℕ)) → IsFront xs ys → length xs ≤ length ys
+front_less xs ys front = omega (arith, ap length front.1, length-append xs front.0)
+
+-- NEVER DO BOTH owe one, where each heard a front of what the other said
+pub never_both : (both : Bool) (d : Deal) (h g : Handshake) (mine theirs : List Turn) → (at : AtPlace both d Initiator h mine) → (there : AtPlace both d Responder g theirs)
+    → is_some h.owed ≡ true → (is_some g.owed ≡ true) ⊎ (there.place ≡ AllSaid) → IsFront (heard theirs) (said mine) → IsFront (heard mine) (said theirs) → ⊥
+never_both both d h g mine theirs at there owed owing to_there to_here = by_order (order (index both at.place) (index both there.place))
+  where
+    own : owner at.place ≡ Some Initiator
+    own = owes_own both d Initiator h mine at owed
+
+    far : at.place ≢ AllSaid
+    far = not_last Initiator at.place own
+
+    owning : (owner there.place ≡ Some Responder) ⊎ (there.place ≡ AllSaid)
+    owning = by_owing owing
+      where
+        by_owing : (is_some g.owed ≡ true) ⊎ (there.place ≡ AllSaid) → (owner there.place ≡ Some Responder) ⊎ (there.place ≡ AllSaid)
+        by_owing (inl now) = inl (owes_own both d Responder g theirs there now)
+        by_owing (inr last) = inr last
+
+    here : Counts both d Initiator Responder at.place (length (said mine)) (length (heard mine))
+    here = counts both d Initiator h mine at
+
+    yonder : Counts both d Responder Initiator there.place (length (said theirs)) (length (heard theirs))
+    yonder = counts both d Responder g theirs there
+
+    told : length (heard theirs) ≤ length (said mine)
+    told = front_less (heard theirs) (said mine) to_there
+
+    taken : length (heard mine) ≤ length (said theirs)
+    taken = front_less (heard mine) (said theirs) to_here
+
+    by_order : Order (index both at.place) (index both there.place) → ⊥
+    by_order (Earlier less) = omega (arith, later both d Initiator at.place there.place at.here own less, here.told_is far, yonder.taken_least, told)
+    by_order (Later less) =
+        elim owning [
+          | inl turn ↦ omega (arith, later both d Responder there.place at.place there.here turn less, yonder.told_is (not_last Responder there.place turn), here.taken_least, taken)
+          | inr last ↦ omega (arith, less, before_last both at.place there.place at.here far last)
+        ]
+    by_order (Same same) =
+        elim owning [
+          | inl turn ↦ both_own at.place there.place (same_place both at.place there.place at.here there.here far (not_last Responder there.place turn) same) own turn
+          | inr last ↦ omega (arith, same, before_last both at.place there.place at.here far last)
+        ]
+
+-- BOTH HAVE SAID ALL where neither owes one and each heard all
+pub both_done : (both : Bool) (d : Deal) (h g : Handshake) (mine theirs : List Turn) → (at : AtPlace both d Initiator h mine) → (there : AtPlace both d Responder g theirs)
+    → h.owed ≡ None → g.owed ≡ None → said mine ≡ heard theirs → said theirs ≡ heard mine → (at.place ≡ AllSaid) × (there.place ≡ AllSaid)
+both_done both d h g mine theirs at there none_h none_g to_there to_here =
+    by_waiting (owes_nothing both d Initiator h mine at none_h) (owes_nothing both d Responder g theirs there none_g)
+  where
+    here : Counts both d Initiator Responder at.place (length (said mine)) (length (heard mine))
+    here = counts both d Initiator h mine at
+
+    yonder : Counts both d Responder Initiator there.place (length (said theirs)) (length (heard theirs))
+    yonder = counts both d Responder g theirs there
+
+    told : length (said mine) ≡ length (heard theirs)
+    told = ap length to_there
+
+    taken : length (said theirs) ≡ length (heard mine)
+    taken = ap length to_here
+
+    -- the initiator waits, and the responder doesn't go before it
+    first_waits : owner at.place ≡ Some Responder → index both at.place < index both there.place → ⊥
+    first_waits turn less =
+        omega (arith, later both d Responder at.place there.place at.here turn less, here.taken_is (not_last Responder at.place turn), yonder.told_least, taken)
+
+    last_waits : owner there.place ≡ Some Initiator → index both there.place < index both at.place → ⊥
+    last_waits turn less =
+        omega (arith, later both d Initiator there.place at.place there.here turn less, yonder.taken_is (not_last Initiator there.place turn), here.told_least, told)
+
+    by_waiting : (owner at.place ≡ Some Responder) ⊎ (at.place ≡ AllSaid) → (owner there.place ≡ Some Initiator) ⊎ (there.place ≡ AllSaid)
+        → (at.place ≡ AllSaid) × (there.place ≡ AllSaid)
+    by_waiting (inr last) (inr also) = (last, also)
+    by_waiting (inl turn) (inr also) = absurd (first_waits turn (before_last both at.place there.place at.here (not_last Responder at.place turn) also))
+    by_waiting (inr last) (inl turn) = absurd (last_waits turn (before_last both there.place at.place there.here (not_last Initiator there.place turn) last))
+    by_waiting (inl turn) (inl other_turn) = absurd (by_order (order (index both at.place) (index both there.place)))
+      where
+        by_order : Order (index both at.place) (index both there.place) → ⊥
+        by_order (Earlier less) = first_waits turn less
+        by_order (Later less) = last_waits other_turn less
+        by_order (Same same) =
+            both_own there.place at.place
+            (sym (same_place both at.place there.place at.here there.here (not_last Responder at.place turn) (not_last Initiator there.place other_turn) same)) other_turn turn
