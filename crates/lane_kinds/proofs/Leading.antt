@@ -28,12 +28,16 @@ module _ {W M R E : Type 0} (K : Rounds W M R E) (Stands : W → M → Type 0) (
       (behind_leads (K.quiet round.steps) w round.steps run.1.between round.entries run.0 at run.1.made refl run.1.behind)
       (stand_lead run.0 rounds v (goes_on K Stands laws.keeps w round run.0 run.1 at) run.2)
 
+  -- a settle that ends settled, before its answer and with it
+  pub before_answer : (start : W) (part : List E) (behind : W) → Stands start (K.unmarked start) → (at : Settles K start part behind) → To start (entries_of_rounds at.rounds ++ K.leaves at.steps) behind
+  before_answer start part behind stands at =
+      laws.both start at.now.lanes behind (entries_of_rounds at.rounds) (K.leaves at.steps) (stand_lead (begin K start) at.rounds at.now stands at.run)
+      (laws.round at.now.lanes at.now.marks at.steps behind (rounds_stand K Stands laws.keeps (begin K start) at.rounds at.now at.run stands) at.last.made)
+
   pub settles_lead : ((w : W) → To w (K.settled ∷ []) w) → (start : W) (part : List E) (behind : W) → Stands start (K.unmarked start) → Settles K start part behind → To start part behind
   settles_lead answer start part behind stands at =
       subst (λ (l : List E). To start l behind) (sym at.is)
-      (laws.both start behind behind (entries_of_rounds at.rounds ++ K.leaves at.steps) (K.settled ∷ [])
-      (laws.both start at.now.lanes behind (entries_of_rounds at.rounds) (K.leaves at.steps) (stand_lead (begin K start) at.rounds at.now stands at.run)
-      (laws.round at.now.lanes at.now.marks at.steps behind (rounds_stand K Stands laws.keeps (begin K start) at.rounds at.now at.run stands) at.last.made)) (answer behind))
+      (laws.both start behind behind (entries_of_rounds at.rounds ++ K.leaves at.steps) (K.settled ∷ []) (before_answer start part behind stands at) (answer behind))
 
   out_leads : Ends K To → (start : W) (part : List E) (behind : W) → Stands start (K.unmarked start) → RunsOut K start part behind → To start part behind
   out_leads ends start part behind stands out =

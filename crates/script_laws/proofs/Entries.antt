@@ -1,7 +1,7 @@
 -- A condition on each entry of a part, and two such conditions: entries of lanes, and those that leave no disk over.
 use Rattle.std.proofs.Common.{◌≡◌, List, [], ◌∷◌, ◌++◌, sym, subst}
 use Rattle.std.specs.Prelude.{⊤}
-use Rattle.world_laws.specs.Settle.{OfLane, SettleEntry, Settled, Unsettled}
+use Rattle.world_laws.specs.Settle.{OfLane, SettleEntry, Unsettled}
 
 abbrev pub EachEntry : (SettleEntry → Type 0) → List SettleEntry → Type 0
 EachEntry P [] = ⊤
@@ -14,9 +14,8 @@ IsOfLane _ = ⊥
 
 -- no disk is left over by it
 abbrev pub LeavesNone : SettleEntry → Type 0
-LeavesNone (OfLane k event) = ⊤
-LeavesNone Settled = ⊤
 LeavesNone (Unsettled k) = ⊥
+LeavesNone _ = ⊤
 
 module _ (P : SettleEntry → Type 0) where
   pub each_both : (one two : List SettleEntry) → EachEntry P one → EachEntry P two → EachEntry P (one ++ two)
