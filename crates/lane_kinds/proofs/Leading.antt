@@ -85,6 +85,9 @@ module _ {W M R E : Type 0} (K : Rounds W M R E) (To : W → List E → W → Ty
   pub rounds_lead : (w : Settling W M) (rounds : List (SettleRound R E)) (v : Settling W M) → Run (GoesOn K) w rounds v → To w.lanes (entries_of_rounds rounds) v.lanes
   rounds_lead w rounds v run = stand_lead K Always To always w rounds v tt run
 
+  pub steps_lead : (start : W) (part : List E) (behind : W) (at : Settles K start part behind) → To start (entries_of_rounds at.rounds ++ K.leaves at.steps) behind
+  steps_lead start part behind at = before_answer K Always To always start part behind tt at
+
   pub part_leads : Ends K To → (start : W) (part : List E) (behind : W) → SettlePart K start part behind → To start part behind
   part_leads ends start part behind (inl at) = settles_lead K Always To always ends.answer start part behind tt at
   part_leads ends start part behind (inr out) = out_leads K Always To always ends start part behind tt out

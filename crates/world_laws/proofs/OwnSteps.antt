@@ -1,10 +1,9 @@
 -- The part of a settle over one lane that nobody disturbs: steps of its ends alone, and Settled. No tick comes, since a calm lane is finished.
 use Rattle.std.proofs.Common.{◌≡◌, ℕ, Bool, true, false, List, [], ◌∷◌, ◌++◌, refl, sym, ap, ◌∙◌, subst}
-use Rattle.std.specs.Prelude.{if◌then◌else◌, ⊤}
+use Rattle.std.specs.Prelude.{if◌then◌else◌}
 use Rattle.ldc_queue.specs.declared.end.End.{End}
 use Rattle.ldc_queue.specs.declared.end.End.TheVariants.{A, B}
-use Rattle.channel_model.specs.WireEvent.{Idle}
-use Rattle.disk_model.specs.DiskEvent.{DiskEvent, Off, OnWire, Switches}
+use Rattle.disk_model.specs.DiskEvent.{DiskEvent}
 use Rattle.disk_model.specs.LaneState.{LaneState}
 use Rattle.disk_model.specs.Reached.{IsReached}
 use Rattle.lane_laws.specs.CalmEnds.{IsStep, StepKeeps}
@@ -12,6 +11,7 @@ use Rattle.lane_kinds.proofs.Leading.{before_answer}
 use Rattle.lane_kinds.proofs.Sums.{and_left}
 use Rattle.lane_kinds.specs.Laws.{LeadsWhere}
 use Rattle.world_laws.proofs.LaneRounds.{quiet_finished, round_keeps, round_reached}
+use Rattle.world_laws.proofs.LineEntries.{EachEntry, each_both, entry_each}
 use Rattle.world_laws.specs.Rounds.{LaneRound, MakeRound, MakesRound, are_quiet, is_quiet}
 use Rattle.world_laws.specs.Settle.{OfLane, SettleEntry, Settled, Settles, disks, entries_of_rounds, entry_of, round_entries, tick_entries}
 use Rattle.world_laws.specs.Ticks.{TickLanes, TicksWhere, marked, tick, waits_on}
@@ -27,22 +27,15 @@ IsOwn (OfLane k event) = OwnEvent k event
 IsOwn _ = ⊥
 
 abbrev pub AreOwn : List SettleEntry → Type 0
-AreOwn [] = ⊤
-AreOwn (x ∷ part) = IsOwn x × AreOwn part
-
-own_append : (one two : List SettleEntry) → AreOwn one → AreOwn two → AreOwn (one ++ two)
-own_append [] two first second = second
-own_append (x ∷ one) two first second = (first.0, own_append one two first.1 second)
+AreOwn part = EachEntry IsOwn part
 
 own_entry : (e : End) (event : DiskEvent) → IsStep e event → AreOwn (entry_of 0 event)
-own_entry e (OnWire (Idle d)) own = tt
-own_entry e (Switches Off) own = tt
-own_entry e _ own = (record { number = refl; side = e; own = own }, tt)
+own_entry e event own = entry_each IsOwn 0 event (record { number = refl; side = e; own = own })
 
 round_own : (s : LaneState) (r : LaneRound) (t : LaneState) → MakesRound s r t → AreOwn (round_entries 0 (r ∷ []))
 round_own s r t made =
-    own_append (entry_of 0 r.client ++ entry_of 0 r.server) []
-    (own_append (entry_of 0 r.client) (entry_of 0 r.server) (own_entry A r.client made.of_client) (own_entry B r.server made.of_server)) tt
+    each_both IsOwn (entry_of 0 r.client ++ entry_of 0 r.server) []
+    (each_both IsOwn (entry_of 0 r.client) (entry_of 0 r.server) (own_entry A r.client made.of_client) (own_entry B r.server made.of_server)) tt
 
 -- A LANE that was reached, that nobody forged, that lost nothing, and whose server runs
 pub record IsWhole (s : LaneState) : Type 0 where
@@ -113,11 +106,11 @@ owns = record {
     ticks = λ w m r v u at made quiet ticks. ((round_on w m r v at made).ticks u quiet ticks).alone;
   };
   none = λ w. tt;
-  both = λ w m v one two first second. own_append one two first second;
+  both = λ w m v one two first second. each_both IsOwn one two first second;
   round = λ w m r v at made. (round_on w m r v at made).own;
   ticks = λ w m r v u at made quiet ticks.
       let on : RoundOn m r v = round_on w m r v at made in
-      own_append (round_entries 0 r) (tick_entries 0 v m) on.own (subst AreOwn (sym (on.ticks u quiet ticks).none) tt);
+      each_both IsOwn (round_entries 0 r) (tick_entries 0 v m) on.own (subst AreOwn (sym (on.ticks u quiet ticks).none) tt);
 }
 
 -- THE PART
