@@ -15,6 +15,7 @@ use Rattle.world_laws.proofs.FrontMoving.{front_moves, ticked_moves}
 use Rattle.lane_kinds.proofs.Leading.{few_stand, settles_lead}
 use Rattle.lane_kinds.proofs.Sums.{and_left, and_right}
 use Rattle.lane_kinds.specs.Laws.{FrontsLeadWhere, LeadsWhere}
+use Rattle.world_laws.proofs.LineEntries.{EachEntry, begun_each, each_in, round_each}
 use Rattle.world_laws.proofs.LaneRounds.{quiet_finished, quiet_same, round_keeps}
 use Rattle.world_laws.proofs.LaneTicks.{either, waits_where}
 use Rattle.world_laws.proofs.Moving.{both_none, happened_both, moves_on, round_moves_lanes, settled_moves, stay, tick_below}
@@ -28,9 +29,8 @@ use Rattle.world_laws.specs.Settle.{OfLane, SettleEntry, Settled, Settles, disks
 use Rattle.world_laws.specs.Sums.{IsUnforged}
 use Rattle.world_laws.specs.Ticks.{TickLanes, gets_tick, tick, waits_on}
 use Rattle.world_laws.proofs.LaneLists.{each_there, is_there, lane_moved, many_moved}
-use Rattle.script_laws.proofs.Entries.{EachEntry, each_in}
 use Rattle.script_laws.proofs.Places.{InEither, no_place, place_in}
-use Rattle.script_laws.proofs.SettleTicks.{NoTick, front_none, round_none}
+use Rattle.script_laws.proofs.SettleTicks.{NoTick, step_none}
 use Rattle.script_laws.proofs.Stillness.{calm_round, still_by}
 use Rattle.script_laws.specs.Still.{AreStillBy}
 
@@ -292,7 +292,7 @@ module _ (lanes : List LaneState) (marks : List Bool) (steps : List LaneRound) (
       → slice_get lanes x ≡ Some s → InEither (round_entries 0 steps) later so_far (OfLane x event) rest
       → TickAt x so_far s
   quiet_tick x event so_far rest s is there (inl at) =
-      none_stand lanes (round_entries 0 steps) (round_none 0 lanes steps between made) x event so_far at.rest s is at.is
+      none_stand lanes (round_entries 0 steps) (round_each NoTick step_none 0 lanes steps between made) x event so_far at.rest s is at.is
       there
   quiet_tick x event so_far rest s is there (inr at) =
       let found : QuietAt x s between = quiet_at lanes steps between x s made quiet there in
@@ -334,7 +334,7 @@ stretches = record {
   };
   round = λ w m r v clean made. record {
     moves = round_moves_lanes 0 w r v made;
-    stand = none_stand w (round_entries 0 r) (round_none 0 w r v made);
+    stand = none_stand w (round_entries 0 r) (round_each NoTick step_none 0 w r v made);
   };
   ticks = λ w m r v u clean made quiet ticks.
       quiet_stretch w m r v (tick_entries 0 v m) u clean made quiet (all_ticks 0 v m u ticks);
@@ -353,7 +353,7 @@ front_stretches : FrontsLeadWhere disks fronts Clean Stretch
 front_stretches = record {
   round = λ w m part v clean front. record {
     moves = front_moves 0 w part v front;
-    stand = none_stand w part (front_none 0 w part v front);
+    stand = none_stand w part (begun_each NoTick step_none 0 w part v front);
   };
   ticks = λ w m r v part u clean made quiet front. quiet_stretch w m r v part u clean made quiet front;
 }

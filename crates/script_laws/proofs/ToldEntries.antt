@@ -99,7 +99,7 @@ run_told many w (OfLane k event ∷ entries) v long reached run clean below =
     let before = run_unforged w (OfLane k event ∷ entries) v reached run clean in (
       lane_told many w k event run.0 long reached before run.1,
       run_told many run.0 entries v (many_stay w (OfLane k event ∷ []) run.0 first ∙ long)
-          (stay_reached w (OfLane k event ∷ []) run.0 reached first) run.2 clean below,
+          (stay_reached w (OfLane k event ∷ []) run.0 reached first) run.2 clean below.1,
     )
 run_told many w (Unsettled k ∷ entries) v long reached run clean below = (
   below.0,
@@ -109,7 +109,7 @@ run_told many w (Unsettled k ∷ entries) v long reached run clean below = (
 run_told many w (entry ∷ entries) v long reached run clean below = (
   tt,
   run_told many run.0 entries v (ap (λ (x : WorldState). length x.lanes) run.1 ∙ long)
-      (subst (λ (x : WorldState). Each IsReached x.lanes) (sym run.1) reached) run.2 clean below,
+      (subst (λ (x : WorldState). Each IsReached x.lanes) (sym run.1) reached) run.2 clean below.1,
 )
 
 -- NOTHING HAPPENED to another disk
