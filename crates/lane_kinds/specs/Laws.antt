@@ -32,6 +32,14 @@ pub record Leads {W M R E : Type 0} (K : Rounds W M R E) (To : W → List E → 
   pub round : (w : W) (r : R) (v : W) → K.Makes w r v → To w (K.leaves r) v
   pub ticks : (w : W) (m : M) (v : W) → K.Ticks w m v → To w (K.ticks_leave w m) v
 
+-- the same of lanes of which something stands; and where all were quiet, those of the round with the ticks behind it
+pub record LeadsWhere {W M R E : Type 0} (K : Rounds W M R E) (Stands : W → M → Type 0) (To : W → List E → W → Type 0) : Type 0 where
+  pub keeps : Keeps K Stands
+  pub none : (w : W) → To w [] w
+  pub both : (w m v : W) (one two : List E) → To w one m → To m two v → To w (one ++ two) v
+  pub round : (w : W) (m : M) (r : R) (v : W) → Stands w m → K.Makes w r v → To w (K.leaves r) v
+  pub ticks : (w : W) (m : M) (r : R) (v u : W) → Stands w m → K.Makes w r v → K.quiet r ≡ true → K.Ticks v m u → To w (K.leaves r ++ K.ticks_leave v m) u
+
 -- and the answer leads nowhere, nor do names, or the first of them
 pub record Ends {W M R E : Type 0} (K : Rounds W M R E) (To : W → List E → W → Type 0) : Type 0 where
   pub answer : (w : W) → To w (K.settled ∷ []) w
@@ -40,6 +48,10 @@ pub record Ends {W M R E : Type 0} (K : Rounds W M R E) (To : W → List E → W
 pub record FrontsLead {W M R E : Type 0} (K : Rounds W M R E) (F : Fronts W M E) (To : W → List E → W → Type 0) : Type 0 where
   pub round : (w : W) (part : List E) (v : W) → F.OfRound w part v → To w part v
   pub ticks : (w : W) (m : M) (part : List E) (v : W) → F.OfTicks w m part v → To w part v
+
+pub record FrontsLeadWhere {W M R E : Type 0} (K : Rounds W M R E) (F : Fronts W M E) (Stands : W → M → Type 0) (To : W → List E → W → Type 0) : Type 0 where
+  pub round : (w : W) (m : M) (part : List E) (v : W) → Stands w m → F.OfRound w part v → To w part v
+  pub ticks : (w : W) (m : M) (r : R) (v : W) (part : List E) (u : W) → Stands w m → K.Makes w r v → K.quiet r ≡ true → F.OfTicks v m part u → To w (K.leaves r ++ part) u
 
 -- A COUNT over entries: rounds, names and the answer add nothing to it, and ticks as much as to the marks, which are
 -- one at most

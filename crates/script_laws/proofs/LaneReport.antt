@@ -51,9 +51,9 @@ lane_text disk (OfLane k (Works (Done id operation status bytes))) =
     run_line disk (entry.Done k id operation status (filled bytes))
 lane_text disk (OfLane k (OnWire (Reset e cause packet lost))) =
     run_line disk (entry.Reset (record { lane = Disk k; side = side_of e }) cause packet lost)
-lane_text disk (OfLane k event) = []
 lane_text disk Settled = codes "settled\n"
 lane_text disk (Unsettled k) = run_line disk (entry.Unsettled (OfWhole (Disk k)))
+lane_text disk _ = []
 
 -- the id that it completes, and whether it is a reset
 abbrev pub lane_ids : SettleEntry → List ℕ

@@ -13,7 +13,8 @@ use Rattle.world_laws.proofs.Along.{lines_run}
 use Rattle.world_laws.specs.Lines as world
 use Rattle.world_laws.specs.World.{WorldState, WorldStep}
 use Rattle.ldom_entries.specs.declared.entry.Entry.{Entry}
-use Rattle.script_laws.proofs.Entries.{IsOfLane, each_in}
+use Rattle.world_laws.proofs.LineEntries.{each_in}
+use Rattle.script_laws.proofs.Entries.{IsOfLane}
 use Rattle.script_laws.proofs.LineEntries.{begins_lanes}
 use Rattle.script_laws.proofs.Places.{InEither, place_in}
 use Rattle.script_laws.proofs.SettleEntries.{AreOfLanes}

@@ -3,15 +3,16 @@ use Rattle.std.proofs.Common.{◌≡◌, ◌⊎◌, inl, inr, ℕ, List, [], ◌
 use Rattle.disk_model.specs.DiskEvent.{DiskEvent}
 use Rattle.disk_model.specs.LaneState.{LaneState}
 use Rattle.world_laws.proofs.Falling.{ends_settled, rounds_few}
+use Rattle.world_laws.proofs.LineEntries.{EachEntry, each_as, each_both, each_in, one_each, steps_each}
 use Rattle.world_laws.proofs.Stuck.{part_never}
 use Rattle.world_laws.proofs.TicksOnce.{part_ticks}
 use Rattle.world_laws.specs.Begun.{SettleFront}
-use Rattle.world_laws.specs.Settle.{OfLane, SettleEntry, SettlePart, Settled, Settles}
-use Rattle.world_laws.specs.Lines.{AnswersCall, AnswersRequest, AreFirstSteps, AreSteps, Asked, BeginsPart, Calls, Line}
+use Rattle.world_laws.specs.Settle.{SettleEntry, SettlePart, Settled, Settles}
+use Rattle.world_laws.specs.Lines.{AnswersCall, AnswersRequest, AreSteps, Asked, BeginsPart, Calls, Line}
 use Rattle.world_laws.specs.Lines.{Nothing, OneEntry, PartOf, Rounds, Steps, EndTurn, turn, turns_of}
 use Rattle.world_laws.specs.Lines as world
 use Rattle.script_laws.proofs.CleanLanes.{AreClean}
-use Rattle.script_laws.proofs.Entries.{EachEntry, IsOfLane, LeavesNone, each_as, each_both, each_in, lanes_leave}
+use Rattle.script_laws.proofs.Entries.{IsOfLane, LeavesNone, lanes_leave}
 use Rattle.script_laws.proofs.FrontStuck.{front_never}
 use Rattle.script_laws.proofs.SettleEntries.{AreOfLanes, SettledLast, settle_front, settled_last}
 use Rattle.script_laws.proofs.SettleTicks.{front_ticks}
@@ -19,14 +20,10 @@ use Rattle.script_laws.specs.Settled.{EndsSettled, KeepsRules}
 
 -- STEPS, and what comes of a request or a call
 steps : (turns : List EndTurn) (part : List SettleEntry) → AreSteps turns part → AreOfLanes part
-steps [] [] are = tt
-steps (next ∷ turns) (OfLane k event ∷ part) are = (tt, steps turns part are.2)
-steps [] (entry ∷ part) are = absurd are
-steps (next ∷ turns) [] are = absurd are
-steps (next ∷ turns) (x ∷ part) are = absurd are
+steps turns part are = steps_each IsOfLane (λ k e event step. tt) turns part are
 
 one : (k : ℕ) (Answers : DiskEvent → Type 0) (part : List SettleEntry) → OneEntry k Answers part → AreOfLanes part
-one k Answers part is = each_as IsOfLane part (OfLane k is.event ∷ []) is.is (tt, tt)
+one k Answers part is = one_each IsOfLane k Answers part (λ event answers. tt) is
 
 none : (part : List SettleEntry) → part ≡ [] → AreOfLanes part
 none part is = each_as IsOfLane part [] is tt
@@ -95,9 +92,6 @@ settles_where line lanes part before later behind of_line is =
     settles_if lanes part before later behind is (part_is line lanes part behind of_line)
 
 -- A FRONT OF A LINE's part over clean lanes
-first_steps : (turns : List EndTurn) (part : List SettleEntry) → AreFirstSteps turns part → AreOfLanes part
-first_steps turns part first = steps first.made part first.steps
-
 front_of : (lanes : List LaneState) (part : List SettleEntry) (behind : List LaneState) → AreClean lanes
     → SettleFront lanes part behind → AreOfLanes part
 front_of lanes part behind clean at =
@@ -107,7 +101,7 @@ pub begins_lanes : (line : Line) (lanes : List LaneState) (part : List SettleEnt
     → AreClean lanes → BeginsPart line lanes part behind → AreOfLanes part
 begins_lanes Nothing lanes part behind clean is = none part is
 begins_lanes (Asked k request) lanes part behind clean is = none part is
-begins_lanes (Steps k e count) lanes part behind clean first = first_steps (replicate count (turn k e)) part first
-begins_lanes (Rounds count) lanes part behind clean first = first_steps (turns_of count (length lanes)) part first
+begins_lanes (Steps k e count) lanes part behind clean first = steps first.made part first.steps
+begins_lanes (Rounds count) lanes part behind clean first = steps first.made part first.steps
 begins_lanes world.Settles lanes part behind clean front = front_of lanes part behind clean front
 begins_lanes (Calls k call) lanes part behind clean is = none part is

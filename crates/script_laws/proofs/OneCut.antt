@@ -19,7 +19,8 @@ use Rattle.ldom_entries.specs.declared.entry.Entry.{Entry}
 use Rattle.script_laws.proofs.CleanLanes.{AreClean}
 use Rattle.script_laws.proofs.DeclaredWorlds.{as_told, lines_told}
 use Rattle.script_laws.proofs.DiskShapes.{many_shapes}
-use Rattle.script_laws.proofs.Entries.{EachEntry, IsOfLane}
+use Rattle.world_laws.proofs.LineEntries.{EachEntry}
+use Rattle.script_laws.proofs.Entries.{IsOfLane}
 use Rattle.script_laws.proofs.LineEntries.{clean_settles}
 use Rattle.script_laws.proofs.SettleEntries.{SettledLast, settled_last}
 use Rattle.script_laws.proofs.Settling.{clean_lines}

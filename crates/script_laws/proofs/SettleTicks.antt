@@ -1,23 +1,21 @@
 -- Ticks in the part of a settle, and in a front of it: no step is a tick, and each lane has one at most.
-use Rattle.std.proofs.Common.{◌≡◌, inl, inr, ℕ, ◌+◌, ◌<◌, ◌≤◌, Bool, true, false, List, [], ◌∷◌, ◌++◌, refl, ap, ◌∙◌, arith}
+use Rattle.std.proofs.Common.{◌≡◌, inl, inr, ℕ, ◌+◌, ◌<◌, ◌≤◌, Bool, true, false, List, [], ◌∷◌, refl, ap, ◌∙◌, arith}
 use Rattle.std.proofs.lemmas.Bool.{eqb-true}
 use Rattle.std.specs.Prelude.{◌&&◌, ◌==◌, if◌then◌else◌, ⊤}
-use Rattle.disk_model.specs.DiskEvent.{DiskEvent, Off, OnWire, Switches}
+use Rattle.disk_model.specs.DiskEvent.{DiskEvent, OnWire}
 use Rattle.disk_model.specs.LaneState.{LaneState}
-use Rattle.channel_model.specs.WireEvent.{Idle, Reset}
+use Rattle.channel_model.specs.WireEvent.{Reset}
 use Rattle.lane_laws.specs.CalmEnds.{IsStep}
 use Rattle.world_laws.proofs.Counts.{ticks_both}
+use Rattle.world_laws.proofs.LineEntries.{EachEntry, begun_each}
 use Rattle.world_laws.proofs.RoundCounts.{once, tick_entry}
 use Rattle.lane_kinds.proofs.Counting.{front_counted}
 use Rattle.world_laws.proofs.TicksOnce.{counts, entry_ticks, mark_at}
-use Rattle.world_laws.specs.Begun.{NoMore, RoundFront, SettleFront, TickFront, fronts}
+use Rattle.world_laws.specs.Begun.{NoMore, SettleFront, TickFront, fronts}
 use Rattle.world_laws.specs.Moves.{is_tick, ticks, ticks_in}
-use Rattle.world_laws.specs.Rounds.{LaneRound, MakeRound}
-use Rattle.world_laws.specs.Settle.{OfLane, SettleEntry, disks, entry_of, round_entries}
+use Rattle.world_laws.specs.Settle.{OfLane, SettleEntry, disks}
 use Rattle.world_laws.specs.Ticks.{gets_tick, waits_on}
 use Rattle.ldc_queue.specs.declared.end.End.{End}
-use Rattle.ldc_queue.specs.declared.end.End.TheVariants.{A, B}
-use Rattle.script_laws.proofs.Entries.{EachEntry, each_as, each_both}
 use Rattle.vio_tag.specs.declared.cause.Cause.TheVariants as the_cause
 
 abbrev pub NoTick : SettleEntry → Type 0
@@ -25,41 +23,9 @@ NoTick (OfLane k event) = is_tick event ≡ false
 NoTick _ = ⊤
 
 -- STEPS
-step_none : (k : ℕ) (e : End) (event : DiskEvent) → IsStep e event → EachEntry NoTick (entry_of k event)
-step_none k e (OnWire (Idle d)) own = tt
-step_none k e (Switches Off) own = tt
+pub step_none : (k : ℕ) (e : End) (event : DiskEvent) → IsStep e event → NoTick (OfLane k event)
 step_none k e (OnWire (Reset d the_cause.Tick packet lost)) own = absurd (cc own.1)
-step_none k e _ own = (refl, tt)
-
-lane_none : (k : ℕ) (r : LaneRound) → IsStep A r.client → IsStep B r.server
-    → EachEntry NoTick (entry_of k r.client ++ entry_of k r.server)
-lane_none k r client server =
-    each_both NoTick (entry_of k r.client) (entry_of k r.server) (step_none k A r.client client)
-    (step_none k B r.server server)
-
-pub round_none : (k : ℕ) (lanes : List LaneState) (rounds : List LaneRound) (behind : List LaneState)
-    → MakeRound lanes rounds behind → EachEntry NoTick (round_entries k rounds)
-round_none k [] [] [] made = tt
-round_none k (s ∷ lanes) (r ∷ rounds) (t ∷ behind) made =
-    each_both NoTick (entry_of k r.client ++ entry_of k r.server) (round_entries (k + 1) rounds)
-    (lane_none k r made.0.of_client made.0.of_server) (round_none (k + 1) lanes rounds behind made.1)
-round_none k _ _ _ made = absurd made
-
-no_more : (lanes : List LaneState) (part : List SettleEntry) (behind : List LaneState) → NoMore lanes part behind
-    → EachEntry NoTick part
-no_more lanes part behind none = each_as NoTick part [] none.is tt
-
-pub front_none : (k : ℕ) (lanes : List LaneState) (part : List SettleEntry) (behind : List LaneState)
-    → RoundFront k lanes part behind → EachEntry NoTick part
-front_none k [] part behind none = no_more [] part behind none
-front_none k (s ∷ lanes) part behind (inl none) = no_more (s ∷ lanes) part behind none
-front_none k (s ∷ lanes) part behind (inr (inl made)) =
-    each_as NoTick part (entry_of k made.event) made.is (step_none k A made.event made.of_client)
-front_none k (s ∷ lanes) part behind (inr (inr made)) =
-    let r = made.round in
-    each_as NoTick part (entry_of k r.client ++ entry_of k r.server ++ made.later) made.is
-    (each_both NoTick (entry_of k r.client ++ entry_of k r.server) made.later
-    (lane_none k r made.made.of_client made.made.of_server) (front_none (k + 1) lanes made.later made.others made.more))
+step_none k e _ own = refl
 
 -- counted
 and_none : (c : Bool) → once (c && false) ≡ 0
@@ -152,6 +118,6 @@ pub front_ticks : (start : List LaneState) (part : List SettleEntry) (behind : L
     → SettleFront start part behind → ticks_in k part ≤ 1
 front_ticks start part behind k at =
     front_counted disks (ticks_in k) (mark_at k 0) (counts k) fronts (record {
-      round = λ w part v front. at_most_none (ticks_in k part) (none_counted k part (front_none 0 w part v front));
+      round = λ w part v front. at_most_none (ticks_in k part) (none_counted k part (begun_each NoTick step_none 0 w part v front));
       ticks = λ w m part v front. (front_few k 0 w m part v front).1;
     }) start part behind at

@@ -25,7 +25,8 @@ use Rattle.world_laws.specs.Lines as world
 use Rattle.world_laws.specs.World.{WorldState, WorldStep}
 use Rattle.ldom_entries.specs.declared.entry.Entry.{Entry}
 use Rattle.script_laws.proofs.CleanLanes.{AreClean, clean_behind}
-use Rattle.script_laws.proofs.Entries.{LeavesNone, each_in}
+use Rattle.world_laws.proofs.LineEntries.{each_in}
+use Rattle.script_laws.proofs.Entries.{LeavesNone}
 use Rattle.script_laws.proofs.LineEntries.{clean_settles, part_leaves, settle_ends, settles_where}
 use Rattle.script_laws.proofs.Places.{InLine, line_with}
 use Rattle.script_laws.proofs.SettleEntries.{SettledLast, none_behind, settled_last}

@@ -18,13 +18,13 @@ use Rattle.lane_laws.proofs.AgreementRuns.{run_agrees}
 use Rattle.lane_laws.specs.CalmEnds.{AreStill, HasNoRoom, IsStill}
 use Rattle.lane_kinds.proofs.Sums.{and_left, and_right}
 use Rattle.world_laws.proofs.LaneRounds.{quiet_still}
+use Rattle.world_laws.proofs.LineEntries.{EachEntry, each_both, entry_each}
 use Rattle.world_laws.specs.Along.{event_at, happened}
 use Rattle.world_laws.specs.Rounds.{LaneRound, MakesRound, are_quiet, is_calm, is_quiet}
 use Rattle.world_laws.specs.Settle.{OfLane, SettleEntry, entry_of, round_entries}
 use Rattle.ldc_queue.specs.Wire.{peer_of, waiting_for}
 use Rattle.ldc_queue.specs.declared.end.End.{End}
 use Rattle.ldc_queue.specs.declared.end.End.TheVariants.{A, B}
-use Rattle.script_laws.proofs.Entries.{EachEntry, each_both}
 use Rattle.script_laws.specs.Still.{AreStillBy, IsStillBy}
 
 -- BY THE LOG of a lane, where another log has the same work
@@ -85,9 +85,7 @@ IsCalmEntry (OfLane k event) = is_calm event ≡ true
 IsCalmEntry _ = ⊤
 
 calm_entry : (k : ℕ) (event : DiskEvent) → is_calm event ≡ true → EachEntry IsCalmEntry (entry_of k event)
-calm_entry k (OnWire (Idle e)) calm = tt
-calm_entry k (Switches Off) calm = tt
-calm_entry k event calm = (calm, tt)
+calm_entry k event calm = entry_each IsCalmEntry k event calm
 
 pub calm_round : (k : ℕ) (rounds : List LaneRound) → are_quiet rounds ≡ true
     → EachEntry IsCalmEntry (round_entries k rounds)

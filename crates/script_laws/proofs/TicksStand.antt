@@ -10,25 +10,27 @@ use Rattle.disk_model.specs.DiskEvent.{DiskEvent}
 use Rattle.disk_model.specs.LaneState.{IsShape, LaneState, Shape, fresh}
 use Rattle.disk_model.specs.LaneStep.{LaneStep}
 use Rattle.disk_model.specs.Reached.{IsReached}
-use Rattle.world_laws.proofs.Falling.{AreClean, clean_behind}
+use Rattle.world_laws.proofs.Falling.{AreClean, keeps}
+use Rattle.world_laws.proofs.FrontMoving.{front_moves, ticked_moves}
+use Rattle.lane_kinds.proofs.Leading.{few_stand, settles_lead}
 use Rattle.lane_kinds.proofs.Sums.{and_left, and_right}
+use Rattle.lane_kinds.specs.Laws.{FrontsLeadWhere, LeadsWhere}
+use Rattle.world_laws.proofs.LineEntries.{EachEntry, begun_each, each_in, round_each}
 use Rattle.world_laws.proofs.LaneRounds.{quiet_finished, quiet_same, round_keeps}
 use Rattle.world_laws.proofs.LaneTicks.{either, waits_where}
-use Rattle.world_laws.proofs.Moving.{both_none, happened_both, moves_on, round_moves_lanes, rounds_move_lanes, tick_below}
+use Rattle.world_laws.proofs.Moving.{both_none, happened_both, moves_on, round_moves_lanes, settled_moves, stay, tick_below}
 use Rattle.world_laws.proofs.RoundCounts.{tick_entry}
 use Rattle.world_laws.proofs.Together.{gets_where}
 use Rattle.world_laws.specs.Along.{LanesMove, happened}
-use Rattle.world_laws.specs.Begun.{NamesFront, NoMore, QuietFront, RoundFront, SettleFront, TickFront}
+use Rattle.world_laws.specs.Begun.{NoMore, SettleFront, TickFront, fronts}
 use Rattle.world_laws.specs.Moves.{is_tick}
 use Rattle.world_laws.specs.Rounds.{Each, LaneRound, MakeRound, MakesRound, are_quiet, is_quiet}
-use Rattle.world_laws.specs.Settle.{GoesOn, OfLane, SettleEntry, SettleRound, Settled, Settles, Settling, TicksBehind}
-use Rattle.world_laws.specs.Settle.{begin, entries_of_rounds, most_rounds, round_entries, tick_entries}
+use Rattle.world_laws.specs.Settle.{OfLane, SettleEntry, Settled, Settles, disks, most_rounds, round_entries, tick_entries}
 use Rattle.world_laws.specs.Sums.{IsUnforged}
 use Rattle.world_laws.specs.Ticks.{TickLanes, gets_tick, tick, waits_on}
 use Rattle.world_laws.proofs.LaneLists.{each_there, is_there, lane_moved, many_moved}
-use Rattle.script_laws.proofs.Entries.{EachEntry, each_in}
 use Rattle.script_laws.proofs.Places.{InEither, no_place, place_in}
-use Rattle.script_laws.proofs.SettleTicks.{NoTick, front_none, round_none}
+use Rattle.script_laws.proofs.SettleTicks.{NoTick, step_none}
 use Rattle.script_laws.proofs.Stillness.{calm_round, still_by}
 use Rattle.script_laws.specs.Still.{AreStillBy}
 
@@ -96,10 +98,6 @@ two_stand : (start : List LaneState) (one : List SettleEntry) (between : List La
 two_stand start one between two moves first second x event so_far rest s is place there =
     two_at start one between two moves first second x event so_far rest s is there
     (place_in one two so_far (OfLane x event) rest place)
-
-as_stand : (start : List LaneState) (one two : List SettleEntry) → one ≡ two → TicksStand start two
-    → TicksStand start one
-as_stand start one two is stand = subst (λ (l : List SettleEntry). TicksStand start l) (sym is) stand
 
 -- A FRONT OF THE TICKS: before that of a lane nothing happened to it
 record FirstTick (j x : ℕ) (lanes : List LaneState) (so_far : List SettleEntry) : Type 0 where
@@ -294,7 +292,7 @@ module _ (lanes : List LaneState) (marks : List Bool) (steps : List LaneRound) (
       → slice_get lanes x ≡ Some s → InEither (round_entries 0 steps) later so_far (OfLane x event) rest
       → TickAt x so_far s
   quiet_tick x event so_far rest s is there (inl at) =
-      none_stand lanes (round_entries 0 steps) (round_none 0 lanes steps between made) x event so_far at.rest s is at.is
+      none_stand lanes (round_entries 0 steps) (round_each NoTick step_none 0 lanes steps between made) x event so_far at.rest s is at.is
       there
   quiet_tick x event so_far rest s is there (inr at) =
       let found : QuietAt x s between = quiet_at lanes steps between x s made quiet there in
@@ -308,66 +306,59 @@ module _ (lanes : List LaneState) (marks : List Bool) (steps : List LaneRound) (
       quiet_tick x event so_far rest s is there
       (place_in (round_entries 0 steps) later so_far (OfLane x event) rest place)
 
--- ALONG THE ROUNDS
-goes_stand : (quiet : Bool) (w : Settling) (steps : List LaneRound) (between : List LaneState)
-    (entries : List SettleEntry) (v : Settling) → AreClean w.lanes → MakeRound w.lanes steps between
-    → are_quiet steps ≡ quiet → TicksBehind quiet w steps between entries v → TicksStand w.lanes entries
-goes_stand false w steps between entries v clean made loud behind =
-    as_stand w.lanes entries (round_entries 0 steps) behind.1
-    (none_stand w.lanes (round_entries 0 steps) (round_none 0 w.lanes steps between made))
-goes_stand true w steps between entries v clean made quiet behind =
-    as_stand w.lanes entries (round_entries 0 steps ++ tick_entries 0 between w.marks) behind.3
-    (quiet_front w.lanes w.marks steps between (tick_entries 0 between w.marks) v.lanes clean made quiet
-    (all_ticks 0 between w.marks v.lanes behind.1))
+-- A STRETCH of a settle: each lane is run by what it says, and its ticks stand
+record Stretch (lanes : List LaneState) (part : List SettleEntry) (behind : List LaneState) : Type 0 where
+  moves : LanesMove 0 lanes part behind
+  stand : TicksStand lanes part
 
-rounds_stand : (w : Settling) (rounds : List SettleRound) (v : Settling) → AreClean w.lanes → Run GoesOn w rounds v
-    → TicksStand w.lanes (entries_of_rounds rounds)
-rounds_stand w [] v clean run = none_stand w.lanes [] tt
-rounds_stand w (round ∷ rounds) v clean run =
-    let once : Run GoesOn w (round ∷ []) run.0 = (run.0, run.1, refl) in
-    let moves : LanesMove 0 w.lanes round.entries run.0.lanes =
-    subst (λ (l : List SettleEntry). LanesMove 0 w.lanes l run.0.lanes) (append-nil round.entries)
-    (rounds_move_lanes w (round ∷ []) run.0 once) in
-    two_stand w.lanes round.entries run.0.lanes (entries_of_rounds rounds) moves
-    (goes_stand (are_quiet round.steps) w round.steps run.1.between round.entries run.0 clean run.1.made refl
-    run.1.behind)
-    (rounds_stand run.0 rounds v (clean_behind w (round ∷ []) run.0 clean once) run.2)
+abbrev Clean : List LaneState → List Bool → Type 0
+Clean lanes marks = AreClean lanes
+
+quiet_stretch : (lanes : List LaneState) (marks : List Bool) (steps : List LaneRound) (between : List LaneState)
+    (later : List SettleEntry) (behind : List LaneState) → AreClean lanes → MakeRound lanes steps between
+    → are_quiet steps ≡ true → TickFront 0 between marks later behind
+    → Stretch lanes (round_entries 0 steps ++ later) behind
+quiet_stretch lanes marks steps between later behind clean made quiet front = record {
+  moves = moves_on 0 lanes between behind (round_entries 0 steps) later (round_moves_lanes 0 lanes steps between made)
+      (ticked_moves 0 between marks later behind front);
+  stand = quiet_front lanes marks steps between later behind clean made quiet front;
+}
+
+stretches : LeadsWhere disks Clean Stretch
+stretches = record {
+  keeps = keeps;
+  none = λ w. record { moves = stay 0 w; stand = none_stand w [] tt };
+  both = λ w m v one two first second. record {
+    moves = moves_on 0 w m v one two first.moves second.moves;
+    stand = two_stand w one m two first.moves first.stand second.stand;
+  };
+  round = λ w m r v clean made. record {
+    moves = round_moves_lanes 0 w r v made;
+    stand = none_stand w (round_entries 0 r) (round_each NoTick step_none 0 w r v made);
+  };
+  ticks = λ w m r v u clean made quiet ticks.
+      quiet_stretch w m r v (tick_entries 0 v m) u clean made quiet (all_ticks 0 v m u ticks);
+}
 
 -- A SETTLE, and a front of one that made fewer than the most rounds
+answered : (w : List LaneState) → Stretch w (Settled ∷ []) w
+answered w = record { moves = settled_moves 0 w; stand = none_stand w (Settled ∷ []) (tt, tt) }
+
 pub settles_stand : (start : List LaneState) (part : List SettleEntry) (behind : List LaneState) → AreClean start
     → Settles start part behind → TicksStand start part
 settles_stand start part behind clean at =
-    let rounds : List SettleEntry = entries_of_rounds at.rounds in
-    let last : List SettleEntry = round_entries 0 at.steps in
-    let first = rounds_move_lanes (begin start) at.rounds at.now at.run in
-    let then = round_moves_lanes 0 at.now.lanes at.steps behind at.last.made in
-    as_stand start part (rounds ++ last ++ Settled ∷ []) at.is
-    (two_stand start (rounds ++ last) behind (Settled ∷ []) (moves_on 0 start at.now.lanes behind rounds last first then)
-    (two_stand start rounds at.now.lanes last first (rounds_stand (begin start) at.rounds at.now clean at.run)
-    (none_stand at.now.lanes last (round_none 0 at.now.lanes at.steps behind at.last.made)))
-    (none_stand behind (Settled ∷ []) (tt, tt)))
+    (settles_lead disks Clean Stretch stretches answered start part behind clean at).stand
 
-not_all : (made most : ℕ) → made < most → made ≡ most → ⊥
-not_all made most less all = omega (arith, less, all)
-
-later_stand : (rounds : List SettleRound) (now : Settling) (most : ℕ) (later : List SettleEntry)
-    (behind : List LaneState) → AreClean now.lanes → length rounds < most
-    → ((length rounds < most) × (RoundFront 0 now.lanes later behind ⊎ QuietFront now later behind))
-    ⊎ ((length rounds ≡ most) × NamesFront rounds now later behind) → TicksStand now.lanes later
-later_stand rounds now most later behind clean few (inl (less, inl front)) =
-    none_stand now.lanes later (front_none 0 now.lanes later behind front)
-later_stand rounds now most later behind clean few (inl (less, inr quiet)) =
-    as_stand now.lanes later (round_entries 0 quiet.steps ++ quiet.later) quiet.is
-    (quiet_front now.lanes now.marks quiet.steps quiet.between quiet.later behind clean quiet.made quiet.quiet
-    quiet.ticks)
-later_stand rounds now most later behind clean few (inr (all, names)) = absurd (not_all (length rounds) most few all)
+front_stretches : FrontsLeadWhere disks fronts Clean Stretch
+front_stretches = record {
+  round = λ w m part v clean front. record {
+    moves = front_moves 0 w part v front;
+    stand = none_stand w part (begun_each NoTick step_none 0 w part v front);
+  };
+  ticks = λ w m r v part u clean made quiet front. quiet_stretch w m r v part u clean made quiet front;
+}
 
 pub begun_stand : (start : List LaneState) (part : List SettleEntry) (behind : List LaneState) → AreClean start
     → (at : SettleFront start part behind) → length at.rounds < most_rounds start → TicksStand start part
 begun_stand start part behind clean at few =
-    as_stand start part (entries_of_rounds at.rounds ++ at.later) at.is
-    (two_stand start (entries_of_rounds at.rounds) at.now.lanes at.later
-    (rounds_move_lanes (begin start) at.rounds at.now at.run)
-    (rounds_stand (begin start) at.rounds at.now clean at.run)
-    (later_stand at.rounds at.now (most_rounds start) at.later behind
-    (clean_behind (begin start) at.rounds at.now clean at.run) few at.front))
+    (few_stand disks Clean Stretch stretches fronts front_stretches start part behind clean at few).stand

@@ -13,7 +13,7 @@ use Rattle.disk_model.specs.LaneStep.{LaneStep}
 use Rattle.disk_model.specs.Reached.{IsReached}
 use Rattle.world_laws.specs.Along.{happened}
 use Rattle.world_laws.specs.Rounds.{Each}
-use Rattle.world_laws.specs.Settle.{OfLane, SettleEntry, Settled, Unsettled}
+use Rattle.world_laws.specs.Settle.{OfLane, SettleEntry, Unsettled}
 use Rattle.world_laws.specs.Sums.{IsUnforged}
 use Rattle.world_laws.proofs.Along.{lane_step, many_stay, stay_reached}
 use Rattle.world_laws.proofs.LaneLists.{each_there}
@@ -29,8 +29,8 @@ use Rattle.script_laws.proofs.EntryKinds.{IsWell}
 -- AN ENTRY of one of so many disks
 abbrev pub IsTold : ℕ → SettleEntry → Type 0
 IsTold many (OfLane k event) = (k < many) × HasWords event × IsWell event
-IsTold many Settled = ⊤
 IsTold many (Unsettled k) = k < many
+IsTold many _ = ⊤
 
 abbrev pub AreTold : ℕ → List SettleEntry → Type 0
 AreTold many [] = ⊤
@@ -99,15 +99,15 @@ run_told many w (OfLane k event ∷ entries) v long reached run clean below =
     let before = run_unforged w (OfLane k event ∷ entries) v reached run clean in (
       lane_told many w k event run.0 long reached before run.1,
       run_told many run.0 entries v (many_stay w (OfLane k event ∷ []) run.0 first ∙ long)
-          (stay_reached w (OfLane k event ∷ []) run.0 reached first) run.2 clean below,
+          (stay_reached w (OfLane k event ∷ []) run.0 reached first) run.2 clean below.1,
     )
-run_told many w (Settled ∷ entries) v long reached run clean below = (
-  tt,
-  run_told many run.0 entries v (ap (λ (x : WorldState). length x.lanes) run.1 ∙ long)
-      (subst (λ (x : WorldState). Each IsReached x.lanes) (sym run.1) reached) run.2 clean below,
-)
 run_told many w (Unsettled k ∷ entries) v long reached run clean below = (
   below.0,
+  run_told many run.0 entries v (ap (λ (x : WorldState). length x.lanes) run.1 ∙ long)
+      (subst (λ (x : WorldState). Each IsReached x.lanes) (sym run.1) reached) run.2 clean below.1,
+)
+run_told many w (entry ∷ entries) v long reached run clean below = (
+  tt,
   run_told many run.0 entries v (ap (λ (x : WorldState). length x.lanes) run.1 ∙ long)
       (subst (λ (x : WorldState). Each IsReached x.lanes) (sym run.1) reached) run.2 clean below.1,
 )

@@ -1,5 +1,5 @@
 -- A script forges no lane, and where none of its lines stops a server, all run.
-use Rattle.std.proofs.Common.{ℕ, List, [], ◌∷◌, map, refl, sym, subst}
+use Rattle.std.proofs.Common.{ℕ, List, [], ◌∷◌, length, map, refl, sym, subst}
 use Rattle.runs.specs.Run.{Run}
 use Rattle.ldc_queue.specs.declared.end.End.{End}
 use Rattle.ldc_queue.specs.declared.end.End.TheVariants.{A, B}
@@ -18,7 +18,7 @@ use Rattle.world_laws.proofs.LaneLists.{each_set, each_there}
 use Rattle.world_laws.specs.Lines.{AnswersCall, AnswersRequest, Call, Calls, Line, LineBegins, LineMoves, LineStep, Loses, Resets, Restarts, Starts, Stops, Ticks}
 use Rattle.world_laws.specs.World.{WorldState, WorldStep, fresh_world}
 use Rattle.world_laws.proofs.RequestKeeping.{IsHonest, IsOnWireHonest, KeepsOn, stays_running, stays_unforged}
-use Rattle.world_laws.proofs.LineEntries.{AllEvents, line_all, line_begun}
+use Rattle.world_laws.proofs.LineEntries.{EachEntry, OnEvent, begins_each, line_each}
 use Rattle.world_laws.specs.Running.{AllLeaveRunning, IsRunning, LeavesRunning}
 
 -- STEPS of an end
@@ -118,19 +118,19 @@ call_on k call (Calms event) leaves answers = tt
 
 -- A RUN keeps of each lane what each of its events keeps
 entries_keep : (P : DiskEvent → Type 0) (Q : LaneState → Type 0) → ((s : LaneState) (event : DiskEvent) (t : LaneState) → P event → LaneStep s event t → Q s → Q t)
-    → (w : WorldState) (entries : List SettleEntry) (v : WorldState) → AllEvents P entries → Run WorldStep w entries v → Each Q w.lanes → Each Q v.lanes
+    → (w : WorldState) (entries : List SettleEntry) (v : WorldState) → EachEntry (OnEvent P) entries → Run WorldStep w entries v → Each Q w.lanes → Each Q v.lanes
 entries_keep P Q keeps w [] v events run all = subst (λ (x : WorldState). Each Q x.lanes) run all
 entries_keep P Q keeps w (OfLane k event ∷ entries) v events run all =
     let moves = run.1 in
     let holds = keeps moves.lane event moves.after events.0 (lane_step moves.lane w.image event moves.after run.0.image moves.moves) (each_there Q w.lanes k moves.lane all moves.there) in
     entries_keep P Q keeps run.0 entries v events.1 run.2 (subst (λ (l : List LaneState). Each Q l) (sym moves.lanes) (each_set Q w.lanes k moves.after all holds))
-entries_keep P Q keeps w (entry ∷ entries) v events run all = entries_keep P Q keeps run.0 entries v events run.2 (subst (λ (x : WorldState). Each Q x.lanes) (sym run.1) all)
+entries_keep P Q keeps w (entry ∷ entries) v events run all = entries_keep P Q keeps run.0 entries v events.1 run.2 (subst (λ (x : WorldState). Each Q x.lanes) (sym run.1) all)
 
 -- NOBODY FORGES
 line_clean : (w : WorldState) (line : Line) (part : List SettleEntry) (v : WorldState) → LineMoves w line part v → Each IsUnforged w.lanes → Each IsUnforged v.lanes
 line_clean w line part v moves all =
     entries_keep IsHonest IsUnforged stays_unforged w part v
-    (line_all IsHonest step_honest tt asked_honest line (λ k call event is answers. call_honest call event answers) w.lanes part v.lanes moves.part_of) moves.run all
+    (line_each (OnEvent IsHonest) (λ k. step_honest) (λ k. tt) (length w.lanes) (λ k less. tt) tt (λ k. asked_honest) line (λ k call event is answers. call_honest call event answers) w.lanes part v.lanes refl moves.part_of) moves.run all
 
 lines_clean : (w : WorldState) (lines : List (Line × List SettleEntry)) (v : WorldState) → Run LineStep w lines v → Each IsUnforged w.lanes → Each IsUnforged v.lanes
 lines_clean w [] v run all = subst (λ (x : WorldState). Each IsUnforged x.lanes) run all
@@ -146,13 +146,13 @@ unforged_behind shapes image lines w run = lines_clean (fresh_world shapes image
 pub unforged_begun : (shapes : List Shape) (image : ImageState) (lines : List (Line × List SettleEntry)) (w : WorldState) (line : Line) (part : List SettleEntry) (v : WorldState)
     → Run LineStep (fresh_world shapes image) lines w → LineBegins w line part v → Each IsUnforged v.lanes
 unforged_begun shapes image lines w line part v run begun =
-    entries_keep IsHonest IsUnforged stays_unforged w part v (line_begun IsHonest step_honest tt line w.lanes part v.lanes begun.begins) begun.run (unforged_behind shapes image lines w run)
+    entries_keep IsHonest IsUnforged stays_unforged w part v (begins_each (OnEvent IsHonest) (λ k. step_honest) (λ k. tt) (length w.lanes) (λ k less. tt) tt line w.lanes part v.lanes refl begun.begins) begun.run (unforged_behind shapes image lines w run)
 
 -- ALL RUN
 line_runs : (w : WorldState) (line : Line) (part : List SettleEntry) (v : WorldState) → LeavesRunning line → LineMoves w line part v → Each IsRunning w.lanes → Each IsRunning v.lanes
 line_runs w line part v leaves moves all =
     entries_keep KeepsOn IsRunning stays_running w part v
-    (line_all KeepsOn step_on tt asked_on line (λ k call event is answers. call_on k call event (subst LeavesRunning is leaves) answers) w.lanes part v.lanes moves.part_of) moves.run all
+    (line_each (OnEvent KeepsOn) (λ k. step_on) (λ k. tt) (length w.lanes) (λ k less. tt) tt (λ k. asked_on) line (λ k call event is answers. call_on k call event (subst LeavesRunning is leaves) answers) w.lanes part v.lanes refl moves.part_of) moves.run all
 
 lines_all_run : (w : WorldState) (lines : List (Line × List SettleEntry)) (v : WorldState) → AllLeaveRunning lines → Run LineStep w lines v → Each IsRunning w.lanes → Each IsRunning v.lanes
 lines_all_run w [] v leave run all = subst (λ (x : WorldState). Each IsRunning x.lanes) run all
@@ -170,4 +170,4 @@ running_behind shapes image lines w leave run = lines_all_run (fresh_world shape
 pub running_begun : (shapes : List Shape) (image : ImageState) (lines : List (Line × List SettleEntry)) (w : WorldState) (line : Line) (part : List SettleEntry) (v : WorldState) → AllLeaveRunning lines
     → Run LineStep (fresh_world shapes image) lines w → LineBegins w line part v → Each IsRunning v.lanes
 running_begun shapes image lines w line part v leave run begun =
-    entries_keep KeepsOn IsRunning stays_running w part v (line_begun KeepsOn step_on tt line w.lanes part v.lanes begun.begins) begun.run (running_behind shapes image lines w leave run)
+    entries_keep KeepsOn IsRunning stays_running w part v (begins_each (OnEvent KeepsOn) (λ k. step_on) (λ k. tt) (length w.lanes) (λ k less. tt) tt line w.lanes part v.lanes refl begun.begins) begun.run (running_behind shapes image lines w leave run)

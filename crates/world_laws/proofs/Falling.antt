@@ -16,7 +16,7 @@ pub record AreClean (lanes : List LaneState) : Type 0 where
   pub reached : Each IsReached lanes
   pub unforged : Each IsUnforged lanes
 
-keeps : Keeps disks (λ lanes marks. AreClean lanes)
+pub keeps : Keeps disks (λ lanes marks. AreClean lanes)
 keeps = record {
   round = λ w m r v clean made. record {
     reached = rounds_reached w r v clean.reached made;

@@ -1,5 +1,5 @@
--- What holds of each step of an end, of a tick, and of what may come of a script's requests and calls, holds of each event in a line's part.
-use Rattle.std.proofs.Common.{◌≡◌, ℕ, ◌+◌, inl, inr, Bool, true, false, List, [], ◌∷◌, ◌++◌, length, replicate, refl, sym, subst}
+-- A condition on each entry of a part. Where each step of an end, each tick, what may come of a script's requests and calls, the names of lanes that are left over, and a settle's answer have it, each entry of a line's part has it.
+use Rattle.std.proofs.Common.{◌≡◌, ℕ, ◌+◌, ◌<◌, ◌≤◌, inl, inr, Bool, true, false, List, [], ◌∷◌, ◌++◌, length, replicate, refl, sym, ◌∙◌, subst, arith}
 use Rattle.std.specs.Prelude.{◌&&◌, if◌then◌else◌, ⊤}
 use Rattle.ldc_queue.specs.declared.end.End.{End}
 use Rattle.ldc_queue.specs.declared.end.End.TheVariants.{A, B}
@@ -7,155 +7,174 @@ use Rattle.vdisk_msg.specs.declared.request.Request.{Request}
 use Rattle.channel_model.specs.WireEvent.{Idle}
 use Rattle.disk_model.specs.DiskEvent.{DiskEvent, Off, OnWire, Switches}
 use Rattle.disk_model.specs.LaneState.{LaneState}
-use Rattle.lane_kinds.proofs.Leading.{front_leads, part_leads}
-use Rattle.lane_kinds.specs.Laws.{Ends, Leads}
+use Rattle.lane_kinds.proofs.Leading.{few_lead, front_leads, part_leads, steps_lead}
+use Rattle.lane_kinds.specs.Laws.{Ends, FrontsLead, Leads}
 use Rattle.lane_laws.specs.CalmEnds.{IsStep}
+use Rattle.world_laws.proofs.FrontMoving.{front_moves, ticked_moves}
+use Rattle.world_laws.proofs.LaneLists.{many_moved}
+use Rattle.world_laws.proofs.Moving.{round_moves_lanes, ticks_move_lanes}
+use Rattle.world_laws.specs.Along.{LanesMove}
 use Rattle.world_laws.specs.Begun.{NoMore, RoundFront, SettleFront, TickFront, fronts}
-use Rattle.world_laws.specs.Rounds.{LaneRound, MakeRound, is_quiet}
-use Rattle.world_laws.specs.Settle.{OfLane, SettleEntry, SettlePart, Unsettled, disks, entry_of, left_over, round_entries, tick_entries}
+use Rattle.world_laws.specs.Rounds.{LaneRound, MakeRound, MakesRound, is_quiet}
+use Rattle.world_laws.specs.Settle.{OfLane, SettleEntry, Settled, Settles, Unsettled, disks, entries_of_rounds, entry_of, left_over, most_rounds, round_entries, tick_entries}
 use Rattle.world_laws.specs.Ticks.{gets_tick, tick, waits_on}
-use Rattle.world_laws.specs.Lines.{AnswersCall, AnswersRequest, AreFirstSteps, AreSteps, Asked, BeginsPart, Call, Calls, Line, Nothing, OneEntry, PartOf, Rounds, Settles, Steps, EndTurn, turn, turns_of}
+use Rattle.world_laws.specs.Lines.{AnswersCall, AnswersRequest, AreSteps, Asked, BeginsPart, Call, Calls, Line, Nothing, OneEntry, PartOf, Rounds, Steps, EndTurn, turn, turns_of}
+use Rattle.world_laws.specs.Lines as script
 
--- EACH EVENT in a part
-abbrev pub AllEvents : (DiskEvent → Type 0) → List SettleEntry → Type 0
-AllEvents P [] = ⊤
-AllEvents P (OfLane k event ∷ part) = P event × AllEvents P part
-AllEvents P (x ∷ part) = AllEvents P part
+abbrev pub EachEntry : (SettleEntry → Type 0) → List SettleEntry → Type 0
+EachEntry P [] = ⊤
+EachEntry P (entry ∷ part) = P entry × EachEntry P part
 
--- whatever it leads from and to
-abbrev Hold : (DiskEvent → Type 0) → List LaneState → List SettleEntry → List LaneState → Type 0
-Hold P lanes part behind = AllEvents P part
+-- a condition on events of lanes alone
+abbrev pub OnEvent : (DiskEvent → Type 0) → SettleEntry → Type 0
+OnEvent P (OfLane k event) = P event
+OnEvent P _ = ⊤
 
-module _ (P : DiskEvent → Type 0) where
-  all_both : (one two : List SettleEntry) → AllEvents P one → AllEvents P two → AllEvents P (one ++ two)
-  all_both [] two first second = second
-  all_both (OfLane k event ∷ one) two first second = (first.0, all_both one two first.1 second)
-  all_both (x ∷ one) two first second = all_both one two first second
+module _ (P : SettleEntry → Type 0) where
+  pub each_both : (one two : List SettleEntry) → EachEntry P one → EachEntry P two → EachEntry P (one ++ two)
+  each_both [] two first second = second
+  each_both (entry ∷ one) two first second = (first.0, each_both one two first.1 second)
 
-  all_front : (one two : List SettleEntry) → AllEvents P (one ++ two) → AllEvents P one
-  all_front [] two all = tt
-  all_front (OfLane k event ∷ one) two all = (all.0, all_front one two all.1)
-  all_front (x ∷ one) two all = all_front one two all
+  each_front : (one two : List SettleEntry) → EachEntry P (one ++ two) → EachEntry P one
+  each_front [] two each = tt
+  each_front (entry ∷ one) two each = (each.0, each_front one two each.1)
 
-  all_of : (one two : List SettleEntry) → one ≡ two → AllEvents P two → AllEvents P one
-  all_of one two is all = subst (λ (l : List SettleEntry). AllEvents P l) (sym is) all
+  pub each_as : (one two : List SettleEntry) → one ≡ two → EachEntry P two → EachEntry P one
+  each_as one two is each = subst (EachEntry P) (sym is) each
 
-  all_none : (lanes : List LaneState) (part : List SettleEntry) (behind : List LaneState) → NoMore lanes part behind → AllEvents P part
-  all_none lanes part behind none = all_of part [] none.is tt
+  -- one of them has it
+  pub each_at : (before : List SettleEntry) (entry : SettleEntry) (behind : List SettleEntry) → EachEntry P (before ++ entry ∷ behind) → P entry
+  each_at [] entry behind each = each.0
+  each_at (other ∷ before) entry behind each = each_at before entry behind each.1
 
-  entry_all : (k : ℕ) (event : DiskEvent) → P event → AllEvents P (entry_of k event)
-  entry_all k (OnWire (Idle e)) holds = tt
-  entry_all k (Switches Off) holds = tt
-  entry_all k event holds = (holds, tt)
+  pub each_in : (part before : List SettleEntry) (entry : SettleEntry) (behind : List SettleEntry) → part ≡ before ++ entry ∷ behind → EachEntry P part → P entry
+  each_in part before entry behind is each = each_at before entry behind (each_as (before ++ entry ∷ behind) part (sym is) each)
 
-  name_all : (c : Bool) (k : ℕ) → AllEvents P (if c then [] else Unsettled k ∷ [])
-  name_all true k = tt
-  name_all false k = tt
+  each_none : (lanes : List LaneState) (part : List SettleEntry) (behind : List LaneState) → NoMore lanes part behind → EachEntry P part
+  each_none lanes part behind none = each_as part [] none.is tt
 
-  left_all : (k : ℕ) (steps : List LaneRound) (lanes : List LaneState) → AllEvents P (left_over k steps lanes)
-  left_all k [] lanes = tt
-  left_all k (r ∷ steps) [] = tt
-  left_all k (r ∷ steps) (s ∷ lanes) =
-      all_both (if is_quiet r && (if waits_on s then false else true) then [] else Unsettled k ∷ []) (left_over (k + 1) steps lanes)
-      (name_all (is_quiet r && (if waits_on s then false else true)) k) (left_all (k + 1) steps lanes)
+  pub one_each : (k : ℕ) (Answers : DiskEvent → Type 0) (part : List SettleEntry) → ((event : DiskEvent) → Answers event → P (OfLane k event)) → OneEntry k Answers part → EachEntry P part
+  one_each k Answers part each one = each_as part (OfLane k one.event ∷ []) one.is (each one.event one.answers, tt)
+
+  pub entry_each : (k : ℕ) (event : DiskEvent) → P (OfLane k event) → EachEntry P (entry_of k event)
+  entry_each k (OnWire (Idle e)) holds = tt
+  entry_each k (Switches Off) holds = tt
+  entry_each k event holds = (holds, tt)
 
   -- STEPS
-  module _ (each_step : (e : End) (event : DiskEvent) → IsStep e event → P event) where
-    steps_all : (turns : List EndTurn) (part : List SettleEntry) → AreSteps turns part → AllEvents P part
-    steps_all [] [] steps = tt
-    steps_all (next ∷ turns) (OfLane k event ∷ part) steps = (each_step next.side event steps.1, steps_all turns part steps.2)
-    steps_all [] (entry ∷ part) steps = absurd steps
-    steps_all (next ∷ turns) _ steps = absurd steps
+  module _ (steps : (k : ℕ) (e : End) (event : DiskEvent) → IsStep e event → P (OfLane k event)) where
+    pub steps_each : (turns : List EndTurn) (part : List SettleEntry) → AreSteps turns part → EachEntry P part
+    steps_each [] [] are = tt
+    steps_each (next ∷ turns) (OfLane k event ∷ part) are = (steps k next.side event are.1, steps_each turns part are.2)
+    steps_each [] (entry ∷ part) are = absurd are
+    steps_each (next ∷ turns) _ are = absurd are
 
-    first_all : (turns : List EndTurn) (part : List SettleEntry) → AreFirstSteps turns part → AllEvents P part
-    first_all turns part first = steps_all first.made part first.steps
+    lane_each : (k : ℕ) (s : LaneState) (r : LaneRound) (t : LaneState) → MakesRound s r t → EachEntry P (entry_of k r.client ++ entry_of k r.server)
+    lane_each k s r t made = each_both (entry_of k r.client) (entry_of k r.server) (entry_each k r.client (steps k A r.client made.of_client)) (entry_each k r.server (steps k B r.server made.of_server))
 
-    round_all : (k : ℕ) (lanes : List LaneState) (rounds : List LaneRound) (behind : List LaneState) → MakeRound lanes rounds behind → AllEvents P (round_entries k rounds)
-    round_all k [] [] [] made = tt
-    round_all k (s ∷ lanes) (r ∷ rounds) (t ∷ behind) made =
-        all_both (entry_of k r.client ++ entry_of k r.server) (round_entries (k + 1) rounds)
-        (all_both (entry_of k r.client) (entry_of k r.server) (entry_all k r.client (each_step A r.client made.0.of_client)) (entry_all k r.server (each_step B r.server made.0.of_server)))
-        (round_all (k + 1) lanes rounds behind made.1)
-    round_all k [] [] (t ∷ behind) made = absurd made
-    round_all k [] (r ∷ rounds) behind made = absurd made
-    round_all k (s ∷ lanes) [] behind made = absurd made
-    round_all k (s ∷ lanes) (r ∷ rounds) [] made = absurd made
+    pub round_each : (k : ℕ) (lanes : List LaneState) (rounds : List LaneRound) (behind : List LaneState) → MakeRound lanes rounds behind → EachEntry P (round_entries k rounds)
+    round_each k [] [] [] made = tt
+    round_each k (s ∷ lanes) (r ∷ rounds) (t ∷ behind) made =
+        each_both (entry_of k r.client ++ entry_of k r.server) (round_entries (k + 1) rounds) (lane_each k s r t made.0) (round_each (k + 1) lanes rounds behind made.1)
+    round_each k _ _ _ made = absurd made
 
-    begun_all : (k : ℕ) (lanes : List LaneState) (part : List SettleEntry) (behind : List LaneState) → RoundFront k lanes part behind → AllEvents P part
-    begun_all k [] part behind none = all_none [] part behind none
-    begun_all k (s ∷ lanes) part behind (inl none) = all_none (s ∷ lanes) part behind none
-    begun_all k (s ∷ lanes) part behind (inr (inl client)) = all_of part (entry_of k client.event) client.is (entry_all k client.event (each_step A client.event client.of_client))
-    begun_all k (s ∷ lanes) part behind (inr (inr both)) =
+    pub begun_each : (k : ℕ) (lanes : List LaneState) (part : List SettleEntry) (behind : List LaneState) → RoundFront k lanes part behind → EachEntry P part
+    begun_each k [] part behind none = each_none [] part behind none
+    begun_each k (s ∷ lanes) part behind (inl none) = each_none (s ∷ lanes) part behind none
+    begun_each k (s ∷ lanes) part behind (inr (inl client)) = each_as part (entry_of k client.event) client.is (entry_each k client.event (steps k A client.event client.of_client))
+    begun_each k (s ∷ lanes) part behind (inr (inr both)) =
         let r = both.round in
-        all_of part (entry_of k r.client ++ entry_of k r.server ++ both.later) both.is
-        (all_both (entry_of k r.client ++ entry_of k r.server) both.later
-        (all_both (entry_of k r.client) (entry_of k r.server) (entry_all k r.client (each_step A r.client both.made.of_client)) (entry_all k r.server (each_step B r.server both.made.of_server)))
-        (begun_all (k + 1) lanes both.later both.others both.more))
+        each_as part (entry_of k r.client ++ entry_of k r.server ++ both.later) both.is
+        (each_both (entry_of k r.client ++ entry_of k r.server) both.later (lane_each k s r both.after both.made) (begun_each (k + 1) lanes both.later both.others both.more))
 
     -- AND TICKS
-    module _ (each_tick : P tick) where
-      tick_all : (get : Bool) (k : ℕ) → AllEvents P (if get then OfLane k tick ∷ [] else [])
-      tick_all true k = (each_tick, tt)
-      tick_all false k = tt
+    module _ (ticks : (k : ℕ) → P (OfLane k tick)) where
+      tick_each : (get : Bool) (k : ℕ) → EachEntry P (if get then OfLane k tick ∷ [] else [])
+      tick_each true k = (ticks k, tt)
+      tick_each false k = tt
 
-      ticks_all : (k : ℕ) (lanes : List LaneState) (marks : List Bool) → AllEvents P (tick_entries k lanes marks)
-      ticks_all k [] marks = tt
-      ticks_all k (s ∷ lanes) [] = tt
-      ticks_all k (s ∷ lanes) (had ∷ marks) =
-          all_both (if gets_tick s had then OfLane k tick ∷ [] else []) (tick_entries (k + 1) lanes marks) (tick_all (gets_tick s had) k) (ticks_all (k + 1) lanes marks)
+      ticks_each : (k : ℕ) (lanes : List LaneState) (marks : List Bool) → EachEntry P (tick_entries k lanes marks)
+      ticks_each k [] marks = tt
+      ticks_each k (s ∷ lanes) [] = tt
+      ticks_each k (s ∷ lanes) (had ∷ marks) =
+          each_both (if gets_tick s had then OfLane k tick ∷ [] else []) (tick_entries (k + 1) lanes marks) (tick_each (gets_tick s had) k) (ticks_each (k + 1) lanes marks)
 
-      ticked_all : (k : ℕ) (lanes : List LaneState) (marks : List Bool) (part : List SettleEntry) (behind : List LaneState) → TickFront k lanes marks part behind → AllEvents P part
-      ticked_all k [] marks part behind none = all_none [] part behind none
-      ticked_all k (s ∷ lanes) [] part behind none = all_none (s ∷ lanes) part behind none
-      ticked_all k (s ∷ lanes) (had ∷ marks) part behind (inl none) = all_none (s ∷ lanes) part behind none
-      ticked_all k (s ∷ lanes) (had ∷ marks) part behind (inr made) =
-          all_of part ((if gets_tick s had then OfLane k tick ∷ [] else []) ++ made.later) made.is
-          (all_both (if gets_tick s had then OfLane k tick ∷ [] else []) made.later (tick_all (gets_tick s had) k) (ticked_all (k + 1) lanes marks made.later made.others made.more))
+      ticked_each : (k : ℕ) (lanes : List LaneState) (marks : List Bool) (part : List SettleEntry) (behind : List LaneState) → TickFront k lanes marks part behind → EachEntry P part
+      ticked_each k [] marks part behind none = each_none [] part behind none
+      ticked_each k (s ∷ lanes) [] part behind none = each_none (s ∷ lanes) part behind none
+      ticked_each k (s ∷ lanes) (had ∷ marks) part behind (inl none) = each_none (s ∷ lanes) part behind none
+      ticked_each k (s ∷ lanes) (had ∷ marks) part behind (inr made) =
+          each_as part ((if gets_tick s had then OfLane k tick ∷ [] else []) ++ made.later) made.is
+          (each_both (if gets_tick s had then OfLane k tick ∷ [] else []) made.later (tick_each (gets_tick s had) k) (ticked_each (k + 1) lanes marks made.later made.others made.more))
 
-      -- A SETTLE
-      leads : Leads disks (Hold P)
-      leads = record {
-        none = λ w. tt;
-        both = λ w m v one two first second. all_both one two first second;
-        round = λ w r v made. round_all 0 w r v made;
-        ticks = λ w m v made. ticks_all 0 w m;
+      -- A SETTLE, which leaves the lanes as many
+      abbrev Over : ℕ → List LaneState → List SettleEntry → List LaneState → Type 0
+      Over n lanes part behind = length lanes ≡ n → EachEntry P part × (length behind ≡ n)
+
+      as_many : (n : ℕ) (lanes : List LaneState) (part : List SettleEntry) (behind : List LaneState) → EachEntry P part → LanesMove 0 lanes part behind → Over n lanes part behind
+      as_many n lanes part behind each moves long = (each, many_moved 0 lanes part behind moves ∙ long)
+
+      both_over : (n : ℕ) (lanes between behind : List LaneState) (one two : List SettleEntry) → Over n lanes one between → Over n between two behind → Over n lanes (one ++ two) behind
+      both_over n lanes between behind one two first second long = (each_both one two (first long).0 (second (first long).1).0, (second (first long).1).1)
+
+      leads : (n : ℕ) → Leads disks (Over n)
+      leads n = record {
+        none = λ w long. (tt, long);
+        both = both_over n;
+        round = λ w r v made. as_many n w (round_entries 0 r) v (round_each 0 w r v made) (round_moves_lanes 0 w r v made);
+        ticks = λ w m v made. as_many n w (tick_entries 0 w m) v (ticks_each 0 w m) (ticks_move_lanes 0 w m v made);
       }
 
-      ends : Ends disks (Hold P)
-      ends = record {
-        answer = λ w. tt;
-        names = λ r w part more is. all_front part more (all_of (part ++ more) (left_over 0 r w) is (left_all 0 r w));
+      fronts_lead : (n : ℕ) → FrontsLead disks fronts (Over n)
+      fronts_lead n = record {
+        round = λ w part v front. as_many n w part v (begun_each 0 w part v front) (front_moves 0 w part v front);
+        ticks = λ w m part v front. as_many n w part v (ticked_each 0 w m part v front) (ticked_moves 0 w m part v front);
       }
 
-      settle_all : (start : List LaneState) (part : List SettleEntry) (behind : List LaneState) → SettlePart start part behind → AllEvents P part
-      settle_all start part behind settle = part_leads disks (Hold P) leads ends start part behind settle
+      -- before its answer, and a front that didn't run out of rounds
+      pub settled_each : (start : List LaneState) (part : List SettleEntry) (behind : List LaneState) (at : Settles start part behind) → EachEntry P (entries_of_rounds at.rounds ++ round_entries 0 at.steps)
+      settled_each start part behind at = (steps_lead disks (Over (length start)) (leads (length start)) start part behind at refl).0
 
-      settling_all : (start : List LaneState) (part : List SettleEntry) (behind : List LaneState) → SettleFront start part behind → AllEvents P part
-      settling_all start part behind at =
-          front_leads disks (Hold P) leads fronts (record {
-            round = λ w part v front. begun_all 0 w part v front;
-            ticks = λ w m part v front. ticked_all 0 w m part v front;
-          }) ends start part behind at
+      pub few_each : (start : List LaneState) (part : List SettleEntry) (behind : List LaneState) (at : SettleFront start part behind) → length at.rounds < most_rounds start → EachEntry P part
+      few_each start part behind at few = (few_lead disks (Over (length start)) (leads (length start)) fronts (fronts_lead (length start)) start part behind at few refl).0
 
-      -- A LINE
-      one_all : (k : ℕ) (Answers : DiskEvent → Type 0) (part : List SettleEntry) → ((event : DiskEvent) → Answers event → P event) → OneEntry k Answers part → AllEvents P part
-      one_all k Answers part each one = all_of part (OfLane k one.event ∷ []) one.is (each one.event one.answers, tt)
+      -- with its answer, and with names of these lanes
+      module _ (n : ℕ) (names : (k : ℕ) → k < n → P (Unsettled k)) (answer : P Settled) where
+        name_each : (c : Bool) (k : ℕ) → k < n → EachEntry P (if c then [] else Unsettled k ∷ [])
+        name_each true k less = tt
+        name_each false k less = (names k less, tt)
 
-      -- and what may come of a request, and of the calls of these lines
-      pub line_all : ((request : Request) (event : DiskEvent) → AnswersRequest request event → P event) → (line : Line)
-          → ((k : ℕ) (call : Call) (event : DiskEvent) → line ≡ Calls k call → AnswersCall call event → P event) → (lanes : List LaneState) (part : List SettleEntry) (behind : List LaneState)
-          → PartOf line lanes part behind → AllEvents P part
-      line_all asked Nothing called lanes part behind is = all_of part [] is tt
-      line_all asked (Asked k request) called lanes part behind one = one_all k (AnswersRequest request) part (asked request) one
-      line_all asked (Steps k e count) called lanes part behind steps = steps_all (replicate count (turn k e)) part steps
-      line_all asked (Rounds count) called lanes part behind steps = steps_all (turns_of count (length lanes)) part steps
-      line_all asked Settles called lanes part behind settle = settle_all lanes part behind settle
-      line_all asked (Calls k call) called lanes part behind one = one_all k (AnswersCall call) part (λ event answers. called k call event refl answers) one
+        left_each : (k : ℕ) (rounds : List LaneRound) (lanes : List LaneState) → k + length lanes ≤ n → EachEntry P (left_over k rounds lanes)
+        left_each k [] lanes few = tt
+        left_each k (r ∷ rounds) [] few = tt
+        left_each k (r ∷ rounds) (s ∷ lanes) few =
+            each_both (if is_quiet r && (if waits_on s then false else true) then [] else Unsettled k ∷ []) (left_over (k + 1) rounds lanes)
+            (name_each (is_quiet r && (if waits_on s then false else true)) k (omega (arith, few))) (left_each (k + 1) rounds lanes (omega (arith, few)))
 
-      pub line_begun : (line : Line) (lanes : List LaneState) (part : List SettleEntry) (behind : List LaneState) → BeginsPart line lanes part behind → AllEvents P part
-      line_begun Nothing lanes part behind is = all_of part [] is tt
-      line_begun (Asked k request) lanes part behind is = all_of part [] is tt
-      line_begun (Steps k e count) lanes part behind first = first_all (replicate count (turn k e)) part first
-      line_begun (Rounds count) lanes part behind first = first_all (turns_of count (length lanes)) part first
-      line_begun Settles lanes part behind front = settling_all lanes part behind front
-      line_begun (Calls k call) lanes part behind is = all_of part [] is tt
+        all_left : (rounds : List LaneRound) (lanes : List LaneState) → length lanes ≡ n → EachEntry P (left_over 0 rounds lanes)
+        all_left rounds lanes long = left_each 0 rounds lanes (omega (arith, long))
+
+        ends : Ends disks (Over n)
+        ends = record {
+          answer = λ w long. ((answer, tt), long);
+          names = λ r w part more is long. (each_front part more (each_as (part ++ more) (left_over 0 r w) is (all_left r w long)), long);
+        }
+
+        -- A LINE, by what may come of a request, and of the calls of these lines
+        pub line_each : ((k : ℕ) (request : Request) (event : DiskEvent) → AnswersRequest request event → P (OfLane k event)) → (line : Line)
+            → ((k : ℕ) (call : Call) (event : DiskEvent) → line ≡ Calls k call → AnswersCall call event → P (OfLane k event)) → (lanes : List LaneState) (part : List SettleEntry) (behind : List LaneState)
+            → length lanes ≡ n → PartOf line lanes part behind → EachEntry P part
+        line_each asked Nothing called lanes part behind long is = each_as part [] is tt
+        line_each asked (Asked k request) called lanes part behind long one = one_each k (AnswersRequest request) part (asked k request) one
+        line_each asked (Steps k e count) called lanes part behind long are = steps_each (replicate count (turn k e)) part are
+        line_each asked (Rounds count) called lanes part behind long are = steps_each (turns_of count (length lanes)) part are
+        line_each asked script.Settles called lanes part behind long settle = (part_leads disks (Over n) (leads n) ends lanes part behind settle long).0
+        line_each asked (Calls k call) called lanes part behind long one = one_each k (AnswersCall call) part (λ event answers. called k call event refl answers) one
+
+        pub begins_each : (line : Line) (lanes : List LaneState) (part : List SettleEntry) (behind : List LaneState) → length lanes ≡ n → BeginsPart line lanes part behind → EachEntry P part
+        begins_each Nothing lanes part behind long is = each_as part [] is tt
+        begins_each (Asked k request) lanes part behind long is = each_as part [] is tt
+        begins_each (Steps k e count) lanes part behind long first = steps_each first.made part first.steps
+        begins_each (Rounds count) lanes part behind long first = steps_each first.made part first.steps
+        begins_each script.Settles lanes part behind long front = (front_leads disks (Over n) (leads n) fronts (fronts_lead n) ends lanes part behind front long).0
+        begins_each (Calls k call) lanes part behind long is = each_as part [] is tt
