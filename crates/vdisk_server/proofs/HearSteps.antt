@@ -52,6 +52,16 @@ cond_link false s = refl
 pub risen_link : (was_up : Bool) (s : ServerState) → (risen was_up s).link ≡ s.link
 risen_link was_up s = cond_link (is_up s.link && not was_up) s
 
+-- the link is cleared of the message, and the fields are seen as the server that rose
+pub cleared_at : (rose seen : ServerState) (k : LinkState) → seen ≡ rose → k ≡ cleared seen.link → record seen { link = k } ≡ record rose { link = cleared rose.link }
+cleared_at rose seen k same is = ap (λ (l : LinkState). record seen { link = l }) is ∙ ap (λ (s : ServerState). record s { link = cleared s.link }) same
+
+pub decoded_at : (was_up : Bool) (before seen : ServerState) (whole : Option (List ℕ)) (decoded : Result Message TagFault) → seen ≡ risen was_up before → whole ≡ seen.link.whole
+    → DecodesWhole whole (Some decoded) → DecodesWhole before.link.whole (Some decoded)
+decoded_at was_up before seen whole decoded same is decodes =
+    subst (λ (w : Option (List ℕ)). DecodesWhole w (Some decoded))
+    (is ∙ ap (λ (s : ServerState). s.link.whole) same ∙ ap (λ (k : LinkState). k.whole) (risen_link was_up before)) decodes
+
 role_joined : (h : Handshake) (role : Role) → h.role ≡ role → role ≡ Responder → joined_handshake (begun role (joined_handshake h)) ≡ joined_handshake h
 role_joined h role is responds = ap (λ (r : Role). joined_handshake (begun r (joined_handshake h))) responds
 

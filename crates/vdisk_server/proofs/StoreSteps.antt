@@ -1,12 +1,14 @@
 -- Steps that leave the store alone, and the pieces of a descriptor as steps.
-use Rattle.std.proofs.Common.{◌≡◌, ℕ, Bool, List, [], Option, Some, refl, sym, subst}
+use Rattle.std.proofs.Common.{◌≡◌, ℕ, Bool, List, [], Option, Some, option_map, refl, sym, ap, subst, ◌∙◌}
 use Rattle.ldc_queue.specs.ChannelView.{ChannelView}
 use Rattle.map_table.specs.declared.table.Entry.{Entry}
 use Rattle.disk_model.specs.Served.{StoreDoes, StoreDoesIn}
-use Rattle.disk_model.specs.ServerRule.{Serves as ServesWork, answer, server_rule}
+use Rattle.disk_model.specs.ServerRule.{Serves as ServesWork, answer, server_rule, serves}
 use Rattle.disk_model.specs.ServerState.{Ends, Flushes, Gathers, Gives, Progress, Reads, ServerSession, ServerState, Work, Writes}
 use Rattle.disk_model.specs.ServerStep.{ServerStep, with_progress}
 use Rattle.cookie_copy.specs.Reach.{Reach}
+use Rattle.descriptor_work.specs.Fields.{work_with}
+use Rattle.descriptor_work.specs.declared.work.Work.{Work as KeptWork}
 use Rattle.descriptor_work.specs.declared.answers.ServerOut.{ServerOut}
 use Rattle.descriptor_work.specs.declared.answers.ServerOut.TheVariants as out
 use Rattle.vio_io.specs.declared.store.Store.{Ghosts}
@@ -64,6 +66,14 @@ leaves_store g (out.Finished slot status) store leaves = refl
 leaves_store g (out.Reset cause packet) store leaves = refl
 
 -- STEPS of a piece
+pub works_on : (kept : Option KeptWork) (work : KeptWork) (unit : List ℕ) → kept ≡ Some work → option_map (λ k. work_with k unit) kept ≡ Some (work_with work unit)
+works_on kept work unit is = ap (λ (w : Option KeptWork). option_map (λ k. work_with k unit) w) is
+
+pub serves_in_work : (s seen : ServerState) (session : ServerSession) (work : Work) (c : ChannelView) → s ≡ seen → s.work ≡ Some work
+    → server_rule seen (sees c) ≡ serves session seen.work → server_rule s (sees c) ≡ ServesWork session work
+serves_in_work s seen session work c same is rule =
+    subst (λ (t : ServerState). server_rule t (sees c) ≡ serves session t.work) (sym same) rule ∙ ap (λ (w : Option Work). serves session w) is
+
 did_at : (s : ServerState) (progress : Progress) (block : ℕ) (failed : Bool) (gave : List ℕ) (told new : Option (List ℕ))
     → StoreDoesIn progress (disk_at s.first) block failed gave told new → StoreDoesIn progress s block failed gave told new
 did_at s (Reads unit) block failed gave told new did = did

@@ -1,5 +1,4 @@
 pub mod Answering
-pub mod Fields
 pub mod InLane
 pub mod Pieces
 pub mod Putting

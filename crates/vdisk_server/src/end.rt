@@ -1,6 +1,6 @@
 // What a server holds of its lane.
 
-ghost use Rattle.std.specs.Prelude.{◌≡◌, ◌<◌, false, None, is_some, IfOk, option_map};
+ghost use Rattle.std.specs.Prelude.{◌≡◌, ◌<◌, false, None, is_some, IfOk};
 ghost use Rattle.ldc_link.specs.declared.phase.Role.TheVariants.{Responder};
 ghost use Rattle.ldc_queue.specs.ChannelView.{configured_channel};
 ghost use Rattle.ldc_queue.specs.declared.end.End.TheVariants.{B};
@@ -10,7 +10,6 @@ ghost use Rattle.disk_model.specs.Offering.{server_offer};
 ghost use Rattle.disk_model.specs.ServerState.{fresh_server, joined_server, peer_ring, restarted_server};
 ghost use Rattle.disk_model.specs.ServerWork.{slot_at};
 ghost use Rattle.vdisk_server.specs.Answering.{channel_after};
-ghost use Rattle.vdisk_server.specs.Fields.{ring_session, state_of};
 ghost use Rattle.vdisk_server.specs.Rules.{in_hand, owed_message, session_owes};
 ghost use Rattle.vdisk_server.specs.Standing.{IsOpen};
 
@@ -25,6 +24,7 @@ use ldc_packet::Subtype;
 use ldc_queue::{Channel, End};
 use map_table::Cookie;
 use std::alloc::Global;
+use std::marker::Model;
 use vio_bytes::NoMemory;
 use vio_handshake::{Handshake, Offer, Session};
 use vio_tag::{Cause, Message, MsgBody};
@@ -63,9 +63,28 @@ pub(crate) struct ServerEnd {
     pub unit: UnitBuffer,
 }
 
+impl Model for ServerEnd {
+    ghost use Rattle.std.specs.Prelude.{option_map};
+    ghost use Rattle.descriptor_work.specs.Fields.{work_with};
+    ghost use Rattle.disk_model.specs.ServerState.{ServerState};
+
+    ghost Value = { ServerState };
+
+    // the bytes of a unit count only between its two pieces
+    ghost view = { λ e. record {
+      link = e.link;
+      handshake = e.handshake;
+      first = e.region.first;
+      blocks = e.region.blocks;
+      slots = e.slots;
+      session = e.session;
+      work = option_map (λ work. work_with work e.unit) e.work;
+    } };
+}
+
 impl ServerEnd {
     pub fn new(alloc: Global, region: Region, slots: u32) -> Result<ServerEnd, NoMemory>
-        ensures { IfOk result (λ e. state_of e ≡ fresh_server region.first region.blocks slots) }
+        ensures { IfOk result (λ e. e ≡ fresh_server region.first region.blocks slots) }
     {
         Ok(ServerEnd {
             link: Link::new(Role::Responder),
@@ -82,8 +101,8 @@ impl ServerEnd {
     pub fn forget(&mut self)
         requires link { self.old.link.role ≡ Responder }
         requires handshake { self.old.handshake.role ≡ Responder }
-        requires offer { self.old.handshake.offer ≡ server_offer self.old.region.blocks self.old.slots }
-        ensures { state_of self.new ≡ restarted_server (state_of self.old) }
+        requires offer { self.old.handshake.offer ≡ server_offer self.old.blocks self.old.slots }
+        ensures { self.new ≡ restarted_server self.old }
     {
         self.link.forget();
         self.handshake.forget();
@@ -92,7 +111,7 @@ impl ServerEnd {
 
     /// Configures the end and begins anew: the session and all half-done work go.
     pub fn begin_anew(&mut self, channel: &mut Channel)
-        ensures state { state_of self.new ≡ joined_server (state_of self.old) }
+        ensures state { self.new ≡ joined_server self.old }
         ensures channel { channel.new ≡ configured_channel B channel.old }
     {
         self.link.join(channel, End::B);
@@ -102,7 +121,7 @@ impl ServerEnd {
 
     // The session ends, with the descriptor in work.
     fn drop_session(&mut self)
-        ensures { state_of self.new ≡ record (state_of self.old) { session = None; work = None } }
+        ensures { self.new ≡ record self.old { session = None; work = None } }
     {
         self.session = None;
         self.work = None;
@@ -117,7 +136,7 @@ impl ServerEnd {
         out: &mut ServerOut,
     )
         ensures answer { out.new ≡ ServerOut.Reset cause packet }
-        ensures state { state_of self.new ≡ joined_server (state_of self.old) }
+        ensures state { self.new ≡ joined_server self.old }
         ensures channel { channel.new ≡ configured_channel B channel.old }
     {
         self.begin_anew(channel);
@@ -147,7 +166,7 @@ impl ServerEnd {
     pub fn slot_at(&self, number: u64) -> u32
         requires open { self.now.handshake.phase ≡ Open }
         requires some { 0 < self.now.handshake.draft.peer_slots }
-        ensures slot { result ≡ slot_at (state_of self.now) number }
+        ensures slot { result ≡ slot_at self.now number }
         ensures within { result < self.now.handshake.draft.peer_slots }
     {
         slot_of(number, 0, self.peer_slots())
@@ -156,7 +175,7 @@ impl ServerEnd {
     /// The client's ring.
     pub fn peer_ring(&self) -> PeerRing
         requires { self.now.handshake.phase ≡ Open }
-        ensures { result ≡ peer_ring (state_of self.now) }
+        ensures { result ≡ peer_ring self.now }
     {
         let Session {
             peer_slots,
@@ -173,8 +192,8 @@ impl ServerEnd {
 
     /// The message that is to be offered next: the handshake's, or the answer to a range that is finished.
     pub fn owed_message(&self) -> Option<Message>
-        requires { IsOpen (state_of self.now).session self.now.handshake.phase }
-        ensures { result ≡ owed_message (state_of self.now) }
+        requires { IsOpen self.now.session self.now.handshake.phase }
+        ensures { result ≡ owed_message self.now }
     {
         match self.handshake.next() {
             Some(message) => Some(message),
@@ -184,15 +203,15 @@ impl ServerEnd {
 
     /// Whether a message is to be offered next. A message is long, so it is made only where it is said.
     pub fn owes_message(&self) -> bool
-        ensures some { result ≡ is_some (owed_message (state_of self.now)) }
-        ensures none { result ≡ false → owed_message (state_of self.now) ≡ None }
+        ensures some { result ≡ is_some (owed_message self.now) }
+        ensures none { result ≡ false → owed_message self.now ≡ None }
     {
         self.handshake.next().is_some() || self.owes_answer()
     }
 
     /// Whether each descriptor of a range is finished.
     fn owes_answer(&self) -> bool
-        ensures { result ≡ is_some (session_owes (state_of self.now) (state_of self.now).session) }
+        ensures { result ≡ is_some (session_owes self.now self.now.session) }
     {
         match self.session {
             Some(session) => session.range.is_some() && session.finished == session.asked,
@@ -202,8 +221,8 @@ impl ServerEnd {
 
     /// The INFO's fields, acknowledged, once each descriptor of its range is finished.
     fn owed_answer(&self) -> Option<Message>
-        requires { IsOpen (state_of self.now).session self.now.handshake.phase }
-        ensures { result ≡ session_owes (state_of self.now) (state_of self.now).session }
+        requires { IsOpen self.now.session self.now.handshake.phase }
+        ensures { result ≡ session_owes self.now self.now.session }
     {
         let session = self.session?;
         let range = session.range?;
@@ -226,7 +245,7 @@ impl ServerEnd {
 
     /// The session whose range isn't answered yet.
     pub fn in_hand(&self) -> Option<RingSession>
-        ensures { option_map ring_session result ≡ in_hand (state_of self.now).session }
+        ensures { result ≡ in_hand self.now.session }
     {
         match self.session {
             Some(session) if session.range.is_some() => Some(session),

@@ -8,7 +8,6 @@ ghost use Rattle.cookie_copy.specs.Reach.{copy_number};
 ghost use Rattle.disk_model.specs.ServerWork.{cause_of, slot_at};
 ghost use Rattle.descriptor_work.specs.Calling.{reach_over};
 ghost use Rattle.vdisk_server.specs.Answering.{SameDisk, StepsIn, channel_after, sees};
-ghost use Rattle.vdisk_server.specs.Fields.{ring_session, state_of};
 ghost use Rattle.vdisk_server.specs.Pieces.{FetchedOr};
 ghost use Rattle.vdisk_server.specs.Rules.{one_fetched, work_begun};
 
@@ -39,14 +38,14 @@ impl ServerEnd {
         requires some { 0 < self.old.handshake.draft.peer_slots }
         requires few { self.old.handshake.draft.peer_slots ≤ 256 }
         requires cookies { self.old.handshake.draft.peer_count ≤ 14 }
-        requires session { (state_of self.old).session ≡ Some (ring_session session) }
-        requires rule { server_rule (state_of self.old) (sees channel.old) ≡ Fetches (ring_session session) }
+        requires session { self.old.session ≡ Some session }
+        requires rule { server_rule self.old (sees channel.old) ≡ Fetches session }
         requires pages { PagesWithin table.now (length memory.old) }
-        ensures step { StepsIn (state_of self.old) channel.old table.now memory.old out.new (state_of self.new)
+        ensures step { StepsIn self.old channel.old table.now memory.old out.new self.new
             memory.new }
         ensures channel { channel.new ≡ channel_after out.new channel.old }
         ensures same_length { length memory.new ≡ length memory.old }
-        ensures disk { SameDisk (state_of self.old) (state_of self.new) }
+        ensures disk { SameDisk self.old self.new }
     {
         let slot = self.next_slot(session);
         match &self.fetch_ready(slot, channel, table, memory) {
@@ -65,7 +64,7 @@ impl ServerEnd {
     fn next_slot(&self, session: RingSession) -> u32
         requires open { self.now.handshake.phase ≡ Open }
         requires some { 0 < self.now.handshake.draft.peer_slots }
-        ensures slot { result ≡ slot_at (state_of self.now) (ring_session session).descs }
+        ensures slot { result ≡ slot_at self.now session.descs }
         ensures within { result < self.now.handshake.draft.peer_slots }
     {
         self.slot_at(session.fetched)
@@ -73,14 +72,14 @@ impl ServerEnd {
 
     // One more descriptor was fetched, which has these bytes.
     fn begin_work(&mut self, bytes: &[u8; SLOT])
-        ensures { state_of self.new ≡ work_begun (state_of self.old) bytes.now }
+        ensures { self.new ≡ work_begun self.old bytes.now }
     {
         self.work = Some(Work::begin(bytes, self.region.blocks));
         self.count_fetched();
     }
 
     fn count_fetched(&mut self)
-        ensures { state_of self.new ≡ record (state_of self.old) { session = one_fetched (state_of self.old).session } }
+        ensures { self.new ≡ record self.old { session = one_fetched self.old.session } }
     {
         if let Some(session) = &mut self.session {
             session.fetched = session.fetched.wrapping_add(1);
@@ -100,7 +99,7 @@ impl ServerEnd {
         requires few { self.now.handshake.draft.peer_slots ≤ 256 }
         requires cookies { self.now.handshake.draft.peer_count ≤ 14 }
         requires pages { PagesWithin table.now (length memory.old) }
-        ensures fetched { FetchedOr result (state_of self.now) (reach_over channel.now table.now memory.old) slot memory.new }
+        ensures fetched { FetchedOr result self.now (reach_over channel.now table.now memory.old) slot memory.new }
         ensures same_length { length memory.new ≡ length memory.old }
     {
         let ring = self.peer_ring();

@@ -7,7 +7,6 @@ ghost use Rattle.vdisk_msg.specs.Requested.{status_word};
 ghost use Rattle.disk_model.specs.ServerRule.{server_rule, serves};
 ghost use Rattle.descriptor_work.specs.Calling.{reach_over};
 ghost use Rattle.vdisk_server.specs.Answering.{SameDisk, StepsIn, channel_after, sees};
-ghost use Rattle.vdisk_server.specs.Fields.{ring_session, state_of};
 ghost use Rattle.vdisk_server.specs.Pieces.{EndedFor, IsEnding};
 ghost use Rattle.vdisk_server.specs.Rules.{one_finished, work_ended};
 
@@ -40,15 +39,15 @@ impl ServerEnd {
         requires some { 0 < self.old.handshake.draft.peer_slots }
         requires few { self.old.handshake.draft.peer_slots ≤ 256 }
         requires cookies { self.old.handshake.draft.peer_count ≤ 14 }
-        requires session { (state_of self.old).session ≡ Some (ring_session session) }
-        requires rule { server_rule (state_of self.old) (sees channel.old) ≡ serves (ring_session session) (state_of self.old).work }
-        requires ends { IsEnding (state_of self.old).work status }
+        requires session { self.old.session ≡ Some session }
+        requires rule { server_rule self.old (sees channel.old) ≡ serves session self.old.work }
+        requires ends { IsEnding self.old.work status }
         requires pages { PagesWithin table.now (length memory.old) }
-        ensures step { StepsIn (state_of self.old) channel.old table.now memory.old out.new (state_of self.new)
+        ensures step { StepsIn self.old channel.old table.now memory.old out.new self.new
             memory.new }
         ensures channel { channel.new ≡ channel_after out.new channel.old }
         ensures same_length { length memory.new ≡ length memory.old }
-        ensures disk { SameDisk (state_of self.old) (state_of self.new) }
+        ensures disk { SameDisk self.old self.new }
     {
         let slot = self.slot_at(session.finished);
         match self.end_slot(slot, status, channel, table, memory) {
@@ -62,15 +61,15 @@ impl ServerEnd {
 
     // One more descriptor is finished, and none is in work.
     fn end_work(&mut self)
-        ensures { state_of self.new ≡ work_ended (state_of self.old) }
+        ensures { self.new ≡ work_ended self.old }
     {
         self.work = None;
         self.count_finished();
     }
 
     fn count_finished(&mut self)
-        ensures { state_of self.new
-            ≡ record (state_of self.old) { session = one_finished (state_of self.old).session } }
+        ensures { self.new
+            ≡ record self.old { session = one_finished self.old.session } }
     {
         if let Some(session) = &mut self.session {
             session.finished = session.finished.wrapping_add(1);
@@ -90,9 +89,9 @@ impl ServerEnd {
         requires slot { slot < self.now.handshake.draft.peer_slots }
         requires few { self.now.handshake.draft.peer_slots ≤ 256 }
         requires cookies { self.now.handshake.draft.peer_count ≤ 14 }
-        requires ends { IsEnding (state_of self.now).work status }
+        requires ends { IsEnding self.now.work status }
         requires pages { PagesWithin table.now (length memory.old) }
-        ensures ended { EndedFor (state_of self.now).work result (state_of self.now) (reach_over channel.now table.now memory.old) slot status memory.new }
+        ensures ended { EndedFor self.now.work result self.now (reach_over channel.now table.now memory.old) slot status memory.new }
         ensures same_length { length memory.new ≡ length memory.old }
     {
         let descriptor = match &self.work {

@@ -8,7 +8,6 @@ ghost use Rattle.vio_handshake.specs.declared.handshake.Phase.TheVariants.{Down,
 ghost use Rattle.disk_model.specs.ServerTaking.{GoesOn, HearsWhole, Resets, asked, by_handshake, hears_message, reads, takes_info};
 ghost use Rattle.disk_model.specs.ServerState.{joined_server};
 ghost use Rattle.vdisk_server.specs.Answering.{SameDisk};
-ghost use Rattle.vdisk_server.specs.Fields.{ring_session, slot_range, state_of};
 ghost use Rattle.vdisk_server.specs.Hearing.{CanHear, CanHearWhole, risen, took};
 ghost use Rattle.vdisk_server.specs.Standing.{Stands};
 
@@ -23,10 +22,10 @@ impl ServerEnd {
     /// the session opened by it, or why the end is to be reset.
     pub fn hear(&mut self, was_up: bool) -> Result<bool, Cause>
         requires role { self.old.handshake.role ≡ Responder }
-        requires hears { CanHearWhole self.old.link.whole (risen was_up (state_of self.old)) }
-        ensures heard { HearsWhole (risen was_up (state_of self.old)) self.old.link.whole (took result (state_of self.new)) }
-        ensures kept { OnErr result (joined_server (state_of self.new) ≡ joined_server (state_of self.old)) }
-        ensures disk { SameDisk (state_of self.old) (state_of self.new) }
+        requires hears { CanHearWhole self.old.link.whole (risen was_up self.old) }
+        ensures heard { HearsWhole (risen was_up self.old) self.old.link.whole (took result self.new) }
+        ensures kept { OnErr result (joined_server self.new ≡ joined_server self.old) }
+        ensures disk { SameDisk self.old self.new }
     {
         self.rise(was_up);
         let Some(bytes) = self.link.message() else {
@@ -38,7 +37,7 @@ impl ServerEnd {
     }
 
     fn rise(&mut self, was_up: bool)
-        ensures { state_of self.new ≡ risen was_up (state_of self.old) }
+        ensures { self.new ≡ risen was_up self.old }
     {
         if self.link.is_up() && !was_up {
             self.handshake.link_up();
@@ -46,10 +45,10 @@ impl ServerEnd {
     }
 
     fn hear_decoded(&mut self, decoded: &Result<Message, TagFault>) -> Result<bool, Cause>
-        requires { CanHear (state_of self.old) }
-        ensures heard { took result (state_of self.new) ≡ reads (state_of self.old) decoded.now }
-        ensures kept { OnErr result (state_of self.new ≡ state_of self.old) }
-        ensures disk { SameDisk (state_of self.old) (state_of self.new) }
+        requires { CanHear self.old }
+        ensures heard { took result self.new ≡ reads self.old decoded.now }
+        ensures kept { OnErr result (self.new ≡ self.old) }
+        ensures disk { SameDisk self.old self.new }
     {
         match decoded {
             Ok(message) => self.hear_message(message),
@@ -59,10 +58,10 @@ impl ServerEnd {
 
     // In session an INFO of a range is the server's own, and all else is the handshake's.
     fn hear_message(&mut self, message: &Message) -> Result<bool, Cause>
-        requires { CanHear (state_of self.old) }
-        ensures heard { took result (state_of self.new) ≡ hears_message (state_of self.old) (state_of self.old).session message.now }
-        ensures kept { OnErr result (state_of self.new ≡ state_of self.old) }
-        ensures disk { SameDisk (state_of self.old) (state_of self.new) }
+        requires { CanHear self.old }
+        ensures heard { took result self.new ≡ hears_message self.old self.old.session message.now }
+        ensures kept { OnErr result (self.new ≡ self.old) }
+        ensures disk { SameDisk self.old self.new }
     {
         let Some(session) = self.session else {
             return self.take_handshake(message);
@@ -94,14 +93,14 @@ impl ServerEnd {
     fn take_handshake(&mut self, message: &Message) -> Result<bool, Cause>
         requires began { self.old.handshake.phase ≢ Down }
         requires free { self.old.handshake.owed ≡ None }
-        ensures heard { took result (state_of self.new) ≡ by_handshake (state_of self.old) (handshake_take self.old.handshake message.now) }
-        ensures kept { OnErr result (state_of self.new ≡ state_of self.old) }
-        ensures disk { SameDisk (state_of self.old) (state_of self.new) }
+        ensures heard { took result self.new ≡ by_handshake self.old (handshake_take self.old.handshake message.now) }
+        ensures kept { OnErr result (self.new ≡ self.old) }
+        ensures disk { SameDisk self.old self.new }
     {
         match self.handshake.take(message) {
             HsOut::Nothing => Ok(false),
             HsOut::Opens => {
-                self.session = Some(RingSession::OPENED);
+                self.session = Some(RingSession::new());
                 Ok(true)
             }
             HsOut::Fault(cause) => Err(cause),
@@ -130,9 +129,9 @@ impl ServerEnd {
         requires open { self.old.handshake.phase ≡ Open }
         requires some { 0 < self.old.handshake.draft.peer_slots }
         requires session { self.old.session ≡ Some session }
-        ensures heard { took result (state_of self.new) ≡ takes_info (state_of self.old) (ring_session session) ident (slot_range range) }
-        ensures kept { OnErr result (state_of self.new ≡ state_of self.old) }
-        ensures disk { SameDisk (state_of self.old) (state_of self.new) }
+        ensures heard { took result self.new ≡ takes_info self.old session ident range }
+        ensures kept { OnErr result (self.new ≡ self.old) }
+        ensures disk { SameDisk self.old self.new }
     {
         let slots = self.peer_slots();
         self.check_info(session, ident, range)?;
@@ -148,7 +147,7 @@ impl ServerEnd {
     fn check_info(&self, session: RingSession, ident: u64, range: SlotRange) -> Result<(), Cause>
         requires open { self.now.handshake.phase ≡ Open }
         requires some { 0 < self.now.handshake.draft.peer_slots }
-        ensures { MatchResult result (λ _. takes_info (state_of self.now) (ring_session session) ident (slot_range range) ≡ GoesOn (asked (state_of self.now) (ring_session session) (slot_range range)) false) (λ cause. takes_info (state_of self.now) (ring_session session) ident (slot_range range) ≡ Resets cause) }
+        ensures { MatchResult result (λ _. takes_info self.now session ident range ≡ GoesOn (asked self.now session range) false) (λ cause. takes_info self.now session ident range ≡ Resets cause) }
     {
         let agreed = self.agreed();
         if agreed.ident_peer != ident {

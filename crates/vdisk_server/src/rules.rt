@@ -13,7 +13,6 @@ ghost use Rattle.disk_model.specs.ServerPutting.{answered};
 ghost use Rattle.disk_model.specs.ServerRule.{Joins, server_rule, serves, takes_first};
 ghost use Rattle.descriptor_work.specs.Calling.{StoreAfter, WithinDisk};
 ghost use Rattle.vdisk_server.specs.Answering.{SameDisk, Serves, StepsAlone, channel_after, sees};
-ghost use Rattle.vdisk_server.specs.Fields.{ring_session, state_of};
 ghost use Rattle.vdisk_server.specs.Putting.{PutsNext, PutsRightly, noted};
 ghost use Rattle.vdisk_server.specs.Rules.{owed_message};
 ghost use Rattle.vdisk_server.specs.Standing.{Stands};
@@ -38,17 +37,17 @@ impl ServerEnd {
         store: &mut D,
         out: &mut ServerOut,
     )
-        requires stands { Stands (state_of self.old) }
-        requires region { 512 * (self.old.region.first + self.old.region.blocks) ≤ D.size store.old }
+        requires stands { Stands self.old }
+        requires region { 512 * (self.old.first + self.old.blocks) ≤ D.size store.old }
         requires pages { PagesWithin table.now (length memory.old) }
-        ensures step { Serves (state_of self.old) channel.old table.now memory.old (D.content store.old) out.new
-            (state_of self.new) memory.new (D.content store.new) }
+        ensures step { Serves self.old channel.old table.now memory.old (D.content store.old) out.new
+            self.new memory.new (D.content store.new) }
         ensures channel { channel.new ≡ channel_after out.new channel.old }
         ensures same_length { length memory.new ≡ length memory.old }
         ensures store { StoreAfter D.Store out.new store.old store.new }
         ensures size { D.size store.new ≡ D.size store.old }
-        ensures within { WithinDisk self.old.region.blocks out.new }
-        ensures disk { SameDisk (state_of self.old) (state_of self.new) }
+        ensures within { WithinDisk self.old.blocks out.new }
+        ensures disk { SameDisk self.old self.new }
     {
         if !is_up(channel) {
             return self.join(channel, out);
@@ -67,10 +66,10 @@ impl ServerEnd {
 
     // The end isn't up: it begins anew.
     fn join(&mut self, channel: &mut Channel, out: &mut ServerOut)
-        requires { server_rule (state_of self.old) (sees channel.old) ≡ Joins }
-        ensures step { StepsAlone (state_of self.old) channel.old out.new (state_of self.new) }
+        requires { server_rule self.old (sees channel.old) ≡ Joins }
+        ensures step { StepsAlone self.old channel.old out.new self.new }
         ensures channel { channel.new ≡ channel_after out.new channel.old }
-        ensures disk { SameDisk (state_of self.old) (state_of self.new) }
+        ensures disk { SameDisk self.old self.new }
     {
         self.begin_anew(channel);
         *out = ServerOut::Joined;
@@ -90,10 +89,10 @@ impl ServerEnd {
     fn put(&mut self, channel: &mut Channel, out: &mut ServerOut)
         requires up { state_in B channel.old.wire ≡ Up }
         requires owes { owes self.old.link ≡ true }
-        requires answers { PutsRightly (state_of self.old) }
-        ensures put { PutsNext (state_of self.old) channel.old out.new (state_of self.new) }
+        requires answers { PutsRightly self.old }
+        ensures put { PutsNext self.old channel.old out.new self.new }
         ensures channel { channel.new ≡ channel_after out.new channel.old }
-        ensures disk { SameDisk (state_of self.old) (state_of self.new) }
+        ensures disk { SameDisk self.old self.new }
     {
         let in_message = self.link.is_up();
         match self.link.send(channel, End::B) {
@@ -112,7 +111,7 @@ impl ServerEnd {
     // A packet was put. After the last one of a message it was a message of the handshake, where that owes one, or else the answer
     // to a range.
     fn note_put(&mut self, in_message: bool)
-        ensures { state_of self.new ≡ noted in_message (state_of self.old) }
+        ensures { self.new ≡ noted in_message self.old }
     {
         if !in_message || self.link.owes() {
             return;
@@ -125,7 +124,7 @@ impl ServerEnd {
     }
 
     fn note_answered(&mut self)
-        ensures { state_of self.new ≡ record (state_of self.old) { session = answered (state_of self.old).session } }
+        ensures { self.new ≡ record self.old { session = answered self.old.session } }
     {
         if let Some(session) = &mut self.session {
             session.answered = session.asked;
@@ -135,13 +134,13 @@ impl ServerEnd {
 
     // A message is owed: it is said.
     fn say_owed(&mut self, channel: &mut Channel, out: &mut ServerOut)
-        requires stands { Stands (state_of self.old) }
+        requires stands { Stands self.old }
         requires up { state_in B channel.old.wire ≡ Up }
         requires free { owes self.old.link ≡ false }
-        requires owed { is_some (owed_message (state_of self.old)) ≡ true }
-        ensures step { StepsAlone (state_of self.old) channel.old out.new (state_of self.new) }
+        requires owed { is_some (owed_message self.old) ≡ true }
+        ensures step { StepsAlone self.old channel.old out.new self.new }
         ensures channel { channel.new ≡ channel_after out.new channel.old }
-        ensures disk { SameDisk (state_of self.old) (state_of self.new) }
+        ensures disk { SameDisk self.old self.new }
     {
         match &self.owed_message() {
             Some(message) => self.say(message, channel, out),
@@ -155,11 +154,11 @@ impl ServerEnd {
         requires form { IsWellFormed message.now }
         requires link { is_up self.old.link ≡ true }
         requires free { self.old.link.to_send ≡ [] }
-        requires answers { PutsRightly (state_of self.old) }
-        ensures put { PutsNext (record (state_of self.old) { link = offered (canonical message.now) self.old.link })
-            channel.old out.new (state_of self.new) }
+        requires answers { PutsRightly self.old }
+        ensures put { PutsNext (record self.old { link = offered (canonical message.now) self.old.link })
+            channel.old out.new self.new }
         ensures channel { channel.new ≡ channel_after out.new channel.old }
-        ensures disk { SameDisk (state_of self.old) (state_of self.new) }
+        ensures disk { SameDisk self.old self.new }
     {
         let mut bytes = [0; 256];
         let length = encode(message, &mut bytes);
@@ -180,19 +179,19 @@ impl ServerEnd {
         store: &mut D,
         out: &mut ServerOut,
     )
-        requires stands { Stands (state_of self.old) }
-        requires session { (state_of self.old).session ≡ Some (ring_session session) }
-        requires rule { server_rule (state_of self.old) (sees channel.old) ≡ serves (ring_session session) (state_of self.old).work }
-        requires region { 512 * (self.old.region.first + self.old.region.blocks) ≤ D.size store.old }
+        requires stands { Stands self.old }
+        requires session { self.old.session ≡ Some session }
+        requires rule { server_rule self.old (sees channel.old) ≡ serves session self.old.work }
+        requires region { 512 * (self.old.first + self.old.blocks) ≤ D.size store.old }
         requires pages { PagesWithin table.now (length memory.old) }
-        ensures step { Serves (state_of self.old) channel.old table.now memory.old (D.content store.old) out.new
-            (state_of self.new) memory.new (D.content store.new) }
+        ensures step { Serves self.old channel.old table.now memory.old (D.content store.old) out.new
+            self.new memory.new (D.content store.new) }
         ensures channel { channel.new ≡ channel_after out.new channel.old }
         ensures same_length { length memory.new ≡ length memory.old }
         ensures store { StoreAfter D.Store out.new store.old store.new }
         ensures size { D.size store.new ≡ D.size store.old }
-        ensures within { WithinDisk self.old.region.blocks out.new }
-        ensures disk { SameDisk (state_of self.old) (state_of self.new) }
+        ensures within { WithinDisk self.old.blocks out.new }
+        ensures disk { SameDisk self.old self.new }
     {
         let Some(work) = &mut self.work else {
             return self.fetch(session, channel, table, memory, out);
@@ -234,14 +233,14 @@ impl ServerEnd {
 impl ServerEnd {
     // Nothing else is to be done: the packet that has waited longest is taken, if any.
     fn take(&mut self, channel: &mut Channel, out: &mut ServerOut)
-        requires stands { Stands (state_of self.old) }
-        requires rule { server_rule (state_of self.old) (sees channel.old) ≡ takes_first (sees channel.old).first }
+        requires stands { Stands self.old }
+        requires rule { server_rule self.old (sees channel.old) ≡ takes_first (sees channel.old).first }
         requires up { state_in B channel.old.wire ≡ Up }
         requires free { owes self.old.link ≡ false }
         requires nothing_owed { self.old.handshake.owed ≡ None }
-        ensures step { StepsAlone (state_of self.old) channel.old out.new (state_of self.new) }
+        ensures step { StepsAlone self.old channel.old out.new self.new }
         ensures channel { channel.new ≡ channel_after out.new channel.old }
-        ensures disk { SameDisk (state_of self.old) (state_of self.new) }
+        ensures disk { SameDisk self.old self.new }
     {
         let was_up = self.link.is_up();
         match self.link.take(channel, End::B) {

@@ -26,14 +26,13 @@ pub struct Server {
 
 impl Model for Server {
     ghost use Rattle.disk_model.specs.ServerState.{ServerState};
-    ghost use Rattle.vdisk_server.specs.Fields.{state_of};
     ghost use Rattle.vdisk_server.specs.Standing.{Stands};
 
     ghost Value = { ServerState };
 
-    ghost view = { λ s. state_of s.end };
+    ghost view = { λ s. s.end };
 
-    ghost invariant = { λ s. Stands (state_of s.end) };
+    ghost invariant = { λ s. Stands s.end };
 }
 
 impl Server {

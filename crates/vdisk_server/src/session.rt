@@ -2,9 +2,12 @@
 
 ghost use Rattle.std.specs.Prelude.{◌≡◌, ◌<◌};
 ghost use Rattle.channel_model.specs.Ranges.{range_length};
+ghost use Rattle.disk_model.specs.ServerState.{opened_server};
+
+use std::marker::Model;
 
 /// A range of slots, from `start` to `end` around the ring, as an INFO named it.
-#[derive(Clone, Copy, Debug, PartialEq, Eq)]
+#[derive(Clone, Copy)]
 pub(crate) struct SlotRange {
     pub seq: u64,
     pub start: u32,
@@ -12,8 +15,28 @@ pub(crate) struct SlotRange {
     pub state: u8,
 }
 
+impl Model for SlotRange {
+    ghost use Rattle.disk_model.specs.ServerState.{SlotRange as Range};
+
+    ghost Value = { Range };
+
+    ghost view = { λ r. record {
+      seq = r.seq;
+      start = r.start;
+      end = r.end;
+      state = r.state;
+    } };
+
+    ghost inverse = { λ r. record {
+      seq = r.seq;
+      start = r.start;
+      end = r.end;
+      state = r.state;
+    } };
+}
+
 /// Counts of descriptors, modulo 2^64. Number j stands in slot j modulo the ring.
-#[derive(Clone, Copy, Debug, PartialEq, Eq)]
+#[derive(Clone, Copy)]
 pub(crate) struct RingSession {
     /// Those that the client announced.
     pub asked: u64,
@@ -27,16 +50,44 @@ pub(crate) struct RingSession {
     pub range: Option<SlotRange>,
 }
 
+impl Model for RingSession {
+    ghost use Rattle.disk_model.specs.ServerState.{ServerSession};
+
+    ghost Value = { ServerSession };
+
+    ghost view = { λ s. record {
+      asked = s.asked;
+      descs = s.fetched;
+      finished = s.finished;
+      answered = s.answered;
+      seq = s.seq;
+      range = s.range;
+    } };
+
+    ghost inverse = { λ s. record {
+      asked = s.asked;
+      fetched = s.descs;
+      finished = s.finished;
+      answered = s.answered;
+      seq = s.seq;
+      range = s.range;
+    } };
+}
+
 impl RingSession {
     /// A session in which nothing was announced.
-    pub const OPENED: RingSession = RingSession {
-        asked: 0,
-        fetched: 0,
-        finished: 0,
-        answered: 0,
-        seq: 1,
-        range: None,
-    };
+    pub fn new() -> RingSession
+        ensures { result ≡ opened_server }
+    {
+        RingSession {
+            asked: 0,
+            fetched: 0,
+            finished: 0,
+            answered: 0,
+            seq: 1,
+            range: None,
+        }
+    }
 }
 
 impl SlotRange {

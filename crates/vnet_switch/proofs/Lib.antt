@@ -4,5 +4,6 @@ pub mod Changes
 pub mod Counting
 pub mod Offers
 pub mod Pigeons
+pub mod Reading
 pub mod Showing
 pub mod Sound

@@ -3,14 +3,5 @@ use Rattle.world_laws.proofs.Moving.{part_moves}
 use Rattle.world_laws.proofs.TicksOnce.{part_ticks}
 use Rattle.world_laws.proofs.settle_laws.a_settle_moves_each_lane_by_its_part.Goals as goal
 
-pub returns-clause-runs : goal.returns-clause-runs
-returns-clause-runs c = part_moves
-
-pub returns-clause-ticks : goal.returns-clause-ticks
-returns-clause-ticks c = part_ticks
-
-pub returns-clause-begun : goal.returns-clause-begun
-returns-clause-begun c = begun_moves
-
-pub returns-clause-reached : goal.returns-clause-reached
-returns-clause-reached c = moved_reached
+pub returns : goal.returns
+returns c = record { runs = part_moves; ticks = part_ticks; begun = begun_moves; reached = moved_reached }

@@ -1,43 +1,35 @@
-use Rattle.std.proofs.Common.{◌≡◌, List, ℕ, Option, Some, ap, sym, subst, ◌∙◌}
-use Rattle.ldc_link.specs.LinkState.{LinkState, cleared}
+use Rattle.std.proofs.Common.{◌≡◌, Some, ap, sym, subst, ◌∙◌}
+use Rattle.ldc_link.specs.LinkState.{cleared}
 use Rattle.disk_model.specs.ServerState.{ServerState, joined_server}
 use Rattle.disk_model.specs.ServerTaking.{reads}
-use Rattle.vdisk_server.specs.Fields.{state_of}
-use Rattle.vdisk_server.specs.Hearing.{CanHear, DecodesWhole, risen, took}
-use Rattle.vdisk_server.proofs.HearSteps.{can_cleared, can_of, hears_of, on_err_then, risen_joined, risen_link}
+use Rattle.vdisk_server.specs.Hearing.{CanHear, risen, took}
+use Rattle.vdisk_server.specs.contracts.end.ServerEnd.{the_view}
+use Rattle.vdisk_server.proofs.HearSteps.{can_cleared, can_of, cleared_at, decoded_at, hears_of, on_err_then, risen_joined}
 use Rattle.vdisk_server.proofs.end.ServerEnd.hear.Goals as goal
 
 pub hear_decoded-requires : goal.hear_decoded-requires
 hear_decoded-requires c =
-    let before : ServerState = state_of c.args.self.now in
-    let after : record (state_of c.rise.new.self) { link = c.clear_message.new.self } ≡ record (risen c.args.was_up before) { link = cleared (risen c.args.was_up before).link } =
-    ap (λ (k : LinkState). record (state_of c.rise.new.self) { link = k }) c.clear_message.ensures ∙ ap (λ (s : ServerState). record s { link = cleared s.link }) c.rise.ensures in
-    let whole : c.rise.new.self.link.whole ≡ c.args.self.now.link.whole =
-    ap (λ (s : ServerState). s.link.whole) c.rise.ensures ∙ ap (λ (k : LinkState). k.whole) (risen_link c.args.was_up before) in
-    let decoded : DecodesWhole c.args.self.now.link.whole (Some c.decode-decoded.result) =
-    subst (λ (w : Option (List ℕ)). DecodesWhole w (Some c.decode-decoded.result)) (c.in-Some.ensures ∙ whole) c.decode-decoded.ensures.decodes in
-    subst (λ (s : ServerState). CanHear s) (sym after)
-    (can_cleared (risen c.args.was_up before) (cleared (risen c.args.was_up before).link)
-    (can_of c.args.self.now.link.whole c.decode-decoded.result (risen c.args.was_up before) decoded c.requires.hears))
+    let rose : ServerState = risen c.args.was_up c.args.self.now in
+    subst CanHear (sym (cleared_at rose (the_view c.self.inside) c.clear_message.new.self (c.self.view_is ∙ c.rise.ensures) c.clear_message.ensures))
+    (can_cleared rose (cleared rose.link)
+    (can_of c.args.self.now.link.whole c.decode-decoded.result rose
+    (decoded_at c.args.was_up c.args.self.now (the_view c.self.inside) _ c.decode-decoded.result (c.self.view_is ∙ c.rise.ensures) c.in-Some.ensures c.decode-decoded.ensures.decodes)
+    c.requires.hears))
 
 pub returns-clause-heard : goal.returns-clause-heard
 returns-clause-heard c =
-    let before : ServerState = state_of c.args.self.now in
-    let after : record (state_of c.rise.new.self) { link = c.clear_message.new.self } ≡ record (risen c.args.was_up before) { link = cleared (risen c.args.was_up before).link } =
-    ap (λ (k : LinkState). record (state_of c.rise.new.self) { link = k }) c.clear_message.ensures ∙ ap (λ (s : ServerState). record s { link = cleared s.link }) c.rise.ensures in
-    let whole : c.rise.new.self.link.whole ≡ c.args.self.now.link.whole =
-    ap (λ (s : ServerState). s.link.whole) c.rise.ensures ∙ ap (λ (k : LinkState). k.whole) (risen_link c.args.was_up before) in
-    let decoded : DecodesWhole c.args.self.now.link.whole (Some c.decode-decoded.result) =
-    subst (λ (w : Option (List ℕ)). DecodesWhole w (Some c.decode-decoded.result)) (c.in-Some.ensures ∙ whole) c.decode-decoded.ensures.decodes in
-    hears_of (risen c.args.was_up before) c.args.self.now.link.whole c.decode-decoded.result (took c.hear_decoded.result (state_of c.hear_decoded.new.self)) decoded
-    (c.hear_decoded.ensures.heard ∙ ap (λ (s : ServerState). reads s c.decode-decoded.result) after)
+    let rose : ServerState = risen c.args.was_up c.args.self.now in
+    hears_of rose c.args.self.now.link.whole c.decode-decoded.result (took c.hear_decoded.result c.hear_decoded.new.self)
+    (decoded_at c.args.was_up c.args.self.now (the_view c.self.inside) _ c.decode-decoded.result (c.self.view_is ∙ c.rise.ensures) c.in-Some.ensures c.decode-decoded.ensures.decodes)
+    (c.hear_decoded.ensures.heard
+    ∙ ap (λ (s : ServerState). reads s c.decode-decoded.result)
+    (cleared_at rose (the_view c.self.inside) c.clear_message.new.self (c.self.view_is ∙ c.rise.ensures) c.clear_message.ensures))
 
 pub returns-clause-kept : goal.returns-clause-kept
 returns-clause-kept c =
-    let before : ServerState = state_of c.args.self.now in
-    let after : record (state_of c.rise.new.self) { link = c.clear_message.new.self } ≡ record (risen c.args.was_up before) { link = cleared (risen c.args.was_up before).link } =
-    ap (λ (k : LinkState). record (state_of c.rise.new.self) { link = k }) c.clear_message.ensures ∙ ap (λ (s : ServerState). record s { link = cleared s.link }) c.rise.ensures in
-    on_err_then c.hear_decoded.result (state_of c.hear_decoded.new.self ≡ record (state_of c.rise.new.self) { link = c.clear_message.new.self })
-    (joined_server (state_of c.hear_decoded.new.self) ≡ joined_server before)
-    (λ same. ap joined_server (same ∙ after) ∙ risen_joined c.args.was_up before c.requires.role)
+    on_err_then c.hear_decoded.result (c.hear_decoded.new.self ≡ record (the_view c.self.inside) { link = c.clear_message.new.self })
+    (joined_server c.hear_decoded.new.self ≡ joined_server c.args.self.now)
+    (λ same. ap joined_server
+    (same ∙ cleared_at (risen c.args.was_up c.args.self.now) (the_view c.self.inside) c.clear_message.new.self (c.self.view_is ∙ c.rise.ensures) c.clear_message.ensures)
+    ∙ risen_joined c.args.was_up c.args.self.now c.requires.role)
     c.hear_decoded.ensures.kept

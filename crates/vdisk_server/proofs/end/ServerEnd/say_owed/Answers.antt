@@ -6,15 +6,14 @@ use Rattle.disk_model.specs.ServerPutting.{server_holds}
 use Rattle.disk_model.specs.ServerRule.{ServerRule}
 use Rattle.disk_model.specs.ServerState.{ServerState}
 use Rattle.vdisk_server.specs.Answering.{sees}
-use Rattle.vdisk_server.specs.Fields.{state_of}
 use Rattle.vdisk_server.proofs.PutSteps.{puts_step}
 use Rattle.vdisk_server.proofs.RuleOrder.{rule_says}
 use Rattle.vdisk_server.proofs.end.ServerEnd.say_owed.Goals as goal
 
 pub returns-clause-step : goal.returns-clause-step
 returns-clause-step c =
-    let before : ServerState = state_of c.args.self.now in
-    puts_step before (record before { link = offered (canonical c.in-Some.message) c.args.self.now.link }) c.args.channel.now c.say.new.out (state_of c.say.new.self)
+    let before : ServerState = c.args.self.now in
+    puts_step before (record before { link = offered (canonical c.in-Some.message) c.args.self.now.link }) c.args.channel.now c.say.new.out c.say.new.self
     (ap (λ (r : ServerRule). server_holds r before)
     (rule_says before (sees c.args.channel.now) c.in-Some.message (ap is_configured c.requires.up) c.requires.free (sym c.owed_message.ensures ∙ c.in-Some.is)))
     c.say.ensures.put

@@ -1,5 +1,5 @@
-use Rattle.std.proofs.Common.{◌≡◌, ℕ, ◌<◌, List, length, map, Some, slice_get, slice_set, subst, sym}
-use Rattle.vnet_switch.proofs.Calls.{port_at, port_inside}
+use Rattle.std.proofs.Common.{◌≡◌, ℕ, List, Some, map, slice_set, subst, sym}
+use Rattle.vnet_switch.proofs.Reading.{port_read}
 use Rattle.vnet_switch.proofs.Showing.{address_shown, set_shown}
 use Rattle.vnet_switch.proofs.Sound.{set_sound}
 use Rattle.vnet_switch.specs.Forward.{HasAddress}
@@ -11,11 +11,6 @@ use Rattle.vnet_switch.proofs.switch.Switch.set_port.Goals as goal
 
 pub invariant_of-self : goal.invariant_of-self
 invariant_of-self c =
-    let inside : c.args.port < length c.self.inside.ports.items =
-    port_inside c.self.inside.frames.slots c.self.inside.ports.items c.args.port
-    (subst (λ (s : SwitchView). c.args.port < length s.ports) (sym c.self.view_is) c.requires.port) in
-    let at : slice_get c.self.inside.ports.items c.args.port ≡ Some c.index_mut.result.now =
-    port_at c.self.inside.ports.items c.args.port c.index_mut.result.now inside c.index_mut.ensures.value in
     let free : (own : List ℕ) → c.args.address ≡ Some own → (j : ℕ) → HasAddress c.self.inside.ports.items own j
     → j ≡ c.args.port =
     λ own is j has. c.requires.differ own is j
@@ -24,15 +19,13 @@ invariant_of-self c =
     subst (λ (port : PortView ℕ). IsSound (slice_set c.self.inside.ports.items c.args.port port)
     c.self.inside.frames) (sym c.set_session.ensures)
     (set_sound c.self.inside.ports.items c.self.inside.frames c.args.port c.index_mut.result.now c.args.address
-    c.args.groups.now at free c.self.invariant)
+    c.args.groups.now
+    (port_read c.self.inside.ports.items c.self.inside.frames c.args.self.now c.args.port c.index_mut.result.now
+    (record { shown = c.self.view_is; within = c.requires.port; read = c.index_mut.ensures.value }))
+    free c.self.invariant)
 
 pub returns-clause-session : goal.returns-clause-session
 returns-clause-session c =
-    let inside : c.args.port < length c.self.inside.ports.items =
-    port_inside c.self.inside.frames.slots c.self.inside.ports.items c.args.port
-    (subst (λ (s : SwitchView). c.args.port < length s.ports) (sym c.self.view_is) c.requires.port) in
-    let at : slice_get c.self.inside.ports.items c.args.port ≡ Some c.index_mut.result.now =
-    port_at c.self.inside.ports.items c.args.port c.index_mut.result.now inside c.index_mut.ensures.value in
     subst (λ (s : SwitchView). ChangesAt (λ k. k ≡ c.args.port) (with_session c.args.address c.args.groups.now) s.ports
     (map (port_shown c.self.inside.frames.slots) (slice_set c.self.inside.ports.items c.args.port
     c.set_session.new.self))) c.self.view_is
@@ -41,4 +34,6 @@ returns-clause-session c =
     (map (port_shown c.self.inside.frames.slots) (slice_set c.self.inside.ports.items c.args.port port)))
     (sym c.set_session.ensures)
     (set_shown c.self.inside.frames.slots c.self.inside.ports.items c.args.port c.index_mut.result.now c.args.address
-    c.args.groups.now at))
+    c.args.groups.now
+    (port_read c.self.inside.ports.items c.self.inside.frames c.args.self.now c.args.port c.index_mut.result.now
+    (record { shown = c.self.view_is; within = c.requires.port; read = c.index_mut.ensures.value }))))
