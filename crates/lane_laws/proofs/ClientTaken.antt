@@ -78,6 +78,8 @@ pub record ClientAcked (s : ClientState) (turns : List Turn) (packet : List ℕ)
   pub session_is : s.session ≡ Some session
   pub subtype_is : message.subtype ≡ Ack
   pub body_is : message.body ≡ DringData seq ident start end state
+  pub sid_is : sid_fault s.handshake.sid message.sid ≡ None
+  pub ident_is : ident ≡ s.handshake.draft.ident_own
   pub begins : start ≡ slot_in s session.acked
   pub ends : end < s.slots
   pub within : session.acked + range_length s.slots start end ≤ session.announced
@@ -123,9 +125,9 @@ both true false is = absurd (cc)
 both false b is = absurd (cc)
 
 by_ack : (s : ClientState) (turns : List Turn) (packet : List ℕ) (k : LinkState) (session : ClientSession) (message : Message) (seq ident start end state : ℕ)
-    → Now s turns packet k message → s.session ≡ Some session → message.subtype ≡ Ack → message.body ≡ DringData seq ident start end state
+    → Now s turns packet k message → sid_fault s.handshake.sid message.sid ≡ None → s.session ≡ Some session → message.subtype ≡ Ack → message.body ≡ DringData seq ident start end state
     → TookOn s turns packet (takes_ack (record s { link = k }) session ident start end)
-by_ack s turns packet k session message seq ident start end state now is acks body =
+by_ack s turns packet k session message seq ident start end state now sid is acks body =
     ack_if s turns packet (is_other s.handshake.draft.ident_own ident) (Resets (the_cause.Ident s.handshake.draft.ident_own ident)) _ (λ test. tt)
     (λ known.
     ack_if s turns packet (is_other (slot_in s session.acked) start) (Resets (the_cause.Slot (slot_in s session.acked) start)) _ (λ test. tt)
@@ -150,6 +152,8 @@ by_ack s turns packet k session message seq ident start end state now is acks bo
       session_is = is;
       subtype_is = acks;
       body_is = body;
+      sid_is = sid;
+      ident_is = is_the s.handshake.draft.ident_own ident known;
       begins = is_the (slot_in s session.acked) start next;
       ends = ltb-true end s.slots fits.0;
       within = leb-true (session.acked + range_length s.slots start end) session.announced fits.1;
@@ -158,15 +162,15 @@ by_ack s turns packet k session message seq ident start end state now is acks bo
     (λ test. tt)))
 
 by_session : (s : ClientState) (turns : List Turn) (packet : List ℕ) (k : LinkState) (session : ClientSession) (message : Message) (subtype : Subtype) (body : MsgBody)
-    → Now s turns packet k message → s.session ≡ Some session → message.subtype ≡ subtype → message.body ≡ body
+    → Now s turns packet k message → sid_fault s.handshake.sid message.sid ≡ None → s.session ≡ Some session → message.subtype ≡ subtype → message.body ≡ body
     → TookOn s turns packet (in_session (record s { link = k }) session message subtype body)
-by_session s turns packet k session message Ack (DringData seq ident start end state) now is kind body =
-    by_ack s turns packet k session message seq ident start end state now is kind body
-by_session s turns packet k session message Nack (DringData seq ident start end state) now is kind body = tt
-by_session s turns packet k session message _ _ now is kind body = by_handshake_take s turns packet k message (handshake_take s.handshake message) now refl
+by_session s turns packet k session message Ack (DringData seq ident start end state) now sid is kind body =
+    by_ack s turns packet k session message seq ident start end state now sid is kind body
+by_session s turns packet k session message Nack (DringData seq ident start end state) now sid is kind body = tt
+by_session s turns packet k session message _ _ now sid is kind body = by_handshake_take s turns packet k message (handshake_take s.handshake message) now refl
 
-by_sid : (s : ClientState) (turns : List Turn) (packet : List ℕ) (fault : Option Cause) (rest : ClientTake) → TookOn s turns packet rest → TookOn s turns packet (sid_first fault rest)
-by_sid s turns packet None rest took = took
+by_sid : (s : ClientState) (turns : List Turn) (packet : List ℕ) (fault : Option Cause) (rest : ClientTake) → (fault ≡ None → TookOn s turns packet rest) → TookOn s turns packet (sid_first fault rest)
+by_sid s turns packet None rest took = took refl
 by_sid s turns packet (Some cause) rest took = tt
 
 by_message : (s : ClientState) (turns : List Turn) (packet : List ℕ) (k : LinkState) (open_one : Option ClientSession) (message : Message) → Now s turns packet k message
@@ -174,7 +178,7 @@ by_message : (s : ClientState) (turns : List Turn) (packet : List ℕ) (k : Link
 by_message s turns packet k None message now is = by_handshake_take s turns packet k message (handshake_take s.handshake message) now refl
 by_message s turns packet k (Some session) message now is =
     by_sid s turns packet (sid_fault s.handshake.sid message.sid) (in_session (record s { link = k }) session message message.subtype message.body)
-    (by_session s turns packet k session message message.subtype message.body now is refl refl)
+    (λ sid. by_session s turns packet k session message message.subtype message.body now sid is refl refl)
 
 by_bytes : (s : ClientState) (turns : List Turn) (packet : List ℕ) (k : LinkState) (bytes : List ℕ) (d : Result Message TagFault) → k.to_send ≡ s.link.to_send → is_up s.link ≡ true → is_up k ≡ true
     → heard (Heard_ packet ∷ turns) ≡ heard turns ++ bytes ∷ [] → Decodes bytes d → TookOn s turns packet (reads (record s { link = k }) d)

@@ -10,7 +10,7 @@ use Rattle.vio_tag.specs.declared.message.MsgBody.TheVariants.{DringData}
 use Rattle.vio_tag.specs.Spelling.{canonical}
 use Rattle.vio_handshake.specs.declared.handshake.Handshake.{Handshake}
 use Rattle.vio_handshake.specs.Messages.{ack, info}
-use Rattle.lane_laws.specs.Agreement.{AgreesWithLog, ClientAgrees, ClientEndAgrees, LinkAgrees, NearAgrees, RangeAgrees, ServerAgrees, ServerEndAgrees, WorkAgrees, WorkNextAgrees}
+use Rattle.lane_laws.specs.Agreement.{AgreesWithLog, ClientAgrees, LinkAgrees, NearAgrees, RangeAgrees, ServerAgrees, WorkAgrees, WorkNextAgrees}
 use Rattle.lane_laws.specs.BlockLog.{Blockage}
 use Rattle.disk_model.specs.ClientPutting.{is_announcing}
 use Rattle.disk_model.specs.ClientState.{ClientSession, ClientState}

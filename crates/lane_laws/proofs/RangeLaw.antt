@@ -1,7 +1,7 @@
 -- The ranges that an end says and hears. An INFO that is said has the next number, begins where the one before it ended and names all that
 -- was published since; one that is heard is the next too. An ACK that is heard names announced ones alone, and one that is said is that of the
 -- range in work, the last of it finished.
-use Rattle.std.proofs.Common.{◌≡◌, ℕ, ◌+◌, ◌-◌, ◌%◌, ◌^◌, ◌<◌, ◌≤◌, Bool, false, Option, Some, None, List, ◌∷◌, ◌++◌, length, refl, sym, ap, ◌∙◌, subst, arith, inl, inr, ◌⊎◌}
+use Rattle.std.proofs.Common.{◌≡◌, ℕ, ◌+◌, ◌-◌, ◌%◌, ◌^◌, ◌<◌, ◌≤◌, Bool, Option, Some, None, List, ◌∷◌, ◌++◌, length, refl, sym, ap, ◌∙◌, subst, arith, inl, inr, ◌⊎◌}
 use Rattle.std.specs.Prelude.{is_none, is_some}
 use Rattle.std.proofs.lemmas.Nat.{mod_below}
 use Rattle.ldc_packet.specs.declared.packet.Subtype.{Subtype}
@@ -12,25 +12,25 @@ use Rattle.ldc_queue.specs.declared.end.End.TheVariants.{A, B}
 use Rattle.ldc_queue.specs.Transcript as turn
 use Rattle.ldc_queue.specs.Transcript.{Turn}
 use Rattle.vio_tag.specs.declared.message.Message.{Message}
-use Rattle.vio_tag.specs.declared.message.MsgBody.{MsgBody}
 use Rattle.vio_tag.specs.declared.message.MsgBody.TheVariants.{DringData}
-use Rattle.vio_tag.specs.Spelling.{SpellsBody, SpellsMessage, canonical, envelope_code}
+use Rattle.vio_tag.specs.Spelling.{SpellsBody, canonical, envelope_code}
 use Rattle.channel_model.specs.Sayings.{half_heard, half_said, said}
 use Rattle.channel_model.specs.WireEvent.{Blocked, Declines, Idle, Injected, Joined, Lost, Poked, Reset, Sent, Took, WireEvent}
-use Rattle.lane_laws.specs.Agreement.{ServerCountsAgree, WorkAgrees}
 use Rattle.lane_laws.specs.DiskLog.{DiskLog}
-use Rattle.lane_laws.specs.EndLog.{range_in_work, state_of}
-use Rattle.channel_model.specs.Messages.{end_of, range_ended, range_in, seq_of, start_of}
-use Rattle.lane_laws.specs.WorkLaws.{Acknowledges, AcknowledgesRange, Announces, AsksFor, IfRange, InClient, InServer, OfClientRange, OfServerRange, RangesAt}
+use Rattle.lane_laws.specs.EndLog.{ident_of, range_in_work, state_of}
+use Rattle.channel_model.specs.Messages.{end_of, range_ended, range_in, seq_of, sid_of, start_of}
+use Rattle.lane_laws.specs.WorkLaws.{Acknowledges, AcknowledgesRange, Announces, AsksFor, IfRange, NamesRing, OfClientRange, OfServerRange, RangesAt, client_handshake, server_handshake}
 use Rattle.lane_laws.specs.WorkLog.{ClientCounts, ServerCounts}
 use Rattle.disk_model.specs.ClientPutting.{client_kind, is_announcing}
-use Rattle.disk_model.specs.ClientState.{ClientSession, ClientState, slot_in}
+use Rattle.disk_model.specs.ClientState.{ClientState, slot_in}
 use Rattle.disk_model.specs.ClientStep.{ClientSends}
 use Rattle.channel_model.specs.EndPuts.{ComesUp, EndsOwn, EndsHandshake, Goes, PutKind}
 use Rattle.channel_model.specs.Seeing.{seen}
 use Rattle.disk_model.specs.ServerPutting.{server_kind}
 use Rattle.disk_model.specs.ServerRule as server_rules
+use Rattle.vio_handshake.specs.declared.handshake.Handshake.{Handshake}
 use Rattle.vio_handshake.specs.declared.handshake.Phase.{Phase}
+use Rattle.vio_handshake.specs.Rules.{sid_fault}
 use Rattle.disk_model.specs.DiskEvent.{Asks, DiskEvent, OnWire, Calms, Switches, Works}
 use Rattle.disk_model.specs.LaneState.{IsShape, LaneState}
 use Rattle.disk_model.specs.LaneStep.{EndOnWire, LaneStep, WireStep}
@@ -150,16 +150,24 @@ said_info : (s : LaneState) (l : DiskLog) (packet : List ℕ) (opens : Bool) (t 
 said_info s l packet opens t new knows sends =
     let put = putting s l packet opens t new knows sends in by_kind (client_kind sends.held) l packet sends.held put.sound put.counted put.says
 
+-- A RANGE THAT IS HEARD names the end's ring
+names_ring : (h g : Handshake) (sid : ℕ) (bytes : List ℕ) (ident : ℕ) → sid ≡ sid_of bytes → h ≡ g → sid_fault h.sid sid ≡ None → ident_of bytes ≡ ident
+    → (named : Handshake → ℕ) → ident ≡ named h → NamesRing g.sid (named g) bytes
+names_ring h g sid bytes ident is same known names named own = record {
+  sid_is = ap (λ (x : Handshake). sid_fault x.sid (sid_of bytes)) (sym same) ∙ ap (sid_fault h.sid) (sym is) ∙ known;
+  ident_is = names ∙ own ∙ ap named same;
+}
+
 -- AN ACK THAT IS HEARD
 abbrev HearsAck : DiskLog → List ℕ → Type 0
-HearsAck l packet = OfClientRange l (range_ended 2 (half_heard l.transcript.client) packet) (Acknowledges l.shape.slots)
+HearsAck l packet = OfClientRange l (range_ended 2 (half_heard l.transcript.client) packet) (Acknowledges l.shape.slots (client_handshake l))
 
 abbrev IsBody : List ℕ → ℕ → ℕ → ℕ → ℕ → ℕ → Type 0
 IsBody bytes seq ident start end state = SpellsBody bytes (DringData seq ident start end state)
 
-acknowledges : (l : DiskLog) (packet : List ℕ) (s t : ClientState) → ClientCounted l.shape s l.transcript.client l.work.done l.work.client
+acknowledges : (l : DiskLog) (packet : List ℕ) (s t : ClientState) → s.handshake ≡ client_handshake l → ClientCounted l.shape s l.transcript.client l.work.done l.work.client
     → ClientAcked s l.transcript.client packet t → HearsAck l packet
-acknowledges l packet s t counted acked =
+acknowledges l packet s t shaken counted acked =
     let session = acked.session in
     let slots = l.shape.slots in
     let bytes = acked.hears.bytes in
@@ -170,27 +178,29 @@ acknowledges l packet s t counted acked =
     if_some (range_ended 2 (half_heard l.transcript.client) packet) _ bytes
     (ap (range_in 2) (heard_some l.transcript.client packet bytes acked.hears.messages)
     ∙ range_is 2 bytes (acked.hears.spells.envelope ∙ ap envelope_code acked.body_is) (acked.hears.spells.subtype ∙ ap subtype_code acked.subtype_is))
-    (in_client l.work.client of.counts (λ (k : ClientCounts). Acknowledges slots k bytes) of.is (record {
+    (in_client l.work.client of.counts (λ (k : ClientCounts). Acknowledges slots (client_handshake l) k bytes) of.is (record {
+      names = names_ring s.handshake (client_handshake l) acked.message.sid bytes s.handshake.draft.ident_own acked.hears.spells.sid shaken acked.sid_is
+          (sym fields.1 ∙ acked.ident_is) (λ (h : Handshake). h.draft.ident_own) refl;
       begins = sym fields.2 ∙ acked.begins ∙ ap (λ (n : ℕ). session.acked % n) counted.slots ∙ ap (λ (n : ℕ). n % slots) of.agree.acked;
       ends = omega (arith, fields.3, acked.ends, counted.slots);
       announced = omega (arith, spans, acked.within, of.agree.acked, of.agree.announced);
     }))
 
-heard_ack : (l : DiskLog) (packet : List ℕ) (s t : ClientState) → ClientCounted l.shape s l.transcript.client l.work.done l.work.client → ClientTook s l.transcript.client packet t
+heard_ack : (l : DiskLog) (packet : List ℕ) (s t : ClientState) → s.handshake ≡ client_handshake l → ClientCounted l.shape s l.transcript.client l.work.done l.work.client → ClientTook s l.transcript.client packet t
     → HearsAck l packet
-heard_ack l packet s t counted (inl part) = if_none _ _ (ap (range_in 2) (heard_none l.transcript.client packet part.messages))
-heard_ack l packet s t counted (inr (inl took)) =
+heard_ack l packet s t shaken counted (inl part) = if_none _ _ (ap (range_in 2) (heard_none l.transcript.client packet part.messages))
+heard_ack l packet s t shaken counted (inr (inl took)) =
     if_none _ _ (ap (range_in 2) (heard_some l.transcript.client packet took.hears.bytes took.hears.messages)
     ∙ heard_no_range 2 took.hears.bytes took.message took.hears.spells took.hears.form (no_data s.handshake took.message took.opens took.handshake took.takes))
-heard_ack l packet s t counted (inr (inr acked)) = acknowledges l packet s t counted acked
+heard_ack l packet s t shaken counted (inr (inr acked)) = acknowledges l packet s t shaken counted acked
 
 -- AN INFO THAT IS HEARD
 abbrev HearsInfo : DiskLog → List ℕ → Type 0
-HearsInfo l packet = OfServerRange l (range_ended 1 (half_heard l.transcript.server) packet) (AsksFor l.shape.slots l.transcript.server)
+HearsInfo l packet = OfServerRange l (range_ended 1 (half_heard l.transcript.server) packet) (AsksFor l.shape.slots l.transcript.server (server_handshake l))
 
-asks_for : (l : DiskLog) (packet : List ℕ) (s t : ServerState) (opens : Bool) → IsShape l.shape → ServerRests s l.transcript.server → TakesFree s
+asks_for : (l : DiskLog) (packet : List ℕ) (s t : ServerState) (opens : Bool) → IsShape l.shape → s.handshake ≡ server_handshake l → ServerRests s l.transcript.server → TakesFree s
     → ServerCounted l.shape s l.transcript.server l.work.server → ServerAsked s l.transcript.server packet t opens → HearsInfo l packet
-asks_for l packet s t opens sound rests free counted asks =
+asks_for l packet s t opens sound shaken rests free counted asks =
     let session = asks.session in
     let turns = l.transcript.server in
     let slots = l.shape.slots in
@@ -204,7 +214,9 @@ asks_for l packet s t opens sound rests free counted asks =
     if_some (range_ended 1 (half_heard turns) packet) _ bytes
     (ap (range_in 1) (heard_some turns packet bytes asks.hears.messages)
     ∙ range_is 1 bytes (asks.hears.spells.envelope ∙ ap envelope_code asks.body_is) (asks.hears.spells.subtype ∙ ap subtype_code asks.subtype_is))
-    (in_server l.work.server c (λ (d : ServerCounts). AsksFor slots turns d bytes) of.is (record {
+    (in_server l.work.server c (λ (d : ServerCounts). AsksFor slots turns (server_handshake l) d bytes) of.is (record {
+      names = names_ring s.handshake (server_handshake l) asks.message.sid bytes s.handshake.draft.ident_peer asks.hears.spells.sid shaken asks.sid_is
+          (sym fields.1 ∙ asks.ident_is) (λ (h : Handshake). h.draft.ident_peer) refl;
       next = sym fields.0 ∙ asks.next ∙ order.seq ∙ ap (λ (n : ℕ). wrapped (n + 1)) (sym (infos_are turns));
       begins = sym fields.2 ∙ asks.begins ∙ ap (λ (n : ℕ). session.asked % n) own
           ∙ slot_of_count slots session.asked c.asked sound.slots sound.some_slots sound.most_slots of.agree.asked;
@@ -212,13 +224,13 @@ asks_for l packet s t opens sound rests free counted asks =
       answered = subst (λ (r : Option SlotRange). RangeStands slots r c) (free.range session asks.session_is) order.range;
     }))
 
-heard_info : (l : DiskLog) (packet : List ℕ) (s t : ServerState) (opens : Bool) → IsShape l.shape → ServerRests s l.transcript.server → TakesFree s
+heard_info : (l : DiskLog) (packet : List ℕ) (s t : ServerState) (opens : Bool) → IsShape l.shape → s.handshake ≡ server_handshake l → ServerRests s l.transcript.server → TakesFree s
     → ServerCounted l.shape s l.transcript.server l.work.server → ServerTook s l.transcript.server packet t opens → HearsInfo l packet
-heard_info l packet s t opens sound rests free counted (inl part) = if_none _ _ (ap (range_in 1) (heard_none l.transcript.server packet part.messages))
-heard_info l packet s t opens sound rests free counted (inr (inl took)) =
+heard_info l packet s t opens sound shaken rests free counted (inl part) = if_none _ _ (ap (range_in 1) (heard_none l.transcript.server packet part.messages))
+heard_info l packet s t opens sound shaken rests free counted (inr (inl took)) =
     if_none _ _ (ap (range_in 1) (heard_some l.transcript.server packet took.hears.bytes took.hears.messages)
     ∙ heard_no_range 1 took.hears.bytes took.message took.hears.spells took.hears.form (no_data s.handshake took.message opens took.handshake took.takes))
-heard_info l packet s t opens sound rests free counted (inr (inr asks)) = asks_for l packet s t opens sound rests free counted asks
+heard_info l packet s t opens sound shaken rests free counted (inr (inr asks)) = asks_for l packet s t opens sound shaken rests free counted asks
 
 -- AN ACK THAT IS SAID answers the whole range in work
 abbrev SaysAck : DiskLog → List ℕ → Type 0
@@ -280,14 +292,14 @@ said_ack s l packet opens t sound both sends =
 took_ack : (s : LaneState) (l : DiskLog) (packet : List ℕ) (opens : Bool) (t : LaneState) → BothAre s l → EndOnWire A s (Took A packet opens) t → HearsAck l packet
 took_ack s l packet opens t both step =
     let knows = both.knows in
-    heard_ack l packet s.client t.client knows.counted.client
+    heard_ack l packet s.client t.client both.client.handshake knows.counted.client
     (client_took_what s.client l.transcript.client packet t.client knows.all.transcripts.follows_a knows.rests.client.whole step.step.1)
 
 took_info : (s : LaneState) (l : DiskLog) (packet : List ℕ) (opens : Bool) (t : LaneState) → IsShape l.shape → BothAre s l → EndOnWire B s (Took B packet opens) t → HearsInfo l packet
 took_info s l packet opens t sound both step =
     let knows = both.knows in
     let free : TakesFree s.server = subst (ServerFree s.server) step.1.step.1.0 (server_free s.server (seen B s.shape.entries s.wire.wire)) in
-    heard_info l packet s.server t.server opens sound knows.rests.server free knows.counted.server
+    heard_info l packet s.server t.server opens sound both.server.handshake knows.rests.server free knows.counted.server
     (server_took_what s.server l.transcript.server packet t.server opens knows.all.transcripts.follows_b knows.rests.server.whole step.1.step.1.1)
 
 wire_ranges : (s : LaneState) (l : DiskLog) (event : WireEvent) (t : LaneState) → IsShape l.shape → BothAre s l → WireStep s event t → RangesAt l (OnWire event)

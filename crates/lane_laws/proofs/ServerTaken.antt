@@ -66,6 +66,8 @@ pub record ServerAsked (s : ServerState) (turns : List Turn) (packet : List ℕ)
   pub session_is : s.session ≡ Some session
   pub subtype_is : message.subtype ≡ Info
   pub body_is : message.body ≡ DringData range.seq ident range.start range.end range.state
+  pub sid_is : sid_fault s.handshake.sid message.sid ≡ None
+  pub ident_is : ident ≡ s.handshake.draft.ident_peer
   pub next : range.seq ≡ session.seq
   pub begins : range.start ≡ place_of s session
   pub ends : range.end < s.handshake.draft.peer_slots
@@ -99,9 +101,9 @@ took_if s turns packet true x y one other = one refl
 took_if s turns packet false x y one other = other refl
 
 by_info : (s : ServerState) (turns : List Turn) (packet : List ℕ) (k : LinkState) (session : ServerSession) (message : Message) (ident : ℕ) (range : SlotRange)
-    → Now s turns packet k message → s.session ≡ Some session → message.subtype ≡ Info → message.body ≡ DringData range.seq ident range.start range.end range.state
-    → TookOn s turns packet (takes_info (record s { link = k }) session ident range)
-by_info s turns packet k session message ident range now is kind body =
+    → Now s turns packet k message → sid_fault s.handshake.sid message.sid ≡ None → s.session ≡ Some session → message.subtype ≡ Info
+    → message.body ≡ DringData range.seq ident range.start range.end range.state → TookOn s turns packet (takes_info (record s { link = k }) session ident range)
+by_info s turns packet k session message ident range now sid is kind body =
     took_if s turns packet (is_other s.handshake.draft.ident_peer ident) (Resets (the_cause.Ident s.handshake.draft.ident_peer ident)) _ (λ test. tt)
     (λ known.
     took_if s turns packet (is_other session.seq range.seq) (Resets (the_cause.Seq session.seq range.seq)) _ (λ test. tt)
@@ -122,6 +124,8 @@ by_info s turns packet k session message ident range now is kind body =
       session_is = is;
       subtype_is = kind;
       body_is = body;
+      sid_is = sid;
+      ident_is = is_the s.handshake.draft.ident_peer ident known;
       next = is_the session.seq range.seq next;
       begins = is_the (place_of s session) range.start begins;
       ends = omega (arith, leb-false s.handshake.draft.peer_slots range.end ends);
@@ -130,14 +134,14 @@ by_info s turns packet k session message ident range now is kind body =
     }))))))
 
 by_session : (s : ServerState) (turns : List Turn) (packet : List ℕ) (k : LinkState) (session : ServerSession) (message : Message) (subtype : Subtype) (body : MsgBody)
-    → Now s turns packet k message → s.session ≡ Some session → message.subtype ≡ subtype → message.body ≡ body
+    → Now s turns packet k message → sid_fault s.handshake.sid message.sid ≡ None → s.session ≡ Some session → message.subtype ≡ subtype → message.body ≡ body
     → TookOn s turns packet (in_session (record s { link = k }) session message subtype body)
-by_session s turns packet k session message Info (DringData seq ident start end state) now is kind body =
-    by_info s turns packet k session message ident (record { seq = seq; start = start; end = end; state = state }) now is kind body
-by_session s turns packet k session message _ _ now is kind body = by_handshake_take s turns packet k message (handshake_take s.handshake message) now refl
+by_session s turns packet k session message Info (DringData seq ident start end state) now sid is kind body =
+    by_info s turns packet k session message ident (record { seq = seq; start = start; end = end; state = state }) now sid is kind body
+by_session s turns packet k session message _ _ now sid is kind body = by_handshake_take s turns packet k message (handshake_take s.handshake message) now refl
 
-by_sid : (s : ServerState) (turns : List Turn) (packet : List ℕ) (fault : Option Cause) (rest : ServerTake) → TookOn s turns packet rest → TookOn s turns packet (sid_first fault rest)
-by_sid s turns packet None rest took = took
+by_sid : (s : ServerState) (turns : List Turn) (packet : List ℕ) (fault : Option Cause) (rest : ServerTake) → (fault ≡ None → TookOn s turns packet rest) → TookOn s turns packet (sid_first fault rest)
+by_sid s turns packet None rest took = took refl
 by_sid s turns packet (Some cause) rest took = tt
 
 by_message : (s : ServerState) (turns : List Turn) (packet : List ℕ) (k : LinkState) (open_one : Option ServerSession) (message : Message) → Now s turns packet k message
@@ -145,7 +149,7 @@ by_message : (s : ServerState) (turns : List Turn) (packet : List ℕ) (k : Link
 by_message s turns packet k None message now is = by_handshake_take s turns packet k message (handshake_take s.handshake message) now refl
 by_message s turns packet k (Some session) message now is =
     by_sid s turns packet (sid_fault s.handshake.sid message.sid) (in_session (record s { link = k }) session message message.subtype message.body)
-    (by_session s turns packet k session message message.subtype message.body now is refl refl)
+    (λ sid. by_session s turns packet k session message message.subtype message.body now sid is refl refl)
 
 by_bytes : (s : ServerState) (turns : List Turn) (packet : List ℕ) (k : LinkState) (bytes : List ℕ) (d : Result Message TagFault) → k.to_send ≡ s.link.to_send → is_up s.link ≡ true → is_up k ≡ true
     → heard (Heard_ packet ∷ turns) ≡ heard turns ++ bytes ∷ [] → Decodes bytes d → TookOn s turns packet (reads (record s { link = k }) d)

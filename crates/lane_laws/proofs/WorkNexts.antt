@@ -2,7 +2,7 @@
 use Rattle.std.proofs.Common.{◌≡◌, ℕ, zero, suc, ◌-◌, ◌<◌, Option, Some, None, List, [], ◌∷◌, ◌++◌, length, refl, sym, ap, ◌∙◌, arith}
 use Rattle.vdisk_msg.specs.declared.desc.DiskDesc.{DiskDesc}
 use Rattle.vdisk_msg.specs.Descriptor.{disk_desc_of}
-use Rattle.vdisk_msg.specs.Pieces.{Finishes, Piece, read_pieces, unit_count, write_pieces}
+use Rattle.vdisk_msg.specs.Pieces.{Finishes, read_pieces, unit_count, write_pieces}
 use Rattle.disk_model.specs.ServerState.{Ends, Flushes, Gathers, Gives, Progress, Reads, ServerSession, Work, Writes}
 use Rattle.disk_model.specs.ServerWork.{desc_of}
 use Rattle.lane_laws.specs.Agreement.{ServerAgrees, WorkNextAgrees, owed_of}

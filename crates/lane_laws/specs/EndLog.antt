@@ -120,6 +120,9 @@ handshake_of role offer last (Heard packet ∷ turns) =
 
 -- THE SERVER'S RANGE is the last INFO that it heard, until it said its ACK; its next INFO has the number behind that
 -- of the last
+abbrev pub ident_of : List ℕ → ℕ
+ident_of message = number_at 8 16 message
+
 abbrev pub state_of : List ℕ → ℕ
 state_of message = number_at 1 32 message
 

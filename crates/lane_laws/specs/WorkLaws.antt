@@ -1,5 +1,5 @@
 -- Where the events of the work may stand, also where somebody forges packets and memory.
-use Rattle.std.specs.Prelude.{◌≡◌, ◌≢◌, ℕ, ◌+◌, ◌-◌, ◌*◌, ◌/◌, ◌%◌, ◌<◌, ◌≤◌, min, ◌==◌, if◌then◌else◌, Bool, true, false, List, [], ◌∷◌, length, take, Option, Some, None, slice_get, ⊤}
+use Rattle.std.specs.Prelude.{◌≡◌, ◌≢◌, ℕ, ◌+◌, ◌-◌, ◌*◌, ◌/◌, ◌%◌, ◌^◌, ◌<◌, ◌≤◌, min, ◌==◌, if◌then◌else◌, Bool, true, false, List, [], ◌∷◌, length, take, Option, Some, None, slice_get, ⊤}
 use Rattle.cookie_copy.specs.declared.fault.Access.{Access}
 use Rattle.cookie_copy.specs.declared.fault.Access.TheVariants.{Read, Write}
 use Rattle.cookie_copy.specs.declared.fault.CopyFault.{CopyFault}
@@ -15,6 +15,8 @@ use Rattle.vdisk_msg.specs.Pieces.{Finishes, Moves, Piece, Stores}
 use Rattle.vdisk_msg.specs.Requested as asks_for
 use Rattle.vio_tag.specs.declared.cause.Cause.{Cause}
 use Rattle.vio_tag.specs.declared.cause.Cause.TheVariants as the_cause
+use Rattle.vio_handshake.specs.declared.handshake.Handshake.{Handshake}
+use Rattle.vio_handshake.specs.Rules.{sid_fault}
 use Rattle.channel_model.specs.HandshakeOrder.{HandshakeOrder}
 use Rattle.channel_model.specs.Sayings.{half_heard, half_said}
 use Rattle.channel_model.specs.TranscriptLog.{TranscriptLog, hears, says}
@@ -23,11 +25,12 @@ use Rattle.channel_model.specs.WireEvent.{Reset, Sent, Took}
 use Rattle.disk_model.specs.DiskEvent.{Desc, DiskEvent, Done, Finished, Misplaced, Moved, OnWire, Published, Stored, Works}
 use Rattle.channel_model.specs.OwnMemory.{own_table}
 use Rattle.disk_model.specs.LaneState.{pages_of}
+use Rattle.disk_model.specs.Offering.{client_offer, server_offer}
 use Rattle.disk_model.specs.ServerState.{SlotRange}
 use Rattle.channel_model.specs.Ranges.{range_length, wrapped}
 use Rattle.lane_laws.specs.DiskLog.{DiskLog}
-use Rattle.channel_model.specs.Messages.{end_of, range_ended, seq_of, start_of}
-use Rattle.lane_laws.specs.EndLog.{infos_heard, range_in_work, state_of}
+use Rattle.channel_model.specs.Messages.{end_of, range_ended, seq_of, sid_of, start_of}
+use Rattle.lane_laws.specs.EndLog.{handshake_of, ident_of, infos_heard, range_in_work, state_of}
 use Rattle.lane_laws.specs.WorkLog.{ClientCounts, Opened, ServerCounts}
 
 -- a session that is open, with its counts
@@ -98,13 +101,20 @@ pub record Announces (slots : ℕ) (c : ClientCounts) (message : List ℕ) : Typ
   pub published : c.announced + range_length slots (start_of message) (end_of message) ≡ c.published
   pub active : state_of message ≡ 1
 
-pub record AsksFor (slots : ℕ) (turns : List Turn) (c : ServerCounts) (message : List ℕ) : Type 0 where
+-- one that is heard has the session's sid and the number of its ring, by the handshake of the end that hears it
+pub record NamesRing (sid : Option ℕ) (ident : ℕ) (message : List ℕ) : Type 0 where
+  pub sid_is : sid_fault sid (sid_of message) ≡ None
+  pub ident_is : ident_of message ≡ ident
+
+pub record AsksFor (slots : ℕ) (turns : List Turn) (h : Handshake) (c : ServerCounts) (message : List ℕ) : Type 0 where
+  pub names : NamesRing h.sid h.draft.ident_peer message
   pub next : seq_of message ≡ wrapped (infos_heard turns + 1)
   pub begins : start_of message ≡ c.asked % slots
   pub ends : end_of message < slots
   pub answered : c.answered ≡ c.asked
 
-pub record Acknowledges (slots : ℕ) (c : ClientCounts) (message : List ℕ) : Type 0 where
+pub record Acknowledges (slots : ℕ) (h : Handshake) (c : ClientCounts) (message : List ℕ) : Type 0 where
+  pub names : NamesRing h.sid h.draft.ident_own message
   pub begins : start_of message ≡ c.acked % slots
   pub ends : end_of message < slots
   pub announced : c.acked + range_length slots (start_of message) (end_of message) ≤ c.announced
@@ -128,11 +138,18 @@ OfClientRange l range holds = IfRange range (λ (message : List ℕ). InClient l
 abbrev pub OfServerRange : DiskLog → Option (List ℕ) → (ServerCounts → List ℕ → Type 0) → Type 0
 OfServerRange l range holds = IfRange range (λ (message : List ℕ). InServer l.work.server (λ (c : ServerCounts). holds c message))
 
+abbrev pub client_handshake : DiskLog → Handshake
+client_handshake l = handshake_of Initiator (client_offer l.shape.blocks l.shape.slots) (l.transcript.links % 2 ^ 32) l.transcript.client
+
+abbrev pub server_handshake : DiskLog → Handshake
+server_handshake l = handshake_of Responder (server_offer l.shape.blocks l.shape.slots) 0 l.transcript.server
+
 abbrev pub RangesAt : DiskLog → DiskEvent → Type 0
 RangesAt l (OnWire (Sent A packet opens)) = OfClientRange l (range_ended 1 (half_said l.transcript.client) packet) (Announces l.shape.slots)
 RangesAt l (OnWire (Took B packet opens)) =
-    OfServerRange l (range_ended 1 (half_heard l.transcript.server) packet) (AsksFor l.shape.slots l.transcript.server)
-RangesAt l (OnWire (Took A packet opens)) = OfClientRange l (range_ended 2 (half_heard l.transcript.client) packet) (Acknowledges l.shape.slots)
+    OfServerRange l (range_ended 1 (half_heard l.transcript.server) packet) (AsksFor l.shape.slots l.transcript.server (server_handshake l))
+RangesAt l (OnWire (Took A packet opens)) =
+    OfClientRange l (range_ended 2 (half_heard l.transcript.client) packet) (Acknowledges l.shape.slots (client_handshake l))
 RangesAt l (OnWire (Sent B packet opens)) =
     OfServerRange l (range_ended 2 (half_said l.transcript.server) packet) (AcknowledgesRange l.shape.slots l.transcript.server)
 RangesAt l _ = ⊤
