@@ -61,7 +61,7 @@ impl<D: Store> World<D> {
         ensures agrees { accepted_count journal.new.entries ≡ issued_on self.new.lanes }
     {
         journal.reserve(1)?;
-        let entry = call_lane(&mut self.lanes[disk as usize], disk, call);
+        let entry = call_lane(&mut self.disks[disk as usize], disk, call);
         journal.push(entry);
         Ok(())
     }

@@ -36,7 +36,7 @@ impl<D: Store> World<D> {
         journal.reserve(1)?;
         let _len = journal.len();
         let kept = KeptRequest::new(self.alloc, request)?;
-        let entry = ask_lane(&mut self.lanes[disk as usize], disk, request, kept);
+        let entry = ask_lane(&mut self.disks[disk as usize], disk, request, kept);
         journal.push(entry);
         Ok(())
     }

@@ -85,7 +85,7 @@ impl<D: Store> World<D> {
         ensures agrees { accepted_count journal.new.entries ≡ issued_on self.new.lanes }
     {
         let mut all = true;
-        for disk in 0..self.count() {
+        for disk in 0..self.disk_count() {
             let calm = self.round_of(disk, quiet, journal)?;
             all &= calm;
         }
@@ -134,7 +134,7 @@ impl<D: Store> World<D> {
         ensures agrees { accepted_count journal.new.entries ≡ issued_on self.new.lanes }
     {
         let mut some = false;
-        for disk in 0..self.count() {
+        for disk in 0..self.disk_count() {
             let ticked = self.tick_of(disk, had, journal)?;
             some |= ticked;
         }
@@ -176,7 +176,7 @@ impl<D: Store> World<D> {
             journal.new.entries) }
         ensures accepted { accepted_count journal.new.entries ≡ accepted_count journal.old.entries }
     {
-        for disk in 0..self.count() {
+        for disk in 0..self.disk_count() {
             self.name_lane(disk, quiet[disk as usize], journal)?;
         }
         Ok(())
@@ -222,7 +222,7 @@ impl<D: Store> World<D> {
         requires disk { disk < length self.now.lanes }
         ensures { (lane : LaneState) → slice_get self.now.lanes disk ≡ Some lane → result ≡ waits_on lane }
     {
-        waits_on(&self.lanes[disk as usize])
+        waits_on(&self.disks[disk as usize])
     }
 
     /// How many rounds a settle may make: 4,096 and 64 for each pending request.
@@ -230,7 +230,7 @@ impl<D: Store> World<D> {
         ensures most { result ≡ most_rounds self.now.lanes }
         ensures few { length self.now.lanes ≤ 8 }
     {
-        4096 + 64 * pending_on(&self.lanes)
+        4096 + 64 * pending_on(&self.disks)
     }
 }
 

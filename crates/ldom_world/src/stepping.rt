@@ -72,7 +72,7 @@ impl<D: Store> World<D> {
         ensures many { length self.new.lanes ≡ length self.old.lanes }
         ensures agrees { accepted_count journal.new.entries ≡ issued_on self.new.lanes }
     {
-        for disk in 0..self.count() {
+        for disk in 0..self.disk_count() {
             self.step_both(disk, journal)?;
         }
         Ok(())
@@ -162,7 +162,7 @@ impl<D: Store> World<D> {
             self.new) }
         ensures same { OnErr result ((self.new ≡ self.old) × (journal.new ≡ journal.old)) }
     {
-        let lane = &mut self.lanes[disk as usize];
+        let lane = &mut self.disks[disk as usize];
         client_step(lane, disk, in_settle, &mut self.room, self.alloc, journal)
     }
 
@@ -171,7 +171,7 @@ impl<D: Store> World<D> {
         requires ready { 0 < journal.old.room }
         ensures { EndSteps in_settle disk B self.old journal.old result journal.new self.new }
     {
-        let lane = &mut self.lanes[disk as usize];
+        let lane = &mut self.disks[disk as usize];
         server_step(lane, disk, in_settle, &mut self.image, journal)
     }
 }

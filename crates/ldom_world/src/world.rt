@@ -12,12 +12,12 @@ use std::marker::Model;
 use vio_bytes::NoMemory;
 use vio_io::Store;
 
-/// The lanes of a script's disks, by their numbers in the order of declaration, and the image that all of them are
-/// served from: each disk is a region of it, one after another.
+/// The lanes of a script, a list of each kind by their numbers in the order of declaration: of disks alone as yet. And
+/// the image that all disks are served from: each is a region of it, one after another.
 #[derive(Drop)]
 pub struct World<D: Store> {
     pub(crate) alloc: Global,
-    pub(crate) lanes: Vec<DiskLane>,
+    pub(crate) disks: Vec<DiskLane>,
     pub(crate) image: D,
 
     /// Room for what the next completion carries.
@@ -33,11 +33,11 @@ impl<D: Store> Model for World<D> {
     ghost Value = { WorldState };
 
     ghost view = { λ w. record {
-      lanes = w.lanes.items;
+      lanes = w.disks.items;
       image = as_image D.content D.faults D.calls D.flushes w.image;
     } };
 
-    ghost invariant = { λ w. (length w.lanes.items ≤ 8) × Each (LiesWithin (D.size w.image)) w.lanes.items
+    ghost invariant = { λ w. (length w.disks.items ≤ 8) × Each (LiesWithin (D.size w.image)) w.disks.items
         × (w.room.items ≡ []) };
 }
 
@@ -66,18 +66,18 @@ impl<D: Store> World<D> {
     {
         World {
             alloc,
-            lanes: lanes.disks,
+            disks: lanes.disks,
             image,
             room: Bytes::empty(alloc),
         }
     }
 
-    /// How many lanes there are.
-    pub(crate) fn count(&self) -> u32
+    /// How many disks there are.
+    pub(crate) fn disk_count(&self) -> u32
         ensures count { result ≡ length self.now.lanes }
         ensures few { length self.now.lanes ≤ 8 }
     {
-        self.lanes.len() as u32
+        self.disks.len() as u32
     }
 
     /// Whether the image ever failed.
@@ -98,10 +98,10 @@ impl<D: Store> World<D> {
     {
         let World {
             alloc: _,
-            lanes,
+            disks,
             image,
             room: _,
         } = self;
-        (image, Lanes { disks: lanes })
+        (image, Lanes { disks })
     }
 }

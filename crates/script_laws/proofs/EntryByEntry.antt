@@ -11,15 +11,15 @@ use Rattle.domain_script.specs.declared.event.Side.{Side}
 use Rattle.domain_script.specs.declared.event.Side.TheVariants.{Client, Server}
 use Rattle.world_laws.specs.Settle.{OfLane, SettleEntry}
 use Rattle.world_laws.specs.Lines.{Line}
-use Rattle.ldom_report.specs.LaneEvents.{AtClient, AtLane, AtServer, AtWire, ChangesNothing, Meaning, end_of, lane_number, meaning}
-use Rattle.world_parts.specs.WorldEvents.{world_event}
+use Rattle.ldom_report.specs.LaneEvents.{AtClient, AtLane, AtServer, AtWire, ChangesNothing, Meaning, end_of, meaning}
+use Rattle.world_parts.specs.WorldEvents.{wire_event, world_event}
 use Rattle.ldom_entries.specs.declared.entry.Entry.{Entry}
 use Rattle.ldom_entries.specs.declared.entry.Entry.TheVariants as entry
 use Rattle.ldom_entries.specs.declared.entry.Who.TheVariants.{Lane as OfWhole, End as OfEnd}
 use Rattle.ldom_entries.specs.declared.entry.Why.TheVariants.{Count, Range}
 use Rattle.script_laws.proofs.LaneReport.{SaysSame, says_append}
 use Rattle.world_parts.specs.Parts.{PartSays}
-use Rattle.world_parts.proofs.Meanings.{Holds, entry_has, number_of}
+use Rattle.world_parts.proofs.Meanings.{Has, Holds, disk_has, entry_has, lane_of, wire_has}
 
 -- an entry says the same as this one of a lane
 abbrev SameAs : DiskDecl → Entry → SettleEntry → Type 0
@@ -51,20 +51,23 @@ untold_same disk e k event nothing none = says_append disk (e ∷ []) [] [] (OfL
 quiet_same : (disk : DiskDecl) (e : Entry) (x : Meaning) → SaysSame disk (e ∷ []) [] → tells x ≡ false
     → Holds (SameAs disk e) x
 quiet_same disk e (AtWire name event) nothing none =
-    untold_same disk e (lane_number name.lane) (OnWire event) nothing none
-quiet_same disk e (AtClient name event) nothing none = untold_same disk e (lane_number name.lane) event nothing none
-quiet_same disk e (AtServer name event) nothing none = untold_same disk e (lane_number name.lane) event nothing none
+    wire_has (SameAs disk e) name.lane event (λ k. untold_same disk e k (OnWire event) nothing none)
+quiet_same disk e (AtClient name event) nothing none =
+    disk_has (SameAs disk e) name.lane event (λ k. untold_same disk e k event nothing none)
+quiet_same disk e (AtServer name event) nothing none =
+    disk_has (SameAs disk e) name.lane event (λ k. untold_same disk e k event nothing none)
 quiet_same disk e (AtLane k event) nothing none = untold_same disk e k event nothing none
 quiet_same disk e (ChangesNothing who) nothing none = (
-  λ calm. untold_same disk e (number_of who) (Calms calm) nothing refl,
-  λ d. untold_same disk e (number_of who) (OnWire (Declines d)) nothing refl,
+  λ calm. disk_has (SameAs disk e) (lane_of who) (Calms calm) (λ k. untold_same disk e k (Calms calm) nothing refl),
+  λ d. disk_has (SameAs disk e) (lane_of who) (OnWire (Declines d))
+      (λ k. untold_same disk e k (OnWire (Declines d)) nothing refl),
 )
 quiet_same disk e x nothing none = absurd (cc none)
 
 -- a reset, by its end
 reset_same : (disk : DiskDecl) (lane : Lane) (side : Side) (cause : Cause) (packet : Option (List ℕ)) (lost : ℕ)
-    → SaysSame disk (entry.Reset (record { lane = lane; side = side }) cause packet lost ∷ [])
-    (OfLane (lane_number lane) (OnWire (Reset (end_of side) cause packet lost)) ∷ [])
+    → Has (SameAs disk (entry.Reset (record { lane = lane; side = side }) cause packet lost))
+    (wire_event lane (Reset (end_of side) cause packet lost))
 reset_same disk (Disk k) Client cause packet lost = (refl, refl)
 reset_same disk (Disk k) Server cause packet lost = (refl, refl)
 
@@ -72,10 +75,10 @@ reset_same disk (Disk k) Server cause packet lost = (refl, refl)
 entry_same : (disk : DiskDecl) (e : Entry) → Holds (SameAs disk e) (meaning e)
 entry_same disk (entry.Accepted k id request) = (refl, refl)
 entry_same disk (entry.Full (OfWhole (Disk k))) = λ request. (refl, refl)
-entry_same disk (entry.Full (OfEnd e)) = tt
+entry_same disk (entry.Full (OfEnd e)) = λ request. tt
 entry_same disk (entry.Refused (OfWhole (Disk k)) Count) = λ request. (refl, refl)
 entry_same disk (entry.Refused (OfWhole (Disk k)) Range) = λ request. (refl, refl)
-entry_same disk (entry.Refused (OfEnd e) why) = tt
+entry_same disk (entry.Refused (OfEnd e) why) = λ request. tt
 entry_same disk entry.Settled = (refl, refl)
 entry_same disk (entry.Unsettled (OfWhole (Disk k))) = (refl, refl)
 entry_same disk (entry.Unsettled (OfEnd e)) = tt

@@ -4,7 +4,8 @@ use Rattle.std.proofs.Common.{◌≡◌, ◌⊎◌, inl, inr, ℕ, ◌==◌, Boo
 use Rattle.std.specs.Prelude.{⊤}
 use Rattle.vdisk_msg.specs.declared.request.Request.{Request}
 use Rattle.disk_law.specs.ListStep as plain
-use Rattle.disk_model.specs.DiskEvent.{Accepted, Asks, DiskEvent, Done, Full, Refused, Works}
+use Rattle.channel_model.specs.WireEvent.{Declines}
+use Rattle.disk_model.specs.DiskEvent.{Accepted, Asks, Calms, DiskEvent, Done, Full, OnWire, Refused, Works}
 use Rattle.world_laws.specs.Settle.{OfLane, SettleEntry}
 use Rattle.domain_script.specs.declared.event.Event.{Event}
 use Rattle.domain_script.specs.declared.event.Event.TheVariants as line
@@ -13,7 +14,7 @@ use Rattle.kept_requests.specs.Bytes.{BytesState}
 use Rattle.ldom_entries.specs.declared.entry.Entry.{Entry}
 use Rattle.ldom_entries.specs.declared.entry.Entry.TheVariants as entry
 use Rattle.ldom_entries.specs.declared.entry.Who.{Who}
-use Rattle.ldom_entries.specs.declared.entry.Who.TheVariants.{Lane as OfWhole, End as OfEnd}
+use Rattle.ldom_entries.specs.declared.entry.Who.TheVariants.{Lane as OfWhole}
 use Rattle.ldom_entries.specs.declared.entry.Why.{Why}
 use Rattle.ldom_report.specs.DiskEvents.{Defective, NoRoom, NotTaken, Nothing, OfDisk, Refusal, defect_of, refused, request_asked, said}
 use Rattle.ldom_report.specs.LaneEvents.{AtClient, AtLane, AtServer, AtWire, ChangesNothing, LeavesNothing, LeavesOver, Meaning, NoRoomFor, Refuses, meaning}
@@ -23,7 +24,7 @@ use Rattle.world_laws.specs.Statuses.{TellsStore}
 use Rattle.world_parts.specs.Lines.{line_of}
 use Rattle.world_laws.specs.Requests.{request_event}
 use Rattle.script_laws.specs.Failures.{SucceedsOrFails, has_failed}
-use Rattle.world_parts.proofs.Meanings.{Holds, entry_has}
+use Rattle.world_parts.proofs.Meanings.{Holds, disk_has, entry_has, lane_of, left_has, wire_has}
 
 -- what a journal tells of a disk whatever its lines asked: which requests were accepted and completed
 abbrev pub kept : plain.ListEvent → Option plain.ListEvent
@@ -104,15 +105,17 @@ event_silent (Works (Done id operation status bytes)) none = absurd (cc none)
 event_silent event none = (refl, refl)
 
 silent : (x : Meaning) → means_request x ≡ false → Holds SaysNothing x
-silent (AtWire e event) none = (refl, refl)
-silent (AtClient e event) none = event_silent event none
-silent (AtServer e event) none = event_silent event none
+silent (AtWire e event) none = wire_has SaysNothing e.lane event (λ k. (refl, refl))
+silent (AtClient e event) none = disk_has SaysNothing e.lane event (λ k. event_silent event none)
+silent (AtServer e event) none = disk_has SaysNothing e.lane event (λ k. event_silent event none)
 silent (AtLane k event) none = event_silent event none
 silent (NoRoomFor who) none = absurd (cc none)
 silent (Refuses who why) none = absurd (cc none)
-silent (ChangesNothing who) none = (λ calm. (refl, refl), λ d. (refl, refl))
-silent (LeavesOver (OfWhole (Disk k))) none = tt
-silent (LeavesOver (OfEnd e)) none = tt
+silent (ChangesNothing who) none = (
+  λ calm. disk_has SaysNothing (lane_of who) (Calms calm) (λ k. (refl, refl)),
+  λ d. disk_has SaysNothing (lane_of who) (OnWire (Declines d)) (λ k. (refl, refl)),
+)
+silent (LeavesOver who) none = left_has SaysNothing who (λ k. tt)
 silent LeavesNothing none = tt
 
 -- A REQUEST THAT ISN'T TAKEN UP is that of its line

@@ -1,18 +1,18 @@
 -- Which entries of a journal say that the image was called: those that mean a call of a store for the lanes.
 use Rattle.std.proofs.Common.{◌≡◌, ℕ, ◌+◌, Bool, false, cond, Some, List, [], ◌∷◌, refl, sym, ap, ◌∙◌}
 use Rattle.std.specs.List.{count_by}
-use Rattle.disk_model.specs.DiskEvent.{DiskEvent, Stored, Works}
+use Rattle.channel_model.specs.WireEvent.{Declines}
+use Rattle.disk_model.specs.DiskEvent.{Asks, Calms, DiskEvent, Full, OnWire, Refused, Stored, Works}
 use Rattle.domain_script.specs.declared.event.Event.{Event}
-use Rattle.domain_script.specs.declared.event.Lane.TheVariants.{Disk}
 use Rattle.ldom_entries.specs.declared.entry.Entry.{Entry}
 use Rattle.ldom_entries.specs.declared.entry.Entry.TheVariants as entry
-use Rattle.ldom_entries.specs.declared.entry.Who.TheVariants.{Lane as OfWhole, End as OfEnd}
+use Rattle.ldom_report.specs.DiskEvents.{defect_of}
 use Rattle.ldom_report.specs.LaneEvents.{AtClient, AtLane, AtServer, AtWire, ChangesNothing, LeavesNothing, LeavesOver, Meaning, NoRoomFor, Refuses, meaning}
 use Rattle.world_parts.specs.WorldEvents.{world_event}
 use Rattle.world_laws.proofs.Counted.{count_more}
 use Rattle.world_laws.specs.Failures.{in_entry, is_store, is_store_that}
 use Rattle.world_laws.specs.Settle.{SettleEntry}
-use Rattle.world_parts.proofs.Meanings.{Holds, entry_has}
+use Rattle.world_parts.proofs.Meanings.{Holds, disk_has, entry_has, lane_of, left_has, who_has, wire_has}
 use Rattle.world_parts.specs.Lines.{line_of}
 use Rattle.script_laws.proofs.Tellings.{Telling, entries_told, means_of}
 use Rattle.script_laws.specs.Stored.{is_stored_that}
@@ -32,24 +32,26 @@ event_none says (Works (Stored operation block count failed)) none = absurd (cc 
 event_none says event none = refl
 
 others_none : (says : ℕ → Bool → Bool) (x : Meaning) → means_store x ≡ false → Holds (StoreSays says false) x
-others_none says (AtWire e event) none = refl
-others_none says (AtClient e event) none = event_none says event none
-others_none says (AtServer e event) none = event_none says event none
+others_none says (AtWire e event) none = wire_has (StoreSays says false) e.lane event (λ k. refl)
+others_none says (AtClient e event) none = disk_has (StoreSays says false) e.lane event (λ k. event_none says event none)
+others_none says (AtServer e event) none = disk_has (StoreSays says false) e.lane event (λ k. event_none says event none)
 others_none says (AtLane k event) none = event_none says event none
-others_none says (NoRoomFor (OfWhole (Disk k))) none = λ request. refl
-others_none says (NoRoomFor (OfEnd e)) none = tt
-others_none says (Refuses (OfWhole (Disk k)) why) none = λ request. refl
-others_none says (Refuses (OfEnd e) why) none = tt
-others_none says (ChangesNothing who) none = (λ calm. refl, λ d. refl)
-others_none says (LeavesOver (OfWhole (Disk k))) none = refl
-others_none says (LeavesOver (OfEnd e)) none = tt
+others_none says (NoRoomFor who) none = λ request. who_has (StoreSays says false) who (Asks (Full request)) (λ k. refl)
+others_none says (Refuses who why) none = λ request.
+    who_has (StoreSays says false) who (Asks (Refused (defect_of why) request)) (λ k. refl)
+others_none says (ChangesNothing who) none = (
+  λ calm. disk_has (StoreSays says false) (lane_of who) (Calms calm) (λ k. refl),
+  λ d. disk_has (StoreSays says false) (lane_of who) (OnWire (Declines d)) (λ k. refl),
+)
+others_none says (LeavesOver who) none = left_has (StoreSays says false) who (λ k. refl)
 others_none says LeavesNothing none = refl
 
 -- EACH ENTRY says of a call what it means
 entry_stored : (says : ℕ → Bool → Bool) (asked : Event) (e : Entry) (m : SettleEntry)
     → world_event (line_of asked) e ≡ Some m → in_entry (is_store_that says) m ≡ is_stored_that says e
 entry_stored says asked (entry.Stored e operation block count failed) m is =
-    entry_has (StoreSays says (says operation failed)) (line_of asked) (entry.Stored e operation block count failed) m refl is
+    entry_has (StoreSays says (says operation failed)) (line_of asked) (entry.Stored e operation block count failed) m
+    (disk_has (StoreSays says (says operation failed)) e.lane (Works (Stored operation block count failed)) (λ k. refl)) is
 entry_stored says asked e m is = entry_has (StoreSays says false) (line_of asked) e m (others_none says (meaning e) refl) is
 
 -- A JOURNAL

@@ -1,7 +1,9 @@
 -- Each entry of a journal has the words of its line, since what it is for the lanes has its own.
-use Rattle.std.proofs.Common.{◌≡◌, ℕ, ◌<◌, Some, List, [], ◌∷◌, length}
+use Rattle.std.proofs.Common.{◌≡◌, ℕ, Some, List, [], ◌∷◌, length}
 use Rattle.std.specs.List.{All}
 use Rattle.std.proofs.lemmas.List.Elements.{All-cons, All-nil}
+use Rattle.channel_model.specs.WireEvent.{Declines, Reset, WireEvent}
+use Rattle.disk_model.specs.DiskEvent.{Asks, Calms, DiskEvent, Full, OnWire, Refused, Stored, Works}
 use Rattle.world_laws.specs.Settle.{SettleEntry}
 use Rattle.world_laws.specs.Lines.{Line}
 use Rattle.vio_tag.specs.declared.cause.Cause.{Cause}
@@ -13,35 +15,51 @@ use Rattle.ldom_entries.specs.declared.entry.Entry.{Entry}
 use Rattle.ldom_entries.specs.declared.entry.Entry.TheVariants as entry
 use Rattle.ldom_entries.specs.declared.entry.Who.{Who}
 use Rattle.ldom_entries.specs.declared.entry.Who.TheVariants.{Lane as OfWhole, End as OfEnd}
+use Rattle.ldom_report.specs.DiskEvents.{defect_of}
 use Rattle.ldom_report.specs.HasWords.{HasFault, HasValues, HasWords, IsCompletion, IsDeclared, IsLane, IsNamed}
-use Rattle.ldom_report.specs.LaneEvents.{AtClient, AtLane, AtServer, AtWire, ChangesNothing, LeavesNothing, LeavesOver, Meaning, NoRoomFor, Refuses, lane_number, meaning}
-use Rattle.world_parts.specs.WorldEvents.{world_event}
+use Rattle.ldom_report.specs.LaneEvents.{AtClient, AtLane, AtServer, AtWire, ChangesNothing, LeavesNothing, LeavesOver, Meaning, NoRoomFor, Refuses, end_of, meaning}
+use Rattle.world_parts.specs.WorldEvents.{disk_event, unsettled_event, who_event, wire_event, world_event}
 use Rattle.world_parts.specs.Lines.{line_of}
 use Rattle.world_laws.specs.Words.{IsOperation, NamesFault, ReadsBlocks}
 use Rattle.script_laws.proofs.Tellings.{Telling, entries_told, means_of}
 use Rattle.script_laws.proofs.ToldEntries.{AreTold, IsTold}
-use Rattle.world_parts.proofs.Meanings.{Holds, entry_has, number_of}
+use Rattle.world_parts.proofs.Meanings.{Has, Holds, disk_has, entry_has, lane_of, wire_has}
 
 -- WHAT IS NAMED is declared
-lane_is : (disks : List DiskDecl) (lane : Lane) → lane_number lane < length disks → IsLane disks lane
-lane_is disks (Disk k) within = within
+abbrev Names : List DiskDecl → Lane → SettleEntry → Type 0
+Names disks lane m = IsTold (length disks) m → IsLane disks lane
 
-who_is : (disks : List DiskDecl) (who : Who) → number_of who < length disks → IsDeclared disks who
-who_is disks (OfWhole lane) within = lane_is disks lane within
-who_is disks (OfEnd e) within = lane_is disks e.lane within
+disk_named : (disks : List DiskDecl) (lane : Lane) (event : DiskEvent) → Has (Names disks lane) (disk_event lane event)
+disk_named disks (Disk k) event = λ told. told.0
+
+wire_named : (disks : List DiskDecl) (lane : Lane) (event : WireEvent) → Has (Names disks lane) (wire_event lane event)
+wire_named disks (Disk k) event = λ told. told.0
+
+abbrev Declares : List DiskDecl → Who → SettleEntry → Type 0
+Declares disks who m = IsTold (length disks) m → IsDeclared disks who
+
+who_named : (disks : List DiskDecl) (who : Who) (event : DiskEvent)
+    → Has (Declares disks who) (disk_event (lane_of who) event)
+who_named disks (OfWhole lane) event = disk_named disks lane event
+who_named disks (OfEnd e) event = disk_named disks e.lane event
+
+whole_named : (disks : List DiskDecl) (who : Who) (event : DiskEvent) → Has (Declares disks who) (who_event who event)
+whole_named disks (OfWhole lane) event = disk_named disks lane event
+whole_named disks (OfEnd e) event = tt
+
+left_named : (disks : List DiskDecl) (who : Who) → Has (Declares disks who) (unsettled_event who)
+left_named disks (OfWhole (Disk k)) = λ told. told
+left_named disks (OfEnd e) = tt
 
 named : (disks : List DiskDecl) (x : Meaning) → Holds (λ (m : SettleEntry). IsTold (length disks) m → IsNamed disks x) x
-named disks (AtWire e event) = λ told. lane_is disks e.lane told.0
-named disks (AtClient e event) = λ told. lane_is disks e.lane told.0
-named disks (AtServer e event) = λ told. lane_is disks e.lane told.0
+named disks (AtWire e event) = wire_named disks e.lane event
+named disks (AtClient e event) = disk_named disks e.lane event
+named disks (AtServer e event) = disk_named disks e.lane event
 named disks (AtLane k event) = λ told. told.0
-named disks (NoRoomFor (OfWhole (Disk k))) = λ request told. told.0
-named disks (NoRoomFor (OfEnd e)) = tt
-named disks (Refuses (OfWhole (Disk k)) why) = λ request told. told.0
-named disks (Refuses (OfEnd e) why) = tt
-named disks (ChangesNothing who) = (λ calm told. who_is disks who told.0, λ d told. who_is disks who told.0)
-named disks (LeavesOver (OfWhole (Disk k))) = λ told. told
-named disks (LeavesOver (OfEnd e)) = tt
+named disks (NoRoomFor who) = λ request. whole_named disks who (Asks (Full request))
+named disks (Refuses who why) = λ request. whole_named disks who (Asks (Refused (defect_of why) request))
+named disks (ChangesNothing who) = (λ calm. who_named disks who (Calms calm), λ d. who_named disks who (OnWire (Declines d)))
+named disks (LeavesOver who) = left_named disks who
 named disks LeavesNothing = λ told. tt
 
 -- VALUES that have words
@@ -65,10 +83,12 @@ values many asked (entry.Done k id operation status bytes) m is told =
     (entry.Done k id operation status bytes) m (λ at. completion operation status bytes.items at.1) is told
 values many asked (entry.Stored e operation block count failed) m is told =
     entry_has (λ (x : SettleEntry). IsTold many x → HasValues (entry.Stored e operation block count failed)) asked
-    (entry.Stored e operation block count failed) m (λ at. record { least = at.1.0; most = at.1.1 }) is told
+    (entry.Stored e operation block count failed) m
+    (disk_has (λ (x : SettleEntry). IsTold many x → HasValues (entry.Stored e operation block count failed)) e.lane
+    (Works (Stored operation block count failed)) (λ k at. record { least = at.1.0; most = at.1.1 })) is told
 values many asked (entry.Reset e cause packet lost) m is told =
     entry_has (λ (x : SettleEntry). IsTold many x → HasFault cause) asked (entry.Reset e cause packet lost) m
-    (λ at. copy_fault cause at.1.0) is told
+    (wire_has (λ (x : SettleEntry). IsTold many x → HasFault cause) e.lane (Reset (end_of e.side) cause packet lost) (λ k at. copy_fault cause at.1.0)) is told
 values many asked e m is told = tt
 
 -- EACH ENTRY

@@ -1,4 +1,5 @@
--- A condition on each entry of a part. Where each step of an end, each tick, what may come of a script's requests and calls, the names of lanes that are left over, and a settle's answer have it, each entry of a line's part has it.
+-- A condition on each entry of a part. Each entry of a line's part has it where each step of an end and each tick has it, and what may come of requests and calls.
+-- In a settle the names of lanes that are left over must have it too, and its answer.
 use Rattle.std.proofs.Common.{◌≡◌, ℕ, ◌+◌, ◌<◌, ◌≤◌, inl, inr, Bool, true, false, List, [], ◌∷◌, ◌++◌, length, replicate, refl, sym, ◌∙◌, subst, arith}
 use Rattle.std.specs.Prelude.{◌&&◌, if◌then◌else◌, ⊤}
 use Rattle.ldc_queue.specs.declared.end.End.{End}

@@ -9,6 +9,7 @@ use Rattle.world_laws.specs.Settle.{SettleEntry, OfLane}
 use Rattle.world_laws.specs.Lines.{Asked, Call, Calls, Line, Loses, Resets, Restarts, Starts, Stops, Ticks}
 use Rattle.world_laws.specs.Settle as settle
 use Rattle.domain_script.specs.declared.event.EndName.{EndName}
+use Rattle.domain_script.specs.declared.event.Lane.{Lane}
 use Rattle.domain_script.specs.declared.event.Lane.TheVariants.{Disk}
 use Rattle.domain_script.specs.declared.event.Side.{Side}
 use Rattle.domain_script.specs.declared.event.Side.TheVariants.{Client, Server}
@@ -17,37 +18,45 @@ use Rattle.ldom_entries.specs.declared.entry.Who.{Who}
 use Rattle.ldom_entries.specs.declared.entry.Who.TheVariants.{Lane as OfWhole, End as OfEnd}
 use Rattle.ldom_entries.specs.declared.entry.Why.{Why}
 use Rattle.ldom_report.specs.DiskEvents.{defect_of}
-use Rattle.ldom_report.specs.LaneEvents.{AtClient, AtLane, AtServer, AtWire, ChangesNothing, LeavesNothing, LeavesOver, Meaning, NoRoomFor, Refuses, end_of, lane_number, meaning}
+use Rattle.ldom_report.specs.LaneEvents.{AtClient, AtLane, AtServer, AtWire, ChangesNothing, LeavesNothing, LeavesOver, Meaning, NoRoomFor, Refuses, end_of, meaning}
 
--- whether an end is this one of this lane
+-- whether an end is this one of the disk with this number
 abbrev pub is_same : End → End → Bool
 is_same A A = true
 is_same B B = true
 is_same _ _ = false
 
+abbrev pub is_disk : ℕ → Lane → Bool
+is_disk j (Disk k) = j == k
+
 abbrev pub is_end : ℕ → End → EndName → Bool
-is_end j e name = (j == lane_number name.lane) && is_same e (end_of name.side)
+is_end j e name = is_disk j name.lane && is_same e (end_of name.side)
 
 -- an event where this holds, and else none
 abbrev pub if_so : Bool → SettleEntry → Option SettleEntry
 if_so true x = Some x
 if_so false x = None
 
--- an event of an end's lane
-abbrev pub of_lane : EndName → DiskEvent → Option SettleEntry
-of_lane e event = Some (OfLane (lane_number e.lane) event)
+-- AN EVENT OF A LANE, by its kind: one of a disk's, and one on its channel
+abbrev pub disk_event : Lane → DiskEvent → Option SettleEntry
+disk_event (Disk k) event = Some (OfLane k event)
 
-abbrev pub on_wire : EndName → WireEvent → Option SettleEntry
-on_wire e event = of_lane e (OnWire event)
+abbrev pub wire_event : Lane → WireEvent → Option SettleEntry
+wire_event (Disk k) event = Some (OfLane k (OnWire event))
+
+-- one of a whole lane: where an end is named in its place there is none
+abbrev pub who_event : Who → DiskEvent → Option SettleEntry
+who_event (OfWhole lane) event = disk_event lane event
+who_event (OfEnd e) event = None
 
 -- the work of a client, and that of a server: of the other end there is none
-abbrev pub of_client : Side → EndName → DiskEvent → Option SettleEntry
-of_client Client e event = of_lane e event
-of_client Server e event = None
+abbrev pub of_client : Side → Lane → DiskEvent → Option SettleEntry
+of_client Client lane event = disk_event lane event
+of_client Server lane event = None
 
-abbrev pub of_server : Side → EndName → DiskEvent → Option SettleEntry
-of_server Server e event = of_lane e event
-of_server Client e event = None
+abbrev pub of_server : Side → Lane → DiskEvent → Option SettleEntry
+of_server Server lane event = disk_event lane event
+of_server Client lane event = None
 
 -- a request that found no room, or was refused, on the disk that the line names
 abbrev pub full_event : Line → Who → Option SettleEntry
@@ -78,9 +87,9 @@ unsettled_event (OfEnd e) = None
 
 -- what is meant for the lanes, where it came in the part of this line; none where it doesn't belong to it, or to its end
 abbrev pub meant : Line → Meaning → Option SettleEntry
-meant asked (AtWire e event) = on_wire e event
-meant asked (AtClient e event) = of_client e.side e event
-meant asked (AtServer e event) = of_server e.side e event
+meant asked (AtWire e event) = wire_event e.lane event
+meant asked (AtClient e event) = of_client e.side e.lane event
+meant asked (AtServer e event) = of_server e.side e.lane event
 meant asked (AtLane k event) = Some (OfLane k event)
 meant asked (NoRoomFor who) = full_event asked who
 meant asked (Refuses who why) = refused_event asked who why

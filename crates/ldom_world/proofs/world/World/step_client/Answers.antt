@@ -13,7 +13,7 @@ pub returns-clause-steps : goal.returns-clause-steps
 returns-clause-steps g c =
     let image : ImageState =
     as_image g.D.Store.content g.D.Store.faults g.D.Store.calls g.D.Store.flushes c.self.inside.image in
-    let lanes = c.self.inside.lanes.items in
+    let lanes = c.self.inside.disks.items in
     let w : WorldState = c.args.self.now in
     let old = c.args.journal.now in
     let new = c.client_step.new.journal in

@@ -14,7 +14,7 @@ returns g c =
     as_image g.D.Store.content g.D.Store.faults g.D.Store.calls g.D.Store.flushes c.self.inside.image in
     let behind : ImageState =
     as_image g.D.Store.content g.D.Store.faults g.D.Store.calls g.D.Store.flushes c.server_step.new.image in
-    let lanes = c.self.inside.lanes.items in
+    let lanes = c.self.inside.disks.items in
     let w : WorldState = c.args.self.now in
     let old = c.args.journal.now in
     let new = c.server_step.new.journal in
