@@ -3,6 +3,7 @@ pub mod Feeds
 pub mod ScriptLemmas
 pub mod WordLemmas
 pub mod NumberLemmas
+pub mod DecimalDigits
 pub mod HexWords
 pub mod SameName
 pub mod Naming

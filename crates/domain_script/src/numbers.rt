@@ -1,4 +1,4 @@
-ghost use Rattle.std.specs.Prelude.{◌≡◌, ℕ, IfNone, IfSome};
+ghost use Rattle.std.specs.Prelude.{◌≡◌, ℕ, ◌+◌, ◌≤◌, ◌∷◌, IfNone, IfSome};
 ghost use Rattle.domain_script.specs.Words.{is_number, is_within, IsWithin, SpellsNumber};
 
 use crate::fields::Bounds;
@@ -30,6 +30,43 @@ pub const TURNS: Bounds = Bounds::Between {
 
 /// The number that a word spells: it is that number's own decimal text.
 pub fn number(word: &[u8]) -> Option<u64>
+    ensures some { IfSome result (SpellsNumber word.now) }
+    ensures none { IfNone result ((n : ℕ) → SpellsNumber word.now n → ⊥) }
+{
+    match plain_number(word) {
+        Some(n) => Some(n),
+        None => parsed_number(word),
+    }
+}
+
+/// The number that a word spells, read digit by digit; none for any other word. For 0 there may be none as well.
+fn plain_number(word: &[u8]) -> Option<u64>
+    ensures { IfSome result (SpellsNumber word.now) }
+{
+    let (first, rest) = word.split_first()?;
+    if *first <= b'0' || *first > b'9' {
+        return None;
+    }
+    more_digits(*first - b'0', rest)
+}
+
+/// The number of a first digit that isn't 0, and of the digits after it.
+fn more_digits(first: u8, rest: &[u8]) -> Option<u64>
+    requires { 1 ≤ first × first ≤ 9 }
+    ensures { IfSome result (SpellsNumber ((48 + first) ∷ rest.now)) }
+{
+    let mut n = u64::from(first);
+    for byte in rest {
+        if !byte.is_ascii_digit() {
+            return None;
+        }
+        n = n.checked_mul(10)?.checked_add(u64::from(*byte - b'0'))?;
+    }
+    Some(n)
+}
+
+/// The number that any word spells, by the digits that are its own.
+fn parsed_number(word: &[u8]) -> Option<u64>
     ensures some { IfSome result (SpellsNumber word.now) }
     ensures none { IfNone result ((n : ℕ) → SpellsNumber word.now n → ⊥) }
 {

@@ -1,10 +1,10 @@
 -- The word that a block repeats.
-use Rattle.std.proofs.Common.{◌≡◌, ℕ, zero, suc, ◌+◌, ◌-◌, ◌/◌, ◌%◌, ◌<◌, ◌≤◌, Bool, true, false, cond, Option, Some, find, unwrap_or, List, [], ◌∷◌, ◌++◌, append_assoc, append-nil, length, get_or, take, drop, refl, sym, ap, ◌∙◌, arith, inl, inr, Decides}
+use Rattle.std.proofs.Common.{◌≡◌, ℕ, zero, suc, ◌+◌, ◌-◌, ◌/◌, ◌%◌, ◌<◌, ◌≤◌, Bool, true, false, cond, Option, Some, find, unwrap_or, List, [], ◌∷◌, ◌++◌, append_assoc, append-nil, length, get_or, take, drop, replicate, refl, sym, ap, subst, ◌∙◌, arith, inl, inr, Decides}
 use Rattle.std.proofs.Math.Nat.{mod-eq_of_lt, mod-eq-sub-mod}
 use Rattle.std.proofs.Math.Seq.{take-take}
 use Rattle.std.proofs.lemmas.Bool.{cases_lt}
 use Rattle.std.proofs.lemmas.Bool.Decides.{same_from_decides}
-use Rattle.std.proofs.lemmas.List.{get_or-drop, get_or-take, get_or-map, length-map, length-drop, length-take, drop_all, ext_get_or, get_or_append_left, at_drop_more}
+use Rattle.std.proofs.lemmas.List.{get_or-drop, get_or-take, get_or-map, get_or-replicate, length-map, length-replicate, length-drop, length-take, drop_all, ext_get_or, get_or_append_left, at_drop_more}
 use Rattle.std.proofs.lemmas.List.FromFn.{length-range_with_len, get_or-range_with_len}
 use Rattle.std.proofs.lemmas.Slice.Eq.{bytes_eq-Decides}
 use Rattle.std.specs.List.{range_with_len}
@@ -71,6 +71,26 @@ repeats_is xs n r some decides =
     let test : Decides (repeats xs n) (xs ≡ repetition xs n) = bytes_eq-Decides xs (repetition xs n) in
     same_from_decides r (repeats xs n) decides
     (λ e. shift_from_repeats xs n (test.0 e), λ is. test.1 (repeats_from_shift xs n some is))
+
+-- the first byte, as often as there are bytes
+repetition_one : (xs : List ℕ) → repetition xs 1 ≡ replicate (length xs) (get_or xs 0 0)
+repetition_one xs =
+    let long : length (repetition xs 1) ≡ length xs = length-repetition xs 1 in
+    let same : length (replicate (length xs) (get_or xs 0 0)) ≡ length xs = length-replicate (length xs) (get_or xs 0 0) in
+    ext_get_or 0 (repetition xs 1) (replicate (length xs) (get_or xs 0 0)) (long ∙ sym same)
+    (λ k lt.
+    let within : k < length xs = subst (λ (m : ℕ). k < m) long lt in
+    repetition_at xs 1 k within
+    ∙ ap (λ (i : ℕ). get_or xs i 0) (omega arith)
+    ∙ sym (get_or-replicate (length xs) k (get_or xs 0 0) 0 within))
+
+-- a block repeats its first byte where each byte is it
+pub repeats_one : (xs : List ℕ) (r : Bool) → Decides r (xs ≡ replicate (length xs) (get_or xs 0 0)) → r ≡ repeats xs 1
+unfolding repeats
+repeats_one xs r decides =
+    let test : Decides (repeats xs 1) (xs ≡ repetition xs 1) = bytes_eq-Decides xs (repetition xs 1) in
+    same_from_decides r (repeats xs 1) decides
+    (λ e. test.0 e ∙ repetition_one xs, λ is. test.1 (is ∙ sym (repetition_one xs)))
 
 -- a block that begins differently where it is moved by n places doesn't repeat its first n bytes
 pub never_repeats : (xs : List ℕ) (n few : ℕ) (r : Bool) → few ≤ length xs - n → (take few (drop n xs) ≡ take few xs → r ≡ true) → r ≡ false → repeats xs n ≡ false

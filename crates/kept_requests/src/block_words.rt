@@ -1,4 +1,4 @@
-ghost use Rattle.std.specs.Prelude.{◌≡◌, ◌≤◌, ◌<◌, ◌↔◌, length, true, false};
+ghost use Rattle.std.specs.Prelude.{◌≡◌, ◌≤◌, ◌<◌, ◌↔◌, length, replicate, true, false};
 ghost use Rattle.kept_requests.specs.BlockWord.{repeats, word_length};
 
 /// The lengths of words that are shorter than a block.
@@ -10,7 +10,28 @@ fn is_repeated(block: &[u8; 512], n: usize) -> bool
     requires within { n ≤ 512 }
     ensures { result ≡ repeats block.now n }
 {
+    if n == 1 {
+        return is_one_byte(block);
+    }
     begins_again(block, n) && are_same(&block[n..], &block[..512 - n])
+}
+
+/// Whether all bytes of a block are one: of the blocks that are read back most are so.
+fn is_one_byte(block: &[u8; 512]) -> bool
+    ensures { result ≡ repeats block.now 1 }
+{
+    begins_again(block, 1) && are_all(block, block[0])
+}
+
+/// Whether each byte is this one. Each is looked at, as in `are_same`.
+fn are_all(bytes: &[u8], first: u8) -> bool
+    ensures { (result ≡ true) ↔ (bytes.now ≡ replicate (length bytes.now) first) }
+{
+    let mut all = true;
+    for byte in bytes {
+        all &= *byte == first;
+    }
+    all
 }
 
 /// How many bytes are compared first: runs of bytes that differ mostly do near their front.

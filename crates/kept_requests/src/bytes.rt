@@ -1,23 +1,30 @@
-ghost use Rattle.std.specs.Prelude.{◌≡◌, ◌↔◌, ◌+◌, ◌-◌, ◌*◌, ◌%◌, ◌<◌, ◌≤◌, [], ◌∷◌, ◌++◌, length, take, IsTrue, vec_capacity, IfOk, OnOk};
+ghost use Rattle.std.specs.Prelude.{◌≡◌, ◌↔◌, ◌+◌, ◌-◌, ◌*◌, ◌%◌, ◌<◌, ◌≤◌, [], ◌∷◌, ◌++◌, length, take, IsTrue, IfOk, OnOk};
 ghost use Rattle.std.specs.List.{sum};
 ghost use Rattle.kept_requests.specs.Bytes.{filled};
 ghost use Rattle.kept_requests.specs.Packed.{AreKept, block_of, unpacked};
 
 use crate::block_words::shortest_word;
+use smallvec::SmallVec;
 use std::alloc::Global;
 use std::marker::Model;
 use std::mem;
 use vio_bytes::NoMemory;
+
+/// The lengths of words. Those of a few blocks take no memory.
+type Lengths = SmallVec<u16, 8>;
+
+/// Words and bytes after them. A few take no memory.
+type Kept = SmallVec<u8, 16>;
 
 /// The bytes of an entry, as those that a read gave, and the room that is left for more of them. As long as they come
 /// in whole blocks of 512 bytes, a block is kept as the shortest word that it repeats.
 #[derive(Debug, Drop)]
 pub struct Bytes {
     /// How long the word of each block is.
-    lengths: Vec<u16>,
+    lengths: Lengths,
 
     /// The words of the blocks, one after the other, and the bytes after the blocks.
-    kept: Vec<u8>,
+    kept: Kept,
 
     /// How many bytes are after the blocks.
     plain: usize,
@@ -25,7 +32,7 @@ pub struct Bytes {
 }
 
 impl Model for Bytes {
-    ghost use Rattle.std.specs.Prelude.{◌≡◌, ◌+◌, ◌*◌, ◌^◌, ◌<◌, ◌≤◌, length, vec_capacity};
+    ghost use Rattle.std.specs.Prelude.{◌≡◌, ◌+◌, ◌*◌, ◌^◌, ◌<◌, ◌≤◌, length};
     ghost use Rattle.std.specs.List.{sum};
     ghost use Rattle.kept_requests.specs.Bytes.{BytesState};
     ghost use Rattle.kept_requests.specs.Packed.{AreKept, unpacked};
@@ -38,8 +45,8 @@ impl Model for Bytes {
       kept : AreKept b.lengths.items b.kept.items;
       plain : sum b.lengths.items + b.plain ≡ length b.kept.items;
       small : 512 * length b.lengths.items + b.plain + b.room < 2 ^ 64;
-      room : length b.kept.items + b.room ≤ vec_capacity b.kept;
-      length_room : 512 * length b.lengths.items + b.room ≤ 512 * vec_capacity b.lengths + 511;
+      room : length b.kept.items + b.room ≤ b.kept.capacity;
+      length_room : 512 * length b.lengths.items + b.room ≤ 512 * b.lengths.capacity + 511;
     } };
 }
 
@@ -49,8 +56,8 @@ impl Bytes {
         ensures { result ≡ filled [] }
     {
         Bytes {
-            lengths: Vec::new(alloc),
-            kept: Vec::new(alloc),
+            lengths: Lengths::new(alloc),
+            kept: Kept::new(alloc),
             plain: 0,
             room: 0,
         }
@@ -70,8 +77,8 @@ impl Bytes {
         ensures { IfOk result (λ b. b ≡ record { items = []; room = n }) }
     {
         Ok(Bytes {
-            lengths: Vec::with_capacity(alloc, n / BLOCK)?,
-            kept: Vec::with_capacity(alloc, n)?,
+            lengths: Lengths::with_capacity(alloc, n / BLOCK)?,
+            kept: Kept::with_capacity(alloc, n)?,
             plain: 0,
             room: n,
         })
@@ -112,8 +119,8 @@ impl Bytes {
         ensures { IfOk result (λ b. b ≡ filled self.now.items) }
     {
         Ok(Bytes {
-            lengths: Vec::from_slice(alloc, self.lengths.as_slice())?,
-            kept: Vec::from_slice(alloc, self.kept.as_slice())?,
+            lengths: Lengths::from_slice(alloc, self.lengths.as_slice())?,
+            kept: Kept::from_slice(alloc, self.kept.as_slice())?,
             plain: self.plain,
             room: 0,
         })
@@ -194,22 +201,22 @@ fn push_block(all: &mut Vec<u8>, bytes: &[u8], n: usize) -> Result<(), NoMemory>
 /// Keeps the blocks at the front of these bytes, unless there are bytes after the blocks that were kept before; so many
 /// are `plain`. Answers the bytes that are still to be kept.
 fn keep_blocks<'a>(
-    lengths: &mut Vec<u16>,
-    kept: &mut Vec<u8>,
+    lengths: &mut Lengths,
+    kept: &mut Kept,
     plain: usize,
     bytes: &'a [u8],
 ) -> &'a [u8]
     requires kept { AreKept lengths.old.items kept.old.items }
     requires plain { sum lengths.old.items + plain ≡ length kept.old.items }
-    requires room { length kept.old.items + length bytes.now ≤ vec_capacity kept.old }
-    requires length_room { 512 * length lengths.old.items + length bytes.now ≤ 512 * vec_capacity lengths.old + 511 }
+    requires room { length kept.old.items + length bytes.now ≤ kept.old.capacity }
+    requires length_room { 512 * length lengths.old.items + length bytes.now ≤ 512 * lengths.old.capacity + 511 }
     ensures kept { AreKept lengths.new.items kept.new.items }
     ensures plain { sum lengths.new.items + plain ≡ length kept.new.items }
     ensures items { unpacked lengths.new.items kept.new.items ++ result.now ≡ unpacked lengths.old.items kept.old.items ++ bytes.now }
     ensures count { 512 * length lengths.new.items + length result.now ≡ 512 * length lengths.old.items + length bytes.now }
     ensures long { length kept.new.items + length result.now ≤ length kept.old.items + length bytes.now }
-    ensures room { vec_capacity kept.old ≤ vec_capacity kept.new }
-    ensures length_room { vec_capacity lengths.old ≤ vec_capacity lengths.new }
+    ensures room { kept.old.capacity ≤ kept.new.capacity }
+    ensures length_room { lengths.old.capacity ≤ lengths.new.capacity }
 {
     if plain > 0 {
         return bytes;
@@ -223,23 +230,35 @@ fn keep_blocks<'a>(
 }
 
 /// Keeps a block after the others.
-fn keep_block(lengths: &mut Vec<u16>, kept: &mut Vec<u8>, block: &[u8; 512])
+fn keep_block(lengths: &mut Lengths, kept: &mut Kept, block: &[u8; 512])
     requires kept { AreKept lengths.old.items kept.old.items }
     requires plain { sum lengths.old.items ≡ length kept.old.items }
-    requires room { length kept.old.items + 512 ≤ vec_capacity kept.old }
-    requires length_room { length lengths.old.items < vec_capacity lengths.old }
+    requires room { length kept.old.items + 512 ≤ kept.old.capacity }
+    requires length_room { length lengths.old.items < lengths.old.capacity }
     ensures kept { AreKept lengths.new.items kept.new.items }
     ensures plain { sum lengths.new.items ≡ length kept.new.items }
     ensures items { unpacked lengths.new.items kept.new.items ≡ unpacked lengths.old.items kept.old.items ++ block.now }
     ensures count { length lengths.new.items ≡ length lengths.old.items + 1 }
     ensures long { length kept.new.items ≤ length kept.old.items + 512 }
-    ensures room { vec_capacity kept.old ≤ vec_capacity kept.new }
-    ensures length_room { vec_capacity lengths.old ≤ vec_capacity lengths.new }
+    ensures room { kept.old.capacity ≤ kept.new.capacity }
+    ensures length_room { lengths.old.capacity ≤ lengths.new.capacity }
 {
     let n = shortest_word(block);
-    match lengths.push(n as u16) {
-        Ok(()) => {}
-        Err(_) => unreachable!(),
+    lengths.push_reserved(n as u16);
+    keep_word(kept, block, n);
+}
+
+/// Keeps the first n bytes of a block after the others. Most words are one byte.
+fn keep_word(kept: &mut Kept, block: &[u8; 512], n: usize)
+    requires some { 0 < n }
+    requires within { n ≤ 512 }
+    requires room { length kept.old.items + n ≤ kept.old.capacity }
+    ensures items { kept.new.items ≡ kept.old.items ++ take n block.now }
+    ensures room { kept.old.capacity ≤ kept.new.capacity }
+{
+    if n == 1 {
+        kept.push_reserved(block[0]);
+        return;
     }
     match kept.extend_from_slice(&block[..n]) {
         Ok(()) => {}

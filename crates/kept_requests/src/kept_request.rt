@@ -1,12 +1,13 @@
 ghost use Rattle.std.specs.Prelude.{◌≡◌, ◌-◌, ◌≤◌, ◌↔◌, ◌++◌, length, take, drop, replicate, IfOk, IsTrue};
 
+use smallvec::SmallVec;
 use std::alloc::Global;
 use std::marker::Model;
 use vdisk_msg::{Fill, Request};
 use vio_bytes::NoMemory;
 
-/// A request that an entry keeps. It takes no memory but for the word of a write, which stands out of line and without
-/// the zeros after it.
+/// A request that an entry keeps. It takes no memory but for the word of a write of more than 16 bytes, which stands out
+/// of line and without the zeros after it.
 #[derive(Debug, Drop)]
 pub struct KeptRequest {
     inner: Kept,
@@ -23,7 +24,7 @@ enum Kept {
         block: u64,
         count: u64,
         len: u16,
-        front: Vec<u8>,
+        front: SmallVec<u8, 16>,
     },
     Flush,
 }
@@ -53,7 +54,7 @@ impl KeptRequest {
                 block: *block,
                 count: *count,
                 len: fill.len,
-                front: Vec::from_slice(alloc, front(fill))?,
+                front: SmallVec::from_slice(alloc, front(fill))?,
             },
             Request::Flush => Kept::Flush,
         };
@@ -101,15 +102,15 @@ fn front(fill: &Fill) -> &[u8]
     }
 }
 
-/// Whether bytes are zeros. Each is looked at, also after one that isn't, so that many can be at once.
+/// Whether bytes are zeros: the greatest is. Each is looked at, also after one that isn't, so that many can be at once.
 fn are_zeros(bytes: &[u8]) -> bool
     ensures { IsTrue result ↔ (bytes.now ≡ replicate (length bytes.now) 0) }
 {
-    let mut all = true;
+    let mut most = 0;
     for byte in bytes {
-        all &= *byte == 0;
+        most = (*byte).max(most);
     }
-    all
+    most == 0
 }
 
 /// The bytes of a word by their front.

@@ -1,6 +1,5 @@
 use Rattle.std.proofs.Common.{◌≡◌, ◌+◌, ◌*◌, ◌≤◌, ◌++◌, length}
 use Rattle.std.specs.List.{sum}
-use Rattle.std.specs.Prelude.{vec_capacity}
 use Rattle.kept_requests.specs.Packed.{AreKept, unpacked}
 use Rattle.kept_requests.proofs.bytes.keep_blocks.Given as goal
 
@@ -11,8 +10,8 @@ invariant-loop-block l = record {
   items : unpacked l.lengths.items l.kept.items ++ l.rest ≡ unpacked l.initial.lengths.items l.initial.kept.items ++ l.bytes;
   count : 512 * length l.lengths.items + length l.rest ≡ 512 * length l.initial.lengths.items + length l.bytes;
   long : length l.kept.items + length l.rest ≤ length l.initial.kept.items + length l.bytes;
-  room : vec_capacity l.initial.kept ≤ vec_capacity l.kept;
-  length_room : vec_capacity l.initial.lengths ≤ vec_capacity l.lengths;
+  room : l.initial.kept.capacity ≤ l.kept.capacity;
+  length_room : l.initial.lengths.capacity ≤ l.lengths.capacity;
 }
 
 abbrev pub decreases-loop-block : goal.decreases-loop-block

@@ -13,7 +13,7 @@ invariant_of-self c =
     let kept : List ℕ = c.keep_blocks-rest.new.kept.items in
     let rest : List ℕ = c.keep_blocks-rest.result.now in
     let room : c.self.inside.room ≡ c.args.self.now.room = ap (λ (s : BytesState). s.room) c.self.view_is in
-    let all : c.extend_from_slice.new.self.items ≡ kept ++ rest = c.in-Ok.ensures.items in
+    let all : c.extend_from_slice.new.self.items ≡ kept ++ rest = c.in-Ok.ensures.ok in
     let long : length c.extend_from_slice.new.self.items ≡ length kept + length rest = ap length all ∙ length-append kept rest in
     record {
       kept = subst (AreKept lengths) (sym all) (kept_behind lengths kept rest e.kept);
@@ -29,7 +29,7 @@ returns-clause-items c =
     let lengths : List ℕ = c.keep_blocks-rest.new.lengths.items in
     let kept : List ℕ = c.keep_blocks-rest.new.kept.items in
     let rest : List ℕ = c.keep_blocks-rest.result.now in
-    ap (unpacked lengths) c.in-Ok.ensures.items
+    ap (unpacked lengths) c.in-Ok.ensures.ok
     ∙ unpacked_behind lengths kept rest e.kept
     ∙ e.items
     ∙ ap (λ (s : BytesState). s.items ++ c.args.bytes.now) c.self.view_is

@@ -1,6 +1,6 @@
 use Rattle.std.proofs.Common.{◌∙◌}
 use Rattle.domain_script.proofs.NumberLemmas.{no_text, text_is, no_number, other_text}
-use Rattle.domain_script.proofs.numbers.number.Goals as goal
+use Rattle.domain_script.proofs.numbers.parsed_number.Goals as goal
 
 pub returns-in_err-ok-clause-none : goal.returns-in_err-ok-clause-none
 returns-in_err-ok-clause-none c = rw c.from_residual.ensures (no_text c.args.word.now c.from_utf8.result c.from_utf8.ensures.cases c.in_err-ok.ensures.value)
