@@ -4,7 +4,7 @@ use Rattle.runs.specs.Run.{Run}
 use Rattle.ldc_queue.specs.declared.end.End.{End}
 use Rattle.ldc_queue.specs.declared.end.End.TheVariants.{A, B}
 use Rattle.vdisk_msg.specs.declared.request.Request.{Request}
-use Rattle.channel_model.specs.WireEvent.{Blocked, Declines, Idle, Injected, Joined, Lost, Poked, Reset, Sent, Took, WireEvent}
+use Rattle.channel_model.specs.WireEvent.{Declines, Injected, Lost, Poked, WireEvent}
 use Rattle.disk_law.specs.ListState.{ImageState}
 use Rattle.disk_model.specs.DiskEvent.{Asks, DiskEvent, Off, OnWire, Calms, Started, Stopped, Switches, Works}
 use Rattle.disk_model.specs.LaneState.{LaneState, Shape, fresh}
