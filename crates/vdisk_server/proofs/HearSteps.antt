@@ -33,11 +33,6 @@ pub hears_of : (r : ServerState) (whole : Option (List ℕ)) (decoded : Result M
 hears_of r None decoded take decodes is = absurd decodes
 hears_of r (Some bytes) decoded take decodes is = (decoded, decodes, is)
 
-pub decodes_of : (heard whole : Option (List ℕ)) (answer : Option (Result Message TagFault)) (decoded : Result Message TagFault)
-    → heard ≡ whole → answer ≡ Some decoded → DecodesWhole heard answer → DecodesWhole whole (Some decoded)
-decodes_of heard whole answer decoded same is decodes =
-    subst (λ (w : Option (List ℕ)). DecodesWhole w (Some decoded)) same (subst (λ (d : Option (Result Message TagFault)). DecodesWhole heard d) is decodes)
-
 pub can_of : (whole : Option (List ℕ)) (decoded : Result Message TagFault) (r : ServerState) → DecodesWhole whole (Some decoded) → CanHearWhole whole r → CanHear r
 can_of None decoded r decodes can = absurd decodes
 can_of (Some bytes) decoded r decodes can = can

@@ -25,33 +25,14 @@ both_ways : (b : Bool) → b ≡ true → b ≡ false → ⊥
 both_ways b yes_it_is no_it_is = cc
 
 -- THE LINK after a packet that it put
-put_phase : (p : LinkPhase) → AnswersLink p → AnswersLink (phase_behind_put p)
-put_phase link.OwesVersInfo answers = absurd answers
-put_phase link.AwaitsVersAck answers = absurd answers
-put_phase link.OwesRts answers = absurd answers
-put_phase link.AwaitsRtr answers = absurd answers
-put_phase link.OwesRdx answers = absurd answers
-put_phase link.AwaitsVersInfo answers = tt
-put_phase link.OwesVersAck answers = tt
-put_phase (link.OwesVersNack major) answers = tt
-put_phase link.AwaitsRts answers = tt
-put_phase link.OwesRtr answers = tt
-put_phase link.AwaitsRdx answers = tt
-put_phase link.Established answers = tt
-
-put_up : (p : LinkPhase) → AnswersLink p → is_established (phase_behind_put p) ≡ is_established p
-put_up link.OwesVersInfo answers = absurd answers
-put_up link.AwaitsVersAck answers = absurd answers
-put_up link.OwesRts answers = absurd answers
-put_up link.AwaitsRtr answers = absurd answers
-put_up link.OwesRdx answers = absurd answers
-put_up link.AwaitsVersInfo answers = refl
-put_up link.OwesVersAck answers = refl
-put_up (link.OwesVersNack major) answers = refl
-put_up link.AwaitsRts answers = refl
-put_up link.OwesRtr answers = refl
-put_up link.AwaitsRdx answers = refl
-put_up link.Established answers = refl
+put_link : (p : LinkPhase) → AnswersLink p → AnswersLink (phase_behind_put p) × (is_established (phase_behind_put p) ≡ is_established p)
+put_link link.OwesVersInfo answers = absurd answers
+put_link link.AwaitsVersAck answers = absurd answers
+put_link link.OwesRts answers = absurd answers
+put_link link.AwaitsRtr answers = absurd answers
+put_link link.OwesRdx answers = absurd answers
+put_link link.Established answers = (tt, refl)
+put_link p answers = (tt, refl)
 
 put_left : (p : LinkPhase) (left : List ℕ) → is_established p ≡ false → left_behind_put p left ≡ left
 put_left link.Established left down = absurd (cc)
@@ -75,14 +56,14 @@ put_by s kind = record s { link = behind_put s.link; handshake = handshake_behin
 put_goes : (s : ServerState) → Stands s → s.work ≡ None → Stands (put_by s Goes)
 put_goes s stands none = record {
   disk = stands.disk;
-  link = record { role = stands.link.role; phase = put_phase s.link.phase stands.link.phase; seen = stands.link.seen };
+  link = record { role = stands.link.role; phase = (put_link s.link.phase stands.link.phase).0; seen = stands.link.seen };
   handshake = stands.handshake;
   began = record {
     down = λ down.
-        let was : is_up s.link ≡ false = sym (put_up s.link.phase stands.link.phase) ∙ down in
+        let was : is_up s.link ≡ false = sym ((put_link s.link.phase stands.link.phase).1) ∙ down in
         let quiet : IsQuiet s = stands.began.down was in
         record { phase = quiet.phase; owed = quiet.owed; to_send = put_left s.link.phase s.link.to_send was ∙ quiet.to_send; session = quiet.session };
-    up = λ up. stands.began.up (sym (put_up s.link.phase stands.link.phase) ∙ up);
+    up = λ up. stands.began.up (sym ((put_link s.link.phase stands.link.phase).1) ∙ up);
   };
   session = stands.session;
   work = work_none (put_by s Goes) s.work none;
@@ -91,10 +72,10 @@ put_goes s stands none = record {
 put_own : (s : ServerState) → Stands s → s.work ≡ None → is_up s.link ≡ true → Stands (put_by s EndsOwn)
 put_own s stands none up = record {
   disk = stands.disk;
-  link = record { role = stands.link.role; phase = put_phase s.link.phase stands.link.phase; seen = stands.link.seen };
+  link = record { role = stands.link.role; phase = (put_link s.link.phase stands.link.phase).0; seen = stands.link.seen };
   handshake = stands.handshake;
   began = record {
-    down = λ down. absurd (both_ways (is_up s.link) up (sym (put_up s.link.phase stands.link.phase) ∙ down));
+    down = λ down. absurd (both_ways (is_up s.link) up (sym ((put_link s.link.phase stands.link.phase).1) ∙ down));
     up = λ _. stands.began.up up;
   };
   session = answered_open s.session s.handshake.phase stands.session;
@@ -104,10 +85,10 @@ put_own s stands none up = record {
 put_handshake : (s : ServerState) → Stands s → s.work ≡ None → is_up s.link ≡ true → Stands (put_by s EndsHandshake)
 put_handshake s stands none up = record {
   disk = stands.disk;
-  link = record { role = stands.link.role; phase = put_phase s.link.phase stands.link.phase; seen = stands.link.seen };
+  link = record { role = stands.link.role; phase = (put_link s.link.phase stands.link.phase).0; seen = stands.link.seen };
   handshake = handshake_sends s.blocks s.slots s.handshake stands.handshake;
   began = record {
-    down = λ down. absurd (both_ways (is_up s.link) up (sym (put_up s.link.phase stands.link.phase) ∙ down));
+    down = λ down. absurd (both_ways (is_up s.link) up (sym ((put_link s.link.phase stands.link.phase).1) ∙ down));
     up = λ _. (sent_keeps s.handshake stands.handshake.role stands.handshake.knows).began (stands.began.up up);
   };
   session = sent_opened s.session s.handshake stands.handshake.role stands.session;

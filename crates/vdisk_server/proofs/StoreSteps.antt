@@ -19,15 +19,7 @@ use Rattle.descriptor_work.specs.Pieces.{MovedFor, PieceIn, PieceOn, StoredFor, 
 -- STEPS that leave the store
 told_stays : (s : ServerState) (answer : ServerOut) (told : Option (List ℕ)) → LeavesStore answer → ToldAfter s answer [] told told
 told_stays s (out.Stored operation block count failed) told leaves = absurd leaves
-told_stays s out.Idle told leaves = refl
-told_stays s out.Blocked told leaves = refl
-told_stays s out.Joined told leaves = refl
-told_stays s (out.Took packet opens) told leaves = refl
-told_stays s (out.Sent packet opens) told leaves = refl
-told_stays s (out.Desc slot bytes) told leaves = refl
-told_stays s (out.Moved unit fault) told leaves = refl
-told_stays s (out.Finished slot status) told leaves = refl
-told_stays s (out.Reset cause packet) told leaves = refl
+told_stays s other told leaves = refl
 
 pub alone_serves : (s : ServerState) (c : ChannelView) (table : List (Option Entry)) (memory : List ℕ) (told : Option (List ℕ)) (answer : ServerOut) (t : ServerState)
     → StepsAlone s c answer t → Serves s c table memory told answer t memory told
@@ -43,27 +35,11 @@ in_serves s c table memory new told answer t steps = record { gave = []; step = 
 
 pub leaves_within : (answer : ServerOut) (blocks : ℕ) → LeavesStore answer → WithinDisk blocks answer
 leaves_within (out.Stored operation block count failed) blocks leaves = absurd leaves
-leaves_within out.Idle blocks leaves = tt
-leaves_within out.Blocked blocks leaves = tt
-leaves_within out.Joined blocks leaves = tt
-leaves_within (out.Took packet opens) blocks leaves = tt
-leaves_within (out.Sent packet opens) blocks leaves = tt
-leaves_within (out.Desc slot bytes) blocks leaves = tt
-leaves_within (out.Moved unit fault) blocks leaves = tt
-leaves_within (out.Finished slot status) blocks leaves = tt
-leaves_within (out.Reset cause packet) blocks leaves = tt
+leaves_within other blocks leaves = tt
 
 pub leaves_store : {D : Type 0} (g : Ghosts D) (answer : ServerOut) (store : D) → LeavesStore answer → StoreAfter g answer store store
 leaves_store g (out.Stored operation block count failed) store leaves = absurd leaves
-leaves_store g out.Idle store leaves = refl
-leaves_store g out.Blocked store leaves = refl
-leaves_store g out.Joined store leaves = refl
-leaves_store g (out.Took packet opens) store leaves = refl
-leaves_store g (out.Sent packet opens) store leaves = refl
-leaves_store g (out.Desc slot bytes) store leaves = refl
-leaves_store g (out.Moved unit fault) store leaves = refl
-leaves_store g (out.Finished slot status) store leaves = refl
-leaves_store g (out.Reset cause packet) store leaves = refl
+leaves_store g other store leaves = refl
 
 -- STEPS of a piece
 pub works_on : (kept : Option KeptWork) (work : KeptWork) (unit : List ℕ) → kept ≡ Some work → option_map (λ k. work_with k unit) kept ≡ Some (work_with work unit)

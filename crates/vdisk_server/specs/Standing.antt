@@ -1,5 +1,5 @@
 -- What always holds of a server by itself.
-use Rattle.std.specs.Prelude.{◌≡◌, ◌≢◌, ℕ, ◌≤◌, true, false, [], length, Option, Some, None, ⊤}
+use Rattle.std.specs.Prelude.{◌≡◌, ◌≢◌, ℕ, ◌<◌, ◌≤◌, true, false, [], length, Option, Some, None, ⊤}
 use Rattle.ldc_link.specs.declared.phase.LinkPhase.{LinkPhase}
 use Rattle.ldc_link.specs.declared.phase.LinkPhase.TheVariants as link
 use Rattle.ldc_link.specs.declared.phase.Role.TheVariants.{Responder}
@@ -62,6 +62,13 @@ pub record IsQuiet (s : ServerState) : Type 0 where
 pub record Began (s : ServerState) : Type 0 where
   pub down : is_up s.link ≡ false → IsQuiet s
   pub up : is_up s.link ≡ true → s.handshake.phase ≢ handshake.Down
+
+-- the client's ring is known, with as many slots and cookies as a ring may have
+pub record RingStands (h : Handshake) : Type 0 where
+  pub open_phase : h.phase ≡ handshake.Open
+  pub some_slots : 0 < h.draft.peer_slots
+  pub few_slots : h.draft.peer_slots ≤ 256
+  pub few_cookies : h.draft.peer_count ≤ 14
 
 -- a session is open only where the handshake's is
 abbrev pub IsOpen : Option ServerSession → Phase → Type 0

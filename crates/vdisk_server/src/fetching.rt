@@ -10,6 +10,7 @@ ghost use Rattle.descriptor_work.specs.Calling.{reach_over};
 ghost use Rattle.vdisk_server.specs.Answering.{SameDisk, StepsIn, channel_after, sees};
 ghost use Rattle.vdisk_server.specs.Pieces.{FetchedOr};
 ghost use Rattle.vdisk_server.specs.Rules.{one_fetched, work_begun};
+ghost use Rattle.vdisk_server.specs.Standing.{RingStands};
 
 use crate::end::ServerEnd;
 use crate::session::RingSession;
@@ -34,15 +35,11 @@ impl ServerEnd {
         memory: &mut Memory,
         out: &mut ServerOut,
     )
-        requires open { self.old.handshake.phase ≡ Open }
-        requires some { 0 < self.old.handshake.draft.peer_slots }
-        requires few { self.old.handshake.draft.peer_slots ≤ 256 }
-        requires cookies { self.old.handshake.draft.peer_count ≤ 14 }
-        requires session { self.old.session ≡ Some session }
+        requires ring { RingStands self.old.handshake }
         requires rule { server_rule self.old (sees channel.old) ≡ Fetches session }
+        requires session { self.old.session ≡ Some session }
         requires pages { PagesWithin table.now (length memory.old) }
-        ensures step { StepsIn self.old channel.old table.now memory.old out.new self.new
-            memory.new }
+        ensures step { StepsIn self.old channel.old table.now memory.old out.new self.new memory.new }
         ensures channel { channel.new ≡ channel_after out.new channel.old }
         ensures same_length { length memory.new ≡ length memory.old }
         ensures disk { SameDisk self.old self.new }
@@ -94,10 +91,8 @@ impl ServerEnd {
         table: &MapTable,
         memory: &mut Memory,
     ) -> Result<[u8; SLOT], Cause>
-        requires open { self.now.handshake.phase ≡ Open }
+        requires ring { RingStands self.now.handshake }
         requires slot { slot < self.now.handshake.draft.peer_slots }
-        requires few { self.now.handshake.draft.peer_slots ≤ 256 }
-        requires cookies { self.now.handshake.draft.peer_count ≤ 14 }
         requires pages { PagesWithin table.now (length memory.old) }
         ensures fetched { FetchedOr result self.now (reach_over channel.now table.now memory.old) slot memory.new }
         ensures same_length { length memory.new ≡ length memory.old }

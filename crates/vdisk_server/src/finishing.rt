@@ -2,13 +2,13 @@
 
 ghost use Rattle.std.specs.Prelude.{◌≡◌, ◌≤◌, ◌<◌, length, None, Some};
 ghost use Rattle.cookie_copy.specs.Faults.{PagesWithin};
-ghost use Rattle.vio_handshake.specs.declared.handshake.Phase.TheVariants.{Open};
 ghost use Rattle.vdisk_msg.specs.Requested.{status_word};
 ghost use Rattle.disk_model.specs.ServerRule.{server_rule, serves};
 ghost use Rattle.descriptor_work.specs.Calling.{reach_over};
 ghost use Rattle.vdisk_server.specs.Answering.{SameDisk, StepsIn, channel_after, sees};
 ghost use Rattle.vdisk_server.specs.Pieces.{EndedFor, IsEnding};
 ghost use Rattle.vdisk_server.specs.Rules.{one_finished, work_ended};
+ghost use Rattle.vdisk_server.specs.Standing.{RingStands};
 
 use crate::end::ServerEnd;
 use crate::fetching::{SLOT, copy_number};
@@ -35,16 +35,12 @@ impl ServerEnd {
         memory: &mut Memory,
         out: &mut ServerOut,
     )
-        requires open { self.old.handshake.phase ≡ Open }
-        requires some { 0 < self.old.handshake.draft.peer_slots }
-        requires few { self.old.handshake.draft.peer_slots ≤ 256 }
-        requires cookies { self.old.handshake.draft.peer_count ≤ 14 }
+        requires ring { RingStands self.old.handshake }
         requires session { self.old.session ≡ Some session }
         requires rule { server_rule self.old (sees channel.old) ≡ serves session self.old.work }
         requires ends { IsEnding self.old.work status }
         requires pages { PagesWithin table.now (length memory.old) }
-        ensures step { StepsIn self.old channel.old table.now memory.old out.new self.new
-            memory.new }
+        ensures step { StepsIn self.old channel.old table.now memory.old out.new self.new memory.new }
         ensures channel { channel.new ≡ channel_after out.new channel.old }
         ensures same_length { length memory.new ≡ length memory.old }
         ensures disk { SameDisk self.old self.new }
@@ -85,10 +81,8 @@ impl ServerEnd {
         table: &MapTable,
         memory: &mut Memory,
     ) -> Result<(), Cause>
-        requires open { self.now.handshake.phase ≡ Open }
+        requires ring { RingStands self.now.handshake }
         requires slot { slot < self.now.handshake.draft.peer_slots }
-        requires few { self.now.handshake.draft.peer_slots ≤ 256 }
-        requires cookies { self.now.handshake.draft.peer_count ≤ 14 }
         requires ends { IsEnding self.now.work status }
         requires pages { PagesWithin table.now (length memory.old) }
         ensures ended { EndedFor self.now.work result self.now (reach_over channel.now table.now memory.old) slot status memory.new }

@@ -20,19 +20,9 @@ impl Model for SlotRange {
 
     ghost Value = { Range };
 
-    ghost view = { λ r. record {
-      seq = r.seq;
-      start = r.start;
-      end = r.end;
-      state = r.state;
-    } };
+    ghost view = { λ r. record { seq = r.seq; start = r.start; end = r.end; state = r.state } };
 
-    ghost inverse = { λ r. record {
-      seq = r.seq;
-      start = r.start;
-      end = r.end;
-      state = r.state;
-    } };
+    ghost inverse = { λ r. record { seq = r.seq; start = r.start; end = r.end; state = r.state } };
 }
 
 /// Counts of descriptors, modulo 2^64. Number j stands in slot j modulo the ring.
@@ -55,23 +45,9 @@ impl Model for RingSession {
 
     ghost Value = { ServerSession };
 
-    ghost view = { λ s. record {
-      asked = s.asked;
-      descs = s.fetched;
-      finished = s.finished;
-      answered = s.answered;
-      seq = s.seq;
-      range = s.range;
-    } };
+    ghost view = { λ s. record { asked = s.asked; descs = s.fetched; finished = s.finished; answered = s.answered; seq = s.seq; range = s.range } };
 
-    ghost inverse = { λ s. record {
-      asked = s.asked;
-      fetched = s.descs;
-      finished = s.finished;
-      answered = s.answered;
-      seq = s.seq;
-      range = s.range;
-    } };
+    ghost inverse = { λ s. record { asked = s.asked; fetched = s.descs; finished = s.finished; answered = s.answered; seq = s.seq; range = s.range } };
 }
 
 impl RingSession {

@@ -4,7 +4,7 @@ use Rattle.runs.specs.Run.{Run}
 use Rattle.ldc_queue.specs.declared.end.End.{End}
 use Rattle.ldc_queue.specs.declared.end.End.TheVariants.{A, B}
 use Rattle.vdisk_msg.specs.declared.request.Request.{Request}
-use Rattle.channel_model.specs.WireEvent.{Blocked, Declines, Idle, Injected, Joined, Lost, Poked, Reset, Sent, Took, WireEvent}
+use Rattle.channel_model.specs.WireEvent.{Declines, Injected, Lost, Poked, WireEvent}
 use Rattle.disk_law.specs.ListState.{ImageState}
 use Rattle.disk_model.specs.DiskEvent.{Asks, DiskEvent, Off, OnWire, Calms, Started, Stopped, Switches, Works}
 use Rattle.disk_model.specs.LaneState.{LaneState, Shape, fresh}
@@ -23,16 +23,11 @@ use Rattle.world_laws.specs.Running.{AllLeaveRunning, IsRunning, LeavesRunning}
 
 -- STEPS of an end
 wire_honest : (e : End) (event : WireEvent) → IsStep e (OnWire event) → IsOnWireHonest event
-wire_honest e (Joined d lost) own = tt
-wire_honest e (Took d packet opens) own = tt
-wire_honest e (Sent d packet opens) own = tt
-wire_honest e (Idle d) own = tt
-wire_honest e (Blocked d) own = tt
-wire_honest e (Reset d cause packet lost) own = tt
 wire_honest e (Lost d packet) own = absurd own
 wire_honest e (Injected d packet) own = absurd own
 wire_honest e (Poked d at bytes) own = absurd own
 wire_honest e (Declines d) own = absurd own
+wire_honest e event own = tt
 
 step_honest : (e : End) (event : DiskEvent) → IsStep e event → IsHonest event
 step_honest e (OnWire event) own = wire_honest e event own
@@ -86,14 +81,7 @@ pokes_none Ticks e at bytes answers = answers
 call_wire_honest : (call : Call) (event : WireEvent) → AnswersCall call (OnWire event) → IsOnWireHonest event
 call_wire_honest call (Injected e packet) answers = absurd (injects_none call e packet answers)
 call_wire_honest call (Poked e at bytes) answers = absurd (pokes_none call e at bytes answers)
-call_wire_honest call (Joined e lost) answers = tt
-call_wire_honest call (Took e packet opens) answers = tt
-call_wire_honest call (Sent e packet opens) answers = tt
-call_wire_honest call (Idle e) answers = tt
-call_wire_honest call (Blocked e) answers = tt
-call_wire_honest call (Reset e cause packet lost) answers = tt
-call_wire_honest call (Lost e packet) answers = tt
-call_wire_honest call (Declines d) answers = tt
+call_wire_honest call event answers = tt
 
 call_honest : (call : Call) (event : DiskEvent) → AnswersCall call event → IsHonest event
 call_honest call (OnWire event) answers = call_wire_honest call event answers

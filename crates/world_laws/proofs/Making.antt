@@ -2,7 +2,7 @@
 use Rattle.std.proofs.Common.{◌≡◌, ℕ, Bool, List, [], ◌∷◌, slice_get, slice_set, Some, refl, sym, ap, ap₂, ◌∙◌, subst}
 use Rattle.runs.specs.Run.{Run}
 use Rattle.disk_law.specs.ListState.{ImageState}
-use Rattle.disk_model.specs.DiskEvent.{Asks, Desc, DiskEvent, Done, Finished, Misplaced, Moved, Off, OnWire, Published, Calms, Stored, Switches, Works}
+use Rattle.disk_model.specs.DiskEvent.{DiskEvent, Off, OnWire, Switches}
 use Rattle.disk_model.specs.LaneState.{LaneState}
 use Rattle.disk_model.specs.LaneStep.{LaneStep}
 use Rattle.channel_model.specs.WireEvent.{Idle}
@@ -10,7 +10,7 @@ use Rattle.lane_laws.proofs.StepFalls.{idles}
 use Rattle.ldc_queue.specs.declared.end.End.{End}
 use Rattle.world_laws.specs.Settle.{OfLane, SettleEntry, entry_of}
 use Rattle.world_laws.proofs.Along.{lane_step}
-use Rattle.world_laws.specs.World.{LaneMoves, OneMoves, WorldState, WorldStep}
+use Rattle.world_laws.specs.World.{OneMoves, WorldState, WorldStep}
 use Rattle.world_laws.proofs.Places.{set_same}
 use Rattle.world_laws.specs.RoundMade.{LaneMade}
 

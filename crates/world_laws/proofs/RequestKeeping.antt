@@ -27,51 +27,53 @@ abbrev pub KeepsOn : DiskEvent → Type 0
 KeepsOn (Switches Stopped) = ⊥
 KeepsOn _ = ⊤
 
--- WHAT AN EVENT ON THE WIRE does to the wire, and that it stops nothing
-record OnlyWire (s : LaneState) (event : WireEvent) (t : LaneState) : Type 0 where
+-- WHAT AN EVENT ON THE WIRE does to the wire; it stops no server and calls no store
+pub record OnlyWire (s : LaneState) (event : WireEvent) (t : LaneState) : Type 0 where
   pub wire : t.wire ≡ wire_moved s.wire event
   pub stopped : t.stopped ≡ s.stopped
+  pub failed : t.failed ≡ s.failed
+
+-- a lane that is made of another by no more than that
+only : (s : LaneState) (event : WireEvent) (t made : LaneState) → t ≡ made → made.wire ≡ wire_moved s.wire event → made.stopped ≡ s.stopped → made.failed ≡ s.failed → OnlyWire s event t
+only s event t made is wire stopped failed = record {
+  wire = ap (λ (x : LaneState). x.wire) is ∙ wire;
+  stopped = ap (λ (x : LaneState). x.stopped) is ∙ stopped;
+  failed = ap (λ (x : LaneState). x.failed) is ∙ failed;
+}
 
 end_only : (e : End) (s : LaneState) (event : WireEvent) (t : LaneState) → EndOnWire e s event t → OnlyWire s event t
-end_only A s event t step = record { wire = ap (λ (x : LaneState). x.wire) step.is; stopped = ap (λ (x : LaneState). x.stopped) step.is }
-end_only B s event t step = record { wire = ap (λ (x : LaneState). x.wire) step.1.is; stopped = ap (λ (x : LaneState). x.stopped) step.1.is }
+end_only A s event t step = only s event t _ step.is refl refl refl
+end_only B s event t step = only s event t _ step.1.is refl refl refl
 
 reset_only : (by : Giver) (e : End) (s : LaneState) (cause : Cause) (packet : Option (List ℕ)) (lost : ℕ) (t : LaneState) → ResetBy by e s cause packet lost t → OnlyWire s (Reset e cause packet lost) t
 reset_only ByStep e s cause packet lost t step = end_only e s (Reset e cause packet lost) t step
-reset_only ByScript A s cause packet lost t step = record { wire = ap (λ (x : LaneState). x.wire) step.2; stopped = ap (λ (x : LaneState). x.stopped) step.2 }
-reset_only ByScript B s cause packet lost t step = record { wire = ap (λ (x : LaneState). x.wire) step.1.2; stopped = ap (λ (x : LaneState). x.stopped) step.1.2 }
+reset_only ByScript A s cause packet lost t step = only s (Reset A cause packet lost) t _ step.2 refl refl refl
+reset_only ByScript B s cause packet lost t step = only s (Reset B cause packet lost) t _ step.1.2 refl refl refl
 reset_only ByRestart A s cause packet lost t step = absurd step
-reset_only ByRestart B s cause packet lost t step = record { wire = ap (λ (x : LaneState). x.wire) step.1.2; stopped = ap (λ (x : LaneState). x.stopped) step.1.2 }
-reset_only ByTick A s cause packet lost t step = record { wire = ap (λ (x : LaneState). x.wire) step.1.2; stopped = ap (λ (x : LaneState). x.stopped) step.1.2 }
+reset_only ByRestart B s cause packet lost t step = only s (Reset B cause packet lost) t _ step.1.2 refl refl refl
+reset_only ByTick A s cause packet lost t step = only s (Reset A cause packet lost) t _ step.1.2 refl refl refl
 reset_only ByTick B s cause packet lost t step = absurd step
 
 poked_only : (e : End) (s : LaneState) (at : ℕ) (bytes : List ℕ) (t : LaneState) → LaneStep s (OnWire (Poked e at bytes)) t → OnlyWire s (Poked e at bytes) t
-poked_only A s at bytes t step = record { wire = ap (λ (x : LaneState). x.wire) step.1; stopped = ap (λ (x : LaneState). x.stopped) step.1 }
+poked_only A s at bytes t step = only s (Poked A at bytes) t _ step.1 refl refl refl
 poked_only B s at bytes t step = absurd step
 
-wire_only : (s : LaneState) (event : WireEvent) (t : LaneState) → LaneStep s (OnWire event) t → OnlyWire s event t
+pub wire_only : (s : LaneState) (event : WireEvent) (t : LaneState) → LaneStep s (OnWire event) t → OnlyWire s event t
 wire_only s (Joined e lost) t step = end_only e s (Joined e lost) t step
 wire_only s (Took e packet opens) t step = end_only e s (Took e packet opens) t step
 wire_only s (Sent e packet opens) t step = end_only e s (Sent e packet opens) t step
 wire_only s (Idle e) t step = end_only e s (Idle e) t step
 wire_only s (Blocked e) t step = end_only e s (Blocked e) t step
 wire_only s (Reset e cause packet lost) t step = reset_only (giver cause) e s cause packet lost t step
-wire_only s (Lost e packet) t step = record { wire = ap (λ (x : LaneState). x.wire) step.1; stopped = ap (λ (x : LaneState). x.stopped) step.1 }
-wire_only s (Injected e packet) t step = record { wire = ap (λ (x : LaneState). x.wire) step.2; stopped = ap (λ (x : LaneState). x.stopped) step.2 }
+wire_only s (Lost e packet) t step = only s (Lost e packet) t _ step.1 refl refl refl
+wire_only s (Injected e packet) t step = only s (Injected e packet) t _ step.2 refl refl refl
 wire_only s (Poked e at bytes) t step = poked_only e s at bytes t step
-wire_only s (Declines d) t step = record { wire = ap (λ (x : LaneState). x.wire) step.1; stopped = ap (λ (x : LaneState). x.stopped) step.1 }
+wire_only s (Declines d) t step = only s (Declines d) t _ step.1 refl refl refl
 
 moved_forged : (w : WireLog) (event : WireEvent) → IsOnWireHonest event → (wire_moved w event).forged ≡ w.forged
-moved_forged w (Joined e lost) honest = refl
-moved_forged w (Took e packet opens) honest = refl
-moved_forged w (Sent e packet opens) honest = refl
-moved_forged w (Idle e) honest = refl
-moved_forged w (Blocked e) honest = refl
-moved_forged w (Reset e cause packet lost) honest = refl
-moved_forged w (Lost e packet) honest = refl
-moved_forged w (Declines d) honest = refl
 moved_forged w (Injected e packet) honest = absurd honest
 moved_forged w (Poked e at bytes) honest = absurd honest
+moved_forged w event honest = refl
 
 -- THE OTHER EVENTS leave both
 record LeavesBoth (s t : LaneState) : Type 0 where
@@ -90,13 +92,14 @@ work_leaves s (Stored operation block count failed) t step = record { wire = ap 
 work_leaves s (Finished slot status) t step = record { wire = ap (λ (x : LaneState). x.wire) step.1.is; stopped = ap (λ (x : LaneState). x.stopped) step.1.is }
 work_leaves s Misplaced t step = absurd step
 
-rest_leaves : (s : LaneState) (event : Calm) (t : LaneState) → LaneStep s (Calms event) t → LeavesBoth s t
-rest_leaves s CalmTick t step = as_it_was s t step.1
-rest_leaves s CalmStop t step = as_it_was s t step.1
-rest_leaves s CalmStart t step = as_it_was s t step.1
-rest_leaves s (CalmReset A) t step = absurd step
-rest_leaves s (CalmReset B) t step = as_it_was s t step.1
-rest_leaves s CalmRestart t step = as_it_was s t step.1
+-- an event of rest leaves all
+pub rest_same : (s : LaneState) (event : Calm) (t : LaneState) → LaneStep s (Calms event) t → t ≡ s
+rest_same s (CalmReset A) t step = absurd step
+rest_same s (CalmReset B) t step = step.1
+rest_same s CalmTick t step = step.1
+rest_same s CalmStop t step = step.1
+rest_same s CalmStart t step = step.1
+rest_same s CalmRestart t step = step.1
 
 -- AN HONEST EVENT leaves a lane unforged
 pub stays_unforged : (s : LaneState) (event : DiskEvent) (t : LaneState) → IsHonest event → LaneStep s event t → IsUnforged s → IsUnforged t
@@ -106,7 +109,7 @@ stays_unforged s (Works event) t honest step clean = ap (λ (w : WireLog). w.for
 stays_unforged s (Switches Stopped) t honest step clean = ap (λ (x : LaneState). x.wire.forged) step.1 ∙ clean
 stays_unforged s (Switches Started) t honest step clean = ap (λ (x : LaneState). x.wire.forged) step.1 ∙ clean
 stays_unforged s (Switches Off) t honest step clean = ap (λ (x : LaneState). x.wire.forged) step.1 ∙ clean
-stays_unforged s (Calms event) t honest step clean = ap (λ (w : WireLog). w.forged) (rest_leaves s event t step).wire ∙ clean
+stays_unforged s (Calms event) t honest step clean = ap (λ (w : WireLog). w.forged) (as_it_was s t (rest_same s event t step)).wire ∙ clean
 
 -- AND EACH BUT A STOP leaves its server running
 pub stays_running : (s : LaneState) (event : DiskEvent) (t : LaneState) → KeepsOn event → LaneStep s event t → IsRunning s → IsRunning t
@@ -116,4 +119,4 @@ stays_running s (Works event) t on step runs = (work_leaves s event t step).stop
 stays_running s (Switches Stopped) t on step runs = absurd on
 stays_running s (Switches Started) t on step runs = ap (λ (x : LaneState). x.stopped) step.1
 stays_running s (Switches Off) t on step runs = ap (λ (x : LaneState). x.stopped) step.1 ∙ runs
-stays_running s (Calms event) t on step runs = (rest_leaves s event t step).stopped ∙ runs
+stays_running s (Calms event) t on step runs = (as_it_was s t (rest_same s event t step)).stopped ∙ runs
