@@ -10,9 +10,6 @@ fn is_repeated(block: &[u8; 512], n: usize) -> bool
     requires within { n ≤ 512 }
     ensures { result ≡ repeats block.now n }
 {
-    if n == 1 {
-        return is_one_byte(block);
-    }
     begins_again(block, n) && are_same(&block[n..], &block[..512 - n])
 }
 
@@ -67,6 +64,9 @@ pub fn shortest_word(block: &[u8; 512]) -> usize
     ensures some { 0 < result }
     ensures within { result ≤ 512 }
 {
+    if is_one_byte(block) {
+        return 1;
+    }
     for n in WORD_LENGTHS {
         if is_repeated(block, n) {
             return n;
