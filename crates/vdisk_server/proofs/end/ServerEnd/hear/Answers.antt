@@ -1,4 +1,4 @@
-use Rattle.std.proofs.Common.{◌≡◌, Some, ap, sym, subst, ◌∙◌}
+use Rattle.std.proofs.Common.{◌≡◌, ap, sym, subst, ◌∙◌}
 use Rattle.ldc_link.specs.LinkState.{cleared}
 use Rattle.disk_model.specs.ServerState.{ServerState, joined_server}
 use Rattle.disk_model.specs.ServerTaking.{reads}

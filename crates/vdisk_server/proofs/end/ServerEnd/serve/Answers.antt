@@ -1,9 +1,8 @@
-use Rattle.std.proofs.Common.{◌≡◌, [], Option, Some, ap, sym, subst, ◌∙◌}
-use Rattle.disk_model.specs.ServerRule.{server_rule, serves}
-use Rattle.disk_model.specs.ServerState.{ServerState, Work}
+use Rattle.std.proofs.Common.{◌≡◌, [], Some, subst}
+use Rattle.disk_model.specs.ServerState.{ServerState}
 use Rattle.descriptor_work.specs.Calling.{reach_over}
 use Rattle.descriptor_work.specs.Fields.{work_with}
-use Rattle.vdisk_server.specs.Answering.{Serves, sees}
+use Rattle.vdisk_server.specs.Answering.{Serves}
 use Rattle.vdisk_server.specs.contracts.end.ServerEnd.{the_view}
 use Rattle.vdisk_server.proofs.StoreSteps.{in_channel, in_leaves, in_serves, leaves_store, leaves_within, on_channel, on_serves, piece_steps, serves_in_work, works_on}
 use Rattle.vdisk_server.proofs.end.ServerEnd.serve.Goals as goal
