@@ -44,7 +44,7 @@ lost_leave role s stands =
     let left : length (drop (unseen s.session) s.frames) ≡ length s.frames - unseen s.session = length-drop (unseen s.session) s.frames in
     omega arith
 
-joined_stands : (role : Role) (s : NetEndState) → FramesStand s → FramesStand (joined_net_end role s)
+pub joined_stands : (role : Role) (s : NetEndState) → FramesStand s → FramesStand (joined_net_end role s)
 joined_stands role s stands =
     let room = stands.room in
     let ids = stands.ids in
@@ -162,7 +162,7 @@ queued_stands s frame stands less =
     let ids = stands.ids in
     record { room = omega arith; ids = omega arith; session = counts_more s frame s.session stands.session }
 
-gives_stands : (s : NetEndState) (given : Given) (t : NetEndState) → FramesStand s → NetGives s given t → FramesStand t
+pub gives_stands : (s : NetEndState) (given : Given) (t : NetEndState) → FramesStand s → NetGives s given t → FramesStand t
 gives_stands s (BadLength frame) t stands gives = subst FramesStand (sym gives.1) stands
 gives_stands s (Full frame) t stands gives = subst FramesStand (sym gives.2) stands
 gives_stands s (Queued id frame) t stands gives = subst FramesStand (sym gives.4) (queued_stands s frame stands gives.1)
@@ -172,7 +172,7 @@ untold_stands s groups None is stands = record { room = stands.room; ids = stand
 untold_stands s groups (Some p) is stands =
     with_stands s (record s { groups = groups; session = untold (Some p) }) p (record p { untold = true }) stands is refl refl refl refl refl refl refl refl refl
 
-joins_stands : (s : NetEndState) (joining : Joining) (t : NetEndState) → FramesStand s → NetJoins s joining t → FramesStand t
+pub joins_stands : (s : NetEndState) (joining : Joining) (t : NetEndState) → FramesStand s → NetJoins s joining t → FramesStand t
 joins_stands s (Already address) t stands joins = subst FramesStand (sym joins.1) stands
 joins_stands s (GroupsFull address) t stands joins = subst FramesStand (sym joins.2) stands
 joins_stands s (Member address) t stands joins = subst FramesStand (sym joins.3) (untold_stands s (s.groups ++ address ∷ []) s.session refl stands)
@@ -201,7 +201,7 @@ event_stands s (Pokes B at bytes) t step stands = subst BothStand (sym step.1) s
 event_stands s (Declines d) t step stands = subst BothStand (sym step.1) stands
 
 -- EVERY RUN
-fresh_stands : (role : Role) (address : List ℕ) (slots : ℕ) → FramesStand (fresh_net_end role address slots)
+pub fresh_stands : (role : Role) (address : List ℕ) (slots : ℕ) → FramesStand (fresh_net_end role address slots)
 fresh_stands role address slots = record { room = omega arith; ids = omega arith; session = tt }
 
 both_of : (s : NetLaneState) → NetReached s → BothStand s

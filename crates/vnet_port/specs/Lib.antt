@@ -1,0 +1,3 @@
+pub mod FrameQueue
+pub mod Calls
+pub mod Standing

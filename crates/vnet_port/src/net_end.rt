@@ -1,0 +1,109 @@
+ghost use Rattle.std.specs.Prelude.{◌≡◌, ◌-◌, ◌^◌, ◌<◌, ◌≤◌, length, is_some, IfOk};
+ghost use Rattle.ldc_queue.specs.ChannelView.{configured_channel};
+
+use crate::answers::{GroupsFull, SendFault};
+use crate::port_end::PortEnd;
+use ldc_link::Role;
+use ldc_queue::Channel;
+use std::alloc::Global;
+use std::marker::Model;
+use vio_bytes::NoMemory;
+
+/// Either end of a network port: a guest's, the initiator, whose end of the channel is A; or the switch's, the
+/// responder, whose end is B. What it publishes stands in its own memory.
+#[derive(Drop)]
+pub struct NetEnd {
+    end: PortEnd,
+}
+
+impl Model for NetEnd {
+    ghost use Rattle.port_model.specs.NetEndState.{NetEndState};
+    ghost use Rattle.vnet_port.specs.Standing.{Stands};
+
+    ghost Value = { NetEndState };
+
+    ghost view = { λ e. e.end };
+
+    ghost invariant = { λ e. Stands e.end };
+}
+
+impl NetEnd {
+    ghost use Rattle.port_model.specs.NetEndState.{fresh_net_end, joined_net_end, unseen};
+    ghost use Rattle.port_model.specs.NetEndStep.{NetGives, NetJoins};
+    ghost use Rattle.vnet_port.specs.Calls.{end_of, given, joining, role_of};
+
+    /// The end of the port with this address, whose rings have so many slots, 2 to 64. It isn't configured yet. Its one
+    /// refusal is for want of memory.
+    pub fn new(alloc: Global, role: Role, address: [u8; 6], slots: u32) -> Result<NetEnd, NoMemory>
+        requires some_slots { 2 ≤ slots }
+        requires few_slots { slots ≤ 64 }
+        ensures { IfOk result (λ end. end ≡ fresh_net_end role address slots) }
+    {
+        let end = PortEnd::new(alloc, role, address, slots)?;
+        Ok(NetEnd { end })
+    }
+
+    /// Configures the end and begins anew, in any state. It keeps frames that were never published, and all ids. The
+    /// frames that were published and not acknowledged are dropped; the answer is how many.
+    pub fn reset(&mut self, channel: &mut Channel) -> u32
+        ensures lost { result ≡ unseen self.old.session }
+        ensures state { self.new ≡ joined_net_end (role_of self.old) self.old }
+        ensures channel { channel.new ≡ configured_channel (end_of self.old) channel.old }
+    {
+        self.end.join(channel)
+    }
+
+    /// Takes a frame up, which is held last, and answers its id: 0, 1, 2 and so on. Else nothing changes, and the answer
+    /// is `Length` where it hasn't 14 to 1,514 bytes, and else `Full`, where as many are held as the ring has slots.
+    pub fn send(&mut self, frame: &[u8]) -> Result<u64, SendFault>
+        requires few { self.old.next_id < 2 ^ 64 - 1 }
+        ensures { NetGives self.old (given result frame.now) self.new }
+    {
+        self.end.send(frame)
+    }
+
+    /// How many more frames it may hold.
+    pub fn room(&self) -> u32
+        ensures { result ≡ self.now.slots - length self.now.frames }
+    {
+        self.end.room()
+    }
+
+    /// How many frames it holds: those that aren't published, and those that are and aren't acknowledged.
+    pub fn held(&self) -> u32
+        ensures count { result ≡ length self.now.frames }
+        ensures within { result ≤ self.now.slots }
+    {
+        self.end.held()
+    }
+
+    /// Whether its session is open.
+    pub fn in_session(&self) -> bool
+        ensures { result ≡ is_some self.now.session }
+    {
+        self.end.in_session()
+    }
+
+    /// The bytes of the frame that it took last, none before the first.
+    pub fn frame(&self) -> &[u8]
+        ensures { result.now ≡ self.now.last }
+    {
+        self.end.frame()
+    }
+
+    /// Puts a group's address last into the list, which is told to the switch. The answer is false where it is in the
+    /// list. `GroupsFull` comes where it isn't, and seven others are. Then nothing changes.
+    pub fn join_group(&mut self, address: [u8; 6]) -> Result<bool, GroupsFull>
+        ensures { NetJoins self.old (joining result address) self.new }
+    {
+        self.end.join_group(address)
+    }
+
+    /// The groups: of a guest its own list, of the switch's end those that the session told it.
+    pub fn groups(&self) -> &[[u8; 6]]
+        ensures list { result.now ≡ self.now.groups }
+        ensures few { length result.now ≤ 7 }
+    {
+        self.end.groups()
+    }
+}
