@@ -8,4 +8,5 @@ pub mod AlwaysSteps
 pub mod PortRuns
 pub mod WireLaws
 pub mod GroupsAgree
+mod MessageDoes
 pub mod LettingGo
