@@ -1,7 +1,6 @@
 -- What a message that an end takes does to the counts of its frames: an ACK lets those go that it names, and nothing
 -- else does.
-use Rattle.std.proofs.Common.{◌≡◌, ℕ, ◌+◌, Bool, true, false, Option, Some, None, List, refl, sym, subst, ap, ◌∙◌, inl, inr, arith}
-use Rattle.std.specs.Prelude.{⊤}
+use Rattle.std.proofs.Common.{◌≡◌, ℕ, ◌+◌, Bool, true, false, Some, None, List, refl, sym, subst, ap, ◌∙◌, inl, inr, arith}
 use Rattle.ldc_link.specs.declared.phase.Role.{Role}
 use Rattle.ldc_link.specs.declared.phase.Role.TheVariants.{Initiator, Responder}
 use Rattle.ldc_packet.specs.declared.packet.Subtype.{Subtype}
@@ -25,7 +24,7 @@ use Rattle.port_model.specs.NetEndTaking.{GoesOn, NetTake, Resets, active, by_ha
 use Rattle.port_model.specs.Spoken.{Spoken, spoken, spoken_by}
 
 -- WHAT AN ACK NAMES, by the bytes of the message
-spoken_same : (bytes : List ℕ) (message : Message) → SpellsMessage bytes message → spoken bytes ≡ spoken_by (envelope_code message.body) (subtype_code message.subtype)
+pub spoken_same : (bytes : List ℕ) (message : Message) → SpellsMessage bytes message → spoken bytes ≡ spoken_by (envelope_code message.body) (subtype_code message.subtype)
 spoken_same bytes message spells =
     ap (λ (n : ℕ). spoken_by n (subtype_at bytes)) spells.envelope ∙ ap (spoken_by (envelope_code message.body)) spells.subtype
 
@@ -90,7 +89,7 @@ kind_seen role s p memory subtype b t opens new order shut (Acks seq ident start
       next = ap (λ (x : NetEndState). x.next_id) is;
       shut = shut;
     })
-kind_seen role s p memory subtype b t opens new order shut (Names set count addresses groups reply guest kind body stays is) =
+kind_seen role s p memory subtype b t opens new order shut (Names set count addresses groups reply answer guest kind body stays is) =
     let none : acks s.slots b subtype ≡ 0 = ap (λ (x : MsgBody). acks s.slots x subtype) body in
     subst (λ (n : ℕ). LetsGo s p n t opens) (sym none)
     (same_seen s p (replying reply p) t opens (ap (λ (x : NetEndState). x.session) is) refl refl refl (ap (λ (x : NetEndState). x.frames) is) (ap (λ (x : NetEndState). x.next_id) is) shut)

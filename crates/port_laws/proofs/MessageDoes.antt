@@ -1,5 +1,5 @@
 -- What a message comes to that an end takes in session and doesn't reset itself for: each kind of it once, for all laws.
-use Rattle.std.proofs.Common.{◌≡◌, ℕ, ◌+◌, ◌≤◌, Bool, true, false, Option, Some, None, List, length, refl, sym, subst, ap, ◌∙◌, inl, inr, arith}
+use Rattle.std.proofs.Common.{◌≡◌, ℕ, ◌+◌, ◌≤◌, Bool, true, false, Option, Some, None, List, refl, sym, subst, ap, ◌∙◌}
 use Rattle.std.specs.Prelude.{◌%◌, ◌<◌, ◌==◌, ◌&&◌, nat_le, nat_lt, if◌then◌else◌, ⊤}
 use Rattle.std.proofs.lemmas.Bool.{and_parts, eqb-true, leb-true, ltb-true}
 use Rattle.ldc_link.specs.declared.phase.Role.{Role}
@@ -21,7 +21,8 @@ use Rattle.channel_laws.specs.Standing.{is_open_in}
 use Rattle.port_model.proofs.Refuting.{false_true}
 use Rattle.port_model.specs.Groups.{groups_after}
 use Rattle.port_model.specs.NetEndState.{GroupsReply, NetEndState, NetSession, with_session}
-use Rattle.port_model.specs.NetEndTaking.{GoesOn, NetTake, Resets, acknowledged, active, by_handshake, ends_outside, first_undone, freed, hears_message, in_session, opens_by_take, refused, replying, sid_first, takes_ack, takes_done, takes_groups, takes_info, takes_range, told}
+use Rattle.port_laws.specs.Counted.{IsAnswer}
+use Rattle.port_model.specs.NetEndTaking.{GoesOn, NetTake, Resets, acknowledged, active, by_handshake, ends_outside, first_undone, freed, hears_message, in_session, refused, replying, sid_first, takes_ack, takes_done, takes_groups, takes_info, takes_range, told}
 
 -- THE KINDS: an INFO of the peer's ring, an ACK of the own ring, groups that a guest names, the answer to groups, and what
 -- the handshake declines
@@ -32,7 +33,7 @@ pub data MessageDoes (role : Role) (s : NetEndState) (p : NetSession) (memory : 
       → p.seen + range_length s.slots start end ≤ p.published → first_undone s.slots memory p.seen (range_length s.slots start end) ≡ None
       → new ≡ freed s.slots p.seen (range_length s.slots start end) memory
       → t ≡ acknowledged p (range_length s.slots start end) s → MessageDoes role s p memory subtype b t new
-  Names : (set count : ℕ) (addresses groups : List (List ℕ)) (reply : GroupsReply) → role ≡ Responder → subtype ≡ Info → b ≡ Mcast set count addresses → new ≡ memory
+  Names : (set count : ℕ) (addresses groups : List (List ℕ)) (reply : GroupsReply) → IsAnswer reply.subtype → role ≡ Responder → subtype ≡ Info → b ≡ Mcast set count addresses → new ≡ memory
       → t ≡ with_session (replying reply p) (record s { groups = groups }) → MessageDoes role s p memory subtype b t new
   Told : (set count : ℕ) (addresses : List (List ℕ)) → role ≡ Initiator → subtype ≡ Ack → b ≡ Mcast set count addresses → p.telling ≡ true → new ≡ memory
       → t ≡ with_session (record p { telling = false }) s → MessageDoes role s p memory subtype b t new
@@ -91,9 +92,9 @@ ack_does role s p memory seq ident start end state =
 groups_do : (s : NetEndState) (p : NetSession) (memory : List ℕ) (set count : ℕ) (addresses : List (List ℕ)) (groups : Option (List (List ℕ)))
     → TakeDoes Responder s p memory Info (Mcast set count addresses) (takes_groups s p memory set count addresses groups)
 groups_do s p memory set count addresses None =
-    record { shut = refl; does = Names set count addresses s.groups (record { subtype = Nack; set = set; count = count; addresses = addresses }) refl refl refl refl refl }
+    record { shut = refl; does = Names set count addresses s.groups (record { subtype = Nack; set = set; count = count; addresses = addresses }) tt refl refl refl refl refl }
 groups_do s p memory set count addresses (Some groups) =
-    record { shut = refl; does = Names set count addresses groups (record { subtype = Ack; set = set; count = count; addresses = addresses }) refl refl refl refl refl }
+    record { shut = refl; does = Names set count addresses groups (record { subtype = Ack; set = set; count = count; addresses = addresses }) tt refl refl refl refl refl }
 
 told_does : (s : NetEndState) (p : NetSession) (memory : List ℕ) (set count : ℕ) (addresses : List (List ℕ)) → TakeDoes Initiator s p memory Ack (Mcast set count addresses) (told s p memory)
 told_does s p memory set count addresses =

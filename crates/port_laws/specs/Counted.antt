@@ -3,10 +3,12 @@
 use Rattle.std.specs.Prelude.{◌≡◌, ℕ, ◌+◌, ◌-◌, ◌%◌, ◌<◌, ◌≤◌, Bool, true, false, is_none, is_some, List, [], ◌∷◌, ◌++◌, length, drop, Option, Some, None, ⊤}
 use Rattle.ldc_link.specs.declared.phase.Role.{Role}
 use Rattle.ldc_link.specs.declared.phase.Role.TheVariants.{Initiator, Responder}
+use Rattle.ldc_packet.specs.declared.packet.Subtype.{Subtype}
+use Rattle.ldc_packet.specs.declared.packet.Subtype.TheVariants.{Ack, Info, Nack}
 use Rattle.channel_model.specs.Ranges.{wrapped}
 use Rattle.port_model.specs.EndLog.{EndLog, SessionLog, said_in}
 use Rattle.port_model.specs.FrameLaws.{Acknowledges, Announces}
-use Rattle.port_model.specs.NetEndState.{Activity, NetEndState, NetSession}
+use Rattle.port_model.specs.NetEndState.{Activity, GroupsReply, NetEndState, NetSession}
 use Rattle.port_model.specs.Spoken.{GroupsAck, GroupsInfo, Other, RangeAck, RangeInfo, Spoken, spoken}
 
 -- the message of its session that its link holds, if it holds one
@@ -74,6 +76,16 @@ abbrev pub UnsaidRight : ℕ → List (List ℕ) → Bool → SessionLog → Opt
 UnsaidRight slots groups begun s None = ⊤
 UnsaidRight slots groups begun s (Some message) = HoldsRightly slots groups begun s message
 
+-- an answer to groups that the end owes is none of its own MCAST_INFO
+abbrev pub IsAnswer : Subtype → Type 0
+IsAnswer Info = ⊥
+IsAnswer Ack = ⊤
+IsAnswer Nack = ⊤
+
+abbrev pub AnswersRightly : Option GroupsReply → Type 0
+AnswersRightly None = ⊤
+AnswersRightly (Some reply) = IsAnswer reply.subtype
+
 -- AN OPEN SESSION
 pub record SessionCounts (role : Role) (slots : ℕ) (groups : List (List ℕ)) (published gone : ℕ) (left : Option (List ℕ)) (begun : Bool) (p : NetSession)
     (s : SessionLog) : Type 0 where
@@ -81,6 +93,7 @@ pub record SessionCounts (role : Role) (slots : ℕ) (groups : List (List ℕ)) 
   pub ring : RingCounts p published gone (said_in left s)
   pub peer : PeerCounts slots p (said_in left s)
   pub guest : GuestCounts role p groups (said_in left s)
+  pub reply : AnswersRightly p.reply
 
 -- without one, all that was published is gone
 abbrev pub Counts : Role → ℕ → List (List ℕ) → ℕ → ℕ → Option (List ℕ) → Bool → Option NetSession → Option SessionLog → Type 0
