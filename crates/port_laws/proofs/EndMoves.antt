@@ -159,7 +159,7 @@ phase_keeps phase.Established k own h is held left =
 phase_keeps phase.OwesRdx k own h is held left = true_false (sym held ∙ ap (λ (x : LinkPhase). holds (record k { phase = x })) is)
 phase_keeps _ k own h is held left = refl
 
-link_keeps : (k : LinkState) (own : Bool) (h : Handshake) → holds k ≡ true → holds (behind_put k) ≡ true → handshake_behind (put_kind k own) h ≡ h
+pub link_keeps : (k : LinkState) (own : Bool) (h : Handshake) → holds k ≡ true → holds (behind_put k) ≡ true → handshake_behind (put_kind k own) h ≡ h
 link_keeps k own h held left = phase_keeps k.phase k own h refl held left
 
 put_keeps : (role : Role) (opens : Bool) (s : NetEndState) → KeepsOwn (net_core role s) (net_core role (opened_by_put role opens s))
@@ -174,12 +174,12 @@ pub record PutCore (role : Role) (opens : Bool) (s t : NetEndState) : Type 0 whe
   pub is_open : is_some t.session ≡ opened_by role opens (is_some s.session)
   pub more : opens ≡ false → more_of t.session ≤ more_of s.session
 
-opened_core : (role : Role) (opens : Bool) (s : NetEndState) → PutCore role opens s (opened_by_put role opens s)
+pub opened_core : (role : Role) (opens : Bool) (s : NetEndState) → PutCore role opens s (opened_by_put role opens s)
 opened_core Initiator true s = record { link = refl; handshake = refl; offer = refl; is_open = refl; more = λ is. true_false is }
 opened_core Initiator false s = record { link = refl; handshake = refl; offer = refl; is_open = refl; more = λ is. omega arith }
 opened_core Responder opens s = record { link = refl; handshake = refl; offer = refl; is_open = refl; more = λ is. omega arith }
 
-says_core : (role : Role) (s held : NetEndState) (packet : List ℕ) → HeldCore role s held → PutsPacket held.link packet (behind_put held.link)
+abbrev pub says_core : (role : Role) (s held : NetEndState) (packet : List ℕ) → HeldCore role s held → PutsPacket held.link packet (behind_put held.link)
     → EndSays role (net_core role s) packet (net_opens held) (net_core role (net_put role held))
 says_core role s held packet core puts =
     let t : NetEndState = record held { link = behind_put held.link; handshake = handshake_behind (net_kind held) held.handshake } in
@@ -207,7 +207,7 @@ with_behind k behind packet (Some other) is =
     let pair : ◌≡◌ {A = Packet × LinkState} (other, behind_put k) (packet, behind) = cc in
     sym (ap (λ (x : Packet × LinkState). x.1) pair)
 
-puts_behind : (k : LinkState) (packet : List ℕ) (behind : LinkState) → PutsPacket k packet behind → behind ≡ behind_put k
+pub puts_behind : (k : LinkState) (packet : List ℕ) (behind : LinkState) → PutsPacket k packet behind → behind ≡ behind_put k
 puts_behind k packet behind puts = with_behind k behind puts.packet (owed_packet k) puts.next
 
 -- IT TAKES
@@ -410,7 +410,7 @@ sent_core role s at memory reach packet opens t fits step =
     subst (λ (x : Bool). LeftMoves role s (SaysPacket packet x) t) (sym step.opens_is)
     (subst (LeftMoves role s (SaysPacket packet (net_opens step.held))) (sym step.is) (says_core role s step.held packet core puts))
 
-waits_core : (role : Role) (s held : NetEndState) → HeldCore role s held → EndWaits (net_core role s) (net_core role held)
+pub waits_core : (role : Role) (s held : NetEndState) → HeldCore role s held → EndWaits (net_core role s) (net_core role held)
 waits_core role s held core = record { what = core.what; holds = core.holds }
 
 pub step_core : (role : Role) (s : NetEndState) (at : Seen) (memory : List ℕ) (reach : Reach) (answer : NetAnswer) (t : NetLeft) → NetFits role s

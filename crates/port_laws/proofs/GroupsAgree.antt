@@ -69,7 +69,7 @@ step_same s at memory reach (Frame frame) t fits step = ap (λ (x : NetLeft). x.
 step_same s at memory reach (Reset cause packet lost) t fits step = ap (λ (x : NetLeft). x.end.groups) step.2
 
 -- AN EVENT leaves them, or joins one
-abbrev GroupsAre : NetLaneState → List (List ℕ) → Type 0
+abbrev pub GroupsAre : NetLaneState → List (List ℕ) → Type 0
 GroupsAre s members = s.guest.groups ≡ members
 
 resets_same : (e : End) (event : NetEvent) (s : NetLaneState) (lost : ℕ) (t : NetLaneState) → Resets e event s lost t → t.guest.groups ≡ s.guest.groups
@@ -81,7 +81,7 @@ gives_same s (BadLength frame) t gives = ap (λ (x : NetEndState). x.groups) giv
 gives_same s (Full frame) t gives = ap (λ (x : NetEndState). x.groups) gives.2
 gives_same s (Queued id frame) t gives = ap (λ (x : NetEndState). x.groups) gives.4
 
-event_groups : (s : NetLaneState) (event : NetEvent) (t : NetLaneState) (members : List (List ℕ)) → BothFit s → NetLaneStep s event t → GroupsAre s members → GroupsAre t (members_after event members)
+pub event_groups : (s : NetLaneState) (event : NetEvent) (t : NetLaneState) (members : List (List ℕ)) → BothFit s → NetLaneStep s event t → GroupsAre s members → GroupsAre t (members_after event members)
 event_groups s (Steps A answer) t members fits step are =
     ap (λ (x : NetLaneState). x.guest.groups) step.is ∙ step_same s.guest _ s.guest_memory _ answer step.left fits.0 step.step ∙ are
 event_groups s (Steps B answer) t members fits step are = ap (λ (x : NetLaneState). x.guest.groups) step.is ∙ are

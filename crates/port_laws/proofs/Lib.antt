@@ -8,4 +8,19 @@ pub mod AlwaysSteps
 pub mod PortRuns
 pub mod WireLaws
 pub mod GroupsAgree
+mod MessageDoes
+mod OwnBytes
+mod HandshakeKeeps
+mod EndCounting
 pub mod LettingGo
+mod HeardCounts
+mod HeldCounts
+mod PutCounts
+mod TookCounts
+mod StepCounts
+mod PortCounts
+pub mod RuleFrames
+pub mod RuleRest
+pub mod RuleIdle
+mod AtRest
+pub mod RuleTwoIdle

@@ -29,7 +29,7 @@ moves_fit true [] s fits = fits
 moves_fit true (frame ∷ frames) s fits = (fits.0, record { groups = fits.1.groups; session = fits.1.session })
 moves_fit false queue s fits = fits
 
-before_core : (event : NetEvent) (s : PortState) → lane_core (before event s).lane ≡ lane_core s.lane
+pub before_core : (event : NetEvent) (s : PortState) → lane_core (before event s).lane ≡ lane_core s.lane
 before_core (Steps B answer) s = moves_core (takes_more s.lane.hub) s.queue s
 before_core (Steps A answer) s = refl
 before_core (Asked e lost) s = refl

@@ -27,7 +27,7 @@ seven_short zero groups short = tt
 seven_short (suc n) [] short = (omega arith, seven_short n [] tt)
 seven_short (suc n) (address ∷ groups) short = (short.0, seven_short n groups short.1)
 
-seven_long : (n : ℕ) (groups : List (List ℕ)) → length (seven n groups) ≡ n
+pub seven_long : (n : ℕ) (groups : List (List ℕ)) → length (seven n groups) ≡ n
 seven_long zero groups = refl
 seven_long (suc n) [] = let rest = seven_long n [] in omega arith
 seven_long (suc n) (address ∷ groups) = let rest = seven_long n groups in omega arith

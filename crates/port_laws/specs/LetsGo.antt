@@ -1,5 +1,5 @@
 -- What a message of a session lets go of an end's frames: an ACK those that it names, and no other message any.
-use Rattle.std.specs.Prelude.{◌≡◌, ℕ, ◌+◌, ◌-◌, ◌≤◌, Bool, true, false, length, Option, Some, None, ⊤}
+use Rattle.std.specs.Prelude.{◌≡◌, ℕ, ◌+◌, ◌-◌, ◌≤◌, Bool, true, false, length, drop, Option, Some, None, ⊤}
 use Rattle.ldc_packet.specs.declared.packet.Subtype.{Subtype}
 use Rattle.ldc_packet.specs.declared.packet.Subtype.TheVariants.{Ack}
 use Rattle.vio_tag.specs.declared.message.MsgBody.{MsgBody}
@@ -21,7 +21,7 @@ pub record InOrder (s : NetEndState) (p : NetSession) : Type 0 where
   pub seen : p.seen ≤ p.published
   pub held : p.published - p.seen ≤ length s.frames
 
--- it goes on in the same session, and so many of its published frames left
+-- it goes on in the same session, and so many of its published frames left: those that it had held longest
 pub record LetsGo (s : NetEndState) (p : NetSession) (n : ℕ) (t : NetEndState) (opens : Bool) : Type 0 where
   pub after : NetSession
   pub session : t.session ≡ Some after
@@ -29,7 +29,7 @@ pub record LetsGo (s : NetEndState) (p : NetSession) (n : ℕ) (t : NetEndState)
   pub published : after.published ≡ p.published
   pub seen : after.seen ≡ p.seen + n
   pub within : n ≤ length s.frames
-  pub frames : length t.frames + n ≡ length s.frames
+  pub frames : t.frames ≡ drop n s.frames
   pub next : t.next_id ≡ s.next_id
   pub shut : opens ≡ false
 

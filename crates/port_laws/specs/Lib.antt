@@ -2,3 +2,4 @@ pub mod NetCore
 pub mod NetFits
 pub mod PortCore
 pub mod LetsGo
+pub mod Counted

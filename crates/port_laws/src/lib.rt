@@ -5,6 +5,8 @@
 mod core_laws;
 mod frame_laws;
 mod group_laws;
+mod rest_laws;
+mod rule_laws;
 mod wire_laws;
 
 pub use core_laws::{
@@ -14,6 +16,17 @@ pub use core_laws::{
 };
 pub use frame_laws::an_ack_alone_lets_frames_go;
 pub use group_laws::a_guest_joins_each_group_once;
+pub use rest_laws::{
+    a_tick_is_calm_where_the_port_is_finished, an_end_resets_itself_without_a_packet_for_a_slot,
+    an_idle_end_of_a_port_has_nothing_to_do, only_an_end_that_is_up_moves_frames,
+    two_idle_ends_of_a_port_are_in_session,
+};
+pub use rule_laws::{
+    a_frame_is_queued_or_refused_rightly, a_frame_is_taken_while_an_announcement_waits,
+    an_end_holds_the_frames_that_it_was_given, each_ack_names_the_frames_taken_since_the_last,
+    each_announcement_begins_at_the_first_frame_left, frames_are_published_in_order,
+    lost_frames_are_published_and_not_acknowledged, no_ack_goes_beyond_what_is_published,
+};
 pub use wire_laws::{
     a_port_opens_behind_its_handshake, what_a_port_hears_may_come,
     what_a_port_says_is_cut_and_numbered,

@@ -156,7 +156,7 @@ counts_more s frame (Some p) counts =
     let ids = counts.ids in
     record { seen = counts.seen; held = omega arith; ids = omega arith; asked = counts.asked; answered = counts.answered; some = counts.some }
 
-queued_stands : (s : NetEndState) (frame : List ℕ) → FramesStand s → length s.frames < s.slots → FramesStand (with_frame frame s)
+pub queued_stands : (s : NetEndState) (frame : List ℕ) → FramesStand s → length s.frames < s.slots → FramesStand (with_frame frame s)
 queued_stands s frame stands less =
     let long : length (s.frames ++ frame ∷ []) ≡ length s.frames + 1 = length-append s.frames (frame ∷ []) in
     let ids = stands.ids in

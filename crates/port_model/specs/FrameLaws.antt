@@ -10,6 +10,7 @@ use Rattle.channel_model.specs.Messages.{end_of, range_ended, seq_of, start_of}
 use Rattle.channel_model.specs.Ranges.{wrapped}
 use Rattle.channel_model.specs.Sayings.{half_heard, half_said}
 use Rattle.channel_model.specs.TranscriptLog.{TranscriptLog, hears, says, transcript_of}
+use Rattle.channel_model.specs.WireAt.{IsUp}
 use Rattle.port_model.specs.EndLog.{EndLog, SessionLog, held, lost_in, range_of}
 use Rattle.port_model.specs.Groups.{is_in}
 use Rattle.port_model.specs.NetEndStep.{Already, BadLength, Frame, Full, Given, GroupsFull, Joined, Joining, Member, Published, Queued, Reset, Sent, Took}
@@ -75,6 +76,12 @@ abbrev pub OpeningsAt : PortLog → PortEvent → Type 0
 OpeningsAt l (OnLane (Steps e (Sent packet opens))) = OpensInOrder opens e (says e packet l.transcript)
 OpeningsAt l (OnLane (Steps e (Took packet opens))) = OpensInOrder opens e (hears e packet l.transcript)
 OpeningsAt l _ = ⊤
+
+-- only an end that is up publishes a frame, or takes one
+abbrev pub WorksAt : PortLog → PortEvent → Type 0
+WorksAt l (OnLane (Steps e (Published id))) = IsUp e l.wire.wire
+WorksAt l (OnLane (Steps e (Frame frame))) = IsUp e l.wire.wire
+WorksAt l _ = ⊤
 
 -- 3. PUBLISHED frames are numbered over all sessions, and lost are those of a session that aren't acknowledged
 pub record MayPublish (l : EndLog) (id : ℕ) : Type 0 where

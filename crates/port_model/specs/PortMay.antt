@@ -5,7 +5,7 @@ use Rattle.vnet_msg.specs.Frames.{memory_pages}
 use Rattle.channel_model.specs.ResetSays.{WireResetAt}
 use Rattle.channel_model.specs.WireAt.{Sizes, WireAnswersAt, WireGapAt, WireHeardAt, WireSaidAt, WireTableAt, WireUnforgedAt}
 use Rattle.channel_model.specs.WireEvent.{WireEvent}
-use Rattle.port_model.specs.FrameLaws.{AcknowledgesAt, AdmissionAt, AnnouncesAt, JoiningAt, LostAt, OpeningsAt, OwnResetAt, PublishedAt, SeesAt, TakingAt, TickAt}
+use Rattle.port_model.specs.FrameLaws.{AcknowledgesAt, AdmissionAt, AnnouncesAt, JoiningAt, LostAt, OpeningsAt, OwnResetAt, PublishedAt, SeesAt, TakingAt, TickAt, WorksAt}
 use Rattle.port_model.specs.NetEvent.{on_wire}
 use Rattle.port_model.specs.NetLaneState.{NetShape}
 use Rattle.port_model.specs.PortLog.{PortLog, after, no_events}
@@ -33,6 +33,7 @@ pub record PortMay (l : PortLog) (event : PortEvent) : Type 0 where
   pub gap : OfWire (WireGapAt l.transcript) event
   pub reset_says : OfWire (WireResetAt l.transcript) event
   pub unforged_wire : OfWire (WireUnforgedAt l.wire) event
+  pub works : WorksAt l event
   -- what is asked
   pub admission : AdmissionAt l event
   pub joining : JoiningAt l event

@@ -1,0 +1,125 @@
+-- What the counts of an end and of its log come to, taken apart and put together again.
+use Rattle.std.proofs.Common.{◌≡◌, ℕ, ◌+◌, ◌≤◌, Bool, true, false, Option, Some, None, List, [], ◌++◌, length, drop, refl, sym, subst, ap, ◌∙◌, arith, length-append, length-drop}
+use Rattle.std.specs.Prelude.{is_none, is_some}
+use Rattle.std.proofs.lemmas.List.{drop-append-le, drop-drop}
+use Rattle.ldc_link.specs.declared.phase.Role.{Role}
+use Rattle.ldc_link.specs.declared.phase.Role.TheVariants.{Initiator, Responder}
+use Rattle.port_model.specs.EndLog.{EndLog, SessionLog, said_in, said_kind}
+use Rattle.port_model.specs.NetEndState.{NetEndState, NetSession}
+use Rattle.port_model.specs.Spoken.{GroupsAck, GroupsInfo, Other, RangeAck, RangeInfo, Spoken, spoken}
+use Rattle.port_laws.specs.Counted.{AnswersRightly, Counts, EndCounts, GroupCounts, GuestCounts, GuestGroups, IsBehind, PeerCounts, RingCounts, SessionCounts, left_of, unsaid}
+
+-- AN OPEN SESSION, of the end and of its log
+pub record OpenCounts (role : Role) (slots : ℕ) (groups : List (List ℕ)) (published gone : ℕ) (left : Option (List ℕ)) (begun : Bool) (p : NetSession)
+    (log : Option SessionLog) : Type 0 where
+  pub of_log : SessionLog
+  pub is : log ≡ Some of_log
+  pub counts : SessionCounts role slots groups published gone left begun p of_log
+
+open_log : (role : Role) (slots : ℕ) (groups : List (List ℕ)) (published gone : ℕ) (left : Option (List ℕ)) (begun : Bool) (p : NetSession) (log : Option SessionLog)
+    → Counts role slots groups published gone left begun (Some p) log → OpenCounts role slots groups published gone left begun p log
+open_log role slots groups published gone left begun p (Some v) counts = record { of_log = v; is = refl; counts = counts }
+open_log role slots groups published gone left begun p None counts = absurd counts
+
+pub open_counts : (role : Role) (slots : ℕ) (queue : List (List ℕ)) (s : NetEndState) (l : EndLog) (p : NetSession) → EndCounts role slots queue s l → s.session ≡ Some p
+    → OpenCounts role slots s.groups l.published l.gone (unsaid s) s.link.begun p l.session
+open_counts role slots queue s l p counts is =
+    open_log role slots s.groups l.published l.gone (unsaid s) s.link.begun p l.session
+    (subst (λ (x : Option NetSession). Counts role slots s.groups l.published l.gone (unsaid s) s.link.begun x l.session) is counts.session)
+
+-- none is open
+pub record ShutCounts (published gone : ℕ) (log : Option SessionLog) : Type 0 where
+  pub is : log ≡ None
+  pub gone_all : published ≡ gone
+
+shut_log : (role : Role) (slots : ℕ) (groups : List (List ℕ)) (published gone : ℕ) (left : Option (List ℕ)) (begun : Bool) (log : Option SessionLog)
+    → Counts role slots groups published gone left begun None log → ShutCounts published gone log
+shut_log role slots groups published gone left begun None counts = record { is = refl; gone_all = counts }
+shut_log role slots groups published gone left begun (Some v) counts = absurd counts
+
+pub shut_counts : (role : Role) (slots : ℕ) (queue : List (List ℕ)) (s : NetEndState) (l : EndLog) → EndCounts role slots queue s l → s.session ≡ None
+    → ShutCounts l.published l.gone l.session
+shut_counts role slots queue s l counts is =
+    shut_log role slots s.groups l.published l.gone (unsaid s) s.link.begun l.session
+    (subst (λ (x : Option NetSession). Counts role slots s.groups l.published l.gone (unsaid s) s.link.begun x l.session) is counts.session)
+
+pub with_open : (role : Role) (slots : ℕ) (groups : List (List ℕ)) (published gone : ℕ) (left : Option (List ℕ)) (begun : Bool) (session : Option NetSession) (p : NetSession) (v : SessionLog)
+    → session ≡ Some p → SessionCounts role slots groups published gone left begun p v → Counts role slots groups published gone left begun session (Some v)
+with_open role slots groups published gone left begun session p v is counts =
+    subst (λ (x : Option NetSession). Counts role slots groups published gone left begun x (Some v)) (sym is) counts
+
+pub with_shut : (role : Role) (slots : ℕ) (groups : List (List ℕ)) (published gone : ℕ) (left : Option (List ℕ)) (begun : Bool) (session : Option NetSession) (log : Option SessionLog)
+    → session ≡ None → log ≡ None → published ≡ gone → Counts role slots groups published gone left begun session log
+with_shut role slots groups published gone left begun session log is none all =
+    subst (λ (x : Option NetSession). Counts role slots groups published gone left begun x log) (sym is)
+    (subst (λ (x : Option SessionLog). Counts role slots groups published gone left begun None x) (sym none) all)
+
+-- NOTHING OF THE SESSION IS HELD
+none_left : (own : Bool) → left_of own [] ≡ None
+none_left true = refl
+none_left false = refl
+
+pub empty_unsaid : (s : NetEndState) → s.link.to_send ≡ [] → unsaid s ≡ None
+empty_unsaid s is = ap (left_of (is_none s.handshake.owed)) is ∙ none_left (is_none s.handshake.owed)
+
+-- THE FRAMES, of which some leave
+pub frames_leave : (n : ℕ) (frames queue given : List (List ℕ)) (gone : ℕ) → n ≤ length frames → frames ++ queue ≡ drop gone given → drop n frames ++ queue ≡ drop (gone + n) given
+frames_leave n frames queue given gone few is =
+    sym (drop-append-le n frames queue few) ∙ ap (drop n) is ∙ drop-drop n gone given
+
+pub gone_within : (n : ℕ) (frames queue given : List (List ℕ)) (gone : ℕ) → n ≤ length frames → gone ≤ length given → frames ++ queue ≡ drop gone given → gone + n ≤ length given
+gone_within n frames queue given gone few within is =
+    let long : length (frames ++ queue) ≡ length (drop gone given) = ap length is in
+    omega (arith, few, within, long, length-append frames queue, length-drop gone given)
+
+-- an end in session that holds no message of it, and from which some frames left
+pub end_from : (role : Role) (slots : ℕ) (queue : List (List ℕ)) (s t : NetEndState) (l : EndLog) (q : NetSession) (v : SessionLog) (n : ℕ) → EndCounts role slots queue s l
+    → t.slots ≡ s.slots → t.frames ≡ drop n s.frames → n ≤ length s.frames → t.next_id ≡ s.next_id → GuestGroups role t.groups → t.session ≡ Some q → unsaid t ≡ None
+    → RingCounts q l.published (l.gone + n) v → PeerCounts slots q v → GuestCounts role q t.groups v → AnswersRightly q.reply
+    → EndCounts role slots queue t (record l { session = Some v; gone = l.gone + n })
+end_from role slots queue s t l q v n counts same frames few next groups session left ring peer guest reply = record {
+  slots_is = same ∙ counts.slots_is;
+  frames = ap (λ (x : List (List ℕ)). x ++ queue) frames ∙ frames_leave n s.frames queue l.given l.gone few counts.frames;
+  gone = gone_within n s.frames queue l.given l.gone few counts.gone counts.frames;
+  ids = ap (λ (x : ℕ). x + length queue) next ∙ counts.ids;
+  groups = groups;
+  session = with_open role slots t.groups l.published (l.gone + n) (unsaid t) t.link.begun t.session q v session
+      (subst (λ (x : Option (List ℕ)). SessionCounts role slots t.groups l.published (l.gone + n) x t.link.begun q v) (sym left)
+      (record { right = tt; ring = ring; peer = peer; guest = guest; reply = reply }));
+}
+
+-- the guest's counts speak of few fields
+pub guest_same : (role : Role) (p q : NetSession) (groups now : List (List ℕ)) (v w : SessionLog) → GuestCounts role p groups v → now ≡ groups → q.untold ≡ p.untold → q.telling ≡ p.telling
+    → w.membership ≡ v.membership → w.told ≡ v.told → GuestCounts role q now w
+guest_same Responder p q groups now v w counts same untold telling membership told = tt
+guest_same Initiator p q groups now v w counts same untold telling membership told =
+    subst (λ (x : List (List ℕ)). GroupCounts q x w) (sym same)
+    (record {
+      named = λ is. membership ∙ counts.named (sym untold ∙ is);
+      behind = λ is. subst (λ (x : Option (List (List ℕ))). IsBehind x groups) (sym membership) (counts.behind (sym untold ∙ is));
+      waits = λ is. let both = counts.waits (sym telling ∙ is) in (told ∙ both.0, ap (λ (x : Option (List (List ℕ))). is_some x) membership ∙ both.1);
+      answered = λ is fresh. told ∙ counts.answered (sym telling ∙ is) (sym untold ∙ fresh);
+    })
+
+-- WHAT IS SAID changes none of these
+pub said_published : (k : Spoken) (message : List ℕ) (v : SessionLog) → (said_kind k message v).published ≡ v.published
+said_published RangeInfo message v = refl
+said_published RangeAck message v = refl
+said_published GroupsInfo message v = refl
+said_published GroupsAck message v = refl
+said_published Other message v = refl
+
+pub said_seen : (k : Spoken) (message : List ℕ) (v : SessionLog) → (said_kind k message v).seen ≡ v.seen
+said_seen RangeInfo message v = refl
+said_seen RangeAck message v = refl
+said_seen GroupsInfo message v = refl
+said_seen GroupsAck message v = refl
+said_seen Other message v = refl
+
+pub left_published : (left : Option (List ℕ)) (v : SessionLog) → (said_in left v).published ≡ v.published
+left_published None v = refl
+left_published (Some message) v = said_published (spoken message) message v
+
+pub left_seen : (left : Option (List ℕ)) (v : SessionLog) → (said_in left v).seen ≡ v.seen
+left_seen None v = refl
+left_seen (Some message) v = said_seen (spoken message) message v

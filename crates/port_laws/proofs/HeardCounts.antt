@@ -1,0 +1,229 @@
+-- A message of its session that an end takes is counted by its log as the end counts it.
+use Rattle.std.proofs.Common.{◌≡◌, ℕ, ◌+◌, ◌-◌, ◌≤◌, true, false, Option, Some, None, List, [], length, drop, refl, sym, subst, ap, ◌∙◌, inl, inr, arith}
+use Rattle.std.specs.Prelude.{◌%◌}
+use Rattle.ldc_packet.specs.declared.packet.Subtype.{Subtype}
+use Rattle.ldc_packet.specs.declared.packet.Subtype.TheVariants.{Ack, Info}
+use Rattle.ldc_packet.specs.Spelling.{subtype_code}
+use Rattle.ldc_link.specs.declared.phase.Role.{Role}
+use Rattle.ldc_link.specs.declared.phase.Role.TheVariants.{Initiator, Responder}
+use Rattle.ldc_link.specs.LinkState.{LinkState}
+use Rattle.vio_handshake.specs.Rules.{is_declined}
+use Rattle.vio_tag.specs.declared.message.Message.{Message}
+use Rattle.vio_tag.specs.declared.message.MsgBody.{MsgBody}
+use Rattle.vio_tag.specs.declared.message.MsgBody.TheVariants.{DringData, DringUnreg, Mcast, Plain}
+use Rattle.vio_tag.specs.Form.{HasForm, IsWellFormed}
+use Rattle.vio_tag.specs.Spelling.{SpellsBody, SpellsMessage, envelope_code}
+use Rattle.channel_model.specs.Messages.{end_of, start_of}
+use Rattle.channel_model.specs.Ranges.{range_length, wrapped}
+use Rattle.port_model.proofs.Refuting.{false_true}
+use Rattle.port_model.specs.EndLog.{EndLog, SessionLog, acked_by, acked_in, change, heard_in, heard_kind, hears_log, range_of}
+use Rattle.port_model.specs.FramesStand.{CountsStand, FramesStand}
+use Rattle.port_model.specs.NetEndState.{Activity, NetEndState, NetSession}
+use Rattle.port_model.specs.NetEndTaking.{active, replying}
+use Rattle.port_model.specs.RuleFacts.{IfOpen}
+use Rattle.port_model.specs.Spoken.{GroupsAck, GroupsInfo, Other, RangeAck, RangeInfo, Spoken, spoken, spoken_by}
+use Rattle.port_laws.specs.Counted.{ActiveCounts, AnswersRightly, EndCounts, GroupCounts, GuestCounts, GuestGroups, IsBehind, LastCounts, PeerCounts, RingCounts, SessionCounts, unsaid}
+use Rattle.port_laws.proofs.EndCounting.{OpenCounts, empty_unsaid, end_from, guest_same, open_counts}
+use Rattle.port_laws.proofs.LettingGo.{spoken_same}
+use Rattle.port_laws.proofs.MessageDoes.{Acks, Asks, Declines, MessageDoes, Names, Told}
+
+-- THE KIND of a message by its fields
+spoken_of : (bytes : List ℕ) (m : Message) (s : Subtype) (b : MsgBody) → SpellsMessage bytes m → m.subtype ≡ s → m.body ≡ b → spoken bytes ≡ spoken_by (envelope_code b) (subtype_code s)
+spoken_of bytes m s b spells kind body =
+    spoken_same bytes m spells ∙ ap (λ (x : MsgBody). spoken_by (envelope_code x) (subtype_code m.subtype)) body ∙ ap (λ (x : Subtype). spoken_by (envelope_code b) (subtype_code x)) kind
+
+declined_kind : (s : Subtype) (b : MsgBody) → HasForm b → is_declined s b ≡ true → spoken_by (envelope_code b) (subtype_code s) ≡ Other
+declined_kind Info (DringUnreg ident) form is = refl
+declined_kind Info (Plain envelope) (inl form) is = ap (λ (n : ℕ). spoken_by n 1) form
+declined_kind Info (Plain envelope) (inr form) is = ap (λ (n : ℕ). spoken_by n 1) form
+declined_kind s b form is = false_true is
+
+-- what the log makes of a message of a kind
+abbrev heard_as : ℕ → List ℕ → SessionLog → EndLog → Spoken → EndLog
+heard_as slots bytes v l k = record l { session = Some (heard_kind slots k bytes v); gone = l.gone + acked_by slots k bytes }
+
+heard_log : (slots : ℕ) (bytes : List ℕ) (v : SessionLog) (l : EndLog) (k : Spoken) (P : EndLog → Type 0) → l.session ≡ Some v → spoken bytes ≡ k → P (heard_as slots bytes v l k)
+    → P (hears_log slots (Some bytes) l)
+heard_log slots bytes v l k P is kind holds =
+    subst (λ (x : Option SessionLog). P (record l { session = change (heard_in slots (Some bytes)) x; gone = l.gone + acked_in slots (Some bytes) x })) (sym is)
+    (subst (λ (x : Spoken). P (heard_as slots bytes v l x)) (sym kind) holds)
+
+-- no frames leave
+ring_same : (p q : NetSession) (published gone : ℕ) (v w : SessionLog) → RingCounts p published gone v → q.base ≡ p.base → q.published ≡ p.published → q.seen ≡ p.seen → q.infos ≡ p.infos
+    → q.asking ≡ p.asking → w.published ≡ v.published → w.seen ≡ v.seen → w.infos ≡ v.infos → w.asking ≡ v.asking → RingCounts q published (gone + 0) w
+ring_same p q published gone v w ring base all seen infos asking here seen_here infos_here asking_here = record {
+  all = omega (arith, ring.all, base, all);
+  left = omega (arith, ring.left, base, seen);
+  here = here ∙ ring.here ∙ sym all;
+  seen = seen_here ∙ ring.seen ∙ sym seen;
+  infos = infos_here ∙ ring.infos ∙ sym infos;
+  asking = asking_here ∙ ring.asking ∙ sym asking;
+}
+
+active_none : (slots : ℕ) (v : SessionLog) (activity : Option Activity) → activity ≡ None → ActiveCounts slots v activity → (v.asked ≡ v.acks) × (v.answered ≡ v.taken)
+active_none slots v activity is counts = subst (ActiveCounts slots v) is counts
+
+groups_as : (role : Role) (groups now : List (List ℕ)) → now ≡ groups → GuestGroups role groups → GuestGroups role now
+groups_as role groups now is are = subst (GuestGroups role) (sym is) are
+
+-- EACH KIND
+asks_counts : (role : Role) (slots : ℕ) (queue : List (List ℕ)) (s t : NetEndState) (l : EndLog) (p : NetSession) (v : SessionLog) (bytes : List ℕ) (seq start : ℕ) → EndCounts role slots queue s l
+    → SessionCounts role slots s.groups l.published l.gone None s.link.begun p v → p.active ≡ None → unsaid t ≡ None → p.place ≡ start
+    → t.slots ≡ s.slots → t.frames ≡ s.frames → t.next_id ≡ s.next_id → t.groups ≡ s.groups → t.session ≡ Some (active p seq start) → EndCounts role slots queue t (heard_as slots bytes v l RangeInfo)
+asks_counts role slots queue s t l p v bytes seq start counts opened none left place same frames next groups session =
+    let before = active_none slots v p.active none opened.peer.active in
+    end_from role slots queue s t l (active p seq start) (heard_kind slots RangeInfo bytes v) 0 counts same frames (omega arith) next (groups_as role s.groups t.groups groups counts.groups)
+    session left (ring_same p (active p seq start) l.published l.gone v (heard_kind slots RangeInfo bytes v) opened.ring refl refl refl refl refl refl refl refl refl)
+    (record {
+      seq = asks_seq p.seq v.asked opened.peer.seq;
+      place = opened.peer.place;
+      active = (ap (λ (x : ℕ). x + 1) before.0, sym place ∙ opened.peer.place ∙ ap (λ (x : ℕ). x % slots) (sym before.1), before.1);
+    })
+    (guest_same role p (active p seq start) s.groups t.groups v (heard_kind slots RangeInfo bytes v) opened.guest groups refl refl refl refl) opened.reply
+  where
+    asks_seq : (n asked : ℕ) → n ≡ wrapped (asked + 1) → wrapped (n + 1) ≡ wrapped (asked + 1 + 1)
+    asks_seq n asked is = omega (arith, is)
+
+-- the session after an ACK of so many slots
+abbrev acked_session : NetSession → ℕ → NetSession
+acked_session p count = record p { seen = p.seen + count; asking = false }
+
+acks_counts : (role : Role) (slots : ℕ) (queue : List (List ℕ)) (s t : NetEndState) (l : EndLog) (p : NetSession) (v : SessionLog) (bytes : List ℕ) (count : ℕ) → EndCounts role slots queue s l
+    → SessionCounts role slots s.groups l.published l.gone None s.link.begun p v → unsaid t ≡ None → range_of slots bytes ≡ count → count ≤ length s.frames
+    → t.slots ≡ s.slots → t.frames ≡ drop count s.frames → t.next_id ≡ s.next_id → t.groups ≡ s.groups → t.session ≡ Some (acked_session p count)
+    → EndCounts role slots queue t (heard_as slots bytes v l RangeAck)
+acks_counts role slots queue s t l p v bytes count counts opened left range few same frames next groups session =
+    let kept : EndCounts role slots queue t (record l { session = Some (record v { seen = v.seen + count; asking = false }); gone = l.gone + count }) =
+    end_from role slots queue s t l (acked_session p count) (record v { seen = v.seen + count; asking = false }) count counts same frames few next (groups_as role s.groups t.groups groups counts.groups) session left
+    (record {
+      all = opened.ring.all;
+      left = omega (arith, opened.ring.left);
+      here = opened.ring.here;
+      seen = ap (λ (x : ℕ). x + count) opened.ring.seen;
+      infos = opened.ring.infos;
+      asking = refl;
+    })
+    (record { seq = opened.peer.seq; place = opened.peer.place; active = opened.peer.active })
+    (guest_same role p (acked_session p count) s.groups t.groups v (record v { seen = v.seen + count; asking = false }) opened.guest groups refl refl refl refl) opened.reply in
+    subst (λ (n : ℕ). EndCounts role slots queue t (record l { session = Some (record v { seen = v.seen + n; asking = false }); gone = l.gone + n })) (sym range) kept
+
+guest_free : (role : Role) (p : NetSession) (groups : List (List ℕ)) (v : SessionLog) → role ≡ Responder → GuestCounts role p groups v
+guest_free role p groups v is = subst (λ (x : Role). GuestCounts x p groups v) (sym is) tt
+
+groups_free : (role : Role) (groups : List (List ℕ)) → role ≡ Responder → GuestGroups role groups
+groups_free role groups is = subst (λ (x : Role). GuestGroups x groups) (sym is) tt
+
+peer_same : (slots : ℕ) (p q : NetSession) (v w : SessionLog) → PeerCounts slots p v → q.seq ≡ p.seq → q.place ≡ p.place → q.active ≡ p.active → w.asked ≡ v.asked → w.acks ≡ v.acks → w.taken ≡ v.taken
+    → w.answered ≡ v.answered → PeerCounts slots q w
+peer_same slots p q v w peer seq place activity asked acks taken answered = record {
+  seq = seq ∙ peer.seq ∙ ap (λ (n : ℕ). wrapped (n + 1)) (sym asked);
+  place = place ∙ peer.place ∙ ap (λ (n : ℕ). n % slots) (sym taken);
+  active = subst (ActiveCounts slots w) (sym activity) (same_active p.active peer.active);
+}
+  where
+    same_active : (a : Option Activity) → ActiveCounts slots v a → ActiveCounts slots w a
+    same_active None counts = (asked ∙ counts.0 ∙ sym acks, answered ∙ counts.1 ∙ sym taken)
+    same_active (Some a) counts =
+        (asked ∙ counts.0 ∙ ap (λ (n : ℕ). n + 1) (sym acks), counts.1 ∙ ap (λ (n : ℕ). n % slots) (sym answered), same_last a.last counts.2)
+      where
+        same_last : (last : Option ℕ) → LastCounts slots v last → LastCounts slots w last
+        same_last None is = answered ∙ is ∙ sym taken
+        same_last (Some n) is = (omega (arith, is.0, answered, taken), is.1 ∙ ap (λ (n : ℕ). (n - 1) % slots) (sym taken))
+
+names_counts : (role : Role) (slots : ℕ) (queue : List (List ℕ)) (s t : NetEndState) (l : EndLog) (p q : NetSession) (v : SessionLog) (bytes : List ℕ) → EndCounts role slots queue s l
+    → SessionCounts role slots s.groups l.published l.gone None s.link.begun p v → unsaid t ≡ None → role ≡ Responder → q ≡ record p { reply = q.reply } → AnswersRightly q.reply
+    → t.slots ≡ s.slots → t.frames ≡ s.frames → t.next_id ≡ s.next_id → t.session ≡ Some q → EndCounts role slots queue t (heard_as slots bytes v l GroupsInfo)
+names_counts role slots queue s t l p q v bytes counts opened left hub is answer same frames next session =
+    end_from role slots queue s t l q (heard_kind slots GroupsInfo bytes v) 0 counts same frames (omega arith) next (groups_free role t.groups hub) session left
+    (ring_same p q l.published l.gone v (heard_kind slots GroupsInfo bytes v) opened.ring (ap (λ (x : NetSession). x.base) is) (ap (λ (x : NetSession). x.published) is)
+    (ap (λ (x : NetSession). x.seen) is) (ap (λ (x : NetSession). x.infos) is) (ap (λ (x : NetSession). x.asking) is) refl refl refl refl)
+    (peer_same slots p q v (heard_kind slots GroupsInfo bytes v) opened.peer (ap (λ (x : NetSession). x.seq) is) (ap (λ (x : NetSession). x.place) is) (ap (λ (x : NetSession). x.active) is) refl refl refl refl)
+    (guest_free role q t.groups (heard_kind slots GroupsInfo bytes v) hub) answer
+
+guest_told : (role : Role) (p : NetSession) (groups now : List (List ℕ)) (v w : SessionLog) → GuestCounts role p groups v → now ≡ groups → w.membership ≡ v.membership → w.told ≡ true
+    → GuestCounts role (record p { telling = false }) now w
+guest_told Responder p groups now v w counts same membership told = tt
+guest_told Initiator p groups now v w counts same membership told =
+    subst (λ (x : List (List ℕ)). GroupCounts (record p { telling = false }) x w) (sym same)
+    (record {
+      named = λ is. membership ∙ counts.named is;
+      behind = λ is. subst (λ (x : Option (List (List ℕ))). IsBehind x groups) (sym membership) (counts.behind is);
+      waits = λ is. false_true is;
+      answered = λ is fresh. told;
+    })
+
+told_counts : (role : Role) (slots : ℕ) (queue : List (List ℕ)) (s t : NetEndState) (l : EndLog) (p : NetSession) (v : SessionLog) (bytes : List ℕ) → EndCounts role slots queue s l
+    → SessionCounts role slots s.groups l.published l.gone None s.link.begun p v → unsaid t ≡ None
+    → t.slots ≡ s.slots → t.frames ≡ s.frames → t.next_id ≡ s.next_id → t.groups ≡ s.groups → t.session ≡ Some (record p { telling = false })
+    → EndCounts role slots queue t (heard_as slots bytes v l GroupsAck)
+told_counts role slots queue s t l p v bytes counts opened left same frames next groups session =
+    end_from role slots queue s t l (record p { telling = false }) (heard_kind slots GroupsAck bytes v) 0 counts same frames (omega arith) next (groups_as role s.groups t.groups groups counts.groups) session left
+    (ring_same p (record p { telling = false }) l.published l.gone v (heard_kind slots GroupsAck bytes v) opened.ring refl refl refl refl refl refl refl refl refl)
+    (peer_same slots p (record p { telling = false }) v (heard_kind slots GroupsAck bytes v) opened.peer refl refl refl refl refl refl refl)
+    (guest_told role p s.groups t.groups v (heard_kind slots GroupsAck bytes v) opened.guest groups refl refl) opened.reply
+
+-- a message that is none of these, and no message
+pub stays_counts : (role : Role) (slots : ℕ) (queue : List (List ℕ)) (s t : NetEndState) (l : EndLog) (p : NetSession) (v : SessionLog) → EndCounts role slots queue s l
+    → SessionCounts role slots s.groups l.published l.gone None s.link.begun p v → unsaid t ≡ None
+    → t.slots ≡ s.slots → t.frames ≡ s.frames → t.next_id ≡ s.next_id → t.groups ≡ s.groups → t.session ≡ Some p
+    → EndCounts role slots queue t (record l { session = Some v; gone = l.gone + 0 })
+stays_counts role slots queue s t l p v counts opened left same frames next groups session =
+    end_from role slots queue s t l p v 0 counts same frames (omega arith) next (groups_as role s.groups t.groups groups counts.groups) session left
+    (ring_same p p l.published l.gone v v opened.ring refl refl refl refl refl refl refl refl refl) opened.peer
+    (guest_same role p p s.groups t.groups v v opened.guest groups refl refl refl refl) opened.reply
+
+-- A MESSAGE
+pub record Hearing (role : Role) (slots : ℕ) (queue : List (List ℕ)) (s : NetEndState) (l : EndLog) (p : NetSession) : Type 0 where
+  pub counts : EndCounts role slots queue s l
+  pub stands : FramesStand s
+  pub session : s.session ≡ Some p
+  pub idle : p.active ≡ None
+  pub empty : s.link.to_send ≡ []
+
+opened_of : (role : Role) (slots : ℕ) (queue : List (List ℕ)) (s : NetEndState) (l : EndLog) (p : NetSession) → Hearing role slots queue s l p
+    → OpenCounts role slots s.groups l.published l.gone None s.link.begun p l.session
+opened_of role slots queue s l p hearing =
+    subst (λ (x : Option (List ℕ)). OpenCounts role slots s.groups l.published l.gone x s.link.begun p l.session) (empty_unsaid s hearing.empty)
+    (open_counts role slots queue s l p hearing.counts hearing.session)
+
+pub heard_counts : (role : Role) (slots : ℕ) (queue : List (List ℕ)) (s : NetEndState) (l : EndLog) (p : NetSession) (memory bytes : List ℕ) (m : Message) (t : NetEndState) (new : List ℕ)
+    → Hearing role slots queue s l p → IsWellFormed m → SpellsMessage bytes m → MessageDoes role s p memory m.subtype m.body t new → EndCounts role slots queue t (hears_log slots (Some bytes) l)
+heard_counts role slots queue s l p memory bytes m t new hearing form spells does = by_kind does
+  where
+    opened_here : OpenCounts role slots s.groups l.published l.gone None s.link.begun p l.session
+    opened_here = opened_of role slots queue s l p hearing
+
+    left_of_same : t.link ≡ s.link → unsaid t ≡ None
+    left_of_same is = empty_unsaid t (ap (λ (x : LinkState). x.to_send) is ∙ hearing.empty)
+
+    as_kind : (k : Spoken) → spoken bytes ≡ k → EndCounts role slots queue t (heard_as slots bytes opened_here.of_log l k) → EndCounts role slots queue t (hears_log slots (Some bytes) l)
+    as_kind k kind counts = heard_log slots bytes opened_here.of_log l k (EndCounts role slots queue t) opened_here.is kind counts
+
+    by_kind : MessageDoes role s p memory m.subtype m.body t new → EndCounts role slots queue t (hears_log slots (Some bytes) l)
+    by_kind (Asks seq ident start end state kind body place stays is) =
+        as_kind RangeInfo (spoken_of bytes m Info (DringData seq ident start end state) spells kind body)
+        (asks_counts role slots queue s t l p opened_here.of_log bytes seq start hearing.counts opened_here.counts hearing.idle (left_of_same (ap (λ (x : NetEndState). x.link) is)) place
+        (ap (λ (x : NetEndState). x.slots) is) (ap (λ (x : NetEndState). x.frames) is) (ap (λ (x : NetEndState). x.next_id) is) (ap (λ (x : NetEndState). x.groups) is) (ap (λ (x : NetEndState). x.session) is))
+    by_kind (Acks seq ident start end state kind body begins inside most undone stays is) =
+        let fields : SpellsBody bytes (DringData seq ident start end state) = subst (SpellsBody bytes) body spells.body in
+        let stood : CountsStand s p = subst (λ (x : Option NetSession). IfOpen x (CountsStand s)) hearing.session hearing.stands.session in
+        let range : range_of slots bytes ≡ range_length s.slots start end =
+        ap (λ (n : ℕ). range_length n (start_of bytes) (end_of bytes)) (sym hearing.counts.slots_is) ∙ ap (λ (n : ℕ). range_length s.slots n (end_of bytes)) (sym fields.2)
+        ∙ ap (λ (n : ℕ). range_length s.slots start n) (sym fields.3) in
+        as_kind RangeAck (spoken_of bytes m Ack (DringData seq ident start end state) spells kind body)
+        (acks_counts role slots queue s t l p opened_here.of_log bytes (range_length s.slots start end) hearing.counts opened_here.counts (left_of_same (ap (λ (x : NetEndState). x.link) is)) range
+        (omega (arith, most, stood.held)) (ap (λ (x : NetEndState). x.slots) is) (ap (λ (x : NetEndState). x.frames) is) (ap (λ (x : NetEndState). x.next_id) is) (ap (λ (x : NetEndState). x.groups) is)
+        (ap (λ (x : NetEndState). x.session) is))
+    by_kind (Names set count addresses groups reply answer hub kind body stays is) =
+        as_kind GroupsInfo (spoken_of bytes m Info (Mcast set count addresses) spells kind body)
+        (names_counts role slots queue s t l p (replying reply p) opened_here.of_log bytes hearing.counts opened_here.counts (left_of_same (ap (λ (x : NetEndState). x.link) is)) hub refl answer
+        (ap (λ (x : NetEndState). x.slots) is) (ap (λ (x : NetEndState). x.frames) is) (ap (λ (x : NetEndState). x.next_id) is) (ap (λ (x : NetEndState). x.session) is))
+    by_kind (Told set count addresses guest kind body telling stays is) =
+        as_kind GroupsAck (spoken_of bytes m Ack (Mcast set count addresses) spells kind body)
+        (told_counts role slots queue s t l p opened_here.of_log bytes hearing.counts opened_here.counts (left_of_same (ap (λ (x : NetEndState). x.link) is))
+        (ap (λ (x : NetEndState). x.slots) is) (ap (λ (x : NetEndState). x.frames) is) (ap (λ (x : NetEndState). x.next_id) is) (ap (λ (x : NetEndState). x.groups) is) (ap (λ (x : NetEndState). x.session) is))
+    by_kind (Declines h declined stays is) =
+        as_kind Other (spoken_same bytes m spells ∙ declined_kind m.subtype m.body form declined)
+        (stays_counts role slots queue s t l p opened_here.of_log hearing.counts opened_here.counts (left_of_same (ap (λ (x : NetEndState). x.link) is))
+        (ap (λ (x : NetEndState). x.slots) is) (ap (λ (x : NetEndState). x.frames) is) (ap (λ (x : NetEndState). x.next_id) is) (ap (λ (x : NetEndState). x.groups) is)
+        (ap (λ (x : NetEndState). x.session) is ∙ hearing.session))

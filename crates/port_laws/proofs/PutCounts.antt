@@ -1,0 +1,359 @@
+-- A packet that an end puts is counted by its log as the end counts it, and where it ends a message of the session, that was right to say.
+use Rattle.std.proofs.Common.{◌≡◌, ℕ, ◌+◌, ◌<◌, ◌≤◌, Bool, true, false, Option, Some, None, List, [], ◌∷◌, ◌++◌, length, drop, refl, sym, subst, ap, ◌∙◌, arith, length-append, length-drop}
+use Rattle.std.specs.Prelude.{◌&&◌, is_none, is_some, not}
+use Rattle.std.proofs.lemmas.Bool.{leb-false, leb-true}
+use Rattle.std.proofs.lemmas.List.{drop_all, take_all}
+use Rattle.std.proofs.Math.Nat.{zero-mod}
+use Rattle.ldc_link.specs.declared.phase.Role.{Role}
+use Rattle.ldc_link.specs.declared.phase.Role.TheVariants.{Initiator, Responder}
+use Rattle.ldc_link.specs.LinkState.{LinkState, is_established, is_up}
+use Rattle.ldc_link.specs.Putting.{behind_put}
+use Rattle.ldc_queue.specs.Fragments.{fragment_at, is_part}
+use Rattle.ldc_queue.specs.Messages.{is_empty}
+use Rattle.ldc_queue.specs.Transcript.{Turn}
+use Rattle.vio_handshake.specs.declared.handshake.Handshake.{Handshake}
+use Rattle.vio_handshake.specs.declared.handshake.Phase.{Phase}
+use Rattle.vio_handshake.specs.declared.handshake.Phase.TheVariants.{PeerReadyTaken}
+use Rattle.vio_handshake.specs.Rules.{opens_by_put}
+use Rattle.channel_model.specs.EndPuts.{handshake_behind}
+use Rattle.channel_model.specs.Messages.{ended_by, whole_with}
+use Rattle.channel_model.specs.Sayings.{half_said}
+use Rattle.channel_laws.proofs.EndCases.{PutControl, PutHandshake, PutMore, PutOwn, PutReady, PutWhat, put_down}
+use Rattle.channel_laws.proofs.EndStanding.{holds_some}
+use Rattle.channel_laws.proofs.LinkCases.{behind_part}
+use Rattle.channel_laws.proofs.TurnCases.{SaysLast, SaysMore}
+use Rattle.channel_laws.specs.Cuts.{Carries, CarriesOwed, CarriesOwn}
+use Rattle.channel_laws.specs.Standing.{EndStands, is_open_in}
+use Rattle.port_model.proofs.Refuting.{false_true, none_some, true_false}
+use Rattle.port_model.specs.EndLog.{EndLog, SessionLog, change, opened_log, opens_log, said_in, said_kind, says_log}
+use Rattle.port_model.specs.NetEndPutting.{net_kind, net_opens, net_put, opened_by_put}
+use Rattle.port_model.specs.NetEndState.{NetEndState, NetSession, first_id, opened_net_end, opened_session}
+use Rattle.port_model.specs.Spoken.{Other, Spoken, spoken}
+use Rattle.port_laws.specs.Counted.{Counts, EndCounts, GuestCounts, HoldsRightly, SaysRightly, SessionCounts, UnsaidRight, left_of, unsaid}
+use Rattle.port_laws.specs.NetCore.{net_core}
+use Rattle.port_laws.proofs.EndCounting.{OpenCounts, ShutCounts, empty_unsaid, open_counts, shut_counts}
+use Rattle.port_laws.proofs.HandshakeKeeps.{HandshakeKeeps, OwesNoData, owed_other}
+
+-- A SESSION OPENS with nothing published, taken or told
+guest_opened : (role : Role) (base : ℕ) (groups : List (List ℕ)) (sid : ℕ) → GuestCounts role (opened_session base) groups (opened_log sid)
+guest_opened Responder base groups sid = tt
+guest_opened Initiator base groups sid = record { named = λ is. true_false is; behind = λ is. tt; waits = λ is. false_true is; answered = λ is fresh. true_false fresh }
+
+pub opened_counts : (role : Role) (slots : ℕ) (queue : List (List ℕ)) (s : NetEndState) (l : EndLog) (sid : ℕ) → EndCounts role slots queue s l → s.session ≡ None → s.link.to_send ≡ []
+    → EndCounts role slots queue (opened_net_end s) (opens_log true sid l)
+opened_counts role slots queue s l sid counts shut empty =
+    let gone : ShutCounts l.published l.gone l.session = shut_counts role slots queue s l counts shut in
+    let long : length (s.frames ++ queue) ≡ length (drop l.gone l.given) = ap length counts.frames in
+    let base : l.gone ≡ first_id s + 0 = omega (arith, counts.ids, counts.gone, long, length-append s.frames queue, length-drop l.gone l.given) in
+    let there : SessionCounts role slots s.groups l.published l.gone None s.link.begun (opened_session (first_id s)) (opened_log sid) =
+    record {
+      right = tt;
+      ring = record { all = gone.gone_all ∙ base; left = base; here = refl; seen = refl; infos = refl; asking = refl };
+      peer = record { seq = refl; place = sym (zero-mod slots); active = (refl, refl) };
+      guest = guest_opened role (first_id s) s.groups sid;
+      reply = tt;
+    } in
+    record {
+      slots_is = counts.slots_is;
+      frames = counts.frames;
+      gone = counts.gone;
+      ids = counts.ids;
+      groups = counts.groups;
+      session = subst (λ (x : Option (List ℕ)). SessionCounts role slots s.groups l.published l.gone x s.link.begun (opened_session (first_id s)) (opened_log sid)) (sym (empty_unsaid s empty)) there;
+    }
+
+-- THE PACKET ENDS A MESSAGE, or none
+pub ended_if : (part stop : Bool) (message : List ℕ) → part ≡ true → stop ≡ true → whole_with (part && stop) message ≡ Some message
+ended_if true true message one two = refl
+ended_if false stop message one two = false_true one
+ended_if true false message one two = false_true two
+
+ended_not : (part stop : Bool) (message : List ℕ) → stop ≡ false → whole_with (part && stop) message ≡ None
+ended_not true false message not_ = refl
+ended_not false stop message not_ = refl
+ended_not true true message not_ = true_false not_
+
+last_ended : (k : LinkState) (turns : List Turn) (packet : List ℕ) → SaysLast k turns packet → ended_by (half_said turns) packet ≡ Some (half_said turns ++ k.to_send)
+last_ended k turns packet last =
+    let few : length k.to_send ≤ 56 = leb-true (length k.to_send) 56 last.short in
+    ended_if (is_part packet) (fragment_at packet).stop (half_said turns ++ (fragment_at packet).bytes) last.part.part (last.part.stops ∙ last.short)
+    ∙ ap (λ (xs : List ℕ). Some (half_said turns ++ xs)) (last.part.carries ∙ take_all 56 k.to_send few)
+
+more_ended : (k : LinkState) (turns : List Turn) (packet : List ℕ) → SaysMore k turns packet → ended_by (half_said turns) packet ≡ None
+more_ended k turns packet more =
+    ended_not (is_part packet) (fragment_at packet).stop (half_said turns ++ (fragment_at packet).bytes) (more.part.stops ∙ more.long)
+
+-- WHAT IS SAID is counted as what was held
+said_counts : (role : Role) (slots : ℕ) (groups : List (List ℕ)) (published gone : ℕ) (left ended : Option (List ℕ)) (b c : Bool) (session : Option NetSession) (log : Option SessionLog)
+    → ((p : NetSession) (v : SessionLog) → session ≡ Some p → log ≡ Some v → said_in ended v ≡ said_in left v) → Counts role slots groups published gone left b session log
+    → Counts role slots groups published gone None c session (change (said_in ended) log)
+said_counts role slots groups published gone left ended b c None None same counts = counts
+said_counts role slots groups published gone left ended b c (Some p) (Some v) same counts =
+    let is : said_in ended v ≡ said_in left v = same p v refl refl in
+    subst (λ (x : SessionLog). SessionCounts role slots groups published gone None c p x) (sym is)
+    (record { right = tt; ring = counts.ring; peer = counts.peer; guest = counts.guest; reply = counts.reply })
+said_counts role slots groups published gone left ended b c None (Some v) same counts = absurd counts
+said_counts role slots groups published gone left ended b c (Some p) None same counts = absurd counts
+
+-- RIGHT TO SAY is what the packet ends, as the log stood before it
+abbrev pub SaidRight : ℕ → List (List ℕ) → EndLog → Option (List ℕ) → Type 0
+SaidRight slots groups l ended = (message : List ℕ) (v : SessionLog) → ended ≡ Some message → l.session ≡ Some v → SaysRightly slots groups v message (spoken message)
+
+pub record PutCounts (role : Role) (slots : ℕ) (queue : List (List ℕ)) (held t : NetEndState) (l : EndLog) (turns : List Turn) (packet : List ℕ) (opens : Bool) (sid : ℕ) : Type 0 where
+  pub counts : EndCounts role slots queue t (opens_log opens sid (says_log (ended_by (half_said turns) packet) l))
+  pub right : SaidRight slots held.groups l (ended_by (half_said turns) packet)
+
+-- the end after the packet, but for a session that opens
+abbrev put_end : NetEndState → NetEndState
+put_end held = record held { link = behind_put held.link; handshake = handshake_behind (net_kind held) held.handshake }
+
+shut_put : (role : Role) (opens : Bool) (s : NetEndState) → opens ≡ false → opened_by_put role opens s ≡ s
+shut_put Initiator false s is = refl
+shut_put Responder false s is = refl
+shut_put role true s is = true_false is
+
+none_right : (slots : ℕ) (groups : List (List ℕ)) (l : EndLog) (ended : Option (List ℕ)) → ended ≡ None → SaidRight slots groups l ended
+none_right slots groups l ended none message v is log = none_some message (sym none ∙ is)
+
+-- no session opens
+quiet_put : (role : Role) (slots : ℕ) (queue : List (List ℕ)) (held : NetEndState) (l : EndLog) (turns : List Turn) (packet : List ℕ) (sid : ℕ) (ended : Option (List ℕ)) → EndCounts role slots queue held l
+    → net_opens held ≡ false → ended_by (half_said turns) packet ≡ ended
+    → ((p : NetSession) (v : SessionLog) → held.session ≡ Some p → l.session ≡ Some v → said_in ended v ≡ said_in (unsaid held) v)
+    → unsaid (put_end held) ≡ None → SaidRight slots held.groups l ended → PutCounts role slots queue held (net_put role held) l turns packet (net_opens held) sid
+quiet_put role slots queue held l turns packet sid ended counts shut is same left right =
+    let there : EndCounts role slots queue (put_end held) (says_log ended l) =
+    record {
+      slots_is = counts.slots_is;
+      frames = counts.frames;
+      gone = counts.gone;
+      ids = counts.ids;
+      groups = counts.groups;
+      session = subst (λ (x : Option (List ℕ)). Counts role slots held.groups l.published l.gone x (put_end held).link.begun held.session (change (said_in ended) l.session)) (sym left)
+          (said_counts role slots held.groups l.published l.gone (unsaid held) ended held.link.begun (put_end held).link.begun held.session l.session same counts.session);
+    } in
+    let put_is : net_put role held ≡ put_end held = shut_put role (net_opens held) (put_end held) shut in
+    record {
+      counts = subst (λ (b : Bool). EndCounts role slots queue (net_put role held) (opens_log b sid (says_log (ended_by (half_said turns) packet) l))) (sym shut)
+          (subst (λ (x : Option (List ℕ)). EndCounts role slots queue (net_put role held) (says_log x l)) (sym is)
+          (subst (λ (x : NetEndState). EndCounts role slots queue x (says_log ended l)) (sym put_is) there));
+      right = subst (SaidRight slots held.groups l) (sym is) right;
+    }
+
+-- its link holds nothing then, or a message of the handshake
+put_empty : (role : Role) (held : NetEndState) → net_opens held ≡ false → (net_core role (net_put role held)).link.to_send ≡ [] → unsaid (put_end held) ≡ None
+put_empty role held shut empty =
+    let put_is : net_put role held ≡ put_end held = shut_put role (net_opens held) (put_end held) shut in
+    empty_unsaid (put_end held) (sym (ap (λ (x : NetEndState). x.link.to_send) put_is) ∙ empty)
+
+short_left : (k : LinkState) (turns : List Turn) (packet : List ℕ) → SaysLast k turns packet → drop 56 k.to_send ≡ []
+short_left k turns packet last = drop_all 56 k.to_send (leb-true (length k.to_send) 56 last.short)
+
+-- a handshake whose message the link holds owes one
+owing_left : (own : Bool) (bytes : List ℕ) → own ≡ false → left_of own bytes ≡ None
+owing_left false bytes is = refl
+owing_left true bytes is = true_false is
+
+own_left : (own : Bool) (bytes : List ℕ) → own ≡ true → 1 ≤ length bytes → left_of own bytes ≡ Some bytes
+own_left true [] is some = absurd (omega (arith, some))
+own_left true (byte ∷ bytes) is some = refl
+own_left false bytes is some = false_true is
+
+-- PUT OF ITS OWN
+half_none : (begun : Bool) (half : List ℕ) → begun ≡ false → begun ≡ not (is_empty half) → half ≡ []
+half_none false [] is same = refl
+half_none false (byte ∷ half) is same = false_true same
+half_none true half is same = true_false is
+
+own_half : (role : Role) (slots : ℕ) (queue : List (List ℕ)) (held : NetEndState) (l : EndLog) (turns : List Turn) (p : NetSession) → EndCounts role slots queue held l
+    → EndStands role (net_core role held) turns → held.session ≡ Some p → unsaid held ≡ Some held.link.to_send → half_said turns ≡ []
+own_half role slots queue held l turns p counts stands session left =
+    let here : OpenCounts role slots held.groups l.published l.gone (unsaid held) held.link.begun p l.session = open_counts role slots queue held l p counts session in
+    let right : HoldsRightly slots held.groups held.link.begun here.of_log held.link.to_send =
+    subst (UnsaidRight slots held.groups held.link.begun here.of_log) left here.counts.right in
+    half_none held.link.begun (half_said turns) right.whole stands.link.cuts.begun
+
+put_own : (role : Role) (slots : ℕ) (queue : List (List ℕ)) (held : NetEndState) (l : EndLog) (turns : List Turn) (packet : List ℕ) (sid : ℕ) → EndCounts role slots queue held l
+    → EndStands role (net_core role held) turns → is_none held.handshake.owed ≡ true → net_opens held ≡ false → SaysLast held.link turns packet
+    → (net_core role (net_put role held)).link ≡ behind_part held.link → PutCounts role slots queue held (net_put role held) l turns packet (net_opens held) sid
+put_own role slots queue held l turns packet sid counts stands own shut last link =
+    let left : unsaid held ≡ Some held.link.to_send = own_left (is_none held.handshake.owed) held.link.to_send own last.some in
+    let ended : ended_by (half_said turns) packet ≡ Some (half_said turns ++ held.link.to_send) = last_ended held.link turns packet last in
+    let empty : (net_core role (net_put role held)).link.to_send ≡ [] = ap (λ (x : LinkState). x.to_send) link ∙ short_left held.link turns packet last in
+    quiet_put role slots queue held l turns packet sid (Some (half_said turns ++ held.link.to_send)) counts shut ended
+    (λ p v session log.
+    let none : half_said turns ≡ [] = own_half role slots queue held l turns p counts stands session left in
+    ap (λ (x : List ℕ). said_in (Some (x ++ held.link.to_send)) v) none ∙ ap (λ (x : Option (List ℕ)). said_in x v) (sym left))
+    (put_empty role held shut empty)
+    (λ message v is log. right message v is log left)
+  where
+    some_session : (session : Option NetSession) → held.session ≡ session → (v : SessionLog) → l.session ≡ Some v → (p : NetSession) × (held.session ≡ Some p)
+    some_session (Some p) is v log = (p, is)
+    some_session None is v log =
+        let none = shut_counts role slots queue held l counts is in none_some v (sym none.is ∙ log)
+
+    right : (message : List ℕ) (v : SessionLog) → Some (half_said turns ++ held.link.to_send) ≡ Some message → l.session ≡ Some v → unsaid held ≡ Some held.link.to_send
+        → SaysRightly slots held.groups v message (spoken message)
+    right message v is log left =
+        let there = some_session held.session refl v log in
+        let none : half_said turns ≡ [] = own_half role slots queue held l turns there.0 counts stands there.1 left in
+        let here : OpenCounts role slots held.groups l.published l.gone (unsaid held) held.link.begun there.0 l.session = open_counts role slots queue held l there.0 counts there.1 in
+        let same_log : here.of_log ≡ v = (let both : Some here.of_log ≡ Some v = sym here.is ∙ log in cc) in
+        let same : held.link.to_send ≡ message = (let both : Some held.link.to_send ≡ Some message = ap (λ (x : List ℕ). Some (x ++ held.link.to_send)) (sym none) ∙ is in cc) in
+        let rightly : HoldsRightly slots held.groups held.link.begun here.of_log held.link.to_send =
+        subst (UnsaidRight slots held.groups held.link.begun here.of_log) left here.counts.right in
+        subst (λ (x : List ℕ). SaysRightly slots held.groups v x (spoken x)) same
+        (subst (λ (x : SessionLog). SaysRightly slots held.groups x held.link.to_send (spoken held.link.to_send)) same_log rightly.right)
+
+-- A MESSAGE OF THE HANDSHAKE says nothing of the session
+other_right : (slots : ℕ) (groups : List (List ℕ)) (l : EndLog) (said : List ℕ) → spoken said ≡ Other → SaidRight slots groups l (Some said)
+other_right slots groups l said other message v is log =
+    let same : said ≡ message = cc in
+    subst (λ (x : List ℕ). SaysRightly slots groups v x (spoken x)) same (subst (SaysRightly slots groups v said) (sym other) tt)
+
+handshake_said : (role : Role) (held : NetEndState) (turns : List Turn) → EndStands role (net_core role held) turns → OwesNoData held.handshake.owed → is_none held.handshake.owed ≡ false
+    → is_up held.link ≡ true → 1 ≤ length held.link.to_send → spoken (half_said turns ++ held.link.to_send) ≡ Other
+handshake_said role held turns stands owes own up some =
+    let carried : CarriesOwed held.handshake (half_said turns ++ held.link.to_send) =
+    subst (λ (b : Bool). Carries b held.handshake (half_said turns ++ held.link.to_send)) own (stands.carries (holds_some held.link up some)) in
+    ap spoken carried.is ∙ owed_other carried.message (subst OwesNoData carried.owed owes)
+
+-- a session that opens wasn't open before
+opening_phase : (role : Role) (ph : Phase) → opens_by_put role ph ≡ true → (role ≡ Initiator) × (is_open_in ph ≡ false)
+opening_phase Initiator PeerReadyTaken is = (refl, refl)
+opening_phase Responder ph is = false_true is
+opening_phase Initiator ph is = false_true is
+
+not_some : (session : Option NetSession) → is_some session ≡ false → session ≡ None
+not_some None is = refl
+not_some (Some p) is = true_false is
+
+put_handshake : (role : Role) (slots : ℕ) (queue : List (List ℕ)) (held : NetEndState) (l : EndLog) (turns : List Turn) (packet : List ℕ) (sid : ℕ) → EndCounts role slots queue held l
+    → EndStands role (net_core role held) turns → OwesNoData held.handshake.owed → is_none held.handshake.owed ≡ false → is_up held.link ≡ true → SaysLast held.link turns packet
+    → (net_core role (net_put role held)).link ≡ behind_part held.link → net_opens held ≡ opens_by_put held.handshake.role held.handshake.phase
+    → PutCounts role slots queue held (net_put role held) l turns packet (net_opens held) sid
+put_handshake role slots queue held l turns packet sid counts stands owes own up last link opens = by_opens (net_opens held) refl
+  where
+    said : List ℕ
+    said = half_said turns ++ held.link.to_send
+
+    other : spoken said ≡ Other
+    other = handshake_said role held turns stands owes own up last.some
+
+    left : unsaid held ≡ None
+    left = owing_left (is_none held.handshake.owed) held.link.to_send own
+
+    same_said : (v : SessionLog) → said_in (Some said) v ≡ said_in (unsaid held) v
+    same_said v = ap (λ (k : Spoken). said_kind k said v) other ∙ ap (λ (x : Option (List ℕ)). said_in x v) (sym left)
+
+    empty : (net_core role (net_put role held)).link.to_send ≡ []
+    empty = ap (λ (x : LinkState). x.to_send) link ∙ short_left held.link turns packet last
+
+    opens_it : (r : Role) → role ≡ r → net_opens held ≡ true → PutCounts role slots queue held (net_put role held) l turns packet (net_opens held) sid
+    opens_it Responder role_is is =
+        let at = opening_phase held.handshake.role held.handshake.phase (sym opens ∙ is) in
+        let never : Initiator ≡ Responder = sym at.0 ∙ stands.handshake.role_is ∙ role_is in absurd (cc never)
+    opens_it Initiator role_is is =
+        let at = opening_phase held.handshake.role held.handshake.phase (sym opens ∙ is) in
+        let shut : held.session ≡ None = not_some held.session (stands.opened ∙ at.1) in
+        let put_is : net_put role held ≡ opened_net_end (put_end held) =
+        ap (λ (r : Role). opened_by_put r (net_opens held) (put_end held)) role_is ∙ ap (λ (b : Bool). opened_by_put Initiator b (put_end held)) is in
+        let none : (put_end held).link.to_send ≡ [] = sym (ap (λ (x : NetEndState). x.link.to_send) put_is) ∙ empty in
+        let ended : ended_by (half_said turns) packet ≡ Some said = last_ended held.link turns packet last in
+        let gone : ShutCounts l.published l.gone l.session = shut_counts role slots queue held l counts shut in
+        let there : EndCounts role slots queue (put_end held) (says_log (Some said) l) =
+        record {
+          slots_is = counts.slots_is;
+          frames = counts.frames;
+          gone = counts.gone;
+          ids = counts.ids;
+          groups = counts.groups;
+          session = subst (λ (x : Option (List ℕ)). Counts role slots held.groups l.published l.gone x (put_end held).link.begun held.session (change (said_in (Some said)) l.session))
+              (sym (empty_unsaid (put_end held) none))
+              (said_counts role slots held.groups l.published l.gone (unsaid held) (Some said) held.link.begun (put_end held).link.begun held.session l.session (λ p v one two. same_said v) counts.session);
+        } in
+        record {
+          counts = subst (λ (b : Bool). EndCounts role slots queue (net_put role held) (opens_log b sid (says_log (ended_by (half_said turns) packet) l))) (sym is)
+              (subst (λ (x : Option (List ℕ)). EndCounts role slots queue (net_put role held) (opens_log true sid (says_log x l))) (sym ended)
+              (subst (λ (x : NetEndState). EndCounts role slots queue x (opens_log true sid (says_log (Some said) l))) (sym put_is)
+              (opened_counts role slots queue (put_end held) (says_log (Some said) l) sid there shut none)));
+          right = subst (SaidRight slots held.groups l) (sym ended) (other_right slots held.groups l said other);
+        }
+
+    by_opens : (b : Bool) → net_opens held ≡ b → PutCounts role slots queue held (net_put role held) l turns packet (net_opens held) sid
+    by_opens true is = opens_it role refl is
+    by_opens false is =
+        quiet_put role slots queue held l turns packet sid (Some said) counts is (last_ended held.link turns packet last) (λ p v session log. same_said v) (put_empty role held is empty)
+        (other_right slots held.groups l said other)
+
+-- A PART THAT GOES ON is of the handshake: what is of the session takes one packet
+some_of : (session : Option NetSession) → is_some session ≡ true → (p : NetSession) × (session ≡ Some p)
+some_of (Some p) is = (p, refl)
+some_of None is = false_true is
+
+own_session : (role : Role) (held : NetEndState) (turns : List Turn) → EndStands role (net_core role held) turns → is_none held.handshake.owed ≡ true → is_up held.link ≡ true
+    → 1 ≤ length held.link.to_send → (p : NetSession) × (held.session ≡ Some p)
+own_session role held turns stands own up some =
+    let carried : CarriesOwn held.handshake (half_said turns ++ held.link.to_send) =
+    subst (λ (b : Bool). Carries b held.handshake (half_said turns ++ held.link.to_send)) own (stands.carries (holds_some held.link up some)) in
+    some_of held.session (stands.opened ∙ ap is_open_in carried.opened)
+
+own_short : (role : Role) (slots : ℕ) (queue : List (List ℕ)) (held : NetEndState) (l : EndLog) (turns : List Turn) → EndCounts role slots queue held l → EndStands role (net_core role held) turns
+    → is_none held.handshake.owed ≡ true → is_up held.link ≡ true → 1 ≤ length held.link.to_send → length held.link.to_send ≤ 56
+own_short role slots queue held l turns counts stands own up some =
+    let there = own_session role held turns stands own up some in
+    let left : unsaid held ≡ Some held.link.to_send = own_left (is_none held.handshake.owed) held.link.to_send own some in
+    let here : OpenCounts role slots held.groups l.published l.gone (unsaid held) held.link.begun there.0 l.session = open_counts role slots queue held l there.0 counts there.1 in
+    let right : HoldsRightly slots held.groups held.link.begun here.of_log held.link.to_send =
+    subst (UnsaidRight slots held.groups held.link.begun here.of_log) left here.counts.right in
+    right.short
+
+put_more : (role : Role) (slots : ℕ) (queue : List (List ℕ)) (held : NetEndState) (l : EndLog) (turns : List Turn) (packet : List ℕ) (sid : ℕ) → EndCounts role slots queue held l
+    → EndStands role (net_core role held) turns → is_up held.link ≡ true → net_opens held ≡ false → SaysMore held.link turns packet
+    → (net_core role (net_put role held)).handshake ≡ held.handshake → PutCounts role slots queue held (net_put role held) l turns packet (net_opens held) sid
+put_more role slots queue held l turns packet sid counts stands up shut more handshake = by_own (is_none held.handshake.owed) refl
+  where
+    long : 56 < length held.link.to_send
+    long = leb-false (length held.link.to_send) 56 more.long
+
+    put_is : net_put role held ≡ put_end held
+    put_is = shut_put role (net_opens held) (put_end held) shut
+
+    by_own : (own : Bool) → is_none held.handshake.owed ≡ own → PutCounts role slots queue held (net_put role held) l turns packet (net_opens held) sid
+    by_own true own =
+        let short = own_short role slots queue held l turns counts stands own up (omega (arith, long)) in
+        absurd (omega (arith, short, long))
+    by_own false own =
+        let after : is_none (put_end held).handshake.owed ≡ false =
+        sym (ap (λ (x : NetEndState). is_none x.handshake.owed) put_is) ∙ ap (λ (x : Handshake). is_none x.owed) handshake ∙ own in
+        quiet_put role slots queue held l turns packet sid None counts shut (more_ended held.link turns packet more)
+        (λ p v session log. ap (λ (x : Option (List ℕ)). said_in x v) (sym (owing_left (is_none held.handshake.owed) held.link.to_send own)))
+        (owing_left (is_none (put_end held).handshake.owed) (put_end held).link.to_send after)
+        (none_right slots held.groups l None refl)
+
+-- A PACKET OF THE LINK'S HANDSHAKE: no session is open
+put_below : (role : Role) (slots : ℕ) (queue : List (List ℕ)) (held : NetEndState) (l : EndLog) (turns : List Turn) (packet : List ℕ) (sid : ℕ) → EndCounts role slots queue held l
+    → EndStands role (net_core role held) turns → net_opens held ≡ false → is_up held.link ≡ false
+    → (net_core role (net_put role held)).link.to_send ≡ held.link.to_send → PutCounts role slots queue held (net_put role held) l turns packet (net_opens held) sid
+put_below role slots queue held l turns packet sid counts stands shut down same =
+    let below = stands.below down in
+    let closed : held.session ≡ None = not_some held.session (stands.opened ∙ ap is_open_in below.down) in
+    let gone : ShutCounts l.published l.gone l.session = shut_counts role slots queue held l counts closed in
+    quiet_put role slots queue held l turns packet sid (ended_by (half_said turns) packet) counts shut refl
+    (λ p v session log. none_some p (sym closed ∙ session))
+    (put_empty role held shut (same ∙ below.left))
+    (λ message v is log. none_some v (sym gone.is ∙ log))
+
+pub put_counts : (role : Role) (slots : ℕ) (queue : List (List ℕ)) (held : NetEndState) (l : EndLog) (turns : List Turn) (packet : List ℕ) (sid : ℕ) → EndCounts role slots queue held l
+    → EndStands role (net_core role held) turns → HandshakeKeeps held.handshake
+    → PutWhat role (net_core role held) turns packet (net_opens held) (net_core role (net_put role held))
+    → PutCounts role slots queue held (net_put role held) l turns packet (net_opens held) sid
+put_counts role slots queue held l turns packet sid counts stands keeps (PutControl next gone link says same shut is_open) =
+    put_below role slots queue held l turns packet sid counts stands shut (put_down held.link.phase packet next gone).0 (ap (λ (x : LinkState). x.to_send) link)
+put_counts role slots queue held l turns packet sid counts stands keeps (PutReady r at is link says same shut is_open) =
+    put_below role slots queue held l turns packet sid counts stands shut (ap is_established at) (ap (λ (x : LinkState). x.to_send) link)
+put_counts role slots queue held l turns packet sid counts stands keeps (PutMore at link says same shut is_open) =
+    put_more role slots queue held l turns packet sid counts stands (ap is_established at) shut says same
+put_counts role slots queue held l turns packet sid counts stands keeps (PutOwn own at link says same shut is_open) =
+    put_own role slots queue held l turns packet sid counts stands own shut says link
+put_counts role slots queue held l turns packet sid counts stands keeps (PutHandshake own at link says same opens_is is_open) =
+    put_handshake role slots queue held l turns packet sid counts stands keeps.owes own (ap is_established at) says link opens_is

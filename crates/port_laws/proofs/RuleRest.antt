@@ -1,0 +1,342 @@
+-- Why an end of a port resets itself, where a port is finished, and where its ends may be idle, by the counts of both ends.
+use Rattle.std.proofs.Common.{◌≡◌, ◌≢◌, ℕ, ◌+◌, ◌<◌, Bool, true, false, ◌⊎◌, inl, inr, Option, Some, None, List, [], ◌∷◌, length, refl, sym, subst, ap, ◌∙◌, arith}
+use Rattle.std.specs.Prelude.{◌*◌, ◌==◌, ◌&&◌, nat_le, not, slice_index, if◌then◌else◌, ⊤}
+use Rattle.std.proofs.lemmas.Bool.{and_parts, eqb-true, leb-false}
+use Rattle.cookie_copy.specs.declared.fault.CopyFault.{CopyFault}
+use Rattle.cookie_copy.specs.declared.fault.CopyFault.TheVariants as fault
+use Rattle.cookie_copy.specs.declared.fault.Access.TheVariants.{Read}
+use Rattle.cookie_copy.specs.Faults.{first_copy_fault, is_up}
+use Rattle.cookie_copy.specs.Moved.{moved_in}
+use Rattle.cookie_copy.specs.Reach.{Reach}
+use Rattle.dring.specs.Slots.{ready_state}
+use Rattle.ldc_link.specs.declared.phase.Role.TheVariants.{Initiator, Responder}
+use Rattle.ldc_queue.specs.declared.end.ChannelState.{ChannelState}
+use Rattle.ldc_queue.specs.declared.end.ChannelState.TheVariants.{Down, Resetting, Up}
+use Rattle.ldc_queue.specs.declared.end.End.{End}
+use Rattle.ldc_queue.specs.declared.end.End.TheVariants.{A, B}
+use Rattle.ldc_queue.specs.Wire.{state_of}
+use Rattle.runs.specs.Lawful.{Lawful}
+use Rattle.runs.specs.Run.{Run}
+use Rattle.vio_tag.specs.declared.cause.Cause.{Cause}
+use Rattle.vio_tag.specs.declared.cause.Cause.TheVariants as the_cause
+use Rattle.vnet_msg.specs.declared.desc.NetDesc.{NetDesc}
+use Rattle.vnet_msg.specs.Descriptor.{net_desc_of}
+use Rattle.vnet_msg.specs.Frames.{frame_in, holds_frame, moved_size}
+use Rattle.channel_model.specs.TranscriptLog.{transcript_of}
+use Rattle.channel_model.specs.WireAt.{IsUp}
+use Rattle.channel_model.specs.WireLog.{WireLog}
+use Rattle.port_model.proofs.Refuting.{false_true, true_false}
+use Rattle.port_model.proofs.Ruling.{says_of}
+use Rattle.port_model.specs.EndLog.{EndLog, SessionLog, said_in, said_kind}
+use Rattle.port_model.specs.Fetching.{Fetched, IsFrame, NotReady, Refuses, copied, copy_refused, data_cookies, described, fetched, frame_fault, mark_fault, marked, read, slot_read, slots_cookies}
+use Rattle.port_model.specs.FrameLaws.{InSession, IsFinished, OwnReset, OwnResetAt, SlotCause, TickAt, ToldAll, WorksAt}
+use Rattle.port_model.specs.NetEndRule.{Announces, Fetches, Idles, Joins as JoinsRule, NetRule, Publishes, Puts, Replies, Says, Takes, Tells, port_rule}
+use Rattle.port_model.specs.NetEndState.{Activity, NetEndState, NetSession}
+use Rattle.port_model.specs.NetEndStep.{Blocked, FetchFails, Frame, Idle, Joined, NetFails, Published, Reset, Sent, Took}
+use Rattle.port_model.specs.NetEvent.{Asked, CalmTick, Declines, Gives, Injects, Joins, Loses, NetEvent, Pokes, Steps, Ticked}
+use Rattle.port_model.specs.NetLaneState.{IsNetShape, NetLaneState, NetShape, memory_of, net_end, reach_of, role_at, seen_at}
+use Rattle.port_model.specs.NetLaneStep.{NetLaneStep, is_finished, is_nothing, told_all}
+use Rattle.port_model.specs.PortLog.{PortLog, after, log_of_end, no_events}
+use Rattle.port_model.specs.PortState.{OfQueue, OnLane, PortEvent, PortState, PortStep, before, fresh_port}
+use Rattle.port_model.specs.Spoken.{GroupsAck, GroupsInfo, Other, RangeAck, RangeInfo, Spoken, spoken}
+use Rattle.port_laws.specs.Counted.{EndCounts, GroupCounts, IsBehind, SaysRightly, UnsaidRight, unsaid}
+use Rattle.port_laws.proofs.EndCounting.{open_counts}
+use Rattle.port_laws.proofs.PortCounts.{Ready, queue_of}
+use Rattle.port_laws.proofs.RuleFrames.{active_here, along, both_open, end_acts, held_frames}
+use Rattle.port_laws.proofs.TookCounts.{free_empty}
+
+-- ONLY AN END THAT IS UP publishes a frame or takes one
+pub up_state : (c : ChannelState) → is_up c ≡ true → c ≡ Up
+up_state Up is = refl
+up_state Down is = false_true is
+up_state Resetting is = false_true is
+
+end_up : (shape : NetShape) (e : End) (u : PortState) (l : PortLog) → Ready shape u l → is_up (seen_at e u.lane).state ≡ true → IsUp e l.wire.wire
+end_up shape e u l ready up = subst (λ (w : WireLog). IsUp e w.wire) ready.wire (up_state (state_of e u.lane.wire.wire) up)
+
+works_event : (shape : NetShape) (u : PortState) (l : PortLog) (event : NetEvent) (t : NetLaneState) → Ready shape u l → NetLaneStep u.lane event t → WorksAt l (OnLane event)
+works_event shape u l (Steps e (Published id)) t ready step =
+    end_up shape e u l ready (says_of (role_at e) (net_end e u.lane) (seen_at e u.lane) (Publishes step.step.session step.step.frame) step.step.rule).0.in_session.free.up
+works_event shape u l (Steps e (Frame frame)) t ready step =
+    end_up shape e u l ready (says_of (role_at e) (net_end e u.lane) (seen_at e u.lane) (Fetches step.step.session step.step.activity) step.step.rule).0.free.up
+works_event shape u l (Steps e (Took packet opens)) t ready step = tt
+works_event shape u l (Steps e (Sent packet opens)) t ready step = tt
+works_event shape u l (Steps e (Joined lost)) t ready step = tt
+works_event shape u l (Steps e (Reset cause packet lost)) t ready step = tt
+works_event shape u l (Steps e Blocked) t ready step = tt
+works_event shape u l (Steps e Idle) t ready step = tt
+works_event shape u l (Asked e lost) t ready step = tt
+works_event shape u l (Ticked queued lost) t ready step = tt
+works_event shape u l (CalmTick queued) t ready step = tt
+works_event shape u l (Gives e given) t ready step = tt
+works_event shape u l (Joins joining) t ready step = tt
+works_event shape u l (Loses e packet) t ready step = tt
+works_event shape u l (Injects e packet) t ready step = tt
+works_event shape u l (Pokes e at bytes) t ready step = tt
+works_event shape u l (Declines d) t ready step = tt
+
+pub port_works : (shape : NetShape) (events : List PortEvent) (s : PortState) → IsNetShape shape → Run PortStep (fresh_port shape) events s → Lawful WorksAt after (no_events shape) events
+port_works shape events s is run = along shape WorksAt is (λ x l event t counts ready step. works_event shape (before event x) l event t.lane ready step.1) (λ l frame. tt) events s run
+
+-- 5. WHY A SLOT REFUSES
+abbrev Fits : Fetched → Type 0
+Fits (IsFrame frame new) = ⊤
+Fits (NotReady state) = state ≢ 2
+Fits (Refuses why) = SlotCause why
+
+copy_fits : (why : CopyFault) → Fits (copy_refused why)
+copy_fits fault.Channel = (omega arith, omega arith)
+copy_fits fault.BadAlign = (omega arith, omega arith)
+copy_fits fault.Short = (omega arith, omega arith)
+copy_fits fault.BadPage = (omega arith, omega arith)
+copy_fits fault.NoMap = (omega arith, omega arith)
+copy_fits fault.NoAccess = (omega arith, omega arith)
+
+marked_fits : (s : NetEndState) (reach : Reach) (slot : ℕ) (desc : NetDesc) (frame : List ℕ) (why : Option CopyFault) → Fits (marked s reach slot desc frame why)
+marked_fits s reach slot desc frame None = tt
+marked_fits s reach slot desc frame (Some why) = copy_fits why
+
+copied_fits : (s : NetEndState) (reach : Reach) (slot : ℕ) (desc : NetDesc) (why : Option CopyFault) → Fits (copied s reach slot desc why)
+copied_fits s reach slot desc None =
+    marked_fits s reach slot desc (frame_in desc.size (moved_in reach.table reach.memory (data_cookies desc) 0 (moved_size desc.size))) (mark_fault s reach slot)
+copied_fits s reach slot desc (Some why) = copy_fits why
+
+not_frame : (size count : ℕ) (a b c d : Bool) → nat_le 14 size ≡ a → nat_le size 1514 ≡ b → nat_le 1 count ≡ c → nat_le count 3 ≡ d → (a && b && c && d) ≡ false
+    → (size < 14) ⊎ ((1514 < size) ⊎ ((count < 1) ⊎ (3 < count)))
+not_frame size count false b c d one two three four is = inl (leb-false 14 size one)
+not_frame size count true false c d one two three four is = inr (inl (leb-false size 1514 two))
+not_frame size count true true false d one two three four is = inr (inr (inl (leb-false 1 count three)))
+not_frame size count true true true false one two three four is = inr (inr (inr (leb-false count 3 four)))
+not_frame size count true true true true one two three four is = true_false is
+
+fits_if : (b : Bool) (one other : Fetched) → (b ≡ true → Fits one) → (b ≡ false → Fits other) → Fits (if b then one else other)
+fits_if true one other yes_ no_ = yes_ refl
+fits_if false one other yes_ no_ = no_ refl
+
+described_fits : (s : NetEndState) (reach : Reach) (slot : ℕ) (desc : NetDesc) → Fits (described s reach slot desc)
+described_fits s reach slot desc =
+    fits_if (holds_frame desc) (copied s reach slot desc (frame_fault reach desc)) (Refuses (the_cause.Frame desc.size desc.count)) (λ is. copied_fits s reach slot desc (frame_fault reach desc))
+    (λ is. not_frame desc.size desc.count (nat_le 14 desc.size) (nat_le desc.size 1514) (nat_le 1 desc.count) (nat_le desc.count 3) refl refl refl refl is)
+
+same_test : (n : ℕ) → (n == 2) ≡ false → n ≢ 2
+same_test n not_ is = true_false (sym (ap (λ (x : ℕ). x == 2) is) ∙ not_)
+
+read_fits : (s : NetEndState) (reach : Reach) (slot : ℕ) (bytes : List ℕ) → Fits (read s reach slot bytes)
+read_fits s reach slot bytes =
+    fits_if (slice_index bytes 0 == ready_state) (described s reach slot (net_desc_of bytes)) (NotReady (slice_index bytes 0)) (λ is. described_fits s reach slot (net_desc_of bytes)) (λ is. same_test (slice_index bytes 0) is)
+
+slot_fits : (s : NetEndState) (reach : Reach) (slot : ℕ) (why : Option CopyFault) → Fits (slot_read s reach slot why)
+slot_fits s reach slot None = read_fits s reach slot (moved_in reach.table reach.memory (slots_cookies s) (64 * slot) 64)
+slot_fits s reach slot (Some why) = copy_fits why
+
+fetched_fits : (s : NetEndState) (reach : Reach) (slot : ℕ) → Fits (fetched s reach slot)
+fetched_fits s reach slot = slot_fits s reach slot (first_copy_fault reach.both Read reach.table (slots_cookies s) (64 * slot) 64)
+
+fails_fit : (found : Fetched) (activity : Activity) (slot : ℕ) (cause : Cause) → Fits found → FetchFails found activity slot cause → SlotCause cause
+fails_fit (IsFrame frame new) activity slot cause fits fails = absurd fails
+fails_fit (NotReady state) activity slot cause fits fails = subst SlotCause (sym fails.1) fits
+fails_fit (Refuses why) activity slot cause fits fails = subst SlotCause (sym fails) fits
+
+own_reset : (shape : NetShape) (e : End) (u : PortState) (l : PortLog) (cause : Cause) (packet : Option (List ℕ)) (r : NetRule) → Ready shape u l → port_rule (role_at e) (net_end e u.lane) (seen_at e u.lane) ≡ r
+    → NetFails (role_at e) r (net_end e u.lane) (memory_of e u.lane) (reach_of e u.lane) cause packet → OwnReset (log_of_end e l) cause packet
+own_reset shape e u l cause packet (Takes bytes) ready is fails = subst (OwnReset (log_of_end e l) cause) (sym fails.0) tt
+own_reset shape e u l cause packet (Fetches p activity) ready is fails =
+    let says = says_of (role_at e) (net_end e u.lane) (seen_at e u.lane) (Fetches p activity) is in
+    let acting = end_acts shape e u l ready says.0.free.up in
+    subst (OwnReset (log_of_end e l) cause) (sym fails.0) (
+      fails_fit (fetched (net_end e u.lane) (reach_of e u.lane) p.place) activity p.place cause (fetched_fits (net_end e u.lane) (reach_of e u.lane) p.place) fails.1,
+      active_here (role_at e) shape.slots (queue_of e u) (net_end e u.lane) (log_of_end e l) p activity acting.counts says.0.session says.1
+          (free_empty (role_at e) (net_end e u.lane) (transcript_of e l.transcript) acting.ends says.0.free.quiet),
+    )
+own_reset shape e u l cause packet JoinsRule ready is fails = absurd fails
+own_reset shape e u l cause packet Puts ready is fails = absurd fails
+own_reset shape e u l cause packet (Says message) ready is fails = absurd fails
+own_reset shape e u l cause packet (Replies p reply) ready is fails = absurd fails
+own_reset shape e u l cause packet (Tells p) ready is fails = absurd fails
+own_reset shape e u l cause packet (Publishes p frame) ready is fails = absurd fails
+own_reset shape e u l cause packet (Announces p) ready is fails = absurd fails
+own_reset shape e u l cause packet Idles ready is fails = absurd fails
+
+own_reset_event : (shape : NetShape) (u : PortState) (l : PortLog) (event : NetEvent) (t : NetLaneState) → Ready shape u l → NetLaneStep u.lane event t → OwnResetAt l (OnLane event)
+own_reset_event shape u l (Steps e (Reset cause packet lost)) t ready step =
+    own_reset shape e u l cause packet (port_rule (role_at e) (net_end e u.lane) (seen_at e u.lane)) ready refl step.step.0
+own_reset_event shape u l (Steps e (Published id)) t ready step = tt
+own_reset_event shape u l (Steps e (Frame frame)) t ready step = tt
+own_reset_event shape u l (Steps e (Took packet opens)) t ready step = tt
+own_reset_event shape u l (Steps e (Sent packet opens)) t ready step = tt
+own_reset_event shape u l (Steps e (Joined lost)) t ready step = tt
+own_reset_event shape u l (Steps e Blocked) t ready step = tt
+own_reset_event shape u l (Steps e Idle) t ready step = tt
+own_reset_event shape u l (Asked e lost) t ready step = tt
+own_reset_event shape u l (Ticked queued lost) t ready step = tt
+own_reset_event shape u l (CalmTick queued) t ready step = tt
+own_reset_event shape u l (Gives e given) t ready step = tt
+own_reset_event shape u l (Joins joining) t ready step = tt
+own_reset_event shape u l (Loses e packet) t ready step = tt
+own_reset_event shape u l (Injects e packet) t ready step = tt
+own_reset_event shape u l (Pokes e at bytes) t ready step = tt
+own_reset_event shape u l (Declines d) t ready step = tt
+
+pub port_resets : (shape : NetShape) (events : List PortEvent) (s : PortState) → IsNetShape shape → Run PortStep (fresh_port shape) events s → Lawful OwnResetAt after (no_events shape) events
+port_resets shape events s is run = along shape OwnResetAt is (λ x l event t counts ready step. own_reset_event shape (before event x) l event t.lane ready step.1) (λ l frame. tt) events s run
+
+-- 1. FINISHED: what was told, by what is held of it
+record Told (groups : List (List ℕ)) (v : SessionLog) : Type 0 where
+  membership : v.membership ≡ Some groups
+  told : v.told ≡ true
+
+told_kind : (k : Spoken) (groups : List (List ℕ)) (message : List ℕ) (v : SessionLog) → Told groups (said_kind k message v) → Told groups v
+told_kind RangeInfo groups message v is = record { membership = is.membership; told = is.told }
+told_kind RangeAck groups message v is = record { membership = is.membership; told = is.told }
+told_kind GroupsInfo groups message v is = false_true is.told
+told_kind GroupsAck groups message v is = record { membership = is.membership; told = is.told }
+told_kind Other groups message v is = record { membership = is.membership; told = is.told }
+
+told_left : (left : Option (List ℕ)) (groups : List (List ℕ)) (v : SessionLog) → Told groups (said_in left v) → Told groups v
+told_left None groups v is = is
+told_left (Some message) groups v is = told_kind (spoken message) groups message v is
+
+never_behind : (groups : List (List ℕ)) (told : Option (List (List ℕ))) → told ≡ Some groups → IsBehind told groups → ⊥
+never_behind groups told is behind =
+    let below : length groups < length groups = subst (λ (x : Option (List (List ℕ))). IsBehind x groups) is behind in absurd (omega (arith, below))
+
+kept_kind : (k : Spoken) (slots : ℕ) (groups : List (List ℕ)) (message : List ℕ) (v : SessionLog) → SaysRightly slots groups v message k → Told groups v → Told groups (said_kind k message v)
+kept_kind RangeInfo slots groups message v right is = record { membership = is.membership; told = is.told }
+kept_kind RangeAck slots groups message v right is = record { membership = is.membership; told = is.told }
+kept_kind GroupsInfo slots groups message v right is = absurd (never_behind groups v.membership is.membership right)
+kept_kind GroupsAck slots groups message v right is = record { membership = is.membership; told = is.told }
+kept_kind Other slots groups message v right is = record { membership = is.membership; told = is.told }
+
+kept_left : (left : Option (List ℕ)) (slots : ℕ) (groups : List (List ℕ)) (begun : Bool) (v : SessionLog) → UnsaidRight slots groups begun v left → Told groups v → Told groups (said_in left v)
+kept_left None slots groups begun v right is = is
+kept_left (Some message) slots groups begun v right is = kept_kind (spoken message) slots groups message v right.right is
+
+both_not : (untold telling : Bool) → (not untold && not telling) ≡ true → (untold ≡ false) × (telling ≡ false)
+both_not false false is = (refl, refl)
+both_not true telling is = false_true is
+both_not false true is = false_true is
+
+finished_told : (p : NetSession) (groups : List (List ℕ)) (v : SessionLog) → GroupCounts p groups v → told_all (Some p) ≡ true → Told groups v
+finished_told p groups v counts is =
+    let both = both_not p.untold p.telling is in
+    record { membership = counts.named both.0; told = counts.answered both.1 both.0 }
+
+told_by : (untold telling : Bool) (p : NetSession) (groups : List (List ℕ)) (v : SessionLog) → p.untold ≡ untold → p.telling ≡ telling → GroupCounts p groups v → Told groups v → (not untold && not telling) ≡ true
+told_by false false p groups v one two counts is = refl
+told_by true telling p groups v one two counts is = absurd (never_behind groups v.membership is.membership (counts.behind one))
+told_by false true p groups v one two counts is = true_false (sym is.told ∙ (counts.waits two).0)
+
+told_finished : (p : NetSession) (groups : List (List ℕ)) (v : SessionLog) → GroupCounts p groups v → Told groups v → told_all (Some p) ≡ true
+told_finished p groups v counts is = told_by p.untold p.telling p groups v refl refl counts is
+
+-- the guest's session
+guest_told : (slots : ℕ) (s : NetEndState) (l : EndLog) → EndCounts Initiator slots [] s l → told_all s.session ≡ true → InSession l.session (Told s.groups)
+guest_told slots s l counts is = by_session s.session refl
+  where
+    by_session : (session : Option NetSession) → s.session ≡ session → InSession l.session (Told s.groups)
+    by_session None none = true_false (sym is ∙ ap told_all none)
+    by_session (Some p) some =
+        let here = open_counts Initiator slots [] s l p counts some in
+        subst (λ (x : Option SessionLog). InSession x (Told s.groups)) (sym here.is)
+        (told_left (unsaid s) s.groups here.of_log (finished_told p s.groups (said_in (unsaid s) here.of_log) here.counts.guest (sym (ap told_all some) ∙ is)))
+
+told_guest : (slots : ℕ) (s : NetEndState) (l : EndLog) (v : SessionLog) → EndCounts Initiator slots [] s l → l.session ≡ Some v → Told s.groups v → told_all s.session ≡ true
+told_guest slots s l v counts log is =
+    let both = both_open Initiator slots [] s l v counts log in
+    let there : Told s.groups both.open_is.of_log = subst (Told s.groups) (sym both.same) is in
+    ap told_all both.is
+    ∙ told_finished both.p s.groups (said_in (unsaid s) both.open_is.of_log) both.open_is.counts.guest
+    (kept_left (unsaid s) slots s.groups s.link.begun both.open_is.of_log both.open_is.counts.right there)
+
+nothing_empty : (frames : List (List ℕ)) → is_nothing frames ≡ true → length frames ≡ 0
+nothing_empty [] is = refl
+nothing_empty (frame ∷ frames) is = false_true is
+
+empty_nothing : (frames : List (List ℕ)) → length frames ≡ 0 → is_nothing frames ≡ true
+empty_nothing [] is = refl
+empty_nothing (frame ∷ frames) is = absurd (omega (arith, is))
+
+in_open : (log : Option SessionLog) (P Q : SessionLog → Type 0) → ((v : SessionLog) → P v → Q v) → InSession log P → InSession log Q
+in_open None P Q means holds = holds
+in_open (Some v) P Q means holds = means v holds
+
+none_more : (n : ℕ) → n + 0 ≡ n
+none_more n = omega arith
+
+calm_finished : (shape : NetShape) (u : PortState) (l : PortLog) (queued : ℕ) → Ready shape u l → queued ≡ length u.queue → is_finished u.lane queued ≡ true → IsFinished l
+calm_finished shape u l queued ready queue is =
+    let three = and_parts (told_all u.lane.guest.session && is_nothing u.lane.guest.frames && is_nothing u.lane.hub.frames) (queued == 0) is in
+    let two = and_parts (told_all u.lane.guest.session && is_nothing u.lane.guest.frames) (is_nothing u.lane.hub.frames) three.0 in
+    let one = and_parts (told_all u.lane.guest.session) (is_nothing u.lane.guest.frames) two.0 in
+    let none : queued ≡ 0 = eqb-true queued 0 three.1 in
+    let guest_held = held_frames Initiator shape.slots [] u.lane.guest l.guest ready.guest ∙ none_more (length u.lane.guest.frames) in
+    let hub_held = held_frames Responder shape.slots u.queue u.lane.hub l.hub ready.hub in
+    let guest_none : length u.lane.guest.frames ≡ 0 = nothing_empty u.lane.guest.frames one.1 in
+    let hub_none : length u.lane.hub.frames ≡ 0 = nothing_empty u.lane.hub.frames two.1 in
+    record {
+      told = in_open l.guest.session (Told u.lane.guest.groups) (ToldAll l)
+          (λ v told. (told.membership ∙ ap (λ (x : List (List ℕ)). Some x) ready.members, told.told))
+          (guest_told shape.slots u.lane.guest l.guest ready.guest one.0);
+      guest = guest_held ∙ guest_none;
+      hub = omega (arith, hub_held, hub_none, queue, none);
+    }
+
+all_true : (a b c d : Bool) → a ≡ true → b ≡ true → c ≡ true → d ≡ true → (a && b && c && d) ≡ true
+all_true true true true true one two three four = refl
+all_true false b c d one two three four = false_true one
+all_true true false c d one two three four = false_true two
+all_true true true false d one two three four = false_true three
+all_true true true true false one two three four = false_true four
+
+record SomeTold (l : PortLog) : Type 0 where
+  v : SessionLog
+  log : l.guest.session ≡ Some v
+  membership : v.membership ≡ Some l.members
+  told : v.told ≡ true
+
+some_told : (l : PortLog) (log : Option SessionLog) → l.guest.session ≡ log → InSession log (ToldAll l) → SomeTold l
+some_told l None is holds = absurd holds
+some_told l (Some v) is holds = record { v = v; log = is; membership = holds.0; told = holds.1 }
+
+finished_calm : (shape : NetShape) (u : PortState) (l : PortLog) (queued : ℕ) → Ready shape u l → queued ≡ length u.queue → IsFinished l → is_finished u.lane queued ≡ true
+finished_calm shape u l queued ready queue finished =
+    let there : SomeTold l = some_told l l.guest.session refl finished.told in
+    let told : Told u.lane.guest.groups there.v =
+    record { membership = there.membership ∙ ap (λ (x : List (List ℕ)). Some x) (sym ready.members); told = there.told } in
+    let guest_held = held_frames Initiator shape.slots [] u.lane.guest l.guest ready.guest ∙ none_more (length u.lane.guest.frames) in
+    let hub_held = held_frames Responder shape.slots u.queue u.lane.hub l.hub ready.hub in
+    let guest_none : length u.lane.guest.frames ≡ 0 = sym guest_held ∙ finished.guest in
+    let hub_none : length u.lane.hub.frames ≡ 0 = omega (arith, hub_held, finished.hub) in
+    let none : queued ≡ 0 = omega (arith, hub_held, finished.hub, queue) in
+    all_true (told_all u.lane.guest.session) (is_nothing u.lane.guest.frames) (is_nothing u.lane.hub.frames) (queued == 0) (told_guest shape.slots u.lane.guest l.guest there.v ready.guest there.log told)
+    (empty_nothing u.lane.guest.frames guest_none) (empty_nothing u.lane.hub.frames hub_none) (ap (λ (n : ℕ). n == 0) none)
+
+tick_event : (shape : NetShape) (u : PortState) (l : PortLog) (event : NetEvent) (t : NetLaneState) → Ready shape u l → OfQueue u event → NetLaneStep u.lane event t → TickAt l (OnLane event)
+tick_event shape u l (Ticked queued lost) t ready of_queue step = λ finished. absurd (true_false (sym (finished_calm shape u l queued ready of_queue finished) ∙ step.0))
+tick_event shape u l (CalmTick queued) t ready of_queue step = calm_finished shape u l queued ready of_queue step.0
+tick_event shape u l (Steps e answer) t ready of_queue step = tt
+tick_event shape u l (Asked e lost) t ready of_queue step = tt
+tick_event shape u l (Gives e given) t ready of_queue step = tt
+tick_event shape u l (Joins joining) t ready of_queue step = tt
+tick_event shape u l (Loses e packet) t ready of_queue step = tt
+tick_event shape u l (Injects e packet) t ready of_queue step = tt
+tick_event shape u l (Pokes e at bytes) t ready of_queue step = tt
+tick_event shape u l (Declines d) t ready of_queue step = tt
+
+-- a tick finds the queue as it was
+tick_queue : (s : PortState) (event : NetEvent) → OfQueue s event → OfQueue (before event s) event
+tick_queue s (Steps e answer) is = tt
+tick_queue s (Asked e lost) is = is
+tick_queue s (Ticked queued lost) is = is
+tick_queue s (CalmTick queued) is = is
+tick_queue s (Gives A given) is = is
+tick_queue s (Gives B given) is = is
+tick_queue s (Joins joining) is = is
+tick_queue s (Loses e packet) is = is
+tick_queue s (Injects e packet) is = is
+tick_queue s (Pokes e at bytes) is = is
+tick_queue s (Declines d) is = is
+
+pub port_ticks : (shape : NetShape) (events : List PortEvent) (s : PortState) → IsNetShape shape → Run PortStep (fresh_port shape) events s → Lawful TickAt after (no_events shape) events
+port_ticks shape events s is run =
+    along shape TickAt is (λ x l event t counts ready step. tick_event shape (before event x) l event t.lane ready (tick_queue x event step.0) step.1) (λ l frame. tt) events s run

@@ -1,0 +1,256 @@
+-- A step of an end is counted by its log as the end counts it, and stands where its laws let it.
+use Rattle.std.proofs.Common.{◌≡◌, ℕ, ◌+◌, ◌-◌, ◌<◌, ◌≤◌, Bool, true, Option, Some, None, List, [], length, refl, sym, subst, ap, ◌∙◌, arith}
+use Rattle.std.specs.Prelude.{◌%◌}
+use Rattle.std.proofs.Math.Nat.{mod-add-mod}
+use Rattle.ldc_link.specs.Calls.{Puts as PutsPacket}
+use Rattle.ldc_link.specs.declared.phase.Role.{Role}
+use Rattle.ldc_link.specs.declared.phase.Role.TheVariants.{Initiator, Responder}
+use Rattle.ldc_link.specs.Putting.{behind_put}
+use Rattle.ldc_queue.specs.Transcript.{Turn}
+use Rattle.vio_handshake.specs.declared.handshake.Phase.{Phase}
+use Rattle.vio_handshake.specs.declared.handshake.Phase.TheVariants.{Open}
+use Rattle.vio_handshake.specs.declared.session.Offer.{Offer}
+use Rattle.channel_model.specs.Messages.{ended_by, opening_sid}
+use Rattle.channel_model.specs.Sayings.{half_heard, half_said}
+use Rattle.channel_model.specs.Seeing.{Seen}
+use Rattle.cookie_copy.specs.Faults.{is_up}
+use Rattle.cookie_copy.specs.Reach.{Reach}
+use Rattle.channel_laws.proofs.EndCases.{PutWhat, end_put}
+use Rattle.channel_laws.proofs.EndResting.{held_handshake}
+use Rattle.channel_laws.proofs.EndStanding.{stands_step}
+use Rattle.channel_laws.specs.EndCore.{Waits}
+use Rattle.channel_laws.specs.Grounds.{has_named}
+use Rattle.channel_laws.specs.Standing.{EndStands, is_open_in}
+use Rattle.port_model.proofs.Refuting.{false_true, none_some}
+use Rattle.port_model.proofs.Ruling.{says_of}
+use Rattle.port_model.specs.EndLog.{EndLog, SessionLog, change, ends_log, more_published, more_taken, publishes_log, takes_log}
+use Rattle.port_model.specs.FramesStand.{CountsStand, FramesStand}
+use Rattle.port_model.specs.NetEndPutting.{net_holds, net_opens, net_put}
+use Rattle.port_model.specs.NetEndRule.{Announces, Fetches, Idles, Joins, NetRule, Publishes, Puts, Replies, Says, Takes, Tells, port_rule}
+use Rattle.port_model.specs.NetEndState.{Activity, NetEndState, NetSession, joined_net_end, unseen}
+use Rattle.port_model.specs.NetEndStep.{Blocked, Frame, Idle, Joined, NetAnswer, NetEndStep, NetLeft, NetSends, Published, Reset, Sent, Took, published, taken}
+use Rattle.port_model.specs.PortLog.{after_answer}
+use Rattle.port_model.specs.RuleFacts.{IfOpen}
+use Rattle.port_laws.specs.Counted.{ActiveCounts, Counts, EndCounts, GuestGroups, LastCounts, SessionCounts, unsaid}
+use Rattle.port_laws.specs.NetCore.{net_core}
+use Rattle.port_laws.specs.NetFits.{NetFits}
+use Rattle.port_laws.proofs.EndCounting.{OpenCounts, ShutCounts, empty_unsaid, frames_leave, gone_within, guest_same, open_counts, shut_counts}
+use Rattle.port_laws.proofs.EndMoves.{HeldCore, held_core, puts_behind, says_core, waits_core}
+use Rattle.port_laws.proofs.HandshakeKeeps.{HandshakeKeeps, same_keeps}
+use Rattle.port_laws.proofs.HeldCounts.{SlotsFit, held_counts}
+use Rattle.port_laws.proofs.PutCounts.{PutCounts, SaidRight, put_counts}
+use Rattle.port_laws.proofs.TookCounts.{TookCounts, free_empty, session_open, took_counts}
+
+-- WHAT IS KNOWN of an end that makes a step
+pub record Acting (role : Role) (slots : ℕ) (queue : List (List ℕ)) (s : NetEndState) (l : EndLog) (turns : List Turn) : Type 0 where
+  pub counts : EndCounts role slots queue s l
+  pub stands : FramesStand s
+  pub fits : NetFits role s
+  pub ends : EndStands role (net_core role s) turns
+  pub keeps : HandshakeKeeps s.handshake
+  pub slots_fit : SlotsFit slots
+
+counts_stand : (s : NetEndState) (p : NetSession) → FramesStand s → s.session ≡ Some p → CountsStand s p
+counts_stand s p stands is = subst (λ (x : Option NetSession). IfOpen x (CountsStand s)) is stands.session
+
+-- IT BEGINS ANEW, and frames that are published and not acknowledged are lost
+kept : (role : Role) (s : NetEndState) → GuestGroups role s.groups → GuestGroups role (joined_net_end role s).groups
+kept Initiator s groups = groups
+kept Responder s groups = groups
+
+lost_all : (role : Role) (slots : ℕ) (queue : List (List ℕ)) (s : NetEndState) (l : EndLog) → EndCounts role slots queue s l → FramesStand s → (session : Option NetSession) → s.session ≡ session
+    → (l.published ≡ l.gone + unseen session) × (unseen session ≤ length s.frames)
+lost_all role slots queue s l counts stands None is =
+    let gone : ShutCounts l.published l.gone l.session = shut_counts role slots queue s l counts is in (omega (arith, gone.gone_all), omega arith)
+lost_all role slots queue s l counts stands (Some p) is =
+    let here : OpenCounts role slots s.groups l.published l.gone (unsaid s) s.link.begun p l.session = open_counts role slots queue s l p counts is in
+    let stood : CountsStand s p = counts_stand s p stands is in
+    (omega (arith, here.counts.ring.all, here.counts.ring.left, stood.seen), stood.held)
+
+pub begins_counts : (role : Role) (slots : ℕ) (queue : List (List ℕ)) (s : NetEndState) (l : EndLog) (lost : ℕ) → EndCounts role slots queue s l → FramesStand s → lost ≡ unseen s.session
+    → EndCounts role slots queue (joined_net_end role s) (ends_log lost l)
+begins_counts role slots queue s l lost counts stands is =
+    let lost_here = lost_all role slots queue s l counts stands s.session refl in
+    let there : EndCounts role slots queue (joined_net_end role s) (ends_log (unseen s.session) l) =
+    record {
+      slots_is = counts.slots_is;
+      frames = frames_leave (unseen s.session) s.frames queue l.given l.gone lost_here.1 counts.frames;
+      gone = gone_within (unseen s.session) s.frames queue l.given l.gone lost_here.1 counts.gone counts.frames;
+      ids = counts.ids;
+      groups = kept role s counts.groups;
+      session = lost_here.0;
+    } in
+    subst (λ (n : ℕ). EndCounts role slots queue (joined_net_end role s) (ends_log n l)) (sym is) there
+
+-- IT PUTS
+sent_counts : (role : Role) (slots : ℕ) (queue : List (List ℕ)) (s : NetEndState) (l : EndLog) (turns : List Turn) (at : Seen) (memory : List ℕ) (reach : Reach) (packet : List ℕ) (opens : Bool)
+    (t : NetLeft) (sid : ℕ) → Acting role slots queue s l turns → (step : NetSends role s at memory reach packet opens t) → PutCounts role slots queue step.held t.end l turns packet opens sid
+sent_counts role slots queue s l turns at memory reach packet opens t sid acting step =
+    let held : NetEndState = step.held in
+    let core : HeldCore role s held = held_core role s at reach (port_rule role s at) held acting.fits refl step.holds in
+    let puts : PutsPacket held.link packet (behind_put held.link) =
+    subst (PutsPacket held.link packet) (puts_behind held.link packet t.end.link step.packet) step.packet in
+    let held_stands : EndStands role (net_core role held) turns =
+    stands_step role (net_core role s) Waits (net_core role held) turns acting.ends (waits_core role s held core) in
+    let counts : EndCounts role slots queue held l =
+    held_counts role slots queue s l at reach (port_rule role s at) held
+    (record { counts = acting.counts; fits = acting.fits; slots_fit = acting.slots_fit; empty = λ quiet. free_empty role s turns acting.ends quiet }) refl step.holds in
+    let keeps : HandshakeKeeps held.handshake = same_keeps s.handshake held.handshake acting.keeps (held_handshake (net_core role s) (net_core role held) core.what core.holds) in
+    let what : PutWhat role (net_core role held) turns packet (net_opens held) (net_core role (net_put role held)) =
+    end_put role (net_core role s) (net_core role (net_put role held)) turns packet (net_opens held) (says_core role s held packet core puts) held_stands in
+    let here : PutCounts role slots queue held (net_put role held) l turns packet (net_opens held) sid = put_counts role slots queue held l turns packet sid counts held_stands keeps what in
+    subst (λ (b : Bool). PutCounts role slots queue held t.end l turns packet b sid) (sym step.opens_is)
+    (subst (λ (x : NetLeft). PutCounts role slots queue held x.end l turns packet (net_opens held) sid) (sym step.is) here)
+
+-- IT PUBLISHES
+published_counts : (role : Role) (slots : ℕ) (queue : List (List ℕ)) (s : NetEndState) (l : EndLog) (p : NetSession) → EndCounts role slots queue s l → s.session ≡ Some p → s.link.to_send ≡ []
+    → EndCounts role slots queue (record s { session = Some (published p) }) (publishes_log l)
+published_counts role slots queue s l p counts is empty =
+    let left : unsaid s ≡ None = empty_unsaid s empty in
+    let here : OpenCounts role slots s.groups l.published l.gone None s.link.begun p l.session =
+    subst (λ (x : Option (List ℕ)). OpenCounts role slots s.groups l.published l.gone x s.link.begun p l.session) left (open_counts role slots queue s l p counts is) in
+    let v : SessionLog = here.of_log in
+    let there : SessionCounts role slots s.groups (l.published + 1) l.gone None s.link.begun (published p) (more_published v) =
+    record {
+      right = tt;
+      ring = record {
+        all = omega (arith, here.counts.ring.all);
+        left = here.counts.ring.left;
+        here = ap (λ (n : ℕ). n + 1) here.counts.ring.here;
+        seen = here.counts.ring.seen;
+        infos = here.counts.ring.infos;
+        asking = here.counts.ring.asking;
+      };
+      peer = record { seq = here.counts.peer.seq; place = here.counts.peer.place; active = here.counts.peer.active };
+      guest = guest_same role p (published p) s.groups s.groups v (more_published v) here.counts.guest refl refl refl refl refl;
+      reply = here.counts.reply;
+    } in
+    record {
+      slots_is = counts.slots_is;
+      frames = counts.frames;
+      gone = counts.gone;
+      ids = counts.ids;
+      groups = counts.groups;
+      session = subst (λ (x : Option SessionLog). Counts role slots s.groups (l.published + 1) l.gone (unsaid s) s.link.begun (Some (published p)) (change more_published x)) (sym here.is)
+          (subst (λ (x : Option (List ℕ)). SessionCounts role slots s.groups (l.published + 1) l.gone x s.link.begun (published p) (more_published v)) (sym left) there);
+    }
+
+-- IT TAKES A FRAME
+last_before : (slots : ℕ) (v : SessionLog) (last : Option ℕ) → LastCounts slots v last → v.answered < v.taken + 1
+last_before slots v None is = omega (arith, is)
+last_before slots v (Some n) is = omega (arith, is.0)
+
+next_place : (place taken slots peer : ℕ) → place ≡ taken % slots → peer ≡ slots → (place + 1) % peer ≡ (taken + 1) % slots
+next_place place taken slots peer is same = ap (λ (n : ℕ). (n + 1) % peer) is ∙ ap (λ (n : ℕ). (taken % slots + 1) % n) same ∙ mod-add-mod taken slots 1
+
+frame_counts : (role : Role) (slots : ℕ) (queue : List (List ℕ)) (s : NetEndState) (l : EndLog) (p : NetSession) (activity : Activity) (frame : List ℕ) → EndCounts role slots queue s l → s.session ≡ Some p
+    → p.active ≡ Some activity → s.handshake.draft.peer_slots ≡ slots → s.link.to_send ≡ [] → EndCounts role slots queue (record s { session = Some (taken s p activity); last = frame }) (takes_log l)
+frame_counts role slots queue s l p activity frame counts is active peer empty =
+    let left : unsaid s ≡ None = empty_unsaid s empty in
+    let here : OpenCounts role slots s.groups l.published l.gone None s.link.begun p l.session =
+    subst (λ (x : Option (List ℕ)). OpenCounts role slots s.groups l.published l.gone x s.link.begun p l.session) left (open_counts role slots queue s l p counts is) in
+    let v : SessionLog = here.of_log in
+    let busy : ActiveCounts slots v (Some activity) = subst (ActiveCounts slots v) active here.counts.peer.active in
+    let there : SessionCounts role slots s.groups l.published l.gone None s.link.begun (taken s p activity) (more_taken v) =
+    record {
+      right = tt;
+      ring = record {
+        all = here.counts.ring.all;
+        left = here.counts.ring.left;
+        here = here.counts.ring.here;
+        seen = here.counts.ring.seen;
+        infos = here.counts.ring.infos;
+        asking = here.counts.ring.asking;
+      };
+      peer = record {
+        seq = here.counts.peer.seq;
+        place = next_place p.place v.taken slots s.handshake.draft.peer_slots here.counts.peer.place peer;
+        active = (busy.0, busy.1, (last_before slots v activity.last busy.2, here.counts.peer.place ∙ ap (λ (n : ℕ). n % slots) (less_one v.taken)));
+      };
+      guest = guest_same role p (taken s p activity) s.groups s.groups v (more_taken v) here.counts.guest refl refl refl refl refl;
+      reply = here.counts.reply;
+    } in
+    record {
+      slots_is = counts.slots_is;
+      frames = counts.frames;
+      gone = counts.gone;
+      ids = counts.ids;
+      groups = counts.groups;
+      session = subst (λ (x : Option SessionLog). Counts role slots s.groups l.published l.gone (unsaid s) s.link.begun (Some (taken s p activity)) (change more_taken x)) (sym here.is)
+          (subst (λ (x : Option (List ℕ)). SessionCounts role slots s.groups l.published l.gone x s.link.begun (taken s p activity) (more_taken v)) (sym left) there);
+    }
+  where
+    less_one : (n : ℕ) → n ≡ n + 1 - 1
+    less_one n = omega arith
+
+-- in session it knows as many slots of the peer's ring as its own has
+named_open : (role : Role) (ph : Phase) → is_open_in ph ≡ true → has_named role ph ≡ true
+named_open role Open is = refl
+named_open role ph is = false_true is
+
+peer_slots_known : (role : Role) (slots : ℕ) (queue : List (List ℕ)) (s : NetEndState) (l : EndLog) (turns : List Turn) (p : NetSession) → Acting role slots queue s l turns → s.session ≡ Some p
+    → s.handshake.draft.peer_slots ≡ slots
+peer_slots_known role slots queue s l turns p acting is =
+    let offer = acting.ends.handshake.offer_is in
+    let both : s.handshake.offer.both_rings ≡ true = ap (λ (x : Offer). x.both_rings) offer in
+    let named : has_named s.handshake.role s.handshake.phase ≡ true = named_open s.handshake.role s.handshake.phase (session_open role s turns p acting.ends is) in
+    acting.keeps.slots both named ∙ ap (λ (x : Offer). x.peer_slots) offer ∙ acting.counts.slots_is
+
+-- IT IS UP where it puts, and takes what waits
+pub holds_up : (role : Role) (s : NetEndState) (at : Seen) (reach : Reach) (rule : NetRule) (held : NetEndState) → port_rule role s at ≡ rule → net_holds rule s reach ≡ Some held → is_up at.state ≡ true
+holds_up role s at reach Puts held is same = (says_of role s at Puts is).0
+holds_up role s at reach (Says message) held is same = (says_of role s at (Says message) is).0
+holds_up role s at reach (Replies p reply) held is same = (says_of role s at (Replies p reply) is).0.free.up
+holds_up role s at reach (Fetches p activity) held is same = (says_of role s at (Fetches p activity) is).0.free.up
+holds_up role s at reach (Tells p) held is same = (says_of role s at (Tells p) is).0.in_session.free.up
+holds_up role s at reach (Announces p) held is same = (says_of role s at (Announces p) is).0.in_session.free.up
+holds_up role s at reach Joins held is same = none_some held same
+holds_up role s at reach (Takes packet) held is same = none_some held same
+holds_up role s at reach (Publishes p frame) held is same = none_some held same
+holds_up role s at reach Idles held is same = none_some held same
+
+pub took_here : (role : Role) (slots : ℕ) (queue : List (List ℕ)) (s : NetEndState) (l : EndLog) (turns : List Turn) (at : Seen) (memory : List ℕ) (reach : Reach) (packet : List ℕ) (opens : Bool)
+    (t : NetLeft) (sid : ℕ) → Acting role slots queue s l turns → NetEndStep role s at memory reach (Took packet opens) t → TookCounts role slots queue s t.end l turns packet opens sid
+took_here role slots queue s l turns at memory reach packet opens t sid acting step =
+    let says = says_of role s at (Takes packet) step.0 in
+    took_counts role slots queue s t.end l turns memory packet opens t.own sid
+    (record { counts = acting.counts; stands = acting.stands; ends = acting.ends; quiet = says.0.quiet; listens = says.2 }) step.1
+
+-- A STEP
+abbrev LeftCounts : Role → ℕ → List (List ℕ) → EndLog → NetLeft → Type 0
+LeftCounts role slots queue l left = EndCounts role slots queue left.end l
+
+pub step_counts : (role : Role) (slots : ℕ) (queue : List (List ℕ)) (s : NetEndState) (l : EndLog) (turns : List Turn) (at : Seen) (memory : List ℕ) (reach : Reach) (answer : NetAnswer) (t : NetLeft)
+    → EndCounts role slots queue s l → FramesStand s → (is_up at.state ≡ true → Acting role slots queue s l turns) → NetEndStep role s at memory reach answer t
+    → EndCounts role slots queue t.end (after_answer slots turns answer l)
+step_counts role slots queue s l turns at memory reach (Joined lost) t counts stands acts step =
+    subst (LeftCounts role slots queue (ends_log lost l)) (sym step.2) (begins_counts role slots queue s l lost counts stands step.1)
+step_counts role slots queue s l turns at memory reach (Took packet opens) t counts stands acts step =
+    (took_here role slots queue s l turns at memory reach packet opens t (opening_sid (half_heard turns) packet) (acts (says_of role s at (Takes packet) step.0).0.up) step).counts
+step_counts role slots queue s l turns at memory reach (Sent packet opens) t counts stands acts step =
+    (sent_counts role slots queue s l turns at memory reach packet opens t (opening_sid (half_said turns) packet)
+    (acts (holds_up role s at reach (port_rule role s at) step.held refl step.holds)) step).counts
+step_counts role slots queue s l turns at memory reach Blocked t counts stands acts step =
+    let acting : Acting role slots queue s l turns = acts (holds_up role s at reach (port_rule role s at) t.end refl step.0) in
+    held_counts role slots queue s l at reach (port_rule role s at) t.end
+    (record { counts = acting.counts; fits = acting.fits; slots_fit = acting.slots_fit; empty = λ quiet. free_empty role s turns acting.ends quiet }) refl step.0
+step_counts role slots queue s l turns at memory reach Idle t counts stands acts step = subst (LeftCounts role slots queue l) (sym step.1) counts
+step_counts role slots queue s l turns at memory reach (Published id) t counts stands acts step =
+    let says = says_of role s at (Publishes step.session step.frame) step.rule in
+    let acting : Acting role slots queue s l turns = acts says.0.in_session.free.up in
+    subst (LeftCounts role slots queue (publishes_log l)) (sym step.is)
+    (published_counts role slots queue s l step.session acting.counts says.0.in_session.session (free_empty role s turns acting.ends says.0.in_session.free.quiet))
+step_counts role slots queue s l turns at memory reach (Frame frame) t counts stands acts step =
+    let says = says_of role s at (Fetches step.session step.activity) step.rule in
+    let acting : Acting role slots queue s l turns = acts says.0.free.up in
+    subst (LeftCounts role slots queue (takes_log l)) (sym step.is)
+    (frame_counts role slots queue s l step.session step.activity frame acting.counts says.0.session says.1 (peer_slots_known role slots queue s l turns step.session acting says.0.session)
+    (free_empty role s turns acting.ends says.0.free.quiet))
+step_counts role slots queue s l turns at memory reach (Reset cause packet lost) t counts stands acts step =
+    subst (LeftCounts role slots queue (ends_log lost l)) (sym step.2) (begins_counts role slots queue s l lost counts stands step.1)
+
+-- what a packet ends that was put
+pub sent_right : (role : Role) (slots : ℕ) (queue : List (List ℕ)) (s : NetEndState) (l : EndLog) (turns : List Turn) (at : Seen) (memory : List ℕ) (reach : Reach) (packet : List ℕ) (opens : Bool)
+    (t : NetLeft) → Acting role slots queue s l turns → (step : NetSends role s at memory reach packet opens t) → SaidRight slots step.held.groups l (ended_by (half_said turns) packet)
+sent_right role slots queue s l turns at memory reach packet opens t acting step =
+    (sent_counts role slots queue s l turns at memory reach packet opens t 0 acting step).right
