@@ -17,30 +17,31 @@ pub fn only_an_end_that_is_up_moves_frames()
 {}
 
 /// Along every run of a port, forged or not, an end that resets itself without a packet does so for a slot of the peer's
-/// ring, while a DRING_DATA INFO that it took isn't answered. The slot isn't READY, the descriptor is that of no frame,
-/// or a copy is refused.
+/// ring. A DRING_DATA INFO that it took isn't answered then. The slot isn't READY, the descriptor is that of no frame, or
+/// a copy is refused.
 pub fn an_end_resets_itself_without_a_packet_for_a_slot()
     ensures { (shape : NetShape) (events : List PortEvent) (s : PortState) → IsNetShape shape → Run PortStep (fresh_port shape) events s
         → Lawful OwnResetAt after (no_events shape) events }
 {}
 
-/// Along every run of a port, forged or not, a tick is calm exactly where the port is finished: the guest's session is
-/// open, its last MCAST_INFO has all groups that it joined and was answered, and no frame is held at either end.
+/// Along every run of a port, forged or not, a tick is calm exactly where the port is finished. Then the guest's session
+/// is open, its last MCAST_INFO has all groups that it joined and was answered, and no frame is held at either end.
 pub fn a_tick_is_calm_where_the_port_is_finished()
     ensures { (shape : NetShape) (events : List PortEvent) (s : PortState) → IsNetShape shape → Run PortStep (fresh_port shape) events s
         → Lawful TickAt after (no_events shape) events }
 {}
 
 /// Along every run of a port, forged or not, an end is idle only where nothing waits for it. In session it answered each
-/// DRING_DATA INFO, published each frame or as many as its ring has slots, and where some aren't acknowledged it said an
-/// INFO behind which no ACK came; and a guest told its groups as they are, or no answer came yet.
+/// DRING_DATA INFO, and published each frame; the switch's end may have published as many as its ring has slots. Where
+/// some aren't acknowledged it said an INFO behind which no ACK came. A guest told its groups as they are, or no answer
+/// came yet.
 pub fn an_idle_end_of_a_port_has_nothing_to_do()
     ensures { (shape : NetShape) (events : List PortEvent) (s : PortState) → IsNetShape shape → Run PortStep (fresh_port shape) events s
         → Lawful IdleAt after (no_events shape) events }
 {}
 
-/// On a port that nobody forged, and on which no packet was lost since the queues were last emptied, both ends are in
-/// session where one is idle directly after the other.
+/// On a port that nobody forged, where no packet was lost since the queues were last emptied, both ends are in session
+/// where one is idle directly after the other.
 pub fn two_idle_ends_of_a_port_are_in_session()
     ensures { (shape : NetShape) (events : List PortEvent) (s : PortState) → IsNetShape shape → Run PortStep (fresh_port shape) events s
         → Lawful TwoIdleAt after (no_events shape) events }

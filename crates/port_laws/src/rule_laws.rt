@@ -9,22 +9,22 @@ ghost use Rattle.port_model.specs.PortLog.{after, no_events};
 ghost use Rattle.port_model.specs.PortState.{fresh_port, PortEvent, PortState, PortStep};
 
 /// Along every run of a port, forged or not, a frame that is handed to the guest is refused for its length exactly where
-/// it hasn't 14 to 1,514 bytes. Else it is refused as one too many exactly where as many are held as the ring has slots:
-/// of those given, the ones that no ACK named and no reset lost. Else its id is the number of those given before it.
+/// it hasn't 14 to 1,514 bytes. Else it is refused as one too many exactly where as many are held as the ring has slots.
+/// Held are those given that no ACK named and no reset lost. Else its id is the number of those given before it.
 pub fn a_frame_is_queued_or_refused_rightly()
     ensures { (shape : NetShape) (events : List PortEvent) (s : PortState) → IsNetShape shape → Run PortStep (fresh_port shape) events s
         → Lawful AdmissionAt after (no_events shape) events }
 {}
 
-/// Along every run of a port, forged or not, an end publishes only in an open session, and the frames that it publishes
-/// have the ids 0, 1, 2 and so on over all its sessions, each below the number of those that it was given.
+/// Along every run of a port, forged or not, an end publishes only in an open session. The frames that it publishes have
+/// the ids 0, 1, 2 and so on over all its sessions, each below the number of those that it was given.
 pub fn frames_are_published_in_order()
     ensures { (shape : NetShape) (events : List PortEvent) (s : PortState) → IsNetShape shape → Run PortStep (fresh_port shape) events s
         → Lawful PublishedAt after (no_events shape) events }
 {}
 
-/// Along every run of a port, forged or not, each join and each reset of an end tells as lost the number of frames that
-/// it published in the session that ends, less those that an ACK named, and 0 where no session was open.
+/// Along every run of a port, forged or not, each join and each reset of an end tells how many frames are lost. They are
+/// those that it published in the session that ends, less those that an ACK named, and none where no session was open.
 pub fn lost_frames_are_published_and_not_acknowledged()
     ensures { (shape : NetShape) (events : List PortEvent) (s : PortState) → IsNetShape shape → Run PortStep (fresh_port shape) events s
         → Lawful LostAt after (no_events shape) events }
@@ -45,22 +45,22 @@ pub fn no_ack_goes_beyond_what_is_published()
         → Lawful SeesAt after (no_events shape) events }
 {}
 
-/// Along every run of a port, forged or not, an end takes a frame only in an open session, and only where the DRING_DATA
-/// INFO that it took in it are one more than the DRING_DATA ACK that it said.
+/// Along every run of a port, forged or not, an end takes a frame only in an open session. There the DRING_DATA INFO that
+/// it took are one more than the DRING_DATA ACK that it said.
 pub fn a_frame_is_taken_while_an_announcement_waits()
     ensures { (shape : NetShape) (events : List PortEvent) (s : PortState) → IsNetShape shape → Run PortStep (fresh_port shape) events s
         → Lawful TakingAt after (no_events shape) events }
 {}
 
-/// Along every run of a port, forged or not, each DRING_DATA ACK that an end says in a session has state 2 and names the
-/// slots of the frames that it took since its ACK before, of which there is one at least.
+/// Along every run of a port, forged or not, each DRING_DATA ACK that an end says in a session has state 2. It names the
+/// slots of the frames that the end took since its ACK before, of which there is one at least.
 pub fn each_ack_names_the_frames_taken_since_the_last()
     ensures { (shape : NetShape) (events : List PortEvent) (s : PortState) → IsNetShape shape → Run PortStep (fresh_port shape) events s
         → Lawful AcknowledgesAt after (no_events shape) events }
 {}
 
 /// Along every run of a port, forged or not, what an end holds is what it was given and is neither acknowledged nor lost,
-/// in order and byte by byte; at the switch's end what waits in the out queue follows.
+/// in order and byte by byte. At the switch's end what waits in the out queue follows.
 pub fn an_end_holds_the_frames_that_it_was_given()
     ensures guest { (shape : NetShape) (events : List PortEvent) (s : PortState) → IsNetShape shape → Run PortStep (fresh_port shape) events s
         → s.lane.guest.frames ≡ drop (log_of after (no_events shape) events).guest.gone (log_of after (no_events shape) events).guest.given }
