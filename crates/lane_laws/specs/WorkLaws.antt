@@ -101,7 +101,7 @@ pub record Announces (slots : ℕ) (c : ClientCounts) (message : List ℕ) : Typ
   pub published : c.announced + range_length slots (start_of message) (end_of message) ≡ c.published
   pub active : state_of message ≡ 1
 
--- one that is heard has the session's sid and the number of its ring, by the handshake of the end that hears it
+-- one that is heard has no other sid than the handshake of the end that hears it, and the number of its ring there
 pub record NamesRing (sid : Option ℕ) (ident : ℕ) (message : List ℕ) : Type 0 where
   pub sid_is : sid_fault sid (sid_of message) ≡ None
   pub ident_is : ident_of message ≡ ident

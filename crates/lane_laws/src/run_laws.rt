@@ -116,9 +116,9 @@ pub fn what_is_done_is_the_next_piece()
 /// before it, names all requests that were published since, and says that the ring is active. One that a server hears,
 /// and goes on with, has the next number and begins at the slot after the range before it, which is answered. An
 /// acknowledgement that a client hears, and goes on with, begins at the slot after the one before it and names announced
-/// requests alone. Both are of the session and of the ring that the end agreed to. One that a server says has the number,
-/// the slots and the state of the INFO in work. It begins at the slot after the one before it and names all descriptors
-/// that were asked for since, the last finished.
+/// requests alone. Both have no other sid than the handshake of the end that hears them, and the number of its ring. One
+/// that a server says has the number, the slots and the state of the INFO in work. It begins at the slot after the one
+/// before it and names all descriptors that were asked for since, the last finished.
 pub fn ranges_name_what_was_done()
     ensures { (shape : Shape) (events : List DiskEvent) (s : LaneState)
         → IsShape shape → Run LaneStep (fresh shape) events s
