@@ -14,7 +14,7 @@ use Rattle.lane_laws.proofs.LaneCounting.{run_knows}
 use Rattle.lane_laws.proofs.RingAlong.{run_ring}
 use Rattle.lane_laws.proofs.RingRuns.{ring_agrees}
 use Rattle.lane_laws.proofs.NearAgreeing as near
-use Rattle.lane_laws.proofs.LaneChannel.{client_stands, link_agrees, run_sids, server_stands}
+use Rattle.lane_laws.proofs.LaneChannel.{client_stands, lane_folds, link_agrees, no_sids, run_sids, server_stands}
 use Rattle.lane_laws.specs.ChannelEnds.{client_core, server_core}
 
 pub run_agrees : (shape : Shape) (events : List DiskEvent) (s : LaneState) → IsShape shape → Run LaneStep (fresh shape) events s → AgreesWithLog s (log_of after (nothing_yet shape) events)
@@ -23,6 +23,7 @@ run_agrees shape events s sound run =
     let knows = run_knows shape events s sound run in
     let stands = knows.all.stands in
     let both = run_both shape events s sound run in
+    let folds = lane_folds shape events s sound run in
     record {
       shape = stands.shape;
       wire = stands.wire;
@@ -30,8 +31,8 @@ run_agrees shape events s sound run =
       client_link = link_agrees Initiator (client_core s.client) l.transcript.client (client_stands shape events s sound run);
       server_link = link_agrees Responder (server_core s.server) l.transcript.server (server_stands shape events s sound run);
       sids = run_sids shape events s sound run;
-      client_end = client_end s l both (client_stands shape events s sound run).link.cuts;
-      server_end = server_end s l both (server_stands shape events s sound run).link.cuts;
+      client_end = client_end s l both folds.a (run_sids shape events s sound run);
+      server_end = server_end s l both folds.b (no_sids shape events s sound run);
       requests = record { pending = stands.requests.pending; next = stands.requests.next };
       client = knows.counted.client.agrees;
       server = knows.counted.server.agrees;

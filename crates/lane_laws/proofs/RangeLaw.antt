@@ -1,24 +1,23 @@
 -- The ranges that an end says and hears: an INFO has the next number, begins where the one before it ended and names all that was published since;
 -- an ACK that is heard names announced ones alone; and one that is said names all that was asked since the one before it, the last finished.
-use Rattle.std.proofs.Common.{◌≡◌, ℕ, ◌+◌, ◌-◌, ◌%◌, ◌^◌, ◌<◌, ◌≤◌, Bool, true, false, Option, Some, None, List, [], ◌∷◌, ◌++◌, length, drop, refl, sym, ap, ◌∙◌, subst, arith, inl, inr, ◌⊎◌, length-append}
-use Rattle.std.specs.Prelude.{◌&&◌, is_none}
+use Rattle.std.proofs.Common.{◌≡◌, ℕ, ◌+◌, ◌-◌, ◌%◌, ◌^◌, ◌<◌, ◌≤◌, Bool, true, false, Option, Some, None, List, ◌∷◌, ◌++◌, length, refl, sym, ap, ◌∙◌, subst, arith, inl, inr, ◌⊎◌}
+use Rattle.std.specs.Prelude.{is_none}
 use Rattle.std.proofs.lemmas.Nat.{mod_below}
 use Rattle.ldc_packet.specs.declared.packet.Subtype.{Subtype}
 use Rattle.ldc_packet.specs.Spelling.{subtype_code}
 use Rattle.ldc_packet.specs.declared.packet.Subtype.TheVariants.{Ack, Info}
 use Rattle.ldc_link.specs.LinkState.{LinkState}
 use Rattle.ldc_queue.specs.declared.end.End.TheVariants.{A, B}
-use Rattle.ldc_queue.specs.Fragments.{Fragment, fragment_at, is_part}
 use Rattle.ldc_queue.specs.Transcript as turn
 use Rattle.ldc_queue.specs.Transcript.{Turn}
 use Rattle.vio_tag.specs.declared.message.Message.{Message}
 use Rattle.vio_tag.specs.declared.message.MsgBody.TheVariants.{DringData}
 use Rattle.vio_tag.specs.Spelling.{canonical}
-use Rattle.channel_model.specs.Sayings.{half_heard, half_said, said, whole_by, whole_past}
+use Rattle.channel_model.specs.Sayings.{half_heard, half_said, said}
 use Rattle.channel_model.specs.WireEvent.{Blocked, Declines, Idle, Injected, Joined, Lost, Poked, Reset, Sent, Took, WireEvent}
 use Rattle.lane_laws.specs.Agreement.{ClientAgrees, ServerCountsAgree, WorkAgrees}
 use Rattle.lane_laws.specs.DiskLog.{DiskLog, after}
-use Rattle.channel_model.specs.Messages.{end_of, ended_by, range_ended, range_in, seq_of, start_of, whole_with}
+use Rattle.channel_model.specs.Messages.{end_of, range_ended, range_in, seq_of, start_of}
 use Rattle.lane_laws.specs.WorkLaws.{Acknowledges, Announces, AcknowledgesRange, IfClient, IfRange, IfServer, RangesAt}
 use Rattle.lane_laws.specs.WorkLog.{ClientCounts, ServerCounts, change_client, length_in}
 use Rattle.disk_model.specs.ClientPutting.{announcement, client_kind, is_announcing}
@@ -36,6 +35,7 @@ use Rattle.disk_model.specs.LaneStep.{LaneStep, WireStep}
 use Rattle.channel_model.specs.Ranges.{range_length, wrapped}
 use Rattle.disk_model.specs.ServerState.{ServerSession, ServerState, SlotRange}
 use Rattle.disk_model.specs.ServerStep.{ServerSends}
+use Rattle.channel_laws.proofs.TurnCases.{said_some}
 use Rattle.lane_laws.proofs.LaneCounting.{Knows, knows_step}
 use Rattle.lane_laws.proofs.Sharing.{in_order}
 use Rattle.lane_laws.proofs.ClientHolding.{client_held}
@@ -88,28 +88,6 @@ heard_ack s t l packet false quiet knows = of l.work.client knows.counted.client
             omega (arith, now.acked, now.announced, order.acked)
 heard_ack s t l packet true loud knows = absurd (cc)
 
--- THE MESSAGE that a packet ends is the one that the transcript has more
-pub same_last : (xs : List (List ℕ)) (a b : List ℕ) → xs ++ a ∷ [] ≡ xs ++ b ∷ [] → a ≡ b
-same_last [] a b is = cc
-same_last (x ∷ xs) a b is = same_last xs a b (tail_of (x ∷ (xs ++ a ∷ [])) (x ∷ (xs ++ b ∷ [])) is)
-  where
-    tail_of : (ys zs : List (List ℕ)) → ys ≡ zs → drop 1 ys ≡ drop 1 zs
-    tail_of ys zs same = ap (λ (l : List (List ℕ)). drop 1 l) same
-
-pub never_last : (xs : List (List ℕ)) (a : List ℕ) → xs ≡ xs ++ a ∷ [] → ⊥
-never_last xs a is = omega (arith, ap length is, length-append xs (a ∷ []))
-
-pub ended_with : (b c : Bool) (f : Fragment) (half : List ℕ) (messages : List (List ℕ)) (bytes : List ℕ) → f.stop ≡ c → whole_past b f half messages ≡ messages ++ bytes ∷ []
-    → whole_with (b && c) (half ++ f.bytes) ≡ Some bytes
-ended_with true true f half messages bytes stop is =
-    ap (λ (xs : List ℕ). Some xs) (same_last messages (half ++ f.bytes) bytes (sym (ap (λ (d : Bool). whole_by d (half ++ f.bytes) messages) stop) ∙ is))
-ended_with true false f half messages bytes stop is =
-    absurd (never_last messages bytes (sym (ap (λ (d : Bool). whole_by d (half ++ f.bytes) messages) stop) ∙ is))
-ended_with false c f half messages bytes stop is = absurd (never_last messages bytes is)
-
-ended_is : (turns : List Turn) (packet bytes : List ℕ) → said (turn.Said packet ∷ turns) ≡ said turns ++ bytes ∷ [] → ended_by (half_said turns) packet ≡ Some bytes
-ended_is turns packet bytes is = ended_with (is_part packet) (fragment_at packet).stop (fragment_at packet) (half_said turns) (said turns) bytes refl is
-
 -- the end's own range
 record SaysRange (k : ℕ) (turns : List Turn) (packet bytes : List ℕ) (start end : ℕ) : Type 0 where
   range : range_ended k (half_said turns) packet ≡ Some bytes
@@ -120,7 +98,7 @@ says_range : (k n : ℕ) (s : Subtype) (seq ident start end state : ℕ) (link :
     → half_said turns ++ link.to_send ≡ canonical (record { subtype = s; sid = n; body = DringData seq ident start end state }) → SaysLast link turns packet
     → SaysRange k turns packet (half_said turns ++ link.to_send) start end
 says_range k n s seq ident start end state link turns packet kind small_start small_end is last = record {
-  range = ap (range_in k) (ended_is turns packet (half_said turns ++ link.to_send) last.messages) ∙ ap (λ (xs : List ℕ). range_in k (Some xs)) is ∙ said_is k n s seq ident start end state kind
+  range = ap (range_in k) (said_some turns packet (half_said turns ++ link.to_send) last.messages) ∙ ap (λ (xs : List ℕ). range_in k (Some xs)) is ∙ said_is k n s seq ident start end state kind
       ∙ ap (λ (xs : List ℕ). Some xs) (sym is);
   starts = ap start_of is ∙ start_is s n seq ident start end state small_start;
   ends = ap end_of is ∙ end_is s n seq ident start end state small_end;
