@@ -10,7 +10,7 @@ use Rattle.lane_laws.specs.RequestLaws.{AdmissionAt, IsNext, OnceAt}
 use Rattle.disk_model.specs.DiskEvent.{Accepted, Asks, Desc, DiskEvent, Done, Finished, Full, Misplaced, Moved, OnWire, Published, Refused, Calms, Stored, Switches, Works}
 use Rattle.disk_model.specs.LaneState.{IsShape, LaneState, Shape, fresh}
 use Rattle.disk_model.specs.LaneStep.{LaneStep}
-use Rattle.lane_laws.proofs.ClientInSession.{shape_of}
+use Rattle.lane_laws.proofs.LaneCores.{shape_of}
 use Rattle.lane_laws.proofs.StandingRuns.{admission_lawful, once_lawful}
 use Rattle.world_laws.specs.Along.{happened}
 use Rattle.world_laws.specs.Settle.{SettleEntry}
