@@ -17,13 +17,13 @@ use Rattle.channel_laws.proofs.EndStanding.{fresh_end_stands}
 use Rattle.channel_laws.proofs.EndUttering.{EndSpeaks, fresh_speaks, speaks_step}
 use Rattle.channel_laws.proofs.Lifting.{ActsKeep, CoreHolds, EndsAll, core_step, ends_step}
 use Rattle.channel_laws.specs.CoreLog.{CoreLog, RoomStands, UpStands, after, nothing_yet}
-use Rattle.channel_laws.specs.LaneCore.{Beside, Closes, CoreEvent, CoreFits, CoreStep, LaneCore, OnChannel, WireStands, end_of, fresh_core, wire_after}
+use Rattle.channel_laws.specs.LaneCore.{Beside, Closes, CoreEvent, CoreFits, CoreStands, CoreStep, LaneCore, OnChannel, WireStands, end_of, fresh_core, wire_after}
 use Rattle.channel_laws.specs.Sides.{Sides, sides_of}
 
 -- THE QUEUES
-record Room (n : ℕ) (w : WireLog) : Type 0 where
-  to_a : length w.wire.to_a + 1 ≤ n
-  to_b : length w.wire.to_b + 1 ≤ n
+pub record Room (n : ℕ) (w : WireLog) : Type 0 where
+  pub to_a : length w.wire.to_a + 1 ≤ n
+  pub to_b : length w.wire.to_b + 1 ≤ n
 
 emptied : (n : ℕ) (x : ChannelState) (waiting : List (List ℕ)) → length waiting + 1 ≤ n → length (queue_behind x waiting) + 1 ≤ n
 emptied n Up waiting room = omega (arith, room)
@@ -54,11 +54,11 @@ room_wire n w (Idle e) stands room = room
 room_wire n w (Blocked e) stands room = room
 room_wire n w (Declines d) stands room = room
 
-room_step : (s : LaneCore) (event : CoreEvent) (t : LaneCore) → CoreStep s event t → 1 ≤ s.entries → Room s.entries s.wire → Room s.entries (wire_after s.wire event)
-room_step s (OnChannel event) t step some room = room_wire s.entries s.wire event step.stands room
-room_step s (Closes A) t step some room = record { to_a = some; to_b = some }
-room_step s (Closes B) t step some room = record { to_a = some; to_b = some }
-room_step s Beside t step some room = room
+pub room_after : (n : ℕ) (w : WireLog) (event : CoreEvent) → 1 ≤ n → CoreStands n w event → Room n w → Room n (wire_after w event)
+room_after n w (OnChannel event) some stands room = room_wire n w event stands room
+room_after n w (Closes A) some stands room = record { to_a = some; to_b = some }
+room_after n w (Closes B) some stands room = record { to_a = some; to_b = some }
+room_after n w Beside some stands room = room
 
 -- WHO IS UP
 upset_down : (x : ChannelState) → upset x ≡ Down → x ≡ Down
@@ -180,7 +180,7 @@ knows_step Holds keep s l event t knows step = record {
 
     room : Room l.entries (wire_after l.wire event)
     room = subst (λ (w : WireLog). Room l.entries (wire_after w event)) knows.wire
-        (subst (λ (n : ℕ). Room n (wire_after s.wire event)) knows.entries (room_step s event t step knows.some was))
+        (subst (λ (n : ℕ). Room n (wire_after s.wire event)) knows.entries (room_after s.entries s.wire event knows.some step.stands was))
 
 first_knows : (Holds : Role → Sides → Type 0) (entries : ℕ) (asks answers : Offer) → CoreFits entries asks answers → Holds Initiator (sides_of (fresh_core entries asks answers) nothing_said)
     → Knows Holds (fresh_core entries asks answers) (nothing_yet entries)

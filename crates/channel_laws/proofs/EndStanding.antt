@@ -257,10 +257,10 @@ goes_as role offer h t x opens is role_is offer_is owed not before now stands =
       opened = open_stays h.phase x.phase opens not before now;
     })
 
-declined_short : (subtype : Subtype) (body : MsgBody) → is_declined subtype body ≡ true → IsShort body
-declined_short Info (DringUnreg ident) test = tt
-declined_short Info (Plain envelope) test = tt
-declined_short subtype body test = absurd (cc test)
+declined_short : (subtype : Subtype) (body : MsgBody) → ComesShort body → is_declined subtype body ≡ true → IsShort body
+declined_short Info (DringUnreg ident) comes test = tt
+declined_short Info (Plain envelope) comes test = comes
+declined_short subtype body comes test = absurd (cc test)
 
 pub few_offered : (role : Role) (offer : Offer) (h : Handshake) → HandshakeStands role offer h → h.offer.count ≤ 14
 few_offered role offer h stands = omega (arith, ap (λ (o : Offer). o.count) stands.offer_is, stands.few)
@@ -269,7 +269,7 @@ pub row_goes : (role : Role) (offer : Offer) (h t : Handshake) (message : Messag
     → HandshakeGoes role offer h t opens
 row_goes role offer h t message opens comes stands (Declined test is not) =
     subst (λ (y : Handshake). HandshakeGoes role offer h y opens) (sym is) (record {
-      stands = record { role_is = stands.role_is; offer_is = stands.offer_is; few = stands.few; owed = declined_short message.subtype message.body test };
+      stands = record { role_is = stands.role_is; offer_is = stands.offer_is; few = stands.few; owed = declined_short message.subtype message.body comes test };
       opened = sym (ap (λ (b : Bool). b || is_open_in h.phase) not);
     })
 row_goes role offer h t message opens comes stands (VersionAgreed minor class r at m low is not) =

@@ -296,7 +296,7 @@ put_handshakes asks answers role s t packet opens fits stands up says links at =
         goes (place_last both asks answers at.sid role t.handshake now mine) (λ now_up. mine)
 
 -- IT TAKES a packet: a message of the session isn't one that its handshake declines
-envelope_reads : (m : Message) → IsOfSession m.body → envelope_at (canonical m) ≡ envelope_code m.body
+pub envelope_reads : (m : Message) → IsOfSession m.body → envelope_at (canonical m) ≡ envelope_code m.body
 unfolding canonical
 envelope_reads m is = by_body m.subtype m.sid m.body is
   where
@@ -305,7 +305,7 @@ envelope_reads m is = by_body m.subtype m.sid m.body is
     by_body s n (Mcast set count addresses) of = refl
     by_body s n _ of = absurd of
 
-own_code : (b : MsgBody) → IsOfSession b → (envelope_code b ≡ 0x0042) ⊎ (envelope_code b ≡ 0x0101)
+pub own_code : (b : MsgBody) → IsOfSession b → (envelope_code b ≡ 0x0042) ⊎ (envelope_code b ≡ 0x0101)
 own_code (DringData seq ident start end state) of = inl refl
 own_code (Mcast set count addresses) of = inr refl
 own_code _ of = absurd of

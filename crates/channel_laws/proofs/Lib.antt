@@ -33,3 +33,4 @@ pub mod OpeningRows
 pub mod OpeningOrder
 pub mod ToyRuns
 pub mod WhoseTurn
+pub mod EndFolding

@@ -24,7 +24,7 @@ ComesShort (DringReg ident slots slot_size options count cookies) = count ≤ 14
 ComesShort (DringUnreg ident) = ⊤
 ComesShort Rdx = ⊤
 ComesShort (DringData seq ident start end state) = ⊤
-ComesShort (Plain envelope) = ⊤
+ComesShort (Plain envelope) = HasForm (Plain envelope)
 
 taken_most : (n : ℕ) (xs : List ℕ) → length (take n xs) ≤ n
 taken_most n xs = omega (arith, length-take n xs)
@@ -37,7 +37,7 @@ body_comes bytes (Ver major minor class) form spells = tt
 body_comes bytes (DringUnreg ident) form spells = tt
 body_comes bytes Rdx form spells = tt
 body_comes bytes (DringData seq ident start end state) form spells = tt
-body_comes bytes (Plain envelope) form spells = tt
+body_comes bytes (Plain envelope) form spells = form
 
 pub message_comes : (bytes : List ℕ) (message : Message) → IsWellFormed message → SpellsMessage bytes message → ComesShort message.body
 message_comes bytes message form spells = body_comes bytes message.body form spells.body
@@ -56,7 +56,7 @@ body_within (Attr bytes) short = omega (arith, short)
 body_within (DringReg ident slots slot_size options count cookies) short = omega (arith, taken_cookies count cookies short)
 body_within (DringUnreg ident) short = omega arith
 body_within Rdx short = omega arith
-body_within (DringData seq ident start end state) short = omega arith
+body_within (DringData seq ident start end state) short = absurd short
 body_within (Mcast set count addresses) short = absurd short
 body_within (Plain envelope) short = omega arith
 

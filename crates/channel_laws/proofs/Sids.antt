@@ -34,25 +34,25 @@ use Rattle.channel_laws.specs.LaneCore.{Beside, Closes, CoreEvent, CoreFits, Cor
 use Rattle.channel_laws.specs.Standing.{EndStands}
 
 -- A PACKET that was put is RDX, or isn't
-quiet_rdx : (packet : List ℕ) → is_numbered packet ≡ false → is_rdx packet ≡ false
+pub quiet_rdx : (packet : List ℕ) → is_numbered packet ≡ false → is_rdx packet ≡ false
 quiet_rdx packet not = by_test (is_part packet) (is_rdx packet) not
   where
     by_test : (b c : Bool) → (b || c) ≡ false → c ≡ false
     by_test true c is = absurd (cc is)
     by_test false c is = is
 
-loud_rdx : (packet : List ℕ) → is_numbered packet ≡ true → is_part packet ≡ false → is_rdx packet ≡ true
+pub loud_rdx : (packet : List ℕ) → is_numbered packet ≡ true → is_part packet ≡ false → is_rdx packet ≡ true
 loud_rdx packet has none = by_test (is_part packet) (is_rdx packet) has none
   where
     by_test : (b c : Bool) → (b || c) ≡ true → b ≡ false → c ≡ true
     by_test false c is not = is
     by_test true c is not = absurd (cc not)
 
-part_rdx : (packet : List ℕ) → is_part packet ≡ true → is_rdx packet ≡ false
+pub part_rdx : (packet : List ℕ) → is_part packet ≡ true → is_rdx packet ≡ false
 part_rdx packet part = ap (λ (n : ℕ). nat_eq n 1 && nat_eq (ctrl_at packet) 4) (eqb-true (type_at packet) 2 part)
 
 -- A HANDSHAKE keeps its count but as its link comes up
-row_last : (h t : Handshake) (message : Message) (opens : Bool) → RowTaken h message t opens → t.last_sid ≡ h.last_sid
+pub row_last : (h t : Handshake) (message : Message) (opens : Bool) → RowTaken h message t opens → t.last_sid ≡ h.last_sid
 row_last h t message opens (Declined test is not) = ap (λ (x : Handshake). x.last_sid) is
 row_last h t message opens (VersionAgreed minor class r at m low is not) = ap (λ (x : Handshake). x.last_sid) is
 row_last h t message opens (VersionAsked minor class r at m is not) = ap (λ (x : Handshake). x.last_sid) is
@@ -69,7 +69,7 @@ row_last h t message opens (ReadyAgreed r at m is not) = ap (λ (x : Handshake).
 row_last h t message opens (ReadyAsked at m is not) = ap (λ (x : Handshake). x.last_sid) is
 row_last h t message opens (Opened r at m is now) = ap (λ (x : Handshake). x.last_sid) is
 
-sent_last : (h t : Handshake) (opens : Bool) → RowSent h t opens → t.last_sid ≡ h.last_sid
+pub sent_last : (h t : Handshake) (opens : Bool) → RowSent h t opens → t.last_sid ≡ h.last_sid
 sent_last h t opens (ReadyFollows r at is not) = ap (λ (x : Handshake). x.last_sid) is
 sent_last h t opens (RingFollows r at is not) = ap (λ (x : Handshake). x.last_sid) is
 sent_last h t opens (OwnReadyFollows r at is not) = ap (λ (x : Handshake). x.last_sid) is

@@ -1,6 +1,6 @@
 -- What an end has said and heard after one packet more.
-use Rattle.std.proofs.Common.{◌≡◌, ℕ, ◌≤◌, ◌-◌, Bool, true, false, Option, Some, None, List, [], ◌∷◌, ◌++◌, length, take, replicate, refl, sym, ap, ◌∙◌, subst, arith}
-use Rattle.std.specs.Prelude.{min, nat_le, not}
+use Rattle.std.proofs.Common.{◌≡◌, ℕ, ◌≤◌, ◌-◌, Bool, true, false, Option, Some, None, List, [], ◌∷◌, ◌++◌, length, drop, take, replicate, refl, sym, ap, ◌∙◌, subst, arith, length-append}
+use Rattle.std.specs.Prelude.{◌&&◌, min, nat_le, not}
 use Rattle.std.proofs.lemmas.List.{length-take, take-append-le, take_all}
 use Rattle.ldc_packet.specs.declared.packet.Subtype.TheVariants.{Info}
 use Rattle.ldc_packet.specs.Spelling.{canonical}
@@ -13,6 +13,7 @@ use Rattle.ldc_link.specs.LinkState.{LinkState}
 use Rattle.ldc_link.specs.Putting.{first_part, part_bytes}
 use Rattle.ldc_link.specs.Taking.{whole_of}
 use Rattle.channel_model.proofs.SameSayings.{half_heard_is}
+use Rattle.channel_model.specs.Messages.{ended_by, whole_with}
 use Rattle.channel_model.specs.Sayings.{half_heard, half_past, half_said, heard, said, whole_by, whole_past}
 use Rattle.channel_laws.proofs.LinkCases.{ControlHeard, IsPacket, LinkHeard, PartHeard, ReadyHeard, canonical_is, ready_loud, taken_quiet}
 
@@ -139,3 +140,40 @@ hears_on k m turns bytes none follows (PartHeard at part may number is) =
     let whole : m.whole ≡ whole_of (fragment_at bytes).stop (half_heard turns ++ (fragment_at bytes).bytes) =
     ap (λ (x : LinkState). x.whole) is ∙ ap (λ (xs : List ℕ). whole_of (fragment_at bytes).stop (xs ++ (fragment_at bytes).bytes)) half in
     subst (HearsOn turns bytes) (sym whole) (by_stop turns bytes (fragment_at bytes).stop part refl)
+
+-- THE MESSAGE that a packet ends is the one that the turns have more
+same_last : (xs : List (List ℕ)) (a b : List ℕ) → xs ++ a ∷ [] ≡ xs ++ b ∷ [] → a ≡ b
+same_last [] a b is = cc
+same_last (x ∷ xs) a b is = same_last xs a b (tail_of (x ∷ (xs ++ a ∷ [])) (x ∷ (xs ++ b ∷ [])) is)
+  where
+    tail_of : (ys zs : List (List ℕ)) → ys ≡ zs → drop 1 ys ≡ drop 1 zs
+    tail_of ys zs same = ap (λ (l : List (List ℕ)). drop 1 l) same
+
+never_last : (xs : List (List ℕ)) (a : List ℕ) → xs ≡ xs ++ a ∷ [] → ⊥
+never_last xs a is = omega (arith, ap length is, length-append xs (a ∷ []))
+
+ended_with : (b c : Bool) (f : Fragment) (half : List ℕ) (messages : List (List ℕ)) (bytes : List ℕ) → f.stop ≡ c → whole_past b f half messages ≡ messages ++ bytes ∷ []
+    → whole_with (b && c) (half ++ f.bytes) ≡ Some bytes
+ended_with true true f half messages bytes stop is =
+    ap (λ (xs : List ℕ). Some xs) (same_last messages (half ++ f.bytes) bytes (sym (ap (λ (d : Bool). whole_by d (half ++ f.bytes) messages) stop) ∙ is))
+ended_with true false f half messages bytes stop is =
+    absurd (never_last messages bytes (sym (ap (λ (d : Bool). whole_by d (half ++ f.bytes) messages) stop) ∙ is))
+ended_with false c f half messages bytes stop is = absurd (never_last messages bytes is)
+
+none_with : (b c : Bool) (f : Fragment) (half : List ℕ) (messages : List (List ℕ)) → f.stop ≡ c → whole_past b f half messages ≡ messages → whole_with (b && c) (half ++ f.bytes) ≡ None
+none_with true true f half messages stop is =
+    absurd (never_last messages (half ++ f.bytes) (sym is ∙ ap (λ (d : Bool). whole_by d (half ++ f.bytes) messages) stop))
+none_with true false f half messages stop is = refl
+none_with false c f half messages stop is = refl
+
+pub heard_none : (turns : List Turn) (packet : List ℕ) → heard (Heard packet ∷ turns) ≡ heard turns → ended_by (half_heard turns) packet ≡ None
+heard_none turns packet is = none_with (is_part packet) (fragment_at packet).stop (fragment_at packet) (half_heard turns) (heard turns) refl is
+
+pub heard_some : (turns : List Turn) (packet bytes : List ℕ) → heard (Heard packet ∷ turns) ≡ heard turns ++ bytes ∷ [] → ended_by (half_heard turns) packet ≡ Some bytes
+heard_some turns packet bytes is = ended_with (is_part packet) (fragment_at packet).stop (fragment_at packet) (half_heard turns) (heard turns) bytes refl is
+
+pub said_none : (turns : List Turn) (packet : List ℕ) → said (Said packet ∷ turns) ≡ said turns → ended_by (half_said turns) packet ≡ None
+said_none turns packet is = none_with (is_part packet) (fragment_at packet).stop (fragment_at packet) (half_said turns) (said turns) refl is
+
+pub said_some : (turns : List Turn) (packet bytes : List ℕ) → said (Said packet ∷ turns) ≡ said turns ++ bytes ∷ [] → ended_by (half_said turns) packet ≡ Some bytes
+said_some turns packet bytes is = ended_with (is_part packet) (fragment_at packet).stop (fragment_at packet) (half_said turns) (said turns) bytes refl is

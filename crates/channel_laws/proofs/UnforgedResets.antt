@@ -12,13 +12,12 @@ use Rattle.ldc_queue.specs.declared.end.End.{End}
 use Rattle.ldc_queue.specs.declared.end.End.TheVariants.{A, B}
 use Rattle.ldc_queue.specs.Transcript as turn
 use Rattle.ldc_queue.specs.Wire.{waiting_for}
-use Rattle.ldc_queue.specs.Transcript.{Turn}
 use Rattle.vio_handshake.specs.declared.handshake.Handshake.{Handshake}
 use Rattle.vio_handshake.specs.declared.session.Offer.{Offer}
 use Rattle.vio_handshake.specs.Offers.{Match}
 use Rattle.vio_handshake.specs.Rules.{Faults, Goes, GoesOpen, HandshakeTake, handshake_take}
 use Rattle.vio_handshake.proofs.PlaceRows.{GoesTo, take_at}
-use Rattle.vio_handshake.proofs.Places.{AllSaid, Place, message_at, next, owner, handshake_at}
+use Rattle.vio_handshake.proofs.Places.{message_at, next, owner, handshake_at}
 use Rattle.vio_tag.proofs.NoFault.{spelled_no_fault}
 use Rattle.vio_tag.specs.declared.cause.Cause.{Cause}
 use Rattle.vio_tag.specs.declared.message.Message.{Message}
@@ -31,7 +30,6 @@ use Rattle.channel_model.specs.WireEvent.{ByStep, Giver, Reset, giver}
 use Rattle.channel_laws.proofs.ConversingRuns.{HeardFrom, hears_next}
 use Rattle.channel_laws.proofs.CoreRuns.{Knows}
 use Rattle.channel_laws.proofs.EndCases.{stays_risen}
-use Rattle.channel_laws.proofs.EndStanding.{opened_phase}
 use Rattle.channel_laws.proofs.HandshakePlaces.{AtPlace, Matches, deal, deal_fits, message_at_spelled, message_is, open_place, owes_at, peer_said, place_bytes, place_open, who}
 use Rattle.channel_laws.proofs.HandshakesPlaced.{Meets, meets_keep, peer_place}
 use Rattle.channel_laws.proofs.Lifting.{BothStand}

@@ -1,6 +1,6 @@
 -- Two ends in a handshake whose messages each heard as the other said them: never do both owe one; and where neither does and each heard all, both
 -- have said all.
-use Rattle.std.proofs.Common.{◌≡◌, ◌≢◌, ℕ, zero, suc, ◌+◌, ◌<◌, ◌≤◌, ◌⊎◌, inl, inr, Bool, true, false, Option, Some, None, List, [], ◌∷◌, ◌++◌, take, length, refl, sym, ap, ◌∙◌, subst, arith, length-append, nat_le}
+use Rattle.std.proofs.Common.{◌≡◌, ◌≢◌, ℕ, zero, suc, ◌+◌, ◌<◌, ◌≤◌, ◌⊎◌, inl, inr, Bool, true, false, Some, None, List, [], ◌∷◌, ◌++◌, take, length, refl, sym, ap, ◌∙◌, arith, length-append, nat_le}
 use Rattle.std.specs.Prelude.{is_some}
 use Rattle.std.proofs.lemmas.Bool.{leb-false, leb-true}
 use Rattle.std.proofs.lemmas.List.{length-take}
@@ -12,7 +12,7 @@ use Rattle.vio_handshake.specs.declared.handshake.Handshake.{Handshake}
 use Rattle.vio_handshake.proofs.Places.{AllSaid, Deal, IsPlace, Place, message_at, owner}
 use Rattle.channel_model.specs.Sayings.{heard, said}
 use Rattle.channel_laws.proofs.HandshakePlaces.{AtPlace, owes_at, owes_none, owes_not, who}
-use Rattle.channel_laws.proofs.Script.{all_places, before, behind, bytes_at, index, last_or, next_at, not_last, one_if, own_role, said_at, said_by, said_by-append, same_next}
+use Rattle.channel_laws.proofs.Script.{all_places, before, behind, bytes_at, index, next_at, not_last, one_if, own_role, said_at, said_by, said_by-append, same_next}
 use Rattle.channel_laws.specs.Sides.{other}
 
 -- THE ORDER OF PLACES: before a later one all was said that comes at an earlier one

@@ -13,3 +13,4 @@ pub mod LinkPlaces
 pub mod CoreLog
 pub mod Resetting
 pub mod ToyKind
+pub mod EndFold

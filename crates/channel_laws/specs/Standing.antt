@@ -14,6 +14,7 @@ use Rattle.vio_handshake.specs.declared.session.Offer.{Offer}
 use Rattle.vio_tag.specs.declared.message.Message.{Message}
 use Rattle.vio_tag.specs.declared.message.MsgBody.{MsgBody}
 use Rattle.vio_tag.specs.declared.message.MsgBody.TheVariants.{Attr, DringData, DringReg, DringUnreg, Mcast, Plain, Rdx, Ver}
+use Rattle.vio_tag.specs.Form.{HasForm}
 use Rattle.channel_model.specs.Sayings.{heard, said}
 use Rattle.channel_laws.specs.Cuts.{Cuts, HoldsIts}
 use Rattle.channel_laws.specs.EndCore.{EndCore}
@@ -41,16 +42,16 @@ pub record LinkStands (role : Role) (k : LinkState) (turns : List Turn) : Type 0
   pub seen : k.whole ≡ None
   pub cuts : Cuts k turns
 
--- A HANDSHAKE, which owes a message of at most 256 bytes, and is open where the session is
+-- A HANDSHAKE, which owes a message of at most 256 bytes, never one of the session, and is open where that is
 abbrev pub IsShort : MsgBody → Type 0
 IsShort (Ver major minor class) = ⊤
 IsShort (Attr bytes) = length bytes ≤ 48
 IsShort (DringReg ident slots slot_size options count cookies) = count ≤ 14
 IsShort (DringUnreg ident) = ⊤
 IsShort Rdx = ⊤
-IsShort (DringData seq ident start end state) = ⊤
+IsShort (DringData seq ident start end state) = ⊥
 IsShort (Mcast set count addresses) = ⊥
-IsShort (Plain envelope) = ⊤
+IsShort (Plain envelope) = HasForm (Plain envelope)
 
 abbrev pub OwedIsShort : Option Message → Type 0
 OwedIsShort None = ⊤

@@ -18,7 +18,7 @@ use Rattle.lane_laws.proofs.RingRuns.{ring_agrees}
 use Rattle.lane_laws.proofs.NearAgreeing as near
 use Rattle.lane_laws.proofs.WorkNexts.{next_agrees}
 use Rattle.lane_laws.proofs.WorkRuns.{run_serves}
-use Rattle.lane_laws.proofs.LaneChannel.{client_stands, link_agrees, run_sids, server_stands}
+use Rattle.lane_laws.proofs.LaneChannel.{client_stands, lane_folds, link_agrees, no_sids, run_sids, server_stands}
 use Rattle.lane_laws.specs.ChannelEnds.{client_core, server_core}
 
 pub run_agrees : (shape : Shape) (events : List DiskEvent) (s : LaneState) → IsShape shape → Run LaneStep (fresh shape) events s → AgreesWithLog s (log_of after (nothing_yet shape) events)
@@ -29,6 +29,7 @@ run_agrees shape events s sound run =
     let both = run_both shape events s sound run in
     let working = (run_serves shape events s sound run).0 in
     let first : s.server.first ≡ l.shape.first = run_first shape events s sound run ∙ ap (λ (x : Shape). x.first) (sym (log_shape (nothing_yet shape) events)) in
+    let folds = lane_folds shape events s sound run in
     record {
       shape = stands.shape;
       wire = stands.wire;
@@ -38,8 +39,8 @@ run_agrees shape events s sound run =
       client_link = link_agrees Initiator (client_core s.client) l.transcript.client (client_stands shape events s sound run);
       server_link = link_agrees Responder (server_core s.server) l.transcript.server (server_stands shape events s sound run);
       sids = run_sids shape events s sound run;
-      client_end = client_end s l both (client_stands shape events s sound run).link.cuts;
-      server_end = server_end s l both (server_stands shape events s sound run).link.cuts first;
+      client_end = client_end s l both folds.a (run_sids shape events s sound run);
+      server_end = server_end s l both folds.b (no_sids shape events s sound run) first;
       requests = record { pending = stands.requests.pending; next = stands.requests.next };
       client = knows.counted.client.agrees;
       server = knows.counted.server.agrees;

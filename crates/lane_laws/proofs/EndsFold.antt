@@ -1,9 +1,9 @@
 -- Along every run both ends are as the lane's log counts them.
 use Rattle.std.proofs.Common.{◌≡◌, ℕ, ◌+◌, ◌≤◌, Bool, true, false, Option, Some, None, List, [], ◌∷◌, ◌++◌, drop, length, refl, sym, ap, ◌∙◌, subst, inl, inr, arith}
-use Rattle.std.specs.Prelude.{is_none, is_some, not, ◌&&◌, ◌||◌, ⊤}
+use Rattle.std.specs.Prelude.{◌%◌, is_none, is_some, not, ◌&&◌, ◌||◌, ⊤}
 use Rattle.runs.specs.Lawful.{log_of, run_lawful}
 use Rattle.runs.specs.Run.{Run}
-use Rattle.ldc_link.specs.declared.phase.Role.TheVariants.{Responder}
+use Rattle.ldc_link.specs.declared.phase.Role.TheVariants.{Initiator, Responder}
 use Rattle.ldc_link.specs.LinkState.{LinkState, is_up, offered}
 use Rattle.ldc_link.specs.Putting.{owes, owes_control}
 use Rattle.ldc_queue.specs.declared.end.End.{End}
@@ -13,16 +13,15 @@ use Rattle.ldc_queue.specs.Transcript.{Heard as Heard_, Said, Turn}
 use Rattle.vio_tag.specs.declared.cause.Cause.{Cause}
 use Rattle.vio_tag.specs.declared.message.Message.{Message}
 use Rattle.vio_tag.specs.Spelling.{canonical}
-use Rattle.vio_handshake.specs.declared.session.Offer.{Offer}
 use Rattle.lane_laws.specs.Agreement.{ClientEndAgrees, RangeAgrees, ServerEndAgrees}
 use Rattle.lane_laws.specs.BlockLog.{Blockage, Clear, is_stuck}
-use Rattle.disk_model.specs.ClientPutting.{announcement, announcing, client_holds, client_kind, holding, is_announcing}
+use Rattle.disk_model.specs.ClientPutting.{announcement, announcing, client_kind, is_announcing}
 use Rattle.disk_model.specs.ClientRule as client_rules
 use Rattle.disk_model.specs.ClientState.{ClientSession, ClientState, joined_client}
 use Rattle.disk_model.specs.ClientStep.{ClientSends}
 use Rattle.disk_model.specs.DiskEvent.{Asks, Calm, CalmReset, CalmRestart, CalmStart, CalmStop, CalmTick, Desc, DiskEvent, Done, Finished, Misplaced, Moved, Off, OnWire, Published, Calms, Started, Stopped, Stored, Switched, Switches, Worked, Works}
 use Rattle.lane_laws.specs.DiskLog.{DiskLog, after, nothing_yet}
-use Rattle.lane_laws.specs.EndLog.{announced_or_owed, answer_left, client_left, handshake_of, has_begun, infos_heard, left_if, left_of, owed_left, range_in_work, range_left, server_left}
+use Rattle.lane_laws.specs.EndLog.{announced_or_owed, answer_left, client_left, has_begun, infos_heard, left_if, left_of, owed_left, range_in_work, range_left, server_left}
 use Rattle.disk_model.specs.LaneState.{IsShape, LaneState, Shape, fresh}
 use Rattle.disk_model.specs.LaneStep.{EndOnWire, LaneStep, ResetBy, RestStep, TurnStep, WireStep, WorkStep}
 use Rattle.disk_model.specs.Offering.{client_offer, server_offer}
@@ -40,13 +39,10 @@ use Rattle.lane_laws.proofs.ClientFolds.{ClientIs, client_admits_so, client_begi
 use Rattle.lane_laws.proofs.Speaking.{client_blocked_rests}
 use Rattle.lane_laws.proofs.ClientTaken.{client_took_what}
 use Rattle.lane_laws.proofs.Speaking.{client_blocked_utters}
-use Rattle.lane_laws.proofs.HeldLinks.{held_link}
 use Rattle.lane_laws.proofs.EndPutting.{put_says}
 use Rattle.lane_laws.proofs.Awake.{is_open_up}
-use Rattle.lane_laws.proofs.HandshakesFold.{client_linked, server_linked}
 use Rattle.lane_laws.proofs.LaneCounting.{Knows, knows_step, run_knows}
 use Rattle.lane_laws.proofs.LinkKept.{client_sending, server_sending}
-use Rattle.lane_laws.proofs.PhasesFold.{put_rdx}
 use Rattle.lane_laws.proofs.ClientPuts.{putting}
 use Rattle.lane_laws.proofs.RangeSums.{count_heard}
 use Rattle.lane_laws.proofs.RemainingClientHears.{owes_nothing, takes_calm}
@@ -57,23 +53,18 @@ use Rattle.lane_laws.proofs.ServerPutCounting.{server_holds_counting}
 use Rattle.lane_laws.proofs.ServerTaken.{server_took_what}
 use Rattle.lane_laws.proofs.Speaking.{server_blocked_utters}
 use Rattle.lane_laws.proofs.HeldLinks.{held_server}
-use Rattle.lane_laws.proofs.HeldHandshake.{held_handshake}
 use Rattle.lane_laws.specs.Counted.{HoldsAnswer, HoldsEither, HoldsOwed, ServerOrder, range_count}
-use Rattle.lane_laws.specs.ChannelEnds.{server_core}
+use Rattle.lane_laws.specs.ChannelEnds.{client_core, server_core}
+use Rattle.channel_laws.proofs.EndFolding.{FoldsSo}
+use Rattle.channel_laws.specs.EndFold.{handshake_of}
 use Rattle.channel_laws.specs.Cuts.{Cuts}
 
 -- BOTH ENDS, and the log
-abbrev offer_a : DiskLog → Offer
-offer_a l = client_offer l.shape.blocks l.shape.slots
-
-abbrev offer_b : DiskLog → Offer
-offer_b l = server_offer l.shape.blocks l.shape.slots
-
 abbrev pub ClientStands : LaneState → DiskLog → Type 0
-ClientStands s l = ClientIs (offer_a l) s.client l.transcript.client l.transcript.links l.blocked.client
+ClientStands s l = ClientIs s.client l.blocked.client
 
 abbrev pub ServerStands : LaneState → DiskLog → Type 0
-ServerStands s l = ServerIs (offer_b l) s.server l.transcript.server l.blocked.server
+ServerStands s l = ServerIs s.server l.transcript.server l.blocked.server
 
 pub record BothAre (s : LaneState) (l : DiskLog) : Type 0 where
   pub knows : Knows s l
@@ -81,58 +72,32 @@ pub record BothAre (s : LaneState) (l : DiskLog) : Type 0 where
   pub server : ServerStands s l
 
 -- an end that stays
-same_client : (s t : LaneState) (l : DiskLog) → BothAre s l → t.client ≡ s.client → ClientIs (offer_a l) t.client l.transcript.client l.transcript.links l.blocked.client
-same_client s t l both same = subst (λ (c : ClientState). ClientIs (offer_a l) c l.transcript.client l.transcript.links l.blocked.client) (sym same) both.client
+same_client : (s t : LaneState) (l : DiskLog) → BothAre s l → t.client ≡ s.client → ClientIs t.client l.blocked.client
+same_client s t l both same = subst (λ (c : ClientState). ClientIs c l.blocked.client) (sym same) both.client
 
-same_server : (s t : LaneState) (l : DiskLog) → BothAre s l → t.server ≡ s.server → ServerIs (offer_b l) t.server l.transcript.server l.blocked.server
-same_server s t l both same = subst (λ (v : ServerState). ServerIs (offer_b l) v l.transcript.server l.blocked.server) (sym same) both.server
+same_server : (s t : LaneState) (l : DiskLog) → BothAre s l → t.server ≡ s.server → ServerIs t.server l.transcript.server l.blocked.server
+same_server s t l both same = subst (λ (v : ServerState). ServerIs v l.transcript.server l.blocked.server) (sym same) both.server
 
 -- one that begins anew
-begun_client : (s : LaneState) (l : DiskLog) (c : ClientState) → BothAre s l → c ≡ joined_client s.client → ClientIs (offer_a l) c [] l.transcript.links Clear
-begun_client s l c both is =
-    subst (λ (x : ClientState). ClientIs (offer_a l) x [] l.transcript.links Clear) (sym is)
-    (client_begins (offer_a l) s.client l.transcript.client l.transcript.links l.blocked.client both.knows.counted.client.handshake both.knows.all.transcripts.client.role both.client)
+begun_client : (s : LaneState) (c : ClientState) → c ≡ joined_client s.client → ClientIs c Clear
+begun_client s c is = subst (λ (x : ClientState). ClientIs x Clear) (sym is) (client_begins s.client)
 
-begun_server : (s : LaneState) (l : DiskLog) (v : ServerState) → BothAre s l → v ≡ joined_server s.server → ServerIs (offer_b l) v [] Clear
-begun_server s l v both is =
-    subst (λ (x : ServerState). ServerIs (offer_b l) x [] Clear) (sym is)
-    (server_begins (offer_b l) s.server l.transcript.server l.blocked.server both.knows.counted.server.handshake both.knows.all.transcripts.server.role both.server)
+begun_server : (s : LaneState) (v : ServerState) → v ≡ joined_server s.server → ServerIs v [] Clear
+begun_server s v is = subst (λ (x : ServerState). ServerIs x [] Clear) (sym is) (server_begins s.server)
 
-made_server : (s : LaneState) (l : DiskLog) (v : ServerState) → BothAre s l → v ≡ restarted_server s.server → ServerIs (offer_b l) v [] Clear
-made_server s l v both is =
-    let offers : (restarted_server s.server).handshake ≡ handshake_of Responder (offer_b l) 0 [] =
-    ap (λ (n : ℕ). handshake_of Responder (server_offer n s.server.slots) 0 []) both.knows.counted.server.blocks
-    ∙ ap (λ (n : ℕ). handshake_of Responder (server_offer l.shape.blocks n) 0 []) both.knows.counted.server.slots in
-    subst (λ (x : ServerState). ServerIs (offer_b l) x [] Clear) (sym is) (server_restarts (offer_b l) s.server offers)
+made_server : (s : LaneState) (v : ServerState) → v ≡ restarted_server s.server → ServerIs v [] Clear
+made_server s v is = subst (λ (x : ServerState). ServerIs x [] Clear) (sym is) (server_restarts s.server)
 
--- what an end holds leaves its link's phase, its handshake and its session's range
-held_phase : (s : ClientState) (rule : client_rules.ClientRule) (held : ClientState) → client_holds rule s ≡ Some held → held.link.phase ≡ s.link.phase
-held_phase s client_rules.Puts held is = let same : s ≡ held = cc is in ap (λ (x : ClientState). x.link.phase) (sym same)
-held_phase s (client_rules.Says message) held is = let same : holding message s ≡ held = cc is in ap (λ (x : ClientState). x.link.phase) (sym same)
-held_phase s (client_rules.Announces session) held is =
-    let same : announcing session (holding (announcement s session) s) ≡ held = cc is in ap (λ (x : ClientState). x.link.phase) (sym same)
-held_phase s client_rules.Joins held is = absurd (cc)
-held_phase s (client_rules.Completes session) held is = absurd (cc)
-held_phase s (client_rules.Takes packet) held is = absurd (cc)
-held_phase s (client_rules.Publishes session request) held is = absurd (cc)
-held_phase s client_rules.Idles held is = absurd (cc)
-
-pub record SameServer (s held : ServerState) : Type 0 where
-  pub phase : held.link.phase ≡ s.link.phase
-  pub handshake : held.handshake ≡ s.handshake
-  pub session : held.session ≡ s.session
-
-pub same_held_server : (s : ServerState) (rule : server_rules.ServerRule) (held : ServerState) → server_holds rule s ≡ Some held → SameServer s held
-same_held_server s server_rules.Puts held is =
-    let same : s ≡ held = cc is in subst (λ (x : ServerState). SameServer s x) same (record { phase = refl; handshake = refl; session = refl })
-same_held_server s (server_rules.Says message) held is =
-    let same : record s { link = offered (canonical message) s.link } ≡ held = cc is in
-    subst (λ (x : ServerState). SameServer s x) same (record { phase = refl; handshake = refl; session = refl })
-same_held_server s server_rules.Joins held is = absurd (cc)
-same_held_server s (server_rules.Fetches session) held is = absurd (cc)
-same_held_server s (server_rules.Serves session work) held is = absurd (cc)
-same_held_server s (server_rules.Takes packet) held is = absurd (cc)
-same_held_server s server_rules.Idles held is = absurd (cc)
+-- what a server holds leaves its session
+pub held_session : (s : ServerState) (rule : server_rules.ServerRule) (held : ServerState) → server_holds rule s ≡ Some held → held.session ≡ s.session
+held_session s server_rules.Puts held is = let same : s ≡ held = cc is in ap (λ (x : ServerState). x.session) (sym same)
+held_session s (server_rules.Says message) held is =
+    let same : record s { link = offered (canonical message) s.link } ≡ held = cc is in ap (λ (x : ServerState). x.session) (sym same)
+held_session s server_rules.Joins held is = absurd (cc)
+held_session s (server_rules.Fetches session) held is = absurd (cc)
+held_session s (server_rules.Serves session work) held is = absurd (cc)
+held_session s (server_rules.Takes packet) held is = absurd (cc)
+held_session s server_rules.Idles held is = absurd (cc)
 
 -- THE CLIENT on the wire
 first_false : (a b c : Bool) → (a || b || c) ≡ false → a ≡ false
@@ -143,10 +108,8 @@ client_takes : (s : LaneState) (l : DiskLog) (packet : List ℕ) (opens : Bool) 
 client_takes s l packet opens t both step =
     let knows = both.knows in
     let at = seen A s.shape.entries s.wire.wire in
-    client_takes_so (offer_a l) s.client t.client l.transcript.client packet l.transcript.links l.blocked.client (record {
-      took = client_linked s.client t.client packet step.step.1;
+    client_takes_so s.client t.client l.transcript.client packet l.blocked.client (record {
       same = client_sending s.client t.client packet step.step.1;
-      asking = knows.all.transcripts.client.asking;
       calm = first_false (owes_control s.client.link) (is_some s.client.handshake.owed) (is_none s.client.session && owes s.client.link) (takes_calm s.client at packet step.step.0);
       owed = owes_nothing s.client at packet step.step.0;
     }) both.client
@@ -160,32 +123,27 @@ client_puts s l packet opens t both step =
     let sends : ClientSends s.client at s.memory packet opens t.client t.memory = step.step in
     let held = sends.held in
     let put = putting s l packet opens t.client t.memory knows sends in
-    let follows = held_link s.client at rule held l.transcript.client sends.holds knows.all.transcripts.follows_a in
-    subst (λ (x : ClientState). ClientIs (offer_a l) x (Said packet ∷ l.transcript.client) (after l (OnWire (Sent A packet opens))).transcript.links Clear) (sym sends.is)
-    (client_puts_so (offer_a l) l.transcript.client packet l.transcript.links (client_kind held) held refl (record {
-      phase = held_phase s.client rule held sends.holds ∙ both.client.link.phase;
-      handshake = held_handshake s.client rule held sends.holds ∙ both.client.handshake;
-      fits = put.counted.handshake;
+    subst (λ (x : ClientState). ClientIs x Clear) (sym sends.is)
+    (client_puts_so l.transcript.client packet (client_kind held) held refl (record {
       rests = client_blocked_rests s.client at held l.transcript.client knows.all.transcripts.client sends.holds knows.rests.client;
       utters = client_blocked_utters s.client at held l.transcript.client knows.all.transcripts.client sends.holds knows.rests.client;
       holds = put.counted.holds;
-      rdx = put_rdx (is_announcing held.session) held.link t.client.link l.transcript.client packet follows sends.packet;
     }) put.says)
 
 client_wire : (s : LaneState) (event : WireEvent) (t : LaneState) (l : DiskLog) → BothAre s l → EndOnWire A s event t
     → ClientStands t (after l (OnWire event)) × ServerStands t (after l (OnWire event))
-client_wire s (Joined A lost) t l both step = (begun_client s l t.client both step.step.2, same_server s t l both (ap (λ (x : LaneState). x.server) step.is))
+client_wire s (Joined A lost) t l both step = (begun_client s t.client step.step.2, same_server s t l both (ap (λ (x : LaneState). x.server) step.is))
 client_wire s (Took A packet opens) t l both step = (client_takes s l packet opens t both step, same_server s t l both (ap (λ (x : LaneState). x.server) step.is))
 client_wire s (Sent A packet opens) t l both step = (client_puts s l packet opens t both step, same_server s t l both (ap (λ (x : LaneState). x.server) step.is))
 client_wire s (Blocked A) t l both step =
     let at = seen A s.shape.entries s.wire.wire in
     let rule = client_rules.client_rule s.client at in (
-      client_blocks_so (offer_a l) s.client at rule t.client l.transcript.client l.transcript.links l.blocked.client refl (client_may s.client at) step.step.0
+      client_blocks_so s.client at rule t.client l.transcript.client l.blocked.client refl (client_may s.client at) step.step.0
           (record { rests = both.knows.rests.client; utters = both.knows.utters.client; holds = both.knows.counted.client.holds }) both.client,
       same_server s t l both (ap (λ (x : LaneState). x.server) step.is),
     )
 client_wire s (Idle A) t l both step = (same_client s t l both step.step.1, same_server s t l both (ap (λ (x : LaneState). x.server) step.is))
-client_wire s (Reset A cause packet lost) t l both step = (begun_client s l t.client both step.step.2, same_server s t l both (ap (λ (x : LaneState). x.server) step.is))
+client_wire s (Reset A cause packet lost) t l both step = (begun_client s t.client step.step.2, same_server s t l both (ap (λ (x : LaneState). x.server) step.is))
 client_wire s (Joined B lost) t l both step = absurd step.step
 client_wire s (Took B packet opens) t l both step = absurd step.step
 client_wire s (Sent B packet opens) t l both step = absurd step.step
@@ -203,11 +161,10 @@ server_takes s l packet opens t both step =
     let knows = both.knows in
     let at = seen B s.shape.entries s.wire.wire in
     let free : TakesFree s.server = subst (ServerFree s.server) step.1.step.1.0 (server_free s.server at) in
-    server_takes_so (offer_b l) s.server t.server l.transcript.server packet opens l.blocked.server (record {
-      took = server_linked s.server t.server opens packet step.1.step.1.1;
+    server_takes_so s.server t.server l.transcript.server packet opens l.blocked.server (record {
       same = server_sending s.server t.server opens packet step.1.step.1.1;
       free = free;
-    }) knows.counted.server.handshake knows.rests.server both.server
+    }) knows.rests.server both.server
     (server_took_what s.server l.transcript.server packet t.server opens knows.all.transcripts.follows_b knows.rests.server.whole step.1.step.1.1)
 
 server_puts_packet : (s : LaneState) (l : DiskLog) (packet : List ℕ) (opens : Bool) (t : LaneState) → BothAre s l → EndOnWire B s (Sent B packet opens) t → ServerStands t (after l (OnWire (Sent B packet opens)))
@@ -219,31 +176,27 @@ server_puts_packet s l packet opens t both step =
     let held = sends.held in
     let counted = server_holds_counting l.shape s.server rule held l.transcript.server l.work.server knows.rests.server knows.utters.server (server_free s.server at) sends.holds knows.counted.server in
     let follows = held_server s.server rule held l.transcript.server sends.holds knows.all.transcripts.follows_b in
-    let same = same_held_server s.server rule held sends.holds in
-    subst (λ (x : ServerState). ServerIs (offer_b l) x (Said packet ∷ l.transcript.server) Clear) (sym sends.is)
-    (server_puts_so (offer_b l) l.transcript.server packet (server_kind held) held refl (record {
-      phase = same.phase ∙ both.server.link.phase;
-      handshake = same.handshake ∙ both.server.handshake;
-      range = ap ranged same.session ∙ both.server.range;
-      fits = counted.handshake;
+    subst (λ (x : ServerState). ServerIs x (Said packet ∷ l.transcript.server) Clear) (sym sends.is)
+    (server_puts_so l.transcript.server packet (server_kind held) held (record {
+      range = ap ranged (held_session s.server rule held sends.holds) ∙ both.server.range;
+      owed = counted.handshake.owed;
       utters = server_blocked_utters s.server at held l.transcript.server sends.holds knows.rests.server;
       holds = counted.holds;
-      rdx = put_rdx (is_none held.handshake.owed) held.link t.server.link l.transcript.server packet follows sends.packet;
     }) (put_says (is_none held.handshake.owed) held.link t.server.link l.transcript.server packet follows sends.packet))
 
 server_wire : (s : LaneState) (event : WireEvent) (t : LaneState) (l : DiskLog) → BothAre s l → EndOnWire B s event t
     → ClientStands t (after l (OnWire event)) × ServerStands t (after l (OnWire event))
-server_wire s (Joined B lost) t l both step = (same_client s t l both (ap (λ (x : LaneState). x.client) step.1.is), begun_server s l t.server both step.1.step.1.2)
+server_wire s (Joined B lost) t l both step = (same_client s t l both (ap (λ (x : LaneState). x.client) step.1.is), begun_server s t.server step.1.step.1.2)
 server_wire s (Took B packet opens) t l both step = (same_client s t l both (ap (λ (x : LaneState). x.client) step.1.is), server_takes s l packet opens t both step)
 server_wire s (Sent B packet opens) t l both step = (same_client s t l both (ap (λ (x : LaneState). x.client) step.1.is), server_puts_packet s l packet opens t both step)
 server_wire s (Blocked B) t l both step =
     let at = seen B s.shape.entries s.wire.wire in (
       same_client s t l both (ap (λ (x : LaneState). x.client) step.1.is),
-      server_blocks_so (offer_b l) s.server (server_rules.server_rule s.server at) t.server l.transcript.server l.blocked.server (server_free s.server at) step.1.step.1.0
+      server_blocks_so s.server (server_rules.server_rule s.server at) t.server l.transcript.server l.blocked.server (server_free s.server at) step.1.step.1.0
           (record { rests = both.knows.rests.server; utters = both.knows.utters.server }) both.server,
     )
 server_wire s (Idle B) t l both step = (same_client s t l both (ap (λ (x : LaneState). x.client) step.1.is), same_server s t l both step.1.step.1.1)
-server_wire s (Reset B cause packet lost) t l both step = (same_client s t l both (ap (λ (x : LaneState). x.client) step.1.is), begun_server s l t.server both step.1.step.1.2)
+server_wire s (Reset B cause packet lost) t l both step = (same_client s t l both (ap (λ (x : LaneState). x.client) step.1.is), begun_server s t.server step.1.step.1.2)
 server_wire s (Joined A lost) t l both step = absurd step.1.step.1
 server_wire s (Took A packet opens) t l both step = absurd step.1.step.1
 server_wire s (Sent A packet opens) t l both step = absurd step.1.step.1
@@ -271,14 +224,14 @@ reset_by : (by : Giver) (e : End) (s : LaneState) (cause : Cause) (packet : Opti
 reset_by ByStep A s cause packet lost t l both step = client_wire s (Reset A cause packet lost) t l both step
 reset_by ByStep B s cause packet lost t l both step = server_wire s (Reset B cause packet lost) t l both step
 reset_by ByScript A s cause packet lost t l both step =
-    (begun_client s l t.client both (ap (λ (x : LaneState). x.client) step.2), same_server s t l both (ap (λ (x : LaneState). x.server) step.2))
+    (begun_client s t.client (ap (λ (x : LaneState). x.client) step.2), same_server s t l both (ap (λ (x : LaneState). x.server) step.2))
 reset_by ByScript B s cause packet lost t l both step =
-    (same_client s t l both (ap (λ (x : LaneState). x.client) step.1.2), begun_server s l t.server both (ap (λ (x : LaneState). x.server) step.1.2))
+    (same_client s t l both (ap (λ (x : LaneState). x.client) step.1.2), begun_server s t.server (ap (λ (x : LaneState). x.server) step.1.2))
 reset_by ByRestart A s cause packet lost t l both step = absurd step
 reset_by ByRestart B s cause packet lost t l both step =
-    (same_client s t l both (ap (λ (x : LaneState). x.client) step.1.2), made_server s l t.server both (ap (λ (x : LaneState). x.server) step.1.2))
+    (same_client s t l both (ap (λ (x : LaneState). x.client) step.1.2), made_server s t.server (ap (λ (x : LaneState). x.server) step.1.2))
 reset_by ByTick A s cause packet lost t l both step =
-    (begun_client s l t.client both (ap (λ (x : LaneState). x.client) step.1.2), same_server s t l both (ap (λ (x : LaneState). x.server) step.1.2))
+    (begun_client s t.client (ap (λ (x : LaneState). x.client) step.1.2), same_server s t l both (ap (λ (x : LaneState). x.server) step.1.2))
 reset_by ByTick B s cause packet lost t l both step = absurd step
 
 poked_by : (e : End) (s : LaneState) (at : ℕ) (bytes : List ℕ) (t : LaneState) (l : DiskLog) → BothAre s l → WireStep s (Poked e at bytes) t → Stand t (after l (OnWire (Poked e at bytes)))
@@ -300,34 +253,34 @@ on_wire s (Declines d) t l both step = stays s t l both (ap (λ (x : LaneState).
 -- THE WORK, what is asked, stops, and what changes nothing
 works : (s : LaneState) (event : Worked) (t : LaneState) (l : DiskLog) → BothAre s l → WorkStep s event t → Stand t (after l (Works event))
 works s (Published id) t l both step = (
-  client_publishes_so (offer_a l) s.client (seen A s.shape.entries s.wire.wire) s.memory id t.client t.memory l.transcript.client l.transcript.links l.blocked.client step.step both.client,
+  client_publishes_so s.client (seen A s.shape.entries s.wire.wire) s.memory id t.client t.memory l.blocked.client step.step both.client,
   same_server s t l both (ap (λ (x : LaneState). x.server) step.is),
 )
 works s (Done id operation status bytes) t l both step = (
-  client_completes_so (offer_a l) s.client (seen A s.shape.entries s.wire.wire) s.memory id operation status bytes t.client t.memory l.transcript.client l.transcript.links l.blocked.client step.step both.client,
+  client_completes_so s.client (seen A s.shape.entries s.wire.wire) s.memory id operation status bytes t.client t.memory l.blocked.client step.step both.client,
   same_server s t l both (ap (λ (x : LaneState). x.server) step.is),
 )
 works s (Desc slot bytes) t l both step = (
   same_client s t l both (ap (λ (x : LaneState). x.client) step.1.is),
-  server_fetches_so (offer_b l) s.server (seen B s.shape.entries s.wire.wire) _ slot bytes t.server t.memory l.transcript.server l.blocked.server step.1.step.1.0 both.server,
+  server_fetches_so s.server (seen B s.shape.entries s.wire.wire) _ slot bytes t.server t.memory l.transcript.server l.blocked.server step.1.step.1.0 both.server,
 )
 works s (Moved unit fault) t l both step = (
   same_client s t l both (ap (λ (x : LaneState). x.client) step.1.is),
-  server_moves_so (offer_b l) s.server t.server (seen B s.shape.entries s.wire.wire) _ unit fault t.memory l.transcript.server l.blocked.server step.1.step.1.0 both.server,
+  server_moves_so s.server t.server (seen B s.shape.entries s.wire.wire) _ unit fault t.memory l.transcript.server l.blocked.server step.1.step.1.0 both.server,
 )
 works s (Stored operation block count failed) t l both step = (
   same_client s t l both (ap (λ (x : LaneState). x.client) step.1.is),
-  server_stores_so (offer_b l) s.server t.server (seen B s.shape.entries s.wire.wire) operation block count failed step.0 l.transcript.server l.blocked.server step.1.step.1.0 both.server,
+  server_stores_so s.server t.server (seen B s.shape.entries s.wire.wire) operation block count failed step.0 l.transcript.server l.blocked.server step.1.step.1.0 both.server,
 )
 works s (Finished slot status) t l both step = (
   same_client s t l both (ap (λ (x : LaneState). x.client) step.1.is),
-  server_finishes_so (offer_b l) s.server (seen B s.shape.entries s.wire.wire) _ slot status t.server t.memory l.transcript.server l.blocked.server step.1.step.1.0 both.server,
+  server_finishes_so s.server (seen B s.shape.entries s.wire.wire) _ slot status t.server t.memory l.transcript.server l.blocked.server step.1.step.1.0 both.server,
 )
 works s Misplaced t l both step = absurd step
 
 turns_are : (s : LaneState) (event : Switched) (t : LaneState) (l : DiskLog) → BothAre s l → TurnStep s event t → Stand t (after l (Switches event))
 turns_are s Stopped t l both step =
-    (same_client s t l both (ap (λ (x : LaneState). x.client) step.1), made_server s l t.server both (ap (λ (x : LaneState). x.server) step.1))
+    (same_client s t l both (ap (λ (x : LaneState). x.client) step.1), made_server s t.server (ap (λ (x : LaneState). x.server) step.1))
 turns_are s Started t l both step = stays s t l both (ap (λ (x : LaneState). x.client) step.1) (ap (λ (x : LaneState). x.server) step.1)
 turns_are s Off t l both step = stays s t l both (ap (λ (x : LaneState). x.client) step.1) (ap (λ (x : LaneState). x.server) step.1)
 
@@ -342,7 +295,7 @@ calm s CalmRestart t step = step.1
 stand_step : (s : LaneState) (event : DiskEvent) (t : LaneState) (l : DiskLog) → BothAre s l → LaneStep s event t → Stand t (after l event)
 stand_step s (OnWire event) t l both step = on_wire s event t l both step
 stand_step s (Asks event) t l both step = (
-  client_admits_so (offer_a l) s.client event t.client l.transcript.client l.transcript.links l.blocked.client step.0 both.client,
+  client_admits_so s.client event t.client l.blocked.client step.0 both.client,
   same_server s t l both (ap (λ (x : LaneState). x.server) step.1),
 )
 stand_step s (Works event) t l both step = works s event t l both step
@@ -359,13 +312,11 @@ fresh_both : (shape : Shape) → IsShape shape → BothAre (fresh shape) (nothin
 fresh_both shape sound = record {
   knows = run_knows shape [] (fresh shape) sound refl;
   client = record {
-    link = record { phase = refl; owes = λ never. absurd (cc); left = λ begun some. absurd (omega (arith, some)) };
-    handshake = refl;
+    link = record { owes = λ never. absurd (cc); left = λ begun some. absurd (omega (arith, some)) };
     announcing = refl;
   };
   server = record {
-    link = record { phase = refl; owes = λ never. absurd (cc); left = λ begun some. absurd (omega (arith, some)) };
-    handshake = refl;
+    link = record { owes = λ never. absurd (cc); left = λ begun some. absurd (omega (arith, some)) };
     range = refl;
   };
 }
@@ -454,16 +405,23 @@ client_left_is s l (Some session) both cuts is = by session.announcing refl
         (both.knows.counted.client.holds.own session is own) (both.knows.all.transcripts.client.own (ap is_announcing is ∙ own))
         ∙ sym (ap (λ (b : Bool). announced_or_owed b s.client session (half_said l.transcript.client) l.blocked.client) own)
 
-pub client_end : (s : LaneState) (l : DiskLog) → BothAre s l → Cuts s.client.link l.transcript.client → ClientEndAgrees s.client l.shape l.transcript l.blocked.client
-client_end s l both cuts = record {
-  blocks = both.knows.all.stands.blocks ∙ ap (λ (n : Shape). n.blocks) both.knows.all.stands.shape;
-  slots = both.knows.counted.client.slots;
-  role = both.knows.all.transcripts.client.role;
-  phase = both.client.link.phase;
-  handshake = both.client.handshake;
-  announcing = both.client.announcing;
-  left = client_left_is s l s.client.session both cuts refl;
-}
+pub client_end : (s : LaneState) (l : DiskLog) → BothAre s l → FoldsSo Initiator (client_core s.client) l.transcript.client → s.client.handshake.last_sid ≡ l.transcript.links % 4294967296
+    → ClientEndAgrees s.client l.shape l.transcript l.blocked.client
+client_end s l both so sids =
+    let turns = l.transcript.client in
+    let blocks = both.knows.all.stands.blocks ∙ ap (λ (n : Shape). n.blocks) both.knows.all.stands.shape in
+    let slots = both.knows.counted.client.slots in
+    record {
+      blocks = blocks;
+      slots = slots;
+      role = both.knows.all.transcripts.client.role;
+      phase = so.folds.phase;
+      handshake = so.folds.handshake ∙ ap (λ (n : ℕ). handshake_of Initiator (client_offer n s.client.slots) s.client.handshake.last_sid turns) blocks
+          ∙ ap (λ (n : ℕ). handshake_of Initiator (client_offer l.shape.blocks n) s.client.handshake.last_sid turns) slots
+          ∙ ap (λ (n : ℕ). handshake_of Initiator (client_offer l.shape.blocks l.shape.slots) n turns) sids;
+      announcing = both.client.announcing;
+      left = client_left_is s l s.client.session both so.stands.link.cuts refl;
+    }
 
 -- THE SERVER
 pub infos_are : (turns : List Turn) → infos_heard turns ≡ range_count 1 (heard turns)
@@ -516,14 +474,20 @@ module _ (s : LaneState) (l : DiskLog) (both : BothAre s l) (cuts : Cuts s.serve
       owed_is_left s.server.link (half_said l.transcript.server) l.blocked.server (Some message) s.server.link.to_send (of_server s l both cuts) refl
       (λ some. owed_either s.server message _ is (both.knows.counted.server.holds some)) (λ down. sym is ∙ both.knows.utters.server.free down)
 
-  pub server_end : s.server.first ≡ l.shape.first → ServerEndAgrees s.server l.shape l.transcript l.blocked.server
-  server_end first = record {
-    first = first;
-    blocks = both.knows.counted.server.blocks;
-    slots = both.knows.counted.server.slots;
-    role = both.knows.all.transcripts.server.role;
-    phase = both.server.link.phase;
-    handshake = both.server.handshake;
-    range = range_agrees l.shape.slots s.server.session l.work.server l.transcript.server both.knows.counted.server.order both.server.range;
-    left = server_left_is s.server.handshake.owed refl;
-  }
+pub server_end : (s : LaneState) (l : DiskLog) → BothAre s l → FoldsSo Responder (server_core s.server) l.transcript.server → s.server.handshake.last_sid ≡ 0
+    → s.server.first ≡ l.shape.first → ServerEndAgrees s.server l.shape l.transcript l.blocked.server
+server_end s l both so sids first =
+    let turns = l.transcript.server in
+    let counted = both.knows.counted.server in
+    record {
+      first = first;
+      blocks = counted.blocks;
+      slots = counted.slots;
+      role = both.knows.all.transcripts.server.role;
+      phase = so.folds.phase;
+      handshake = so.folds.handshake ∙ ap (λ (n : ℕ). handshake_of Responder (server_offer n s.server.slots) s.server.handshake.last_sid turns) counted.blocks
+          ∙ ap (λ (n : ℕ). handshake_of Responder (server_offer l.shape.blocks n) s.server.handshake.last_sid turns) counted.slots
+          ∙ ap (λ (n : ℕ). handshake_of Responder (server_offer l.shape.blocks l.shape.slots) n turns) sids;
+      range = range_agrees l.shape.slots s.server.session l.work.server turns counted.order both.server.range;
+      left = server_left_is s l both so.stands.link.cuts s.server.handshake.owed refl;
+    }

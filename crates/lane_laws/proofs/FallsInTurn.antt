@@ -37,7 +37,7 @@ use Rattle.runs.specs.Lawful.{log_append, log_of}
 use Rattle.runs.specs.Run.{Run, run_push}
 use Rattle.ldc_queue.specs.declared.end.ChannelState.TheVariants.{Up}
 use Rattle.channel_model.specs.WireEvent.{Took, Joined, Sent, WireEvent}
-use Rattle.channel_model.specs.WireLog.{WireLog, wire_moved}
+use Rattle.channel_model.specs.WireLog.{wire_moved}
 use Rattle.lane_laws.specs.DiskLog.{DiskLog, after, nothing_yet}
 use Rattle.disk_model.specs.ClientRule as client_rules
 use Rattle.disk_model.specs.DiskEvent.{DiskEvent, OnWire, Desc, Done, Finished, Misplaced, Moved, Published, Stored, Works}

@@ -1,6 +1,6 @@
 -- A handshake takes no range of slots; once its session is open it takes nothing but what it declines; and its session opens by the agreement to
 -- RDX alone.
-use Rattle.std.proofs.Common.{◌≡◌, Bool, true, false, ap, sym}
+use Rattle.std.proofs.Common.{◌≡◌, Bool, true, false, ap}
 use Rattle.ldc_packet.specs.declared.packet.Subtype.TheVariants.{Ack}
 use Rattle.vio_tag.specs.declared.message.Message.{Message}
 use Rattle.vio_tag.specs.declared.message.MsgBody.{MsgBody}

@@ -21,16 +21,17 @@ use Rattle.disk_model.specs.LaneState.{IsShape, LaneState, Shape, fresh}
 use Rattle.disk_model.specs.LaneStep.{LaneStep, ResetBy, WireStep}
 use Rattle.lane_laws.specs.May.{OfWire}
 use Rattle.disk_model.specs.Offering.{client_offer, server_offer}
+use Rattle.channel_laws.proofs.EndFolding.{FoldsSo, folds_run}
 use Rattle.channel_laws.proofs.CoreLaws.{links_placed, stands_a, stands_b}
 use Rattle.channel_laws.proofs.HandshakePlaces.{Matches}
 use Rattle.channel_laws.proofs.HandshakesPlaced.{Meets, meets_keep}
-use Rattle.channel_laws.proofs.Lifting.{BothStand}
+use Rattle.channel_laws.proofs.Lifting.{BothStand, EndsAll}
 use Rattle.channel_laws.proofs.Numbering.{count_heard_is, count_said_is}
 use Rattle.channel_laws.proofs.Numbering as core
 use Rattle.channel_laws.proofs.PartsSaid.{PartsSaid, parts_run}
 use Rattle.channel_laws.proofs.Sessions.{meets_knows}
 use Rattle.channel_laws.proofs.Sessions as sessions
-use Rattle.channel_laws.proofs.Sids.{last_sid_counts}
+use Rattle.channel_laws.proofs.Sids.{last_sid_counts, last_sid_none}
 use Rattle.channel_laws.specs.CoreLog.{CoreLog, OfChannel, comings_after, renewed_by}
 use Rattle.channel_laws.specs.CoreLog as core_log
 use Rattle.channel_laws.specs.EndCore.{EndCore}
@@ -94,6 +95,16 @@ pub server_stands : (shape : Shape) (events : List DiskEvent) (s : LaneState) �
 server_stands shape events s sound run =
     subst (λ (l : TranscriptLog). EndStands Responder (server_core s.server) l.server) (said_in_log shape events)
     (stands_b shape.entries (asks_of shape) (answers_of shape) (map core_event events) (core_of s) (lane_fits shape sound) (lane_cores shape events s sound run))
+
+-- and is what it said and heard; a server counts no sids
+pub lane_folds : (shape : Shape) (events : List DiskEvent) (s : LaneState) → IsShape shape → Run LaneStep (fresh shape) events s → EndsAll FoldsSo (core_of s) (transcript_in shape events)
+lane_folds shape events s sound run =
+    subst (EndsAll FoldsSo (core_of s)) (said_in_log shape events)
+    (folds_run shape.entries (asks_of shape) (answers_of shape) (map core_event events) (core_of s) (lane_fits shape sound) (lane_cores shape events s sound run))
+
+pub no_sids : (shape : Shape) (events : List DiskEvent) (s : LaneState) → IsShape shape → Run LaneStep (fresh shape) events s → s.server.handshake.last_sid ≡ 0
+no_sids shape events s sound run =
+    last_sid_none shape.entries (asks_of shape) (answers_of shape) (map core_event events) (core_of s) (lane_fits shape sound) (lane_cores shape events s sound run)
 
 pub link_agrees : (role : Role) (c : EndCore) (turns : List Turn) → EndStands role c turns → LinkAgrees c.link turns
 link_agrees role c turns stands = record {

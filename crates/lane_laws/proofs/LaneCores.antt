@@ -1,66 +1,23 @@
 -- A disk's lane is two ends on a channel: each of its steps is one of theirs, and each run.
-use Rattle.std.proofs.Common.{◌≡◌, ℕ, Bool, List, [], ◌∷◌, Option, refl, sym, ap, ◌∙◌, subst, arith, map}
+use Rattle.std.proofs.Common.{◌≡◌, List, [], ◌∷◌, refl, sym, ap, ◌∙◌, subst, arith, map}
 use Rattle.runs.specs.Lawful.{log_of, run_lawful}
 use Rattle.runs.specs.Run.{Run}
-use Rattle.ldc_link.specs.declared.phase.Role.TheVariants.{Initiator, Responder}
-use Rattle.ldc_queue.specs.declared.end.End.{End}
-use Rattle.ldc_queue.specs.declared.end.End.TheVariants.{A, B}
-use Rattle.vio_tag.specs.declared.cause.Cause.{Cause}
+use Rattle.ldc_queue.specs.declared.end.End.TheVariants.{A}
 use Rattle.channel_model.specs.TranscriptLog.{TranscriptLog, nothing_said}
-use Rattle.channel_model.specs.WireAt.{Sizes, WireTableAt}
-use Rattle.channel_model.specs.WireEvent.{Blocked, ByRestart, ByScript, ByStep, ByTick, Declines, Giver, Idle, Injected, Joined, Lost, Poked, Reset, Sent, Took, WireEvent, giver}
 use Rattle.channel_model.specs.WireLog.{WireLog}
-use Rattle.disk_model.specs.DiskEvent.{Asks, Calm, CalmReset, CalmRestart, CalmStart, CalmStop, CalmTick, Calms, Desc, DiskEvent, Done, Finished, Misplaced, Moved, Off, OnWire, Published, Started, Stopped, Stored, Switched, Switches, Worked, Works}
+use Rattle.disk_model.specs.DiskEvent.{DiskEvent}
 use Rattle.lane_laws.specs.DiskLog.{DiskLog, after, after_transcript, after_wire, nothing_yet}
 use Rattle.disk_model.specs.LaneState.{IsShape, LaneState, Shape, fresh}
-use Rattle.disk_model.specs.LaneStep.{LaneStep, ResetBy, RestStep, TurnStep, WireStep, WorkStep, reach}
-use Rattle.lane_laws.specs.May.{OfWire, sizes_in}
+use Rattle.disk_model.specs.LaneStep.{LaneStep}
+use Rattle.lane_laws.specs.May.{sizes_in}
 use Rattle.disk_model.specs.Offering.{client_offer, server_offer}
-use Rattle.channel_model.specs.Seeing.{Seen, seen}
-use Rattle.cookie_copy.specs.Reach.{Reach}
-use Rattle.channel_laws.specs.EndStep.{EndHears, EndStays, EndStep}
-use Rattle.channel_laws.specs.LaneCore.{CoreFits, CoreStands, CoreStep, WireStands, at_end, fresh_core, move_of, reset_move, transcript_after, transcript_behind, wire_after, wire_move}
-use Rattle.lane_laws.proofs.ClientMoves.{client_asked, client_begins, client_completed, client_fails, client_hears, client_published, client_same, client_says, client_waits}
+use Rattle.channel_laws.specs.LaneCore.{CoreFits, CoreStands, CoreStep, fresh_core, transcript_after, transcript_behind}
 use Rattle.lane_laws.proofs.OpeningDeal.{client_fits, server_fits}
-use Rattle.lane_laws.proofs.ServerMoves.{server_begins, server_fails, server_fetched, server_finished, server_hears, server_moved, server_renews, server_same, server_says, server_stored, server_waits}
-use Rattle.lane_laws.proofs.TableRuns.{QueuesStand, fresh_queues, queues_step}
-use Rattle.lane_laws.specs.ChannelEnds.{client_core, core_event, core_of, server_core}
+use Rattle.lane_laws.proofs.TableRuns.{QueuesStand, core_stands, fresh_queues, queues_step, wire_same}
+use Rattle.lane_laws.specs.ChannelEnds.{core_event, core_of}
 use Rattle.lane_laws.specs.LaneTranscripts as lane
-use Rattle.lane_laws.specs.Sound.{ClientSound}
 use Rattle.lane_laws.specs.TableStands.{MayOfTable}
-use Rattle.lane_laws.proofs.LaneStepping.{calm_same}
-use Rattle.lane_laws.proofs.EndMoves.{Sound, step_a, step_b, transcript_same}
-
--- THE WIRE: what an event makes of it, and where it may stand
-wire_same : (l : WireLog) (event : DiskEvent) → after_wire l event ≡ wire_after l (core_event event)
-wire_same l (OnWire event) = refl
-wire_same l (Asks event) = refl
-wire_same l (Works event) = refl
-wire_same l (Switches Stopped) = refl
-wire_same l (Switches Started) = refl
-wire_same l (Switches Off) = refl
-wire_same l (Calms event) = refl
-
-wire_stands : (n : Sizes) (l : WireLog) (event : WireEvent) → WireTableAt n l event → WireStands n.entries l event
-wire_stands n l (Joined e lost) table = table
-wire_stands n l (Reset e cause packet lost) table = table
-wire_stands n l (Took e packet opens) table = table
-wire_stands n l (Sent e packet opens) table = table
-wire_stands n l (Idle e) table = table
-wire_stands n l (Blocked e) table = (table.0, omega (arith, table.1))
-wire_stands n l (Lost e packet) table = table
-wire_stands n l (Injected e packet) table = table
-wire_stands n l (Poked e at bytes) table = tt
-wire_stands n l (Declines d) table = tt
-
-core_stands : (n : Sizes) (l : WireLog) (event : DiskEvent) → OfWire (WireTableAt n l) event → CoreStands n.entries l (core_event event)
-core_stands n l (OnWire event) table = wire_stands n l event table
-core_stands n l (Asks event) table = tt
-core_stands n l (Works event) table = tt
-core_stands n l (Switches Stopped) table = tt
-core_stands n l (Switches Started) table = tt
-core_stands n l (Switches Off) table = tt
-core_stands n l (Calms event) table = tt
+use Rattle.lane_laws.proofs.EndMoves.{step_a, step_b, transcript_same}
 
 -- EACH STEP
 lane_core_step : (s : LaneState) (l : DiskLog) (event : DiskEvent) (t : LaneState) → QueuesStand s l → LaneStep s event t

@@ -165,11 +165,7 @@ pub mod StatusSteps
 pub mod StatusFacts
 pub mod StatusRuns
 pub mod OpeningLaw
-pub mod LastSids
 pub mod LinkKept
-pub mod HeldHandshake
-pub mod PhasesFold
-pub mod HandshakesFold
 pub mod ClientFolds
 pub mod ServerFolds
 pub mod EndsFold

@@ -1,8 +1,8 @@
 -- What an end makes of a packet leaves its link as the packet left it, but for the message that was seen.
 use Rattle.std.proofs.Common.{◌≡◌, ℕ, Bool, true, false, Option, Some, None, List, refl, sym, ap, subst}
-use Rattle.std.specs.Prelude.{nat_eq, nat_le, nat_lt, ◌&&◌, ◌+◌, if◌then◌else◌, take, ⊤, Result, Ok, Err}
-use Rattle.ldc_link.specs.LinkState.{LinkState, cleared, is_up}
-use Rattle.ldc_link.specs.Taking.{Heard, LinkTake, TakesBytes, Unheard, count, goes_to, in_mode, may_come, phase_behind_rdx, phase_behind_rtr, phase_behind_rts, phase_behind_vers, takes_body, takes_decoded, takes_part, with_part}
+use Rattle.std.specs.Prelude.{nat_le, nat_lt, ◌&&◌, ◌+◌, if◌then◌else◌, take, ⊤, Result, Ok, Err}
+use Rattle.ldc_link.specs.LinkState.{LinkState, cleared}
+use Rattle.ldc_link.specs.Taking.{Heard, LinkTake, TakesBytes, Unheard}
 use Rattle.ldc_packet.specs.declared.packet.Subtype.{Subtype}
 use Rattle.ldc_packet.specs.declared.packet.Subtype.TheVariants.{Ack, Info, Nack}
 use Rattle.vio_tag.specs.declared.cause.Cause.{Cause}

@@ -5,7 +5,6 @@ use Rattle.runs.specs.Lawful.{log_of}
 use Rattle.runs.specs.Run.{Run}
 use Rattle.ldc_link.specs.declared.phase.Role.TheVariants.{Initiator, Responder}
 use Rattle.channel_model.specs.Sayings.{heard, said}
-use Rattle.channel_model.specs.WireLog.{WireLog}
 use Rattle.lane_laws.specs.DiskLog.{DiskLog, after, nothing_yet}
 use Rattle.lane_laws.specs.QuietLaws.{ClientIsIdle, IsAtRest, ServerIsIdle}
 use Rattle.lane_laws.specs.WorkLaws.{IfClient, IfServer}

@@ -37,12 +37,12 @@ use Rattle.disk_model.specs.LaneStep.{EndOnWire, LaneStep, WireStep}
 use Rattle.channel_model.specs.Ranges.{range_length, wrapped}
 use Rattle.disk_model.specs.ServerState.{ServerSession, ServerState, SlotRange}
 use Rattle.disk_model.specs.ServerStep.{ServerSends}
+use Rattle.channel_laws.proofs.TurnCases.{heard_none, heard_some, said_none, said_some}
 use Rattle.lane_laws.proofs.ClientPuts.{putting}
 use Rattle.lane_laws.proofs.ClientTaken.{ClientAcked, ClientTook, client_took_what}
 use Rattle.lane_laws.proofs.ClientPutCounting.{OwnInfo, own_info}
 use Rattle.lane_laws.proofs.EndPutting.{PutSays, SaysLast, put_says}
-use Rattle.lane_laws.proofs.EndsFold.{BothAre, infos_are, same_held_server}
-use Rattle.lane_laws.proofs.HandshakesFold.{heard_none, heard_some, said_none, said_some}
+use Rattle.lane_laws.proofs.EndsFold.{BothAre, held_session, infos_are}
 use Rattle.lane_laws.proofs.HandshakesOpen.{no_data}
 use Rattle.lane_laws.proofs.HeldLinks.{held_server}
 use Rattle.lane_laws.proofs.LaneCounting.{Knows}
@@ -283,7 +283,7 @@ said_ack s l packet opens t sound both sends =
     let at = seen B s.shape.entries s.wire.wire in
     let rule = server_rules.server_rule s.server at in
     let knows = both.knows in
-    answers_by (server_kind sends.held) l packet sends.held sound (ap ranged (same_held_server s.server rule sends.held sends.holds).session ∙ both.server.range)
+    answers_by (server_kind sends.held) l packet sends.held sound (ap ranged (held_session s.server rule sends.held sends.holds) ∙ both.server.range)
     (server_holds_counting l.shape s.server rule sends.held l.transcript.server l.work.server knows.rests.server knows.utters.server (server_free s.server at) sends.holds knows.counted.server)
     (put_says (is_none sends.held.handshake.owed) sends.held.link t.link l.transcript.server packet
     (held_server s.server rule sends.held l.transcript.server sends.holds knows.all.transcripts.follows_b) sends.packet)

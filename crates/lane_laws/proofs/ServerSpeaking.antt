@@ -1,21 +1,12 @@
 -- A server that gets a message to put, and puts a packet: what always holds of it holds.
-use Rattle.std.proofs.Common.{◌≡◌, ℕ, ◌+◌, ◌*◌, ◌≤◌, Bool, true, false, Option, Some, None, List, [], ◌∷◌, length, drop, refl, sym, ap, ◌∙◌, subst, arith, length-drop, inl, inr}
-use Rattle.std.specs.Prelude.{nat_le, is_none}
-use Rattle.std.proofs.lemmas.Bool.{leb-true, leb-false}
-use Rattle.ldc_link.specs.declared.phase.LinkPhase.{LinkPhase}
-use Rattle.ldc_link.specs.declared.phase.LinkPhase.TheVariants as phase
-use Rattle.ldc_link.specs.Calls.{Puts as PutsPacket}
-use Rattle.ldc_link.specs.LinkState.{LinkState, offered}
-use Rattle.ldc_link.specs.Putting.{behind_put, left_behind_put, owed_in, owes, phase_behind_put, with_link}
-use Rattle.ldc_packet.specs.declared.packet.Packet.{Packet}
+use Rattle.std.proofs.Common.{◌≡◌, ◌≤◌, false, Option, Some, None, length, refl, ap, subst, arith, inl, inr}
+use Rattle.ldc_link.specs.LinkState.{offered}
+use Rattle.ldc_link.specs.Putting.{owes}
 use Rattle.ldc_queue.specs.declared.end.ChannelState.TheVariants.{Up}
 use Rattle.vio_tag.specs.declared.message.Message.{Message}
 use Rattle.vio_tag.specs.Spelling.{canonical}
-use Rattle.vio_handshake.specs.Rules.{handshake_sent}
-use Rattle.vio_handshake.specs.State.{handshake_up}
-use Rattle.channel_model.specs.EndPuts.{Goes, PutKind, ending, kind_in, handshake_behind}
 use Rattle.channel_model.specs.Seeing.{Seen}
-use Rattle.disk_model.specs.ServerPutting.{answered, server_holds, server_kind, server_put, session_behind}
+use Rattle.disk_model.specs.ServerPutting.{server_holds, server_kind, server_put}
 use Rattle.disk_model.specs.ServerRule.{Fetches, Joins, Puts, Idles, Says, ServerRule, Serves, Takes, answer}
 use Rattle.disk_model.specs.ServerState.{ServerSession, ServerState, SlotRange}
 use Rattle.channel_laws.proofs.Short.{short_within}
@@ -23,7 +14,7 @@ use Rattle.lane_laws.proofs.Sharing.{behind_short, owed_short, put_within, same_
 use Rattle.lane_laws.specs.Budget.{one_range, range_left}
 use Rattle.lane_laws.specs.LinkMoves.{SameTranscript}
 use Rattle.lane_laws.specs.RuleFacts.{ServerMay, ServerSays}
-use Rattle.channel_laws.specs.Standing.{IsShort}
+use Rattle.vio_tag.proofs.Canonical.{length_canonical}
 use Rattle.lane_laws.specs.Sound.{ServerSound}
 
 -- it owes one answer at most
@@ -47,16 +38,15 @@ abbrev holding : Message → ServerState → ServerState
 holding message s = record s { link = offered (canonical message) s.link }
 
 -- an answer to a range has 56 bytes
-answer_short : (s : ServerState) (range : SlotRange) → IsShort (answer s range).body
-answer_short s range = tt
-
-says_short : (s : ServerState) (message : Message) → ServerSound s → ServerSays s message → IsShort message.body
-says_short s message sound (inl owed) = owed_short s.handshake.owed message owed sound.short.owed
-says_short s message sound (inr answers) = subst (λ (m : Message). IsShort m.body) (sym answers.message_is) (answer_short s answers.range)
+says_within : (s : ServerState) (message : Message) → ServerSound s → ServerSays s message → length (canonical message) ≤ 256
+says_within s message sound (inl owed) = short_within message (owed_short s.handshake.owed message owed sound.short.owed)
+says_within s message sound (inr answers) =
+    let long : length (canonical message) ≡ length (canonical (answer s answers.range)) = ap (λ (m : Message). length (canonical m)) answers.message_is in
+    omega (arith, long, length_canonical (answer s answers.range))
 
 says_held : (s : ServerState) (message : Message) → ServerSound s → owes s.link ≡ false → ServerSays s message → ServerHeld s (holding message s)
 says_held s message sound quiet says = record {
-  sound = record { role = sound.role; short = sound.short; held = short_within message (says_short s message sound says) };
+  sound = record { role = sound.role; short = sound.short; held = says_within s message sound says };
   goes = record { phase = refl; put_next = refl; take_next = refl; half = refl };
 }
 

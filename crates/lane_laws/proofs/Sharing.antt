@@ -1,5 +1,5 @@
 -- What the proofs of both ends share.
-use Rattle.std.proofs.Common.{◌≡◌, ℕ, ◌≤◌, Option, Some, List, [], ◌∷◌, length, refl, subst, arith, length-drop, ◌⊎◌, inl, inr, None, ◌+◌, ◌-◌}
+use Rattle.std.proofs.Common.{◌≡◌, ℕ, ◌≤◌, Option, Some, List, [], ◌∷◌, length, refl, subst, arith, length-drop, None, ◌-◌}
 use Rattle.ldc_link.specs.declared.phase.LinkPhase.{LinkPhase}
 use Rattle.ldc_link.specs.declared.phase.LinkPhase.TheVariants as phase
 use Rattle.ldc_link.specs.LinkState.{LinkState}

@@ -1,5 +1,5 @@
 -- Each event of a lane leaves both ends resting on what they heard, and having said what their handshakes hold, as ends on a channel do.
-use Rattle.std.proofs.Common.{◌≡◌, ◌≤◌, ℕ, true, Option, Some, List, [], refl, sym, ap, subst, ◌∙◌}
+use Rattle.std.proofs.Common.{◌≡◌, true, Some, List, [], sym, subst, ◌∙◌}
 use Rattle.std.specs.Prelude.{is_some, ⊤}
 use Rattle.runs.specs.Lawful.{run_lawful}
 use Rattle.runs.specs.Run.{Run}
@@ -7,7 +7,6 @@ use Rattle.ldc_link.specs.declared.phase.Role.{Role}
 use Rattle.ldc_link.specs.declared.phase.Role.TheVariants.{Initiator, Responder}
 use Rattle.ldc_queue.specs.declared.end.End.TheVariants.{A, B}
 use Rattle.ldc_queue.specs.Transcript.{Turn}
-use Rattle.vio_handshake.specs.declared.session.Offer.{Offer}
 use Rattle.disk_model.specs.ClientPutting.{client_holds}
 use Rattle.disk_model.specs.ClientRule.{client_rule}
 use Rattle.disk_model.specs.ClientState.{ClientState}
@@ -25,7 +24,7 @@ use Rattle.channel_laws.proofs.EndResting.{open_rests}
 use Rattle.channel_laws.proofs.EndStanding.{opened_phase}
 use Rattle.channel_laws.proofs.EndUttering.{EndSpeaks, fresh_speaks, speaks_step}
 use Rattle.channel_laws.proofs.Lifting.{transcript_turns}
-use Rattle.channel_laws.specs.EndCore.{EndCore, EndMove, Waits, fresh_end}
+use Rattle.channel_laws.specs.EndCore.{EndCore, EndMove, Waits}
 use Rattle.channel_laws.specs.EndStep.{EndStep}
 use Rattle.channel_laws.specs.Grounds.{OpenRests}
 use Rattle.channel_laws.specs.LaneCore.{move_of, transcript_after, turns_after}

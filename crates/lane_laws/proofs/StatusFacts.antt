@@ -55,7 +55,7 @@ use Rattle.lane_laws.proofs.ServerTaken.{server_took_what}
 use Rattle.lane_laws.proofs.SlotsAlong.{run_slots}
 use Rattle.lane_laws.proofs.SlotsOrdered.{finished_more}
 use Rattle.lane_laws.proofs.TableRuns.{table_lawful}
-use Rattle.lane_laws.specs.LaneRests.{ClientRests, ClientUtters}
+use Rattle.lane_laws.specs.LaneRests.{ClientRests}
 use Rattle.lane_laws.specs.LaneTranscripts.{transcript_behind}
 use Rattle.lane_laws.specs.RingAgreed.{OneRing}
 use Rattle.lane_laws.specs.RingSlots.{IdStands}

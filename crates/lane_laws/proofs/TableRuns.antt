@@ -1,23 +1,21 @@
 -- Along every run each event of the wire stands where the table of states and queues lets it, and an answer that changes nothing is said
 -- exactly where it is.
-use Rattle.std.proofs.Common.{◌≡◌, ℕ, ◌+◌, ◌*◌, ◌≤◌, ◌<◌, false, Option, Some, None, List, [], ◌∷◌, ◌++◌, length, drop, refl, sym, ap, ◌∙◌, subst, arith, length-append, length-drop}
+use Rattle.std.proofs.Common.{◌≡◌, ℕ, ◌+◌, ◌*◌, ◌≤◌, false, Option, Some, None, List, length, refl, sym, ap, ◌∙◌, subst, arith}
 use Rattle.std.specs.Prelude.{⊤, nat_lt}
 use Rattle.std.proofs.lemmas.Bool.{ltb-false, ltb-true}
 use Rattle.runs.specs.Lawful.{Lawful, run_lawful}
 use Rattle.runs.specs.Run.{Run}
-use Rattle.ldc_queue.specs.declared.end.ChannelState.{ChannelState}
 use Rattle.ldc_queue.specs.declared.end.End.{End}
 use Rattle.ldc_queue.specs.declared.end.End.TheVariants.{A, B}
-use Rattle.ldc_queue.specs.Wire.{queue_behind}
 use Rattle.vio_tag.specs.declared.cause.Cause.{Cause}
 use Rattle.channel_model.specs.WireAt.{IsUp, MayCarry, MayReset, Sizes, WireAnswersAt, WireTableAt}
 use Rattle.channel_model.specs.WireEvent.{Blocked, ByRestart, ByScript, ByStep, ByTick, Declines, Giver, Idle, Injected, Joined, Lost, Poked, Reset, Sent, Took, WireEvent, giver}
-use Rattle.channel_model.specs.WireLog.{WireLog, wire_moved}
-use Rattle.lane_laws.specs.DiskLog.{DiskLog, after, nothing_yet}
-use Rattle.lane_laws.specs.May.{sizes_in}
+use Rattle.channel_model.specs.WireLog.{WireLog}
+use Rattle.lane_laws.specs.DiskLog.{DiskLog, after, after_wire, nothing_yet}
+use Rattle.lane_laws.specs.May.{OfWire, sizes_in}
 use Rattle.disk_model.specs.ClientRule as client_rules
 use Rattle.disk_model.specs.ClientStep.{ClientFails}
-use Rattle.disk_model.specs.DiskEvent.{Asks, DiskEvent, Off, OnWire, Calms, Started, Stopped, Switched, Switches, Works}
+use Rattle.disk_model.specs.DiskEvent.{Asks, DiskEvent, Off, OnWire, Calms, Started, Stopped, Switches, Works}
 use Rattle.disk_model.specs.LaneState.{IsShape, LaneState, Shape, fresh, pages_of}
 use Rattle.disk_model.specs.LaneStep.{EndOnWire, LaneStep, ResetBy, WireStep, sizes_of}
 use Rattle.channel_model.specs.Seeing.{Seen, seen}
@@ -32,8 +30,10 @@ use Rattle.lane_laws.proofs.StandingRuns.{lawful_by}
 use Rattle.lane_laws.specs.MemoryStands.{MemoryStands, memory_long}
 use Rattle.lane_laws.specs.RuleFacts.{ClientMay, ServerMay}
 use Rattle.lane_laws.specs.Standing.{LaneInvariant}
-use Rattle.lane_laws.specs.TableStands.{AnswersAt, MayOfTable, RoomStands, TableAt}
-use Rattle.ldc_queue.specs.declared.end.ChannelState.TheVariants.{Down, Up, Resetting}
+use Rattle.lane_laws.specs.TableStands.{AnswersAt, MayOfTable, TableAt}
+use Rattle.lane_laws.specs.ChannelEnds.{core_event}
+use Rattle.channel_laws.proofs.CoreRuns.{Room, room_after}
+use Rattle.channel_laws.specs.LaneCore.{CoreStands, WireStands, wire_after}
 
 abbrev at_client : LaneState → Seen
 at_client s = seen A s.shape.entries s.wire.wire
@@ -89,7 +89,7 @@ server_carries s (server_rules.Says message) r cause packet new may fails = absu
 server_carries s server_rules.Idles r cause packet new may fails = absurd fails
 
 -- THE TABLE, by the end that makes the step
-client_table : (s : LaneState) (event : WireEvent) (t : LaneState) → RoomStands (sizes_of s) s.wire → giver_steps event → EndOnWire A s event t → WireTableAt (sizes_of s) s.wire event
+client_table : (s : LaneState) (event : WireEvent) (t : LaneState) → Room s.shape.entries s.wire → giver_steps event → EndOnWire A s event t → WireTableAt (sizes_of s) s.wire event
 client_table s (Joined A lost) t room by step = client_known s client_rules.Joins step.step.0
 client_table s (Took A packet opens) t room by step = client_known s (client_rules.Takes packet) step.step.0
 client_table s (Sent A packet opens) t room by step = (
@@ -115,7 +115,7 @@ client_table s (Injected e packet) t room by step = absurd step.step
 client_table s (Poked e at bytes) t room by step = absurd step.step
 client_table s (Declines d) t room by step = absurd step.step
 
-server_table : (s : LaneState) (event : WireEvent) (t : LaneState) → RoomStands (sizes_of s) s.wire → giver_steps event → EndOnWire B s event t → WireTableAt (sizes_of s) s.wire event
+server_table : (s : LaneState) (event : WireEvent) (t : LaneState) → Room s.shape.entries s.wire → giver_steps event → EndOnWire B s event t → WireTableAt (sizes_of s) s.wire event
 server_table s (Joined B lost) t room by step = server_known s server_rules.Joins step.1.step.1.0
 server_table s (Took B packet opens) t room by step = server_known s (server_rules.Takes packet) step.1.step.1.0
 server_table s (Sent B packet opens) t room by step = (
@@ -141,11 +141,11 @@ server_table s (Injected e packet) t room by step = absurd step.1.step.1
 server_table s (Poked e at bytes) t room by step = absurd step.1.step.1
 server_table s (Declines d) t room by step = absurd step.1.step.1
 
-end_table : (e : End) (s : LaneState) (event : WireEvent) (t : LaneState) → RoomStands (sizes_of s) s.wire → giver_steps event → EndOnWire e s event t → WireTableAt (sizes_of s) s.wire event
+end_table : (e : End) (s : LaneState) (event : WireEvent) (t : LaneState) → Room s.shape.entries s.wire → giver_steps event → EndOnWire e s event t → WireTableAt (sizes_of s) s.wire event
 end_table A s event t room by step = client_table s event t room by step
 end_table B s event t room by step = server_table s event t room by step
 
-reset_table : (g : Giver) (e : End) (s : LaneState) (cause : Cause) (packet : Option (List ℕ)) (lost : ℕ) (t : LaneState) → RoomStands (sizes_of s) s.wire → giver cause ≡ g
+reset_table : (g : Giver) (e : End) (s : LaneState) (cause : Cause) (packet : Option (List ℕ)) (lost : ℕ) (t : LaneState) → Room s.shape.entries s.wire → giver cause ≡ g
     → ResetBy g e s cause packet lost t → MayReset g packet e s.wire.wire
 reset_table ByStep e s cause packet lost t room by step =
     subst (λ (g : Giver). MayReset g packet e s.wire.wire) by (end_table e s (Reset e cause packet lost) t room by step)
@@ -160,7 +160,7 @@ poked_table : (e : End) (s : LaneState) (at : ℕ) (bytes : List ℕ) (t : LaneS
 poked_table A s at bytes t step = step.0
 poked_table B s at bytes t step = absurd step
 
-table : (s : LaneState) (event : WireEvent) (t : LaneState) → RoomStands (sizes_of s) s.wire → WireStep s event t → WireTableAt (sizes_of s) s.wire event
+table : (s : LaneState) (event : WireEvent) (t : LaneState) → Room s.shape.entries s.wire → WireStep s event t → WireTableAt (sizes_of s) s.wire event
 table s (Joined e lost) t room step = end_table e s (Joined e lost) t room tt step
 table s (Took e packet opens) t room step = end_table e s (Took e packet opens) t room tt step
 table s (Sent e packet opens) t room step = end_table e s (Sent e packet opens) t room tt step
@@ -184,43 +184,47 @@ answers s (Lost e packet) t step = tt
 answers s (Injected e packet) t step = tt
 answers s (Poked e at bytes) t step = tt
 
--- ROOM in the queues
-drop_shorter : (waiting : List (List ℕ)) (entries : ℕ) → length waiting + 1 ≤ entries → length (drop 1 waiting) + 1 ≤ entries
-drop_shorter waiting entries most = omega (arith, length-drop 1 waiting, most)
+-- THE WIRE: what an event makes of it, and where it may stand
+pub wire_same : (l : WireLog) (event : DiskEvent) → after_wire l event ≡ wire_after l (core_event event)
+wire_same l (OnWire event) = refl
+wire_same l (Asks event) = refl
+wire_same l (Works event) = refl
+wire_same l (Switches Stopped) = refl
+wire_same l (Switches Started) = refl
+wire_same l (Switches Off) = refl
+wire_same l (Calms event) = refl
 
-more_room : (waiting : List (List ℕ)) (packet : List ℕ) (entries : ℕ) → length waiting + 1 < entries → length (waiting ++ packet ∷ []) + 1 ≤ entries
-more_room waiting packet entries most = omega (arith, length-append waiting (packet ∷ []), most)
+wire_stands : (n : Sizes) (l : WireLog) (event : WireEvent) → WireTableAt n l event → WireStands n.entries l event
+wire_stands n l (Joined e lost) table = table
+wire_stands n l (Reset e cause packet lost) table = table
+wire_stands n l (Took e packet opens) table = table
+wire_stands n l (Sent e packet opens) table = table
+wire_stands n l (Idle e) table = table
+wire_stands n l (Blocked e) table = (table.0, omega (arith, table.1))
+wire_stands n l (Lost e packet) table = table
+wire_stands n l (Injected e packet) table = table
+wire_stands n l (Poked e at bytes) table = tt
+wire_stands n l (Declines d) table = tt
 
-queue_shorter : (e : ChannelState) (waiting : List (List ℕ)) → length (queue_behind e waiting) ≤ length waiting
-queue_shorter Up waiting = omega arith
-queue_shorter Down waiting = omega arith
-queue_shorter Resetting waiting = omega arith
+pub core_stands : (n : Sizes) (l : WireLog) (event : DiskEvent) → OfWire (WireTableAt n l) event → CoreStands n.entries l (core_event event)
+core_stands n l (OnWire event) table = wire_stands n l event table
+core_stands n l (Asks event) table = tt
+core_stands n l (Works event) table = tt
+core_stands n l (Switches Stopped) table = tt
+core_stands n l (Switches Started) table = tt
+core_stands n l (Switches Off) table = tt
+core_stands n l (Calms event) table = tt
 
-behind_room : (e : ChannelState) (waiting : List (List ℕ)) (entries : ℕ) → length waiting + 1 ≤ entries → length (queue_behind e waiting) + 1 ≤ entries
-behind_room e waiting entries most = omega (arith, queue_shorter e waiting, most)
-
-room_moved : (n : Sizes) (w : WireLog) (event : WireEvent) → WireTableAt n w event → RoomStands n w → RoomStands n (wire_moved w event)
-room_moved n w (Joined A lost) at room = record { to_a = behind_room w.wire.end_a w.wire.to_a n.entries room.to_a; to_b = behind_room w.wire.end_a w.wire.to_b n.entries room.to_b }
-room_moved n w (Joined B lost) at room = record { to_a = behind_room w.wire.end_b w.wire.to_a n.entries room.to_a; to_b = behind_room w.wire.end_b w.wire.to_b n.entries room.to_b }
-room_moved n w (Reset A cause packet lost) at room = record { to_a = behind_room w.wire.end_a w.wire.to_a n.entries room.to_a; to_b = behind_room w.wire.end_a w.wire.to_b n.entries room.to_b }
-room_moved n w (Reset B cause packet lost) at room = record { to_a = behind_room w.wire.end_b w.wire.to_a n.entries room.to_a; to_b = behind_room w.wire.end_b w.wire.to_b n.entries room.to_b }
-room_moved n w (Took A packet opens) at room = record { to_a = drop_shorter w.wire.to_a n.entries room.to_a; to_b = room.to_b }
-room_moved n w (Took B packet opens) at room = record { to_a = room.to_a; to_b = drop_shorter w.wire.to_b n.entries room.to_b }
-room_moved n w (Lost A packet) at room = record { to_a = drop_shorter w.wire.to_a n.entries room.to_a; to_b = room.to_b }
-room_moved n w (Lost B packet) at room = record { to_a = room.to_a; to_b = drop_shorter w.wire.to_b n.entries room.to_b }
-room_moved n w (Sent A packet opens) at room = record { to_a = room.to_a; to_b = more_room w.wire.to_b packet n.entries at.1 }
-room_moved n w (Sent B packet opens) at room = record { to_a = more_room w.wire.to_a packet n.entries at.1; to_b = room.to_b }
-room_moved n w (Injected A packet) at room = record { to_a = more_room w.wire.to_a packet n.entries at.1; to_b = room.to_b }
-room_moved n w (Injected B packet) at room = record { to_a = room.to_a; to_b = more_room w.wire.to_b packet n.entries at.1 }
-room_moved n w (Poked e at_place bytes) at room = record { to_a = room.to_a; to_b = room.to_b }
-room_moved n w (Idle e) at room = room
-room_moved n w (Blocked e) at room = room
-room_moved n w (Declines d) at room = room
+-- ROOM in the queues is what two ends on a channel have
+room_moved : (l : DiskLog) (event : DiskEvent) → TableAt l event → Room l.shape.entries l.wire → Room l.shape.entries (after_wire l.wire event)
+room_moved l event table room =
+    subst (Room l.shape.entries) (sym (wire_same l.wire event))
+    (room_after l.shape.entries l.wire (core_event event) (omega (arith, room.to_a)) (core_stands (sizes_in l) l.wire event table) room)
 
 -- ALONG EVERY RUN
 pub record QueuesStand (s : LaneState) (l : DiskLog) : Type 0 where
   pub all : AllStand s l
-  pub room : RoomStands (sizes_in l) l.wire
+  pub room : Room l.shape.entries l.wire
 
 sizes_same : (s : LaneState) (l : DiskLog) → LaneInvariant s l → MemoryStands s → sizes_of s ≡ sizes_in l
 sizes_same s l stands memory =
@@ -234,30 +238,27 @@ at_log P s l sizes wire holds = subst (λ (n : Sizes). P n l.wire) sizes (subst 
 at_state : (P : Sizes → WireLog → Type 0) (s : LaneState) (l : DiskLog) → sizes_of s ≡ sizes_in l → s.wire ≡ l.wire → P (sizes_in l) l.wire → P (sizes_of s) s.wire
 at_state P s l sizes wire holds = subst (λ (n : Sizes). P n s.wire) (sym sizes) (subst (P (sizes_in l)) (sym wire) holds)
 
-wire_step : (s : LaneState) (l : DiskLog) (event : WireEvent) (t : LaneState) → QueuesStand s l → WireStep s event t → MayOfTable l (OnWire event) × RoomStands (sizes_in l) (wire_moved l.wire event)
+wire_step : (s : LaneState) (l : DiskLog) (event : WireEvent) (t : LaneState) → QueuesStand s l → WireStep s event t → MayOfTable l (OnWire event)
 wire_step s l event t stands step =
     let sizes = sizes_same s l stands.all.stands stands.all.memory in
-    let room = at_state RoomStands s l sizes stands.all.stands.wire stands.room in
-    let known : WireTableAt (sizes_in l) l.wire event = at_log (λ (n : Sizes) (w : WireLog). WireTableAt n w event) s l sizes stands.all.stands.wire (table s event t room step) in
-    let said : WireAnswersAt (sizes_in l) l.wire event = at_log (λ (n : Sizes) (w : WireLog). WireAnswersAt n w event) s l sizes stands.all.stands.wire (answers s event t step) in
-    (record { table = known; answers = said }, room_moved (sizes_in l) l.wire event known stands.room)
+    let wire = stands.all.stands.wire in
+    let room = at_state (λ (n : Sizes) (w : WireLog). Room n.entries w) s l sizes wire stands.room in
+    record {
+      table = at_log (λ (n : Sizes) (w : WireLog). WireTableAt n w event) s l sizes wire (table s event t room step);
+      answers = at_log (λ (n : Sizes) (w : WireLog). WireAnswersAt n w event) s l sizes wire (answers s event t step);
+    }
 
-turn_room : (l : DiskLog) (event : Switched) → RoomStands (sizes_in l) l.wire → RoomStands (sizes_in l) (after l (Switches event)).wire
-turn_room l Stopped room = record { to_a = omega (arith, room.to_a); to_b = omega (arith, room.to_b) }
-turn_room l Started room = room
-turn_room l Off room = room
-
-room_step : (s : LaneState) (l : DiskLog) (event : DiskEvent) (t : LaneState) → QueuesStand s l → LaneStep s event t → MayOfTable l event × RoomStands (sizes_in l) (after l event).wire
-room_step s l (OnWire event) t stands step = wire_step s l event t stands step
-room_step s l (Asks event) t stands step = (record { table = tt; answers = tt }, stands.room)
-room_step s l (Works event) t stands step = (record { table = tt; answers = tt }, stands.room)
-room_step s l (Switches event) t stands step = (record { table = tt; answers = tt }, turn_room l event stands.room)
-room_step s l (Calms event) t stands step = (record { table = tt; answers = tt }, stands.room)
+may_step : (s : LaneState) (l : DiskLog) (event : DiskEvent) (t : LaneState) → QueuesStand s l → LaneStep s event t → MayOfTable l event
+may_step s l (OnWire event) t stands step = wire_step s l event t stands step
+may_step s l (Asks event) t stands step = record { table = tt; answers = tt }
+may_step s l (Works event) t stands step = record { table = tt; answers = tt }
+may_step s l (Switches event) t stands step = record { table = tt; answers = tt }
+may_step s l (Calms event) t stands step = record { table = tt; answers = tt }
 
 pub queues_step : (s : LaneState) (l : DiskLog) (event : DiskEvent) (t : LaneState) → QueuesStand s l → LaneStep s event t → MayOfTable l event × QueuesStand t (after l event)
 queues_step s l event t stands step =
-    let room = room_step s l event t stands step in
-    (room.0, record { all = (all_step s l event t stands.all step).1; room = room.1 })
+    let may = may_step s l event t stands step in
+    (may, record { all = (all_step s l event t stands.all step).1; room = room_moved l event may.table stands.room })
 
 pub fresh_queues : (shape : Shape) → IsShape shape → QueuesStand (fresh shape) (nothing_yet shape)
 fresh_queues shape sound = record { all = fresh_all shape sound; room = record { to_a = omega (arith, sound.some_entries); to_b = omega (arith, sound.some_entries) } }

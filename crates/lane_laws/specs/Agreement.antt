@@ -19,7 +19,8 @@ use Rattle.lane_laws.specs.BlockLog.{Blockage}
 use Rattle.disk_model.specs.ClientPutting.{is_announcing}
 use Rattle.disk_model.specs.ClientRule as client_rules
 use Rattle.disk_model.specs.ClientState.{ClientSession, ClientState, ever_published_count}
-use Rattle.lane_laws.specs.EndLog.{client_left, handshake_of, infos_heard, is_stuck_with_own, link_phase, range_in_work, server_left}
+use Rattle.channel_laws.specs.EndFold.{handshake_of, link_phase}
+use Rattle.lane_laws.specs.EndLog.{client_left, infos_heard, is_stuck_with_own, range_in_work, server_left}
 use Rattle.disk_model.specs.LaneState.{LaneState, Shape, pages_of}
 use Rattle.disk_model.specs.Offering.{client_offer, server_offer}
 use Rattle.channel_model.specs.Ranges.{wrapped}

@@ -1,14 +1,8 @@
--- The queues of a lane: each holds fewer packets than it has entries; and where an event of the wire may stand by them.
-use Rattle.std.specs.Prelude.{◌+◌, ◌≤◌, length}
+-- Where an event of the wire may stand by the states of a lane's ends and its queues.
 use Rattle.lane_laws.specs.DiskLog.{DiskLog}
 use Rattle.lane_laws.specs.May.{OfWire, sizes_in}
 use Rattle.disk_model.specs.DiskEvent.{DiskEvent}
-use Rattle.channel_model.specs.WireAt.{Sizes, WireAnswersAt, WireTableAt}
-use Rattle.channel_model.specs.WireLog.{WireLog}
-
-pub record RoomStands (n : Sizes) (l : WireLog) : Type 0 where
-  pub to_a : length l.wire.to_a + 1 ≤ n.entries
-  pub to_b : length l.wire.to_b + 1 ≤ n.entries
+use Rattle.channel_model.specs.WireAt.{WireAnswersAt, WireTableAt}
 
 -- two of the conditions on an event of the wire: the table of states and queues, and the answers that change nothing
 abbrev pub TableAt : DiskLog → DiskEvent → Type 0
