@@ -7,9 +7,9 @@ use Rattle.ldom_sample.specs.Sample.{sample_text}
 use Rattle.ldom_entries.specs.declared.entry.Entry.{Entry}
 use Rattle.ldom_report.specs.declared.status.Mode.TheVariants.{EndOnly}
 use Rattle.ldom_report.specs.declared.status.Status.{Status}
-use Rattle.script_laws.specs.Counts.{Counts}
 use Rattle.script_laws.specs.Outcomes.{RunsScript}
 use Rattle.script_laws.specs.Replayed.{Replayed}
+use Rattle.script_laws.specs.Objects.{HostTells, RunLeaves, Tells}
 
 -- the text of the sample of this number was run, and `left` of it was not read
 pub record SampleReplayed {D : Type 0} (number : ℕ) (seen : D → ImageState) (gives : ℕ → Option (List ℕ)) (why : Status)
@@ -17,9 +17,7 @@ pub record SampleReplayed {D : Type 0} (number : ℕ) (seen : D → ImageState) 
   pub left : Option (List ℕ)
   pub replayed : Replayed seen (Some (sample_text number)) left gives why lines names journal image lanes
 
--- and its report, the end line alone, was written
-pub record RunsSample {D : Type 0} (number : ℕ) (seen : D → ImageState) (size : D → ℕ) (gives : ℕ → Option (List ℕ))
-    (status : Status) (journal : List Entry) (image : Option D) (lanes : Option (List LaneState)) (old new : Option (List ℕ))
-    (before after : Counts) : Type 0 where
+-- and its report, the end line alone, was written: what the source tells isn't asked
+pub record RunsSample {D : Type 0} (number : ℕ) (host : HostTells D) (before now : Tells) (run : RunLeaves D) : Type 0 where
   pub left : Option (List ℕ)
-  pub runs : RunsScript EndOnly seen size (Some (sample_text number)) left gives status journal image lanes old new before after
+  pub runs : RunsScript EndOnly host (record before { left = Some (sample_text number) }) (record now { left = left }) run

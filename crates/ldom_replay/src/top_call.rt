@@ -16,11 +16,12 @@ ghost use Rattle.script_laws.specs.Counts.{FaultsTold, NoneFailed, counts};
 ghost use Rattle.script_laws.specs.Clean.{EndsClean, IsCleanScript, NeverFails, StandsStill};
 ghost use Rattle.script_laws.specs.Failures.{SucceedOrFail, failed_count};
 ghost use Rattle.ldom_report.specs.DiskEvents.{history};
+ghost use Rattle.script_laws.specs.Objects.{host_tells, run_leaves, tells};
 ghost use Rattle.script_laws.specs.Outcomes.{Reports, RunsScript};
 ghost use Rattle.script_laws.specs.Quiet.{IsQuietScript};
 ghost use Rattle.script_laws.specs.Stored.{flush_count, stored_count};
 ghost use Rattle.script_laws.specs.Whole.{RunsPlainly};
-ghost use Rattle.world_parts.specs.Declared.{as_image, bytes_needed};
+ghost use Rattle.world_parts.specs.Declared.{bytes_needed};
 ghost use Rattle.ldom_words.specs.Words.{AsksDump, AsksRun, AsksSample};
 ghost use Rattle.ldom_replay.specs.Asking.{AsksFor, AsksNoRun, AsksNoScript};
 ghost use Rattle.ldom_replay.specs.Sampled.{RunsSample};
@@ -64,11 +65,11 @@ pub fn replay<H: Host, S: Source, K: Sink>(
     // At status 0 the script was run to its end, and the whole report was written. All is said of one list of lines with
     // their parts.
     ensures runs { (mode : Mode) (image : List ℕ) → AsksFor mode (map string_bytes words.now) image
-        → RunsScript mode (as_image H.Disk.content H.Disk.faults H.Disk.calls H.Disk.flushes) H.Disk.size
-        (S.left script.old) (S.left script.new) (H.gives host.old image) result.status result.journal.entries
-        result.image result.lanes (K.written out.old) (K.written out.new)
-        (counts (S.faults script.old) (H.faults host.old) (K.faults out.old))
-        (counts (S.faults script.new) (H.faults host.new) (K.faults out.new)) }
+        → RunsScript mode
+        (host_tells (H.gives host.old image) H.Disk.content H.Disk.faults H.Disk.calls H.Disk.flushes H.Disk.size)
+        (tells (S.left script.old) (K.written out.old) (S.faults script.old) (H.faults host.old) (K.faults out.old))
+        (tells (S.left script.new) (K.written out.new) (S.faults script.new) (H.faults host.new) (K.faults out.new))
+        (run_leaves result.status result.journal.entries result.image result.lanes) }
 
     // So a quiet script over an image that tells its bytes is what the plain run makes of it.
     ensures quiet { (image : List ℕ) → AsksRun (map string_bytes words.now) image
@@ -82,11 +83,11 @@ pub fn replay<H: Host, S: Source, K: Sink>(
     // spells an event: it is run to its end, where no count rose and memory suffices, or to a line that begins with too
     // many entries.
     ensures samples { (number : ℕ) → AsksSample (map string_bytes words.now) number
-        → RunsSample number (as_image H.Disk.content H.Disk.faults H.Disk.calls H.Disk.flushes) H.Disk.size
-        (H.gives host.old (codes "-")) result.status result.journal.entries result.image result.lanes
-        (K.written out.old) (K.written out.new)
-        (counts (S.faults script.old) (H.faults host.old) (K.faults out.old))
-        (counts (S.faults script.new) (H.faults host.new) (K.faults out.new)) }
+        → RunsSample number
+        (host_tells (H.gives host.old (codes "-")) H.Disk.content H.Disk.faults H.Disk.calls H.Disk.flushes H.Disk.size)
+        (tells (S.left script.old) (K.written out.old) (S.faults script.old) (H.faults host.old) (K.faults out.old))
+        (tells (S.left script.new) (K.written out.new) (S.faults script.new) (H.faults host.new) (K.faults out.new))
+        (run_leaves result.status result.journal.entries result.image result.lanes) }
     ensures samples_whole { (number : ℕ) → AsksSample (map string_bytes words.now) number
         → StandsStill (H.faults host.old) (H.faults host.new) → StandsStill (K.faults out.old) (K.faults out.new)
         → IfSome result.image (λ disk. H.Disk.faults disk ≡ 0)
@@ -223,6 +224,7 @@ fn report_run<D: Store, K: Sink>(mode: Mode, run: Run<D>, out: &mut K) -> Outcom
         Ok(()) => status,
         Err(Failed) => Status::SinkFault,
     };
+    // That there are fewer than 2^63 entries is known by this call alone.
     let _len = journal.len();
     Outcome {
         status,

@@ -247,7 +247,7 @@ runs_first_cut start now held event names s t journal number opens fits =
     record {
       parts = begun_parts opens.opening event fits.adds.part;
       stopped = stopped_behind start now held event names number status.NoMemory opens
-          (events_of (begun_parts opens.opening event fits.adds.part)) are (length journal) (keeps_same (prepend_known held now)) refl;
+          (events_of (begun_parts opens.opening event fits.adds.part)) are (length journal) (tt, keeps_same (prepend_known held now)) refl;
       journal_is = record {
         is = first_entries opens.opening event fits.adds.part ∙ sym fits.adds.grew;
         fits = record {
@@ -370,8 +370,8 @@ refused_ends Failed all none = none
 refused_ends Memory all none = tt
 
 refused_stop : (fault : AttachFault) (left now : Option (List ℕ)) (held : List ℕ) (names : NamesState) (count : ℕ) → Keeps left (prepend_known held now) → StopsAt (attach_status fault) left held now names count 0
-refused_stop Failed left now held names count kept = kept
-refused_stop Memory left now held names count kept = kept
+refused_stop Failed left now held names count kept = (tt, kept)
+refused_stop Memory left now held names count kept = (tt, kept)
 
 refused_count : (fault : AttachFault) (count : ℕ) → count ≡ counted_lines (attach_status fault) count
 refused_count Failed count = refl
@@ -479,7 +479,7 @@ module _ {D : Type 0} (seen : D → ImageState) (start now : Option (List ℕ)) 
       let parts : ScriptParts = declared_parts opened.opening in
       record {
         parts = parts;
-        stopped = declared_stopped start now status.Done (status.ImageSize need have) names lines opened opened.stopped.stop.1 opened.stopped.lines_are;
+        stopped = declared_stopped start now status.Done (status.ImageSize need have) names lines opened (tt, opened.stopped.stop.1) opened.stopped.lines_are;
         final = start_of names gives;
         journal_is = record {
           is = opening_entries opened.opening;
@@ -495,7 +495,7 @@ module _ {D : Type 0} (seen : D → ImageState) (start now : Option (List ℕ)) 
       let parts : ScriptParts = begun_parts opened.opening event [] in
       record {
         parts = parts;
-        stopped = stopped_behind start now held event names lines (status.ImageSize need have) opened (events_of parts) (first_events opened.opening event []) 0 (keeps_same (prepend_known held now)) refl;
+        stopped = stopped_behind start now held event names lines (status.ImageSize need have) opened (events_of parts) (first_events opened.opening event []) 0 (tt, keeps_same (prepend_known held now)) refl;
         final = start_of names gives;
         journal_is = record {
           is = first_entries opened.opening event [];
@@ -512,7 +512,7 @@ module _ {D : Type 0} (seen : D → ImageState) (start now : Option (List ℕ)) 
   pub replayed_none : (names : NamesState) → names ≡ no_names → now ≡ start → Replayed seen start now gives status.NoMemory 0 names [] None None
   replayed_none names is same = record {
     parts = declared_parts [];
-    stopped = record { left = start; count = 0; read = read_none start names 0 is refl; held = []; stop = nothing_held start now same; lines_are = refl };
+    stopped = record { left = start; count = 0; read = read_none start names 0 is refl; held = []; stop = (tt, nothing_held start now same); lines_are = refl };
     final = start_of names gives;
     journal_is = record { is = refl; fits = declared_fit (start_of names gives) [] tt; ends = tt };
     image_is = tt;

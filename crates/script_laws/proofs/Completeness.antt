@@ -116,8 +116,8 @@ module _ {D : Type 0} (seen : D → ImageState) (script behind : Option (List �
   by_ran : (now : Status) → ran ≡ now → why ≡ now → Replayed seen (Some bytes) behind gives now lines names journal image lanes → EndsClean why journal
   by_ran status.Done ended is replayed = inl is
   by_ran status.NoMemory ended is replayed = inr (inl is)
-  by_ran status.Usage ended is replayed = absurd replayed.stopped.stop
-  by_ran status.SinkFault ended is replayed = absurd replayed.stopped.stop
+  by_ran status.Usage ended is replayed = absurd replayed.stopped.stop.0
+  by_ran status.SinkFault ended is replayed = absurd replayed.stopped.stop.0
   by_ran status.SourceFault ended is replayed = absurd (source ended)
   by_ran status.HostFault ended is replayed = absurd (host ended)
   by_ran (status.ImageSize need have) ended is replayed = absurd (never_short need have ended)
@@ -125,15 +125,15 @@ module _ {D : Type 0} (seen : D → ImageState) (script behind : Option (List �
       absurd (store_works image replayed.final.image replayed.faults_are.0 replayed.image_is store replayed.faults_are.1)
   by_ran (status.Script at fault) ended is replayed =
       let left : Option (List ℕ) = prepend_known replayed.stopped.held behind in
-      let faulty : IsFaulty replayed.stopped.left left names fault = replayed.stopped.stop.3 in
+      let faulty : IsFaulty replayed.stopped.left left names fault = replayed.stopped.stop.0.3 in
       let read = replayed.stopped.read in
       absurd (no_fault bytes no_names names clean.names replayed.stopped.left left read.texts faulty.text (events_of replayed.parts) clean.events clean.spelled read.taken.taken faulty.taken read.spell fault faulty.first)
-  by_ran (status.Limit at Lines) ended is replayed = absurd (never_past at Lines replayed replayed.stopped.stop.1)
-  by_ran (status.Limit at Bytes) ended is replayed = absurd (never_past at Bytes replayed replayed.stopped.stop.1)
-  by_ran (status.Limit at Entries) ended is replayed = inr (inr (subst (λ (w : Status). IsFull w journal) (sym is) replayed.stopped.stop.2))
+  by_ran (status.Limit at Lines) ended is replayed = absurd (never_past at Lines replayed replayed.stopped.stop.0.1)
+  by_ran (status.Limit at Bytes) ended is replayed = absurd (never_past at Bytes replayed replayed.stopped.stop.0.1)
+  by_ran (status.Limit at Entries) ended is replayed = inr (inr (subst (λ (w : Status). IsFull w journal) (sym is) replayed.stopped.stop.0.2))
 
   not_sink : ran ≡ status.SinkFault → ⊥
-  not_sink is = (subst (λ (w : Status). Replayed seen script behind gives w lines names journal image lanes) is run).stopped.stop
+  not_sink is = (subst (λ (w : Status). Replayed seen script behind gives w lines names journal image lanes) is run).stopped.stop.0
 
   by_report : Reports ran why old new text → EndsClean why journal
   by_report (inl told) = by_ran ran refl told.0 (subst (λ (s : Option (List ℕ)). Replayed seen s behind gives ran lines names journal image lanes) known run)

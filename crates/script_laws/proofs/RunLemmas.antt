@@ -138,6 +138,6 @@ runs_cut start rest now held before names after old mid new s m t number count n
   };
   ends = tt;
   held = held;
-  stop = keeps_same (prepend_known held now);
+  stop = (tt, keeps_same (prepend_known held now));
   lines_are = omega (arith, is, so_far.counts, length-append so_far.read.texts (reads.text ∷ []));
 }

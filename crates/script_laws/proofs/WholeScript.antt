@@ -99,7 +99,7 @@ left_so seen (Some d) i left is same = ap (λ (x : ImageState). x.told) is ∙ s
 
 -- A QUIET SCRIPT, over an image that tells its bytes
 module _ {D : Type 0} (seen : D → ImageState) (size : D → ℕ) (script now : Option (List ℕ)) (gives : ℕ → Option (List ℕ)) (why : Status) (journal : List Entry) (image : Option D) (lanes : Option (List LaneState)) (old new : Option (List ℕ)) (before after : Counts)
-    (runs : RunsScript mode.Run seen size script now gives why journal image lanes old new before after) (bytes : List ℕ) (events : List Event) (known : script ≡ Some bytes) (done : why ≡ status.Done) (disk : DiskDecl) (given : List ℕ) (quiet : IsQuietScript bytes disk events)
+    (runs : RunsScript mode.Run (record { gives = gives; seen = seen; size = size }) (record { left = script; written = old; failed = before }) (record { left = now; written = new; failed = after }) (record { status = why; journal = journal; image = image; lanes = lanes })) (bytes : List ℕ) (events : List Event) (known : script ≡ Some bytes) (done : why ≡ status.Done) (disk : DiskDecl) (given : List ℕ) (quiet : IsQuietScript bytes disk events)
     (gave : gives (512 * disk.blocks) ≡ Some given) where
   abbrev parts : ScriptParts
   parts = runs.replayed.parts

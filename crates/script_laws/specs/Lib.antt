@@ -15,6 +15,7 @@ pub mod Clean
 pub mod Counts
 pub mod Going
 pub mod LanesStand
+pub mod Objects
 pub mod Opening
 pub mod Outcomes
 pub mod Reading

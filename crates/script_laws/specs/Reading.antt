@@ -1,5 +1,5 @@
 -- One line of a script after another, and why no further one is taken up.
-use Rattle.std.specs.Prelude.{◌≡◌, ℕ, ◌+◌, ◌<◌, ◌≤◌, List, length, Option, Some}
+use Rattle.std.specs.Prelude.{◌≡◌, ℕ, ◌+◌, ◌<◌, ◌≤◌, List, length, Option, Some, ⊤}
 use Rattle.std.specs.Io.KnownBytes.{IsAtEnd, Keeps, prepend_known}
 use Rattle.domain_script.specs.declared.event.Event.{Event}
 use Rattle.domain_script.specs.declared.event.LineFault.{LineFault}
@@ -35,17 +35,25 @@ pub record IsRead (rest left : Option (List ℕ)) : Type 0 where
   pub taken : TakesLine rest left text
   pub short : length text ≤ most_line_bytes
 
--- Why no line is taken up after so many, where the journal has so many entries: `rest` is to come, which is now `held` and
--- what the source has left. Where the source failed, no line is whole in what is held, and no limit is met.
+-- WHY no line is taken up after so many, where the journal has so many entries: `rest` is to come, of which `left` is
+-- left. Where the source failed, no line is whole in what it gave and is in no line, and no limit is met.
+abbrev pub HasReason : Status → Option (List ℕ) → Option (List ℕ) → List ℕ → NamesState → ℕ → ℕ → Type 0
+HasReason (status.Script at fault) rest left held names count entries = (at ≡ count + 1) × (at ≤ most_lines) × (entries < most_entries) × IsFaulty rest left names fault
+HasReason (status.Limit at limit.Entries) rest left held names count entries = (at ≡ count + 1) × (at ≤ most_lines) × (most_entries ≤ entries)
+HasReason (status.Limit at kind) rest left held names count entries = (at ≡ count + 1) × IsPast kind rest count
+HasReason status.Done rest left held names count entries = IsAtEnd rest
+HasReason status.StoreFault rest left held names count entries = IsAtEnd rest
+HasReason status.SourceFault rest left held names count entries = DecidesNothing count held
+HasReason status.Usage rest left held names count entries = ⊥
+HasReason status.SinkFault rest left held names count entries = ⊥
+HasReason _ rest left held names count entries = ⊤
+
+-- WHAT IS LEFT: a line with a fault, or one that begins with too many entries, was taken; else all stays to come
+abbrev pub Leaves : Status → Option (List ℕ) → Option (List ℕ) → Type 0
+Leaves (status.Script at fault) rest left = IsRead rest left
+Leaves (status.Limit at limit.Entries) rest left = IsRead rest left
+Leaves _ rest left = Keeps rest left
+
+-- both, where that which is left is what is `held` and what the source has left
 abbrev pub StopsAt : Status → Option (List ℕ) → List ℕ → Option (List ℕ) → NamesState → ℕ → ℕ → Type 0
-StopsAt (status.Script at fault) rest held now names count entries = (at ≡ count + 1) × (at ≤ most_lines) × (entries < most_entries) × IsFaulty rest (prepend_known held now) names fault
-StopsAt (status.Limit at limit.Entries) rest held now names count entries = (at ≡ count + 1) × (at ≤ most_lines) × (most_entries ≤ entries) × IsRead rest (prepend_known held now)
-StopsAt (status.Limit at kind) rest held now names count entries = (at ≡ count + 1) × IsPast kind rest count × Keeps rest (prepend_known held now)
-StopsAt status.Done rest held now names count entries = IsAtEnd rest × Keeps rest (prepend_known held now)
-StopsAt status.StoreFault rest held now names count entries = IsAtEnd rest × Keeps rest (prepend_known held now)
-StopsAt status.SourceFault rest held now names count entries = DecidesNothing count held × Keeps rest (prepend_known held now)
-StopsAt status.HostFault rest held now names count entries = Keeps rest (prepend_known held now)
-StopsAt (status.ImageSize need have) rest held now names count entries = Keeps rest (prepend_known held now)
-StopsAt status.NoMemory rest held now names count entries = Keeps rest (prepend_known held now)
-StopsAt status.Usage rest held now names count entries = ⊥
-StopsAt status.SinkFault rest held now names count entries = ⊥
+StopsAt why rest held now names count entries = HasReason why rest (prepend_known held now) held names count entries × Leaves why rest (prepend_known held now)

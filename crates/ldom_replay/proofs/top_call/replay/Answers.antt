@@ -7,10 +7,10 @@ use Rattle.ldom_report.specs.DiskEvents.{history}
 use Rattle.script_laws.proofs.Completeness.{all_zero, completes, never, still}
 use Rattle.std.proofs.lemmas.List.Elements.{All-nil}
 use Rattle.script_laws.specs.Clean.{EndsClean}
-use Rattle.script_laws.specs.Counts.{counts}
 use Rattle.script_laws.specs.Failures.{SucceedOrFail, SucceedsOrFails, failed_count}
+use Rattle.script_laws.specs.Objects.{host_tells, run_leaves, tells}
 use Rattle.script_laws.specs.Outcomes.{RunsScript}
-use Rattle.world_parts.specs.Declared.{as_image, blocks_of}
+use Rattle.world_parts.specs.Declared.{blocks_of}
 use Rattle.ldom_words.specs.Words.{AsksSample}
 use Rattle.ldom_sample.specs.Sample.{sample_text}
 use Rattle.ldom_replay.proofs.Commands.{as_asked, no_sample_too, one_asked, one_sample}
@@ -41,16 +41,12 @@ pub returns-in-Some-Script-clause-runs : goal.returns-in-Some-Script-clause-runs
 returns-in-Some-Script-clause-runs g c shown image asks =
     let words : List (List ℕ) = map string_bytes c.args.words.now in
     let own : AsksFor c.in-Some-Script.mode words c.in-Some-Script.image.now = subst (λ (x : Command). IsCommand words (Some x)) c.in-Some-Script.field-0-is c.in-Some-Script.ensures in
-    let left = g.S.Source.left c.args.script.now in
-    let after = g.S.Source.left c.run_script.new.source in
-    let old = g.K.Sink.written c.args.out.now in
-    let new = g.K.Sink.written c.report_run.new.out in
-    let before = counts (g.S.Source.faults c.args.script.now) (g.H.Host.faults c.args.host.now) (g.K.Sink.faults c.args.out.now) in
-    let now = counts (g.S.Source.faults c.run_script.new.source) (g.H.Host.faults c.run_script.new.host) (g.K.Sink.faults c.report_run.new.out) in
-    as_asked (λ (m : Mode) (name : List ℕ). RunsScript m (as_image g.H.Disk.Store.content g.H.Disk.Store.faults g.H.Disk.Store.calls g.H.Disk.Store.flushes) g.H.Disk.Store.size left after (g.H.Host.gives c.args.host.now name) c.report_run.result.status
-    c.report_run.result.journal.entries c.report_run.result.image c.report_run.result.lanes old new before now) words c.in-Some-Script.mode shown c.in-Some-Script.image.now image own asks
-    (all_otherwise (λ (j : JournalState) d l. RunsScript c.in-Some-Script.mode (as_image g.H.Disk.Store.content g.H.Disk.Store.faults g.H.Disk.Store.calls g.H.Disk.Store.flushes) g.H.Disk.Store.size left after (g.H.Host.gives c.args.host.now c.in-Some-Script.image.now) c.report_run.result.status
-    j.entries d l old new before now) c.run_script.result.journal c.report_run.result.journal c.run_script.result.image c.report_run.result.image c.run_script.result.lanes c.report_run.result.lanes
+    let before = tells (g.S.Source.left c.args.script.now) (g.K.Sink.written c.args.out.now) (g.S.Source.faults c.args.script.now) (g.H.Host.faults c.args.host.now) (g.K.Sink.faults c.args.out.now) in
+    let now = tells (g.S.Source.left c.run_script.new.source) (g.K.Sink.written c.report_run.new.out) (g.S.Source.faults c.run_script.new.source) (g.H.Host.faults c.run_script.new.host) (g.K.Sink.faults c.report_run.new.out) in
+    as_asked (λ (m : Mode) (name : List ℕ). RunsScript m (host_tells (g.H.Host.gives c.args.host.now name) g.H.Disk.Store.content g.H.Disk.Store.faults g.H.Disk.Store.calls g.H.Disk.Store.flushes g.H.Disk.Store.size) before now
+    (run_leaves c.report_run.result.status c.report_run.result.journal.entries c.report_run.result.image c.report_run.result.lanes)) words c.in-Some-Script.mode shown c.in-Some-Script.image.now image own asks
+    (all_otherwise (λ (j : JournalState) d l. RunsScript c.in-Some-Script.mode (host_tells (g.H.Host.gives c.args.host.now c.in-Some-Script.image.now) g.H.Disk.Store.content g.H.Disk.Store.faults g.H.Disk.Store.calls g.H.Disk.Store.flushes g.H.Disk.Store.size) before now
+    (run_leaves c.report_run.result.status j.entries d l)) c.run_script.result.journal c.report_run.result.journal c.run_script.result.image c.report_run.result.image c.run_script.result.lanes c.report_run.result.lanes
     c.report_run.ensures.journal c.report_run.ensures.image c.report_run.ensures.lanes
     (record {
       ran = c.run_script.result.status;
@@ -84,17 +80,14 @@ returns-in-Some-Sample-clause-samples g c number asks =
     let own : AsksSample words c.in-Some-Sample.number = subst (λ (x : Command). IsCommand words (Some x)) c.in-Some-Sample.field-0-is c.in-Some-Sample.ensures in
     let same : number ≡ c.in-Some-Sample.number = one_sample words c.in-Some-Sample.number number own asks in
     let run = c.run_sample.ensures.replayed in
-    let seen = as_image g.H.Disk.Store.content g.H.Disk.Store.faults g.H.Disk.Store.calls g.H.Disk.Store.flushes in
-    let gives = g.H.Host.gives c.args.host.now (codes "-") in
-    let old = g.K.Sink.written c.args.out.now in
-    let new = g.K.Sink.written c.report_run-in-Some-Sample.new.out in
-    let before = counts (g.S.Source.faults c.args.script.now) (g.H.Host.faults c.args.host.now) (g.K.Sink.faults c.args.out.now) in
-    let now = counts (g.S.Source.faults c.args.script.now) (g.H.Host.faults c.run_sample.new.host) (g.K.Sink.faults c.report_run-in-Some-Sample.new.out) in
-    subst (λ (n : ℕ). RunsSample n seen g.H.Disk.Store.size gives c.report_run-in-Some-Sample.result.status c.report_run-in-Some-Sample.result.journal.entries c.report_run-in-Some-Sample.result.image
-    c.report_run-in-Some-Sample.result.lanes old new before now) (sym same) (record {
+    let host = host_tells (g.H.Host.gives c.args.host.now (codes "-")) g.H.Disk.Store.content g.H.Disk.Store.faults g.H.Disk.Store.calls g.H.Disk.Store.flushes g.H.Disk.Store.size in
+    let before = tells (g.S.Source.left c.args.script.now) (g.K.Sink.written c.args.out.now) (g.S.Source.faults c.args.script.now) (g.H.Host.faults c.args.host.now) (g.K.Sink.faults c.args.out.now) in
+    let now = tells (g.S.Source.left c.args.script.now) (g.K.Sink.written c.report_run-in-Some-Sample.new.out) (g.S.Source.faults c.args.script.now) (g.H.Host.faults c.run_sample.new.host) (g.K.Sink.faults c.report_run-in-Some-Sample.new.out) in
+    subst (λ (n : ℕ). RunsSample n host before now
+    (run_leaves c.report_run-in-Some-Sample.result.status c.report_run-in-Some-Sample.result.journal.entries c.report_run-in-Some-Sample.result.image c.report_run-in-Some-Sample.result.lanes)) (sym same) (record {
       left = run.left;
-      runs = all_otherwise (λ (j : JournalState) d l. RunsScript mode.EndOnly seen g.H.Disk.Store.size (Some (sample_text c.in-Some-Sample.number)) run.left gives c.report_run-in-Some-Sample.result.status
-          j.entries d l old new before now) c.run_sample.result.journal c.report_run-in-Some-Sample.result.journal c.run_sample.result.image c.report_run-in-Some-Sample.result.image c.run_sample.result.lanes c.report_run-in-Some-Sample.result.lanes
+      runs = all_otherwise (λ (j : JournalState) d l. RunsScript mode.EndOnly host (record before { left = Some (sample_text c.in-Some-Sample.number) }) (record now { left = run.left })
+          (run_leaves c.report_run-in-Some-Sample.result.status j.entries d l)) c.run_sample.result.journal c.report_run-in-Some-Sample.result.journal c.run_sample.result.image c.report_run-in-Some-Sample.result.image c.run_sample.result.lanes c.report_run-in-Some-Sample.result.lanes
           c.report_run-in-Some-Sample.ensures.journal c.report_run-in-Some-Sample.ensures.image c.report_run-in-Some-Sample.ensures.lanes
           (record {
             ran = c.run_sample.result.status;
