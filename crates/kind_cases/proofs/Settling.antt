@@ -79,30 +79,30 @@ port_reads = record { of_lane = λ j k event. refl; of_left = λ j k. refl; of_a
 twin_reads : Reads ports of_twins said_twin
 twin_reads = record { of_lane = λ j k event. refl; of_left = λ j k. refl; of_answer = λ j. refl }
 
-ports_lead : Leads two_switches (OnFirst (AllMove ports said_port 0))
+ports_lead : Leads two_switches (OnFirst (AllMove ports.Step said_port 0))
 ports_lead =
-    first_leads (lanes_of ports of_ports) (lanes_of ports of_twins) (AllMove ports said_port 0) (lanes_lead ports of_ports said_port port_reads port_silence)
-    (lanes_skip ports said_port ports of_twins (λ j k event. refl) (λ j k. refl))
+    first_leads (lanes_of ports of_ports) (lanes_of ports of_twins) (AllMove ports.Step said_port 0) (lanes_lead ports of_ports said_port port_reads port_silence)
+    (lanes_skip ports.Step said_port ports of_twins (λ j k event. refl) (λ j k. refl))
 
-ports_end : Ends two_switches (OnFirst (AllMove ports said_port 0))
+ports_end : Ends two_switches (OnFirst (AllMove ports.Step said_port 0))
 ports_end =
-    first_ends (lanes_of ports of_ports) (lanes_of ports of_twins) (AllMove ports said_port 0) (lanes_lead ports of_ports said_port port_reads port_silence)
-    (lanes_skip ports said_port ports of_twins (λ j k event. refl) (λ j k. refl)) (lanes_end ports of_ports said_port port_reads port_silence)
+    first_ends (lanes_of ports of_ports) (lanes_of ports of_twins) (AllMove ports.Step said_port 0) (lanes_lead ports of_ports said_port port_reads port_silence)
+    (lanes_skip ports.Step said_port ports of_twins (λ j k event. refl) (λ j k. refl)) (lanes_end ports of_ports said_port port_reads port_silence)
 
-twins_lead : Leads two_switches (OnSecond (AllMove ports said_twin 0))
+twins_lead : Leads two_switches (OnSecond (AllMove ports.Step said_twin 0))
 twins_lead =
-    second_leads (lanes_of ports of_ports) (lanes_of ports of_twins) (AllMove ports said_twin 0) (lanes_lead ports of_twins said_twin twin_reads port_silence)
-    (lanes_skip ports said_twin ports of_ports (λ j k event. refl) (λ j k. refl))
+    second_leads (lanes_of ports of_ports) (lanes_of ports of_twins) (AllMove ports.Step said_twin 0) (lanes_lead ports of_twins said_twin twin_reads port_silence)
+    (lanes_skip ports.Step said_twin ports of_ports (λ j k event. refl) (λ j k. refl))
 
-twins_end : Ends two_switches (OnSecond (AllMove ports said_twin 0))
+twins_end : Ends two_switches (OnSecond (AllMove ports.Step said_twin 0))
 twins_end =
-    second_ends (lanes_of ports of_ports) (lanes_of ports of_twins) (AllMove ports said_twin 0) (lanes_lead ports of_twins said_twin twin_reads port_silence)
-    (lanes_skip ports said_twin ports of_ports (λ j k event. refl) (λ j k. refl)) (lanes_end ports of_twins said_twin twin_reads port_silence) refl
+    second_ends (lanes_of ports of_ports) (lanes_of ports of_twins) (AllMove ports.Step said_twin 0) (lanes_lead ports of_twins said_twin twin_reads port_silence)
+    (lanes_skip ports.Step said_twin ports of_ports (λ j k event. refl) (λ j k. refl)) (lanes_end ports of_twins said_twin twin_reads port_silence) refl
 
 pub ports_move : (start : Two (List Port) (List Port)) (part : List WorldEntry) (behind : Two (List Port) (List Port)) → SettlePart two_switches start part behind
-    → AllMove ports said_port 0 start.first part behind.first
-ports_move start part behind settle = part_leads two_switches (OnFirst (AllMove ports said_port 0)) ports_lead ports_end start part behind settle
+    → AllMove ports.Step said_port 0 start.first part behind.first
+ports_move start part behind settle = part_leads two_switches (OnFirst (AllMove ports.Step said_port 0)) ports_lead ports_end start part behind settle
 
 pub twins_move : (start : Two (List Port) (List Port)) (part : List WorldEntry) (behind : Two (List Port) (List Port)) → SettlePart two_switches start part behind
-    → AllMove ports said_twin 0 start.second part behind.second
-twins_move start part behind settle = part_leads two_switches (OnSecond (AllMove ports said_twin 0)) twins_lead twins_end start part behind settle
+    → AllMove ports.Step said_twin 0 start.second part behind.second
+twins_move start part behind settle = part_leads two_switches (OnSecond (AllMove ports.Step said_twin 0)) twins_lead twins_end start part behind settle

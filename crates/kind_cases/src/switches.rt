@@ -30,10 +30,10 @@ pub fn ports_are_finished_behind_a_settle()
 /// others of its switch gave it, and entries of the other switch say nothing of it.
 pub fn each_port_is_run_by_what_happened_to_it()
     ensures one { (start : Two (List Port) (List Port)) (part : List WorldEntry) (behind : Two (List Port) (List Port))
-        → SettlePart two_switches start part behind → AllMove ports said_port 0 start.first part behind.first }
+        → SettlePart two_switches start part behind → AllMove ports.Step said_port 0 start.first part behind.first }
     ensures other { (start : Two (List Port) (List Port)) (part : List WorldEntry)
         (behind : Two (List Port) (List Port))
-        → SettlePart two_switches start part behind → AllMove ports said_twin 0 start.second part behind.second }
+        → SettlePart two_switches start part behind → AllMove ports.Step said_twin 0 start.second part behind.second }
 {}
 
 /// In the part of a settle each port has one tick at most, and its end at the switch finds no room at most twice with

@@ -9,26 +9,26 @@ use Rattle.lane_kinds.specs.Both.{Skips}
 use Rattle.lane_kinds.specs.Lanes.{AllMove, AllStep, Entries, IsSilent, LaneKind, MakeTurns, Reads, StepOf, TickAll, TicksIf, all_calm, gets_tick, happened, lanes_of, left_names, own_or, round_entries, tick_entries, turn_entries}
 use Rattle.lane_kinds.specs.Laws.{Ends, Leads}
 
-happened_both : {V E : Type 0} (said : ℕ → E → List V) (j : ℕ) (before behind : List E) → happened said j (before ++ behind) ≡ happened said j before ++ happened said j behind
+pub happened_both : {V E : Type 0} (said : ℕ → E → List V) (j : ℕ) (before behind : List E) → happened said j (before ++ behind) ≡ happened said j before ++ happened said j behind
 happened_both said j [] behind = refl
 happened_both {V} {E} said j (x ∷ before) behind =
     ap (λ (l : List V). said j x ++ l) (happened_both said j before behind) ∙ sym (append_assoc (said j x) (happened said j before) (happened said j behind))
 
 -- WHAT A PART SAYS of the lanes
-module _ {S V E : Type 0} (K : LaneKind S V) (said : ℕ → E → List V) where
+module _ {S V E : Type 0} (Step : S → V → S → Type 0) (said : ℕ → E → List V) where
   -- nothing, and one part behind another
-  none_move : (j : ℕ) (lanes : List S) → AllMove K said j lanes [] lanes
+  pub none_move : (j : ℕ) (lanes : List S) → AllMove Step said j lanes [] lanes
   none_move j [] = tt
   none_move j (s ∷ lanes) = (refl, none_move (j + 1) lanes)
 
-  nothing_move : (j : ℕ) (lanes : List S) (part : List E) → ((i : ℕ) → happened said i part ≡ []) → AllMove K said j lanes part lanes
+  pub nothing_move : (j : ℕ) (lanes : List S) (part : List E) → ((i : ℕ) → happened said i part ≡ []) → AllMove Step said j lanes part lanes
   nothing_move j [] part none = tt
-  nothing_move j (s ∷ lanes) part none = (subst (λ (l : List V). Run K.Step s l s) (sym (none j)) refl, nothing_move (j + 1) lanes part none)
+  nothing_move j (s ∷ lanes) part none = (subst (λ (l : List V). Run Step s l s) (sym (none j)) refl, nothing_move (j + 1) lanes part none)
 
-  both_move : (j : ℕ) (lanes between behind : List S) (one two : List E) → AllMove K said j lanes one between → AllMove K said j between two behind → AllMove K said j lanes (one ++ two) behind
+  pub both_move : (j : ℕ) (lanes between behind : List S) (one two : List E) → AllMove Step said j lanes one between → AllMove Step said j between two behind → AllMove Step said j lanes (one ++ two) behind
   both_move j [] [] [] one two first second = tt
   both_move j (s ∷ lanes) (m ∷ between) (t ∷ behind) one two first second = (
-    subst (λ (l : List V). Run K.Step s l t) (sym (happened_both said j one two)) (run_append K.Step s m t (happened said j one) (happened said j two) first.0 second.0),
+    subst (λ (l : List V). Run Step s l t) (sym (happened_both said j one two)) (run_append Step s m t (happened said j one) (happened said j two) first.0 second.0),
     both_move (j + 1) lanes between behind one two first.1 second.1,
   )
   both_move j [] [] (t ∷ behind) one two first second = absurd second
@@ -36,7 +36,7 @@ module _ {S V E : Type 0} (K : LaneKind S V) (said : ℕ → E → List V) where
   both_move j (s ∷ lanes) [] behind one two first second = absurd first
   both_move j (s ∷ lanes) (m ∷ between) [] one two first second = absurd second
 
-  none_both : (j : ℕ) (one two : List E) → happened said j one ≡ [] → happened said j two ≡ [] → happened said j (one ++ two) ≡ []
+  pub none_both : (j : ℕ) (one two : List E) → happened said j one ≡ [] → happened said j two ≡ [] → happened said j (one ++ two) ≡ []
   none_both j one two first second = happened_both said j one two ∙ ap (λ (l : List V). l ++ happened said j two) first ∙ second
 
   -- the first part of one that says nothing
@@ -44,7 +44,7 @@ module _ {S V E : Type 0} (K : LaneKind S V) (said : ℕ → E → List V) where
   front_empty [] two is = refl
   front_empty (x ∷ one) two is = absurd (cc is)
 
-  front_none : (j : ℕ) (part more all : List E) → part ++ more ≡ all → happened said j all ≡ [] → happened said j part ≡ []
+  pub front_none : (j : ℕ) (part more all : List E) → part ++ more ≡ all → happened said j all ≡ [] → happened said j part ≡ []
   front_none j part more all is none =
       front_empty (happened said j part) (happened said j more) (sym (happened_both said j part more) ∙ ap (happened said j) is ∙ none)
 
@@ -68,23 +68,23 @@ module _ {S V E : Type 0} (K : LaneKind S V) (N : Entries V E) (said : ℕ → E
   lane_moves false j k s event t is run = told_run j k s event t run
 
   event_moves : (j k : ℕ) (lanes : List S) (event : V) (behind : List S) → AllStep K j lanes k event behind
-      → AllMove K said j lanes (if K.is_silent event then [] else N.of_lane k event ∷ []) behind
+      → AllMove K.Step said j lanes (if K.is_silent event then [] else N.of_lane k event ∷ []) behind
   event_moves j k [] event [] step = tt
   event_moves j k (s ∷ lanes) event (t ∷ behind) step = (lane_moves (K.is_silent event) j k s event t refl step.0, event_moves (j + 1) k lanes event behind step.1)
   event_moves j k [] event (t ∷ behind) step = absurd step
   event_moves j k (s ∷ lanes) event [] step = absurd step
 
   -- TURNS
-  turn_moves : (k : ℕ) (lanes : List S) (events : List V) (behind : List S) → Run (StepOf K k) lanes events behind → AllMove K said 0 lanes (turn_entries K N k events) behind
-  turn_moves k lanes [] behind run = subst (AllMove K said 0 lanes []) run (none_move K said 0 lanes)
+  turn_moves : (k : ℕ) (lanes : List S) (events : List V) (behind : List S) → Run (StepOf K k) lanes events behind → AllMove K.Step said 0 lanes (turn_entries K N k events) behind
+  turn_moves k lanes [] behind run = subst (AllMove K.Step said 0 lanes []) run (none_move K.Step said 0 lanes)
   turn_moves k lanes (event ∷ events) behind run =
-      both_move K said 0 lanes run.0 behind (if K.is_silent event then [] else N.of_lane k event ∷ []) (turn_entries K N k events) (event_moves 0 k lanes event run.0 run.1.step)
+      both_move K.Step said 0 lanes run.0 behind (if K.is_silent event then [] else N.of_lane k event ∷ []) (turn_entries K N k events) (event_moves 0 k lanes event run.0 run.1.step)
       (turn_moves k run.0 events behind run.2)
 
-  turns_move : (k : ℕ) (lanes : List S) (turns : List (List V)) (behind : List S) → MakeTurns K k lanes turns behind → AllMove K said 0 lanes (round_entries K N k turns) behind
-  turns_move k lanes [] behind made = subst (AllMove K said 0 lanes []) made (none_move K said 0 lanes)
+  turns_move : (k : ℕ) (lanes : List S) (turns : List (List V)) (behind : List S) → MakeTurns K k lanes turns behind → AllMove K.Step said 0 lanes (round_entries K N k turns) behind
+  turns_move k lanes [] behind made = subst (AllMove K.Step said 0 lanes []) made (none_move K.Step said 0 lanes)
   turns_move k lanes (r ∷ turns) behind made =
-      both_move K said 0 lanes made.0 behind (turn_entries K N k r) (round_entries K N (k + 1) turns) (turn_moves k lanes r made.0 made.1.run) (turns_move (k + 1) made.0 turns behind made.2)
+      both_move K.Step said 0 lanes made.0 behind (turn_entries K N k r) (round_entries K N (k + 1) turns) (turn_moves k lanes r made.0 made.1.run) (turns_move (k + 1) made.0 turns behind made.2)
 
   -- TICKS, each an event of its lane that gives nothing
   own_run : (j k : ℕ) (s : S) (event : V) (t : S) → j ≡ k → K.Step s event t → Run K.Step s (own_or (j == k) event (K.gets j event)) t
@@ -109,24 +109,24 @@ module _ {S V E : Type 0} (K : LaneKind S V) (N : Entries V E) (said : ℕ → E
   told_tick k s = ap (λ (c : Bool). if c then [] else N.of_lane k (K.tick s) ∷ []) (silent.tick_loud s)
 
   tick_moves : (get : Bool) (k : ℕ) (front : List S) (s : S) (lanes : List S) (t : S) → k ≡ 0 + length front → TicksIf K get s t
-      → AllMove K said 0 (front ++ s ∷ lanes) (if get then N.of_lane k (K.tick s) ∷ [] else []) (front ++ t ∷ lanes)
+      → AllMove K.Step said 0 (front ++ s ∷ lanes) (if get then N.of_lane k (K.tick s) ∷ [] else []) (front ++ t ∷ lanes)
   tick_moves true k front s lanes t place step =
-      subst (λ (l : List E). AllMove K said 0 (front ++ s ∷ lanes) l (front ++ t ∷ lanes)) (told_tick k s)
+      subst (λ (l : List E). AllMove K.Step said 0 (front ++ s ∷ lanes) l (front ++ t ∷ lanes)) (told_tick k s)
       (event_moves 0 k (front ++ s ∷ lanes) (K.tick s) (front ++ t ∷ lanes) (one_steps 0 k front s lanes (K.tick s) t (λ i. silent.tick_gives i s) place step))
   tick_moves false k front s lanes t place same =
-      subst (λ (x : S). AllMove K said 0 (front ++ s ∷ lanes) [] (front ++ x ∷ lanes)) (sym same) (none_move K said 0 (front ++ s ∷ lanes))
+      subst (λ (x : S). AllMove K.Step said 0 (front ++ s ∷ lanes) [] (front ++ x ∷ lanes)) (sym same) (none_move K.Step said 0 (front ++ s ∷ lanes))
 
   ticks_move : (k : ℕ) (front lanes : List S) (marks : List Bool) (behind : List S) → k ≡ 0 + length front → TickAll K lanes marks behind
-      → AllMove K said 0 (front ++ lanes) (tick_entries K N k lanes marks) (front ++ behind)
-  ticks_move k front [] [] [] place ticks = none_move K said 0 (front ++ [])
+      → AllMove K.Step said 0 (front ++ lanes) (tick_entries K N k lanes marks) (front ++ behind)
+  ticks_move k front [] [] [] place ticks = none_move K.Step said 0 (front ++ [])
   ticks_move k front (s ∷ lanes) (had ∷ marks) (t ∷ behind) place ticks =
       let next : k + 1 ≡ 0 + length (front ++ t ∷ []) = one_more k (length front) (length (front ++ t ∷ [])) place (length-append front (t ∷ [])) in
-      let rest : AllMove K said 0 ((front ++ t ∷ []) ++ lanes) (tick_entries K N (k + 1) lanes marks) ((front ++ t ∷ []) ++ behind) =
+      let rest : AllMove K.Step said 0 ((front ++ t ∷ []) ++ lanes) (tick_entries K N (k + 1) lanes marks) ((front ++ t ∷ []) ++ behind) =
       ticks_move (k + 1) (front ++ t ∷ []) lanes marks behind next ticks.1 in
-      both_move K said 0 (front ++ s ∷ lanes) (front ++ t ∷ lanes) (front ++ t ∷ behind) (if gets_tick K s had then N.of_lane k (K.tick s) ∷ [] else []) (tick_entries K N (k + 1) lanes marks)
+      both_move K.Step said 0 (front ++ s ∷ lanes) (front ++ t ∷ lanes) (front ++ t ∷ behind) (if gets_tick K s had then N.of_lane k (K.tick s) ∷ [] else []) (tick_entries K N (k + 1) lanes marks)
       (tick_moves (gets_tick K s had) k front s lanes t place ticks.0)
-      (subst (λ (l : List S). AllMove K said 0 l (tick_entries K N (k + 1) lanes marks) (front ++ t ∷ behind)) (append_assoc front (t ∷ []) lanes)
-      (subst (AllMove K said 0 ((front ++ t ∷ []) ++ lanes) (tick_entries K N (k + 1) lanes marks)) (append_assoc front (t ∷ []) behind) rest))
+      (subst (λ (l : List S). AllMove K.Step said 0 l (tick_entries K N (k + 1) lanes marks) (front ++ t ∷ behind)) (append_assoc front (t ∷ []) lanes)
+      (subst (AllMove K.Step said 0 ((front ++ t ∷ []) ++ lanes) (tick_entries K N (k + 1) lanes marks)) (append_assoc front (t ∷ []) behind) rest))
     where
       one_more : (k n m : ℕ) → k ≡ 0 + n → m ≡ n + 1 → k + 1 ≡ 0 + m
       one_more k n m place long = omega (arith, place, long)
@@ -138,36 +138,36 @@ module _ {S V E : Type 0} (K : LaneKind S V) (N : Entries V E) (said : ℕ → E
   names_none j k (r ∷ turns) [] = refl
   names_none j k (r ∷ turns) (s ∷ lanes) =
       let name = all_calm K r && (if K.waits_on s then false else true) in
-      none_both K said j (if name then [] else N.left_over k ∷ []) (left_names K N (k + 1) turns lanes) (one_none K said j name (N.left_over k) (reads.of_left j k))
+      none_both K.Step said j (if name then [] else N.left_over k ∷ []) (left_names K N (k + 1) turns lanes) (one_none K.Step said j name (N.left_over k) (reads.of_left j k))
       (names_none j (k + 1) turns lanes)
 
   -- THE LAWS
-  pub lanes_lead : Leads (lanes_of K N) (AllMove K said 0)
+  pub lanes_lead : Leads (lanes_of K N) (AllMove K.Step said 0)
   lanes_lead = record {
-    none = none_move K said 0;
-    both = λ w m v one two first second. both_move K said 0 w m v one two first second;
+    none = none_move K.Step said 0;
+    both = λ w m v one two first second. both_move K.Step said 0 w m v one two first second;
     round = λ w r v made. turns_move 0 w r v made.turns_made;
     ticks = λ w m v ticks. ticks_move 0 [] w m v refl ticks;
   }
 
-  pub lanes_end : Ends (lanes_of K N) (AllMove K said 0)
+  pub lanes_end : Ends (lanes_of K N) (AllMove K.Step said 0)
   lanes_end = record {
-    answer = λ w. nothing_move K said 0 w (N.settled ∷ []) (λ j. append-nil (said j N.settled) ∙ reads.of_answer j);
-    names = λ r w part more is. nothing_move K said 0 w part (λ j. front_none K said j part more (left_names K N 0 r w) is (names_none j 0 r w));
+    answer = λ w. nothing_move K.Step said 0 w (N.settled ∷ []) (λ j. append-nil (said j N.settled) ∙ reads.of_answer j);
+    names = λ r w part more is. nothing_move K.Step said 0 w part (λ j. front_none K.Step said j part more (left_names K N 0 r w) is (names_none j 0 r w));
   }
 
 -- AND THE ENTRIES OF ANOTHER KIND say nothing of them, where they are read so
-module _ {S V T X E : Type 0} (K : LaneKind S V) (said : ℕ → E → List V) (L : LaneKind T X) (N : Entries X E) (ignores : (j k : ℕ) (event : X) → said j (N.of_lane k event) ≡ [])
+module _ {S V T X E : Type 0} (Step : S → V → S → Type 0) (said : ℕ → E → List V) (L : LaneKind T X) (N : Entries X E) (ignores : (j k : ℕ) (event : X) → said j (N.of_lane k event) ≡ [])
     (no_name : (j k : ℕ) → said j (N.left_over k) ≡ []) where
   turn_none : (j k : ℕ) (events : List X) → happened said j (turn_entries L N k events) ≡ []
   turn_none j k [] = refl
   turn_none j k (event ∷ events) =
-      none_both K said j (if L.is_silent event then [] else N.of_lane k event ∷ []) (turn_entries L N k events)
-      (one_none K said j (L.is_silent event) (N.of_lane k event) (ignores j k event)) (turn_none j k events)
+      none_both Step said j (if L.is_silent event then [] else N.of_lane k event ∷ []) (turn_entries L N k events)
+      (one_none Step said j (L.is_silent event) (N.of_lane k event) (ignores j k event)) (turn_none j k events)
 
   round_none : (j k : ℕ) (turns : List (List X)) → happened said j (round_entries L N k turns) ≡ []
   round_none j k [] = refl
-  round_none j k (r ∷ turns) = none_both K said j (turn_entries L N k r) (round_entries L N (k + 1) turns) (turn_none j k r) (round_none j (k + 1) turns)
+  round_none j k (r ∷ turns) = none_both Step said j (turn_entries L N k r) (round_entries L N (k + 1) turns) (turn_none j k r) (round_none j (k + 1) turns)
 
   tick_none : (j k : ℕ) (event : X) (c : Bool) → happened said j (if c then N.of_lane k event ∷ [] else []) ≡ []
   tick_none j k event true = append-nil (said j (N.of_lane k event)) ∙ ignores j k event
@@ -177,7 +177,7 @@ module _ {S V T X E : Type 0} (K : LaneKind S V) (said : ℕ → E → List V) (
   ticks_none j k [] marks = refl
   ticks_none j k (s ∷ lanes) [] = refl
   ticks_none j k (s ∷ lanes) (had ∷ marks) =
-      none_both K said j (if gets_tick L s had then N.of_lane k (L.tick s) ∷ [] else []) (tick_entries L N (k + 1) lanes marks) (tick_none j k (L.tick s) (gets_tick L s had))
+      none_both Step said j (if gets_tick L s had then N.of_lane k (L.tick s) ∷ [] else []) (tick_entries L N (k + 1) lanes marks) (tick_none j k (L.tick s) (gets_tick L s had))
       (ticks_none j (k + 1) lanes marks)
 
   left_none : (j k : ℕ) (turns : List (List X)) (lanes : List T) → happened said j (left_names L N k turns lanes) ≡ []
@@ -185,12 +185,12 @@ module _ {S V T X E : Type 0} (K : LaneKind S V) (said : ℕ → E → List V) (
   left_none j k (r ∷ turns) [] = refl
   left_none j k (r ∷ turns) (s ∷ lanes) =
       let name = all_calm L r && (if L.waits_on s then false else true) in
-      none_both K said j (if name then [] else N.left_over k ∷ []) (left_names L N (k + 1) turns lanes) (one_none K said j name (N.left_over k) (no_name j k))
+      none_both Step said j (if name then [] else N.left_over k ∷ []) (left_names L N (k + 1) turns lanes) (one_none Step said j name (N.left_over k) (no_name j k))
       (left_none j (k + 1) turns lanes)
 
-  pub lanes_skip : Skips (lanes_of L N) (AllMove K said 0)
+  pub lanes_skip : Skips (lanes_of L N) (AllMove Step said 0)
   lanes_skip = record {
-    round = λ q w. nothing_move K said 0 w (round_entries L N 0 q) (λ j. round_none j 0 q);
-    ticks = λ v n w. nothing_move K said 0 w (tick_entries L N 0 v n) (λ j. ticks_none j 0 v n);
-    names = λ q v part more is w. nothing_move K said 0 w part (λ j. front_none K said j part more (left_names L N 0 q v) is (left_none j 0 q v));
+    round = λ q w. nothing_move Step said 0 w (round_entries L N 0 q) (λ j. round_none j 0 q);
+    ticks = λ v n w. nothing_move Step said 0 w (tick_entries L N 0 v n) (λ j. ticks_none j 0 v n);
+    names = λ q v part more is w. nothing_move Step said 0 w part (λ j. front_none Step said j part more (left_names L N 0 q v) is (left_none j 0 q v));
   }

@@ -198,10 +198,10 @@ happened said j [] = []
 happened said j (x ∷ part) = said j x ++ happened said j part
 
 -- each lane, from this number on, was run by that
-abbrev pub AllMove : {S V E : Type 0} → LaneKind S V → (ℕ → E → List V) → ℕ → List S → List E → List S → Type 0
-AllMove K said j [] part [] = ⊤
-AllMove K said j (s ∷ lanes) part (t ∷ behind) = Run K.Step s (happened said j part) t × AllMove K said (j + 1) lanes part behind
-AllMove K said j _ part _ = ⊥
+abbrev pub AllMove : {S V E : Type 0} → (S → V → S → Type 0) → (ℕ → E → List V) → ℕ → List S → List E → List S → Type 0
+AllMove Step said j [] part [] = ⊤
+AllMove Step said j (s ∷ lanes) part (t ∷ behind) = Run Step s (happened said j part) t × AllMove Step said (j + 1) lanes part behind
+AllMove Step said j _ part _ = ⊥
 
 -- what leaves no entry does nothing, and a tick gives nothing
 pub record IsSilent {S V : Type 0} (K : LaneKind S V) : Type 0 where

@@ -1,7 +1,6 @@
 -- Each lane is run by what the part of a settle says happened to it: a step that leaves no entry left the lane as it was.
 use Rattle.std.proofs.Common.{◌≡◌, ℕ, ◌+◌, ◌≤◌, ◌<◌, Bool, true, false, List, [], ◌∷◌, ◌++◌, refl, sym, ap, ◌∙◌, subst, arith}
 use Rattle.std.proofs.lemmas.Bool.{eq-eqb, eqb-true}
-use Rattle.std.proofs.lemmas.List.{append_assoc}
 use Rattle.std.specs.Prelude.{◌&&◌, ◌==◌, if◌then◌else◌}
 use Rattle.runs.specs.Run.{Run, run_append}
 use Rattle.channel_model.specs.WireEvent.{Idle}
@@ -9,6 +8,8 @@ use Rattle.disk_model.specs.DiskEvent.{DiskEvent, Off, OnWire, Switches}
 use Rattle.disk_model.specs.LaneState.{LaneState}
 use Rattle.disk_model.specs.LaneStep.{LaneStep}
 use Rattle.lane_kinds.proofs.Leading.{part_leads, rounds_lead}
+use Rattle.lane_kinds.proofs.Moving as kind
+use Rattle.lane_kinds.proofs.Moving.{both_move, front_none, none_both, none_move, nothing_move}
 use Rattle.lane_kinds.specs.Laws.{Ends, Leads}
 use Rattle.lane_laws.proofs.StepFalls.{idles}
 use Rattle.world_laws.proofs.RoundCounts.{tick_entry}
@@ -18,22 +19,12 @@ use Rattle.world_laws.specs.Settle.{GoesOn, OfLane, SettleEntry, SettlePart, Set
 use Rattle.world_laws.specs.Ticks.{TickLanes, TicksWhere, gets_tick, tick, waits_on}
 
 pub happened_both : (k : ℕ) (before behind : List SettleEntry) → happened k (before ++ behind) ≡ happened k before ++ happened k behind
-happened_both k [] behind = refl
-happened_both k (x ∷ before) behind =
-    ap (λ (l : List DiskEvent). event_at k x ++ l) (happened_both k before behind) ∙ sym (append_assoc (event_at k x) (happened k before) (happened k behind))
+happened_both k before behind = kind.happened_both event_at k before behind
 
 -- ONE PART BEHIND ANOTHER
 pub moves_on : (j : ℕ) (lanes between behind : List LaneState) (before part : List SettleEntry) → LanesMove j lanes before between → LanesMove j between part behind
     → LanesMove j lanes (before ++ part) behind
-moves_on j [] [] [] before part one two = tt
-moves_on j (s ∷ lanes) (m ∷ between) (t ∷ behind) before part one two = (
-  subst (λ (l : List DiskEvent). Run LaneStep s l t) (sym (happened_both j before part)) (run_append LaneStep s m t (happened j before) (happened j part) one.0 two.0),
-  moves_on (j + 1) lanes between behind before part one.1 two.1,
-)
-moves_on j [] [] (t ∷ behind) before part one two = absurd two
-moves_on j [] (m ∷ between) behind before part one two = absurd one
-moves_on j (s ∷ lanes) [] behind before part one two = absurd one
-moves_on j (s ∷ lanes) (m ∷ between) [] before part one two = absurd two
+moves_on j lanes between behind before part one two = both_move LaneStep event_at j lanes between behind before part one two
 
 -- NOTHING HAPPENED to a lane of this number or a later one
 abbrev pub IsBelow : ℕ → List SettleEntry → Type 0
@@ -90,7 +81,7 @@ pub next : (j : ℕ) → j < j + 1
 next j = omega (arith)
 
 pub both_none : (k : ℕ) (one two : List SettleEntry) → happened k one ≡ [] → happened k two ≡ [] → happened k (one ++ two) ≡ []
-both_none k one two first second = happened_both k one two ∙ ap (λ (l : List DiskEvent). l ++ happened k two) first ∙ second
+both_none k one two first second = none_both LaneStep event_at k one two first second
 
 rounds_above : (j : ℕ) (rounds : List LaneRound) (k : ℕ) → k < j → happened k (round_entries j rounds) ≡ []
 rounds_above j [] k less = refl
@@ -164,12 +155,7 @@ ticks_move_lanes j _ _ _ ticks = absurd ticks
 
 -- THE ANSWER moves none
 pub stay : (j : ℕ) (lanes : List LaneState) → LanesMove j lanes [] lanes
-stay j [] = tt
-stay j (s ∷ lanes) = (refl, stay (j + 1) lanes)
-
-pub settled_moves : (j : ℕ) (lanes : List LaneState) → LanesMove j lanes (Settled ∷ []) lanes
-settled_moves j [] = tt
-settled_moves j (s ∷ lanes) = (refl, settled_moves (j + 1) lanes)
+stay j lanes = none_move LaneStep event_at j lanes
 
 name_none : (k j : ℕ) (c : Bool) → happened k (if c then [] else Unsettled j ∷ []) ≡ []
 name_none k j true = refl
@@ -183,17 +169,14 @@ left_none k j (r ∷ steps) (s ∷ lanes) =
     (name_none k j (is_quiet r && (if waits_on s then false else true))) (left_none k (j + 1) steps lanes)
 
 pub nothing_moves : (j : ℕ) (lanes : List LaneState) (part : List SettleEntry) → ((k : ℕ) → happened k part ≡ []) → LanesMove j lanes part lanes
-nothing_moves j [] part none = tt
-nothing_moves j (s ∷ lanes) part none = (subst (λ (l : List DiskEvent). Run LaneStep s l s) (sym (none j)) refl, nothing_moves (j + 1) lanes part none)
+nothing_moves j lanes part none = nothing_move LaneStep event_at j lanes part none
 
-front_empty : (one two : List DiskEvent) → one ++ two ≡ [] → one ≡ []
-front_empty [] two is = refl
-front_empty (x ∷ one) two is = absurd (cc is)
+pub settled_moves : (j : ℕ) (lanes : List LaneState) → LanesMove j lanes (Settled ∷ []) lanes
+settled_moves j lanes = nothing_moves j lanes (Settled ∷ []) (λ k. refl)
 
 -- nor do the first of those that are left over
 names_none : (k : ℕ) (steps : List LaneRound) (lanes : List LaneState) (part more : List SettleEntry) → part ++ more ≡ left_over 0 steps lanes → happened k part ≡ []
-names_none k steps lanes part more is =
-    front_empty (happened k part) (happened k more) (sym (happened_both k part more) ∙ ap (happened k) is ∙ left_none k 0 steps lanes)
+names_none k steps lanes part more is = front_none LaneStep event_at k part more (left_over 0 steps lanes) is (left_none k 0 steps lanes)
 
 -- ALL ROUNDS
 pub leads : Leads disks (LanesMove 0)

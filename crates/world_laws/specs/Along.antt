@@ -1,6 +1,6 @@
 -- What a part of a journal says happened to each lane.
-use Rattle.std.specs.Prelude.{ℕ, ◌+◌, ◌==◌, if◌then◌else◌, List, [], ◌∷◌, ◌++◌, ⊤}
-use Rattle.runs.specs.Run.{Run}
+use Rattle.std.specs.Prelude.{ℕ, ◌==◌, if◌then◌else◌, List, [], ◌∷◌}
+use Rattle.lane_kinds.specs.Lanes as lanes
 use Rattle.disk_model.specs.DiskEvent.{DiskEvent}
 use Rattle.disk_model.specs.LaneState.{LaneState}
 use Rattle.disk_model.specs.LaneStep.{LaneStep}
@@ -11,11 +11,8 @@ event_at k (OfLane j event) = if j == k then event ∷ [] else []
 event_at k _ = []
 
 abbrev pub happened : ℕ → List SettleEntry → List DiskEvent
-happened k [] = []
-happened k (x ∷ part) = event_at k x ++ happened k part
+happened = lanes.happened event_at
 
 -- EACH LANE, from this number on, was run by what happened to it
 abbrev pub LanesMove : ℕ → List LaneState → List SettleEntry → List LaneState → Type 0
-LanesMove j [] part [] = ⊤
-LanesMove j (s ∷ lanes) part (t ∷ behind) = Run LaneStep s (happened j part) t × LanesMove (j + 1) lanes part behind
-LanesMove j _ part _ = ⊥
+LanesMove = lanes.AllMove LaneStep event_at
