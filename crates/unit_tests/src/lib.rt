@@ -13,3 +13,5 @@ mod parts;
 mod reports;
 #[cfg(test)]
 mod streams;
+#[cfg(test)]
+mod worlds;

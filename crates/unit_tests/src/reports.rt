@@ -1,7 +1,9 @@
 // Lines of a report that no script reaches, and a sink that fails.
 ghost use Rattle.std.specs.Prelude.{◌≡◌, ◌%◌, ◌≤◌, ◌<◌, ◌++◌, All, List, length, IfOk, OnOk};
 ghost use Rattle.domain_script.specs.declared.event.DiskDecl.{DiskDecl};
+ghost use Rattle.domain_script.specs.Declarations.{AreDisks};
 ghost use Rattle.ldom_report.specs.HasWords.{HasFault, HasWords, IsEnd};
+ghost use Rattle.world_parts.specs.Declared.{bytes_needed};
 
 use crate::journals::journal_of_all;
 use domain_script::{DiskDecl, Event, Name};
@@ -19,8 +21,10 @@ const SERVER: EndName = EndName {
 };
 
 /// One disk, `d0`.
-fn one_disk() -> Names
-    ensures { length result.disks ≡ 1 }
+pub(crate) fn one_disk() -> Names
+    ensures few { length result.disks ≡ 1 }
+    ensures disks { AreDisks result.disks }
+    ensures blocks { bytes_needed result.disks ≡ 32768 }
 {
     let mut names = Names::new();
     names.note(&Event::Disk(DiskDecl {
