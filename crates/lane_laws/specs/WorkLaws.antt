@@ -30,7 +30,8 @@ use Rattle.disk_model.specs.ServerState.{SlotRange}
 use Rattle.channel_model.specs.Ranges.{range_length, wrapped}
 use Rattle.lane_laws.specs.DiskLog.{DiskLog}
 use Rattle.channel_model.specs.Messages.{end_of, range_ended, seq_of, sid_of, start_of}
-use Rattle.lane_laws.specs.EndLog.{handshake_of, ident_of, infos_heard, range_in_work, state_of}
+use Rattle.channel_laws.specs.EndFold.{handshake_of}
+use Rattle.lane_laws.specs.EndLog.{ident_of, infos_heard, range_in_work, state_of}
 use Rattle.lane_laws.specs.WorkLog.{ClientCounts, Opened, ServerCounts}
 
 -- a session that is open, with its counts
