@@ -405,20 +405,33 @@ client_left_is s l (Some session) both cuts is = by session.announcing refl
         (both.knows.counted.client.holds.own session is own) (both.knows.all.transcripts.client.own (ap is_announcing is ∙ own))
         ∙ sym (ap (λ (b : Bool). announced_or_owed b s.client session (half_said l.transcript.client) l.blocked.client) own)
 
-pub client_end : (s : LaneState) (l : DiskLog) → BothAre s l → FoldsSo Initiator (client_core s.client) l.transcript.client → s.client.handshake.last_sid ≡ l.transcript.links % 4294967296
-    → ClientEndAgrees s.client l.shape l.transcript l.blocked.client
-client_end s l both so sids =
+-- the handshake of each end is what its transcript folds to
+pub client_told : (s : LaneState) (l : DiskLog) → BothAre s l → FoldsSo Initiator (client_core s.client) l.transcript.client → s.client.handshake.last_sid ≡ l.transcript.links % 4294967296
+    → s.client.handshake ≡ handshake_of Initiator (client_offer l.shape.blocks l.shape.slots) (l.transcript.links % 4294967296) l.transcript.client
+client_told s l both so sids =
     let turns = l.transcript.client in
     let blocks = both.knows.all.stands.blocks ∙ ap (λ (n : Shape). n.blocks) both.knows.all.stands.shape in
-    let slots = both.knows.counted.client.slots in
-    record {
-      blocks = blocks;
-      slots = slots;
+    so.folds.handshake ∙ ap (λ (n : ℕ). handshake_of Initiator (client_offer n s.client.slots) s.client.handshake.last_sid turns) blocks
+    ∙ ap (λ (n : ℕ). handshake_of Initiator (client_offer l.shape.blocks n) s.client.handshake.last_sid turns) both.knows.counted.client.slots
+    ∙ ap (λ (n : ℕ). handshake_of Initiator (client_offer l.shape.blocks l.shape.slots) n turns) sids
+
+pub server_told : (s : LaneState) (l : DiskLog) → BothAre s l → FoldsSo Responder (server_core s.server) l.transcript.server → s.server.handshake.last_sid ≡ 0
+    → s.server.handshake ≡ handshake_of Responder (server_offer l.shape.blocks l.shape.slots) 0 l.transcript.server
+server_told s l both so sids =
+    let turns = l.transcript.server in
+    let counted = both.knows.counted.server in
+    so.folds.handshake ∙ ap (λ (n : ℕ). handshake_of Responder (server_offer n s.server.slots) s.server.handshake.last_sid turns) counted.blocks
+    ∙ ap (λ (n : ℕ). handshake_of Responder (server_offer l.shape.blocks n) s.server.handshake.last_sid turns) counted.slots
+    ∙ ap (λ (n : ℕ). handshake_of Responder (server_offer l.shape.blocks l.shape.slots) n turns) sids
+
+pub client_end : (s : LaneState) (l : DiskLog) → BothAre s l → FoldsSo Initiator (client_core s.client) l.transcript.client → s.client.handshake.last_sid ≡ l.transcript.links % 4294967296
+    → ClientEndAgrees s.client l.shape l.transcript l.blocked.client
+client_end s l both so sids = record {
+      blocks = both.knows.all.stands.blocks ∙ ap (λ (n : Shape). n.blocks) both.knows.all.stands.shape;
+      slots = both.knows.counted.client.slots;
       role = both.knows.all.transcripts.client.role;
       phase = so.folds.phase;
-      handshake = so.folds.handshake ∙ ap (λ (n : ℕ). handshake_of Initiator (client_offer n s.client.slots) s.client.handshake.last_sid turns) blocks
-          ∙ ap (λ (n : ℕ). handshake_of Initiator (client_offer l.shape.blocks n) s.client.handshake.last_sid turns) slots
-          ∙ ap (λ (n : ℕ). handshake_of Initiator (client_offer l.shape.blocks l.shape.slots) n turns) sids;
+      handshake = client_told s l both so sids;
       announcing = both.client.announcing;
       left = client_left_is s l s.client.session both so.stands.link.cuts refl;
     }
@@ -485,9 +498,7 @@ server_end s l both so sids first =
       slots = counted.slots;
       role = both.knows.all.transcripts.server.role;
       phase = so.folds.phase;
-      handshake = so.folds.handshake ∙ ap (λ (n : ℕ). handshake_of Responder (server_offer n s.server.slots) s.server.handshake.last_sid turns) counted.blocks
-          ∙ ap (λ (n : ℕ). handshake_of Responder (server_offer l.shape.blocks n) s.server.handshake.last_sid turns) counted.slots
-          ∙ ap (λ (n : ℕ). handshake_of Responder (server_offer l.shape.blocks l.shape.slots) n turns) sids;
+      handshake = server_told s l both so sids;
       range = range_agrees l.shape.slots s.server.session l.work.server turns counted.order both.server.range;
       left = server_left_is s l both so.stands.link.cuts s.server.handshake.owed refl;
     }

@@ -288,37 +288,42 @@ said_ack s l packet opens t sound both sends =
     (put_says (is_none sends.held.handshake.owed) sends.held.link t.link l.transcript.server packet
     (held_server s.server rule sends.held l.transcript.server sends.holds knows.all.transcripts.follows_b) sends.packet)
 
+-- what both handshakes are by the log
+pub record AreTold (s : LaneState) (l : DiskLog) : Type 0 where
+  pub client : s.client.handshake ≡ client_handshake l
+  pub server : s.server.handshake ≡ server_handshake l
+
 -- EACH EVENT
-took_ack : (s : LaneState) (l : DiskLog) (packet : List ℕ) (opens : Bool) (t : LaneState) → BothAre s l → EndOnWire A s (Took A packet opens) t → HearsAck l packet
-took_ack s l packet opens t both step =
+took_ack : (s : LaneState) (l : DiskLog) (packet : List ℕ) (opens : Bool) (t : LaneState) → BothAre s l → AreTold s l → EndOnWire A s (Took A packet opens) t → HearsAck l packet
+took_ack s l packet opens t both told step =
     let knows = both.knows in
-    heard_ack l packet s.client t.client both.client.handshake knows.counted.client
+    heard_ack l packet s.client t.client told.client knows.counted.client
     (client_took_what s.client l.transcript.client packet t.client knows.all.transcripts.follows_a knows.rests.client.whole step.step.1)
 
-took_info : (s : LaneState) (l : DiskLog) (packet : List ℕ) (opens : Bool) (t : LaneState) → IsShape l.shape → BothAre s l → EndOnWire B s (Took B packet opens) t → HearsInfo l packet
-took_info s l packet opens t sound both step =
+took_info : (s : LaneState) (l : DiskLog) (packet : List ℕ) (opens : Bool) (t : LaneState) → IsShape l.shape → BothAre s l → AreTold s l → EndOnWire B s (Took B packet opens) t → HearsInfo l packet
+took_info s l packet opens t sound both told step =
     let knows = both.knows in
     let free : TakesFree s.server = subst (ServerFree s.server) step.1.step.1.0 (server_free s.server (seen B s.shape.entries s.wire.wire)) in
-    heard_info l packet s.server t.server opens sound both.server.handshake knows.rests.server free knows.counted.server
+    heard_info l packet s.server t.server opens sound told.server knows.rests.server free knows.counted.server
     (server_took_what s.server l.transcript.server packet t.server opens knows.all.transcripts.follows_b knows.rests.server.whole step.1.step.1.1)
 
-wire_ranges : (s : LaneState) (l : DiskLog) (event : WireEvent) (t : LaneState) → IsShape l.shape → BothAre s l → WireStep s event t → RangesAt l (OnWire event)
-wire_ranges s l (Sent A packet opens) t sound both step = said_info s l packet opens t.client t.memory both.knows step.step
-wire_ranges s l (Sent B packet opens) t sound both step = said_ack s l packet opens t.server sound both step.1.step.1.0
-wire_ranges s l (Took A packet opens) t sound both step = took_ack s l packet opens t both step
-wire_ranges s l (Took B packet opens) t sound both step = took_info s l packet opens t sound both step
-wire_ranges s l (Joined e lost) t sound both step = tt
-wire_ranges s l (Idle e) t sound both step = tt
-wire_ranges s l (Blocked e) t sound both step = tt
-wire_ranges s l (Reset e cause packet lost) t sound both step = tt
-wire_ranges s l (Lost e packet) t sound both step = tt
-wire_ranges s l (Injected e packet) t sound both step = tt
-wire_ranges s l (Poked e at bytes) t sound both step = tt
-wire_ranges s l (Declines d) t sound both step = tt
+wire_ranges : (s : LaneState) (l : DiskLog) (event : WireEvent) (t : LaneState) → IsShape l.shape → BothAre s l → AreTold s l → WireStep s event t → RangesAt l (OnWire event)
+wire_ranges s l (Sent A packet opens) t sound both told step = said_info s l packet opens t.client t.memory both.knows step.step
+wire_ranges s l (Sent B packet opens) t sound both told step = said_ack s l packet opens t.server sound both step.1.step.1.0
+wire_ranges s l (Took A packet opens) t sound both told step = took_ack s l packet opens t both told step
+wire_ranges s l (Took B packet opens) t sound both told step = took_info s l packet opens t sound both told step
+wire_ranges s l (Joined e lost) t sound both told step = tt
+wire_ranges s l (Idle e) t sound both told step = tt
+wire_ranges s l (Blocked e) t sound both told step = tt
+wire_ranges s l (Reset e cause packet lost) t sound both told step = tt
+wire_ranges s l (Lost e packet) t sound both told step = tt
+wire_ranges s l (Injected e packet) t sound both told step = tt
+wire_ranges s l (Poked e at bytes) t sound both told step = tt
+wire_ranges s l (Declines d) t sound both told step = tt
 
-pub ranges_at : (s : LaneState) (l : DiskLog) (event : DiskEvent) (t : LaneState) → IsShape l.shape → BothAre s l → LaneStep s event t → RangesAt l event
-ranges_at s l (OnWire event) t sound both step = wire_ranges s l event t sound both step
-ranges_at s l (Asks event) t sound both step = tt
-ranges_at s l (Works event) t sound both step = tt
-ranges_at s l (Switches event) t sound both step = tt
-ranges_at s l (Calms event) t sound both step = tt
+pub ranges_at : (s : LaneState) (l : DiskLog) (event : DiskEvent) (t : LaneState) → IsShape l.shape → BothAre s l → AreTold s l → LaneStep s event t → RangesAt l event
+ranges_at s l (OnWire event) t sound both told step = wire_ranges s l event t sound both told step
+ranges_at s l (Asks event) t sound both told step = tt
+ranges_at s l (Works event) t sound both told step = tt
+ranges_at s l (Switches event) t sound both told step = tt
+ranges_at s l (Calms event) t sound both told step = tt

@@ -12,7 +12,8 @@ use Rattle.disk_model.specs.LaneState.{IsShape, LaneState, Shape, fresh}
 use Rattle.disk_model.specs.LaneStep.{LaneStep}
 use Rattle.lane_laws.proofs.AlongRuns.{reached_lawful}
 use Rattle.lane_laws.proofs.CarriedRuns.{fresh_all}
-use Rattle.lane_laws.proofs.EndsFold.{run_both}
+use Rattle.lane_laws.proofs.EndsFold.{client_told, run_both, server_told}
+use Rattle.lane_laws.proofs.LaneChannel.{lane_folds, no_sids, run_sids}
 use Rattle.lane_laws.proofs.LaneCounting.{fresh_counted, knows_step}
 use Rattle.lane_laws.proofs.Speaking.{fresh_rests}
 use Rattle.lane_laws.proofs.Speaking.{lane_utters}
@@ -90,4 +91,10 @@ pieces_lawful shape events s sound run =
 pub ranges_lawful : (shape : Shape) (events : List DiskEvent) (s : LaneState) → IsShape shape → Run LaneStep (fresh shape) events s → Lawful RangesAt after (nothing_yet shape) events
 ranges_lawful shape events s sound run =
     reached_lawful RangesAt shape (λ past x event t behind step.
-    ranges_at x (log_of after (nothing_yet shape) past) event t (run_grounded shape past x sound behind).sound (run_both shape past x sound behind) step) events s run
+    let l = log_of after (nothing_yet shape) past in
+    let both = run_both shape past x sound behind in
+    let folds = lane_folds shape past x sound behind in
+    ranges_at x l event t (run_grounded shape past x sound behind).sound both (record {
+      client = client_told x l both folds.a (run_sids shape past x sound behind);
+      server = server_told x l both folds.b (no_sids shape past x sound behind);
+    }) step) events s run
