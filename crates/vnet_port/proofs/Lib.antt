@@ -1,2 +1,10 @@
 pub mod Standing
 pub mod Held
+pub mod Puts
+pub mod Frames
+pub mod Ranges
+pub mod Says
+pub mod SlotFinds
+pub mod LinkTakes
+pub mod Heard
+pub mod Ruled
