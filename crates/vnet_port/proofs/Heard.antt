@@ -27,7 +27,8 @@ use Rattle.vnet_port.specs.declared.net_out.NetOut.{NetOut}
 use Rattle.vnet_port.specs.declared.net_out.NetOut.TheVariants as out
 use Rattle.vnet_port.specs.Hearing.{AgreedIn, MayHear, MayHearWhole, looked_at, rose}
 use Rattle.vio_handshake.specs.declared.handshake.Phase.{Phase}
-use Rattle.port_model.proofs.FramesTaken.{stands_with}
+use Rattle.port_model.specs.FramesStand.{CountsStand, FramesStand}
+use Rattle.port_model.specs.RuleFacts.{IfOpen}
 use Rattle.port_model.proofs.Refuting.{none_some}
 use Rattle.vnet_port.specs.Standing.{Knows, KnowsRing, SessionStands, Stands}
 use Rattle.vnet_port.specs.Stepping.{Steps, StepsAlone, reach_over, rule_of}
@@ -177,6 +178,29 @@ agreed_of s (Some session) stands knows =
     subst (λ (p : Phase). Knows s.link.role p s.handshake.sid s.handshake.draft s.slots) stands.0 knows in
     (stands.0, ring.sid)
 
+counts_with : (s : NetEndState) (k : LinkState) (session : Option NetSession) → IfOpen session (CountsStand s) → IfOpen session (CountsStand (record s { link = k }))
+counts_with s k None counts = tt
+counts_with s k (Some p) counts = record {
+  seen = counts.seen;
+  held = counts.held;
+  ids = counts.ids;
+  asked = counts.asked;
+  answered = counts.answered;
+  some = counts.some;
+}
+
+frames_with : (s : NetEndState) (k : LinkState) → FramesStand s → FramesStand (record s { link = k })
+frames_with s k stands = record { room = stands.room; ids = stands.ids; session = counts_with s k s.session stands.session }
+
+pub may_cleared : (s : NetEndState) (k : LinkState) → MayHear s → MayHear (record s { link = k })
+may_cleared s k may = record {
+  begun = may.begun;
+  free = may.free;
+  agreed = may.agreed;
+  frames = frames_with s k may.frames;
+  sized = may.sized;
+}
+
 may_in : (s : NetEndState) (k : LinkState) (was_up : Bool) (packet : List ℕ) (whole : Option (List ℕ)) → k.whole ≡ whole → Stands s → s.handshake.owed ≡ None
     → was_up ≡ is_up s.link → TakesBytes s.link packet (Heard k) → MayHearWhole whole (rose k.role was_up (record s { link = k }))
 may_in s k was_up packet None is stands free was takes = tt
@@ -188,7 +212,7 @@ may_in s k was_up packet (Some bytes) is stands free was takes =
       begun = stands.began.up up;
       free = free;
       agreed = agreed_of s s.session stands.session stands.handshake.knows;
-      frames = stands_with s r stands.frames refl refl refl refl;
+      frames = frames_with s k stands.frames;
       sized = stands.sized;
     })
 

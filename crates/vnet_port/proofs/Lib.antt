@@ -8,3 +8,4 @@ pub mod SlotFinds
 pub mod LinkTakes
 pub mod Heard
 pub mod Ruled
+pub mod HeardWhole

@@ -1,6 +1,10 @@
 -- What is found in a slot of the peer's ring, copy by copy.
-use Rattle.std.proofs.Common.{◌≡◌, ◌≢◌, ℕ, ◌*◌, Bool, true, false, List, Option, Some, None, slice_index, refl, sym, ◌∙◌, ap, subst}
-use Rattle.std.specs.Prelude.{◌==◌, if◌then◌else◌}
+use Rattle.std.proofs.Common.{◌≡◌, ◌≢◌, ℕ, ◌*◌, Bool, true, false, List, Option, Some, None, slice_index, refl, sym, ◌∙◌, ap, subst, arith}
+use Rattle.std.specs.Prelude.{◌==◌, if◌then◌else◌, not}
+use Rattle.ldc_queue.specs.ChannelView.{ChannelView}
+use Rattle.map_table.specs.declared.table.Entry.{Entry}
+use Rattle.vnet_port.specs.declared.net_out.NetOut.{NetOut}
+use Rattle.vnet_port.specs.Stepping.{Steps, reach_over}
 use Rattle.std.proofs.lemmas.Bool.Decides.{nat_tests}
 use Rattle.cookie_copy.specs.declared.fault.Access.TheVariants.{Read, Write}
 use Rattle.cookie_copy.specs.declared.fault.CopyFault.{CopyFault}
@@ -88,3 +92,17 @@ module _ (s : NetEndState) (reach : Reach) (slot : ℕ) (desc : NetDesc) where
         ∙ ap (IsFrame frame)
             (sym (written ∙ ap (λ (r : PeerRing). moved_out reach.table reach.memory (ring_cookies r) (64 * slot) bytes) same
             ∙ ap (moved_out reach.table reach.memory (slots_cookies s) (64 * slot)) head))
+
+pub not_false : (b : Bool) → not b ≡ false → b ≡ true
+not_false true is = refl
+not_false false is = absurd (cc is)
+
+-- a slot that isn't READY ends the activity, and nothing else changed
+pub fetch_ends : (s r t : NetEndState) (c d : ChannelView) (memory new : List ℕ) (table : List (Option Entry)) (peer behind : List ℕ) (place state : ℕ) (answer : NetOut)
+    → fetched s (reach_over c table peer) place ≡ NotReady state → r ≡ s → behind ≡ peer
+    → ((table : List (Option Entry)) (peer : List ℕ) → fetched r (reach_over c table peer) place ≡ NotReady state → Steps r c memory table peer answer t d new peer)
+    → Steps s c memory table peer answer t d new behind
+fetch_ends s r t c d memory new table peer behind place state answer found same kept ends =
+    subst (λ (b : List ℕ). Steps s c memory table peer answer t d new b) (sym kept)
+    (subst (λ (x : NetEndState). Steps x c memory table peer answer t d new peer) same
+    (ends table peer (subst (λ (x : NetEndState). fetched x (reach_over c table peer) place ≡ NotReady state) (sym same) found)))

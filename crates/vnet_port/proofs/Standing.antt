@@ -4,15 +4,13 @@ use Rattle.std.specs.Prelude.{◌^◌}
 use Rattle.std.proofs.lemmas.List.{length-append}
 use Rattle.ldc_link.specs.declared.phase.Role.{Role}
 use Rattle.ldc_link.specs.declared.phase.Role.TheVariants.{Initiator, Responder}
-use Rattle.ldc_link.specs.LinkState.{first_phase, fresh_link, is_established, is_up}
-use Rattle.map_table.specs.Cookies.{no_cookie}
+use Rattle.ldc_link.specs.LinkState.{first_phase, is_established}
 use Rattle.vio_handshake.proofs.WellFormed.{joined_owes}
 use Rattle.vio_handshake.specs.declared.handshake.Phase.{Phase}
-use Rattle.vio_handshake.specs.declared.handshake.Phase.TheVariants.{Down}
 use Rattle.port_model.proofs.FramesKept.{fresh_stands as fresh_frames, gives_stands as frames_given, joined_stands as frames_joined, joins_stands as frames_of_joined}
 use Rattle.port_model.specs.NetEndState.{NetEndState, NetSession, fresh_net_end, joined_net_end, kept_groups, with_frame}
 use Rattle.port_model.specs.NetEndStep.{Already, BadLength, Full, Given, GroupsFull, Joining, Member, NetGives, NetJoins, Queued, untold}
-use Rattle.vnet_port.specs.Standing.{Began, Begins, IsPhaseOf, IsSized, LinkStands, SessionStands, Stands}
+use Rattle.vnet_port.specs.Standing.{Began, IsPhaseOf, SessionStands, Stands}
 
 -- A LINK BEGINS ANEW
 pub record LinkBegins (role : Role) : Type 0 where

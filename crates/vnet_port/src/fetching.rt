@@ -163,7 +163,7 @@ impl PortEnd {
             Ok(()) => {}
             Err(fault) => return Err(copy_refused(fault)),
         }
-        self.swap_frames();
+        std::mem::swap(&mut self.last, &mut self.spare);
         Ok(())
     }
 
@@ -247,12 +247,5 @@ impl PortEnd {
                 self.fail(channel, Cause::NotReady { slot, state }, None, out);
             }
         }
-    }
-
-    /// The frame that was copied is the last one.
-    fn swap_frames(&mut self)
-        ensures { self.new ≡ record self.old { last = self.new.last } }
-    {
-        std::mem::swap(&mut self.last, &mut self.spare);
     }
 }

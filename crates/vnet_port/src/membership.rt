@@ -1,6 +1,6 @@
 // The groups that a guest names to the switch's end.
 
-ghost use Rattle.std.specs.Prelude.{◌≡◌, ◌+◌, ◌≤◌, [], ◌∷◌, length, IfNone, IfSome, None, Some};
+ghost use Rattle.std.specs.Prelude.{◌≡◌, ◌+◌, ◌≤◌, [], ◌∷◌, ◌++◌, length, IfNone, IfSome, None, Some};
 ghost use Rattle.port_model.specs.Groups.{at_most_seven, groups_after, with_groups, without_groups};
 
 use arrayvec::ArrayVec;
@@ -69,9 +69,18 @@ fn without_groups(groups: &[[u8; 6]], named: &[[u8; 6]]) -> ArrayVec<[u8; 6], 7>
 {
     let mut list = ArrayVec::new();
     for address in groups {
-        if !named.contains(address) {
-            let _fit = list.try_push(*address);
-        }
+        keep(&mut list, address, named);
     }
     list
+}
+
+/// Puts an address last where it isn't named.
+fn keep(list: &mut ArrayVec<[u8; 6], 7>, address: &[u8; 6], named: &[[u8; 6]])
+    requires { length list.old.items ≤ 6 }
+    ensures list { list.new.items ≡ list.old.items ++ without_groups (address.now ∷ []) named.now }
+    ensures more { length list.new.items ≤ length list.old.items + 1 }
+{
+    if !named.contains(address) {
+        let _fit = list.try_push(*address);
+    }
 }

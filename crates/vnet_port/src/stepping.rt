@@ -1,6 +1,6 @@
 // A step: the first rule that applies.
 
-ghost use Rattle.std.specs.Prelude.{◌≡◌, ◌≢◌, ◌<◌, ◌≤◌, length, is_some, ℕ, List, false, None, Some, slice_get};
+ghost use Rattle.std.specs.Prelude.{◌≡◌, ◌≢◌, ◌<◌, ◌≤◌, length, is_some, ℕ, List, true, false, None, Some, slice_get};
 ghost use Rattle.cookie_copy.specs.Faults.{PagesWithin};
 ghost use Rattle.ldc_link.specs.Putting.{owes, owes_control};
 ghost use Rattle.ldc_queue.specs.Wire.{state_of};
@@ -19,7 +19,7 @@ use map_table::MapTable;
 
 impl PortEnd {
     ghost use Rattle.port_model.specs.FramesStand.{FramesStand};
-    ghost use Rattle.port_model.specs.NetEndRule.{Idles, Joins, Says, fetches_first, publishes, replies_first, takes_first, tells_first};
+    ghost use Rattle.port_model.specs.NetEndRule.{Idles, Joins, NetRule, Says, Tells, fetches_first, publishes, replies_first, takes_first, tells_first};
     ghost use Rattle.port_model.specs.NetEndState.{unseen_in};
     ghost use Rattle.vnet_port.specs.Calls.{end_of, role_of};
     ghost use Rattle.vnet_port.specs.Putting.{CanSay};
@@ -161,7 +161,7 @@ impl PortEnd {
         ensures step { StepsAlone self.old channel.old memory.old out.new self.new channel.new memory.new }
         ensures same_length { length memory.new ≡ length memory.old }
     {
-        if self.role == Role::Initiator && session.is_to_tell() {
+        if self.tells(&session) {
             return self.tell(session, channel, memory, out);
         }
         if self.has_unpublished(&session) {
@@ -171,6 +171,17 @@ impl PortEnd {
             return self.announce(session, channel, memory, out);
         }
         *out = NetOut::Idle;
+    }
+
+    /// Whether a guest's groups are to be told.
+    fn tells(&self, session: &PortSession) -> bool
+        ensures tells { result ≡ true → (otherwise : NetRule) → tells_first (role_of self.now) session.now otherwise ≡ Tells session.now }
+        ensures goes_on { result ≡ false → (otherwise : NetRule) → tells_first (role_of self.now) session.now otherwise ≡ otherwise }
+    {
+        match self.role {
+            Role::Initiator => session.is_to_tell(),
+            Role::Responder => false,
+        }
     }
 
     /// Whether a frame that it holds isn't published in this session.

@@ -4,4 +4,4 @@ use Rattle.vnet_port.proofs.acknowledging.first_undone.Given as goal
 
 abbrev pub invariant-loop-turn : goal.invariant-loop-turn
 invariant-loop-turn l =
-    first_undone l.slots l.memory.now l.number l.count ≡ first_undone l.slots l.memory.now (l.number + l.turn) (l.count - l.turn)
+    first_undone l.slots l.memory l.number l.count ≡ first_undone l.slots l.memory (l.number + l.turn) (l.count - l.turn)

@@ -4,6 +4,6 @@ use Rattle.vnet_port.proofs.membership.without_groups.Given as goal
 
 abbrev pub invariant-loop-address : goal.invariant-loop-address
 invariant-loop-address l = record {
-  list : without_groups l.groups.now l.named.now ≡ l.list.items ++ without_groups (drop l.address-index l.groups.now) l.named.now;
+  list : without_groups l.groups l.named ≡ l.list.items ++ without_groups (drop l.address-index l.groups) l.named;
   few : length l.list.items ≤ l.address-index;
 }
