@@ -106,7 +106,7 @@ put_sent held t m c d memory new bytes opens same sends is opens_is cleared =
     let link : t.link ≡ m =
     ap (λ (s : NetEndState). s.link) is
     ∙ opened_link (put_opens (kind_after (is_up held.link) m own) held.handshake)
-        (record held { link = m; handshake = handshake_behind (kind_after (is_up held.link) m own) held.handshake }) in (
+    (record held { link = m; handshake = handshake_behind (kind_after (is_up held.link) m own) held.handshake }) in (
       lt-ltb (length (waiting_for (peer_of (end_of held)) c.wire) + 1) c.entries sends.1,
       subst (λ (k : LinkState). PutsPacket held.link bytes k) (sym link) sends.0,
       opened,

@@ -23,7 +23,7 @@ module _ (slots : ℕ) (memory : List ℕ) (number count turn : ℕ) (more : tur
   undone_more is =
       undone_as
       ∙ ap (λ (state : ℕ). if state == 4 then first_undone slots memory (number + turn + 1) (count - (turn + 1))
-            else Some (the_cause.NotDone ((number + turn) % slots) (slot_state ((number + turn) % slots) memory))) is
+      else Some (the_cause.NotDone ((number + turn) % slots) (slot_state ((number + turn) % slots) memory))) is
       ∙ ap (λ (n : ℕ). first_undone slots memory n (count - (turn + 1))) (next_number number turn)
 
   not_four : (state : ℕ) → state ≢ 4 → (state == 4) ≡ false
@@ -34,8 +34,8 @@ module _ (slots : ℕ) (memory : List ℕ) (number count turn : ℕ) (more : tur
   undone_here slot state slot_is is other =
       undone_as
       ∙ ap (λ (b : Bool). if b then first_undone slots memory (number + turn + 1) (count - (turn + 1))
-            else Some (the_cause.NotDone ((number + turn) % slots) (slot_state ((number + turn) % slots) memory)))
-          (not_four (slot_state ((number + turn) % slots) memory) (λ four. other (is ∙ four)))
+      else Some (the_cause.NotDone ((number + turn) % slots) (slot_state ((number + turn) % slots) memory)))
+      (not_four (slot_state ((number + turn) % slots) memory) (λ four. other (is ∙ four)))
       ∙ ap (λ (at : ℕ). Some (the_cause.NotDone at (slot_state ((number + turn) % slots) memory))) (sym slot_is)
       ∙ ap (λ (n : ℕ). Some (the_cause.NotDone slot n)) (sym is)
 

@@ -1,6 +1,6 @@
 -- What is found in a slot of the peer's ring, copy by copy.
 use Rattle.std.proofs.Common.{◌≡◌, ◌≢◌, ℕ, ◌*◌, Bool, true, false, List, Option, Some, None, slice_index, refl, sym, ◌∙◌, ap, subst, arith}
-use Rattle.std.specs.Prelude.{◌==◌, if◌then◌else◌, not}
+use Rattle.std.specs.Prelude.{◌==◌, if◌then◌else◌}
 use Rattle.ldc_queue.specs.ChannelView.{ChannelView}
 use Rattle.map_table.specs.declared.table.Entry.{Entry}
 use Rattle.vnet_port.specs.declared.net_out.NetOut.{NetOut}
@@ -46,7 +46,7 @@ module _ (s : NetEndState) (reach : Reach) (slot : ℕ) (ring : PeerRing) (same 
       let bytes : List ℕ = moved_in reach.table reach.memory (ring_cookies ring) (64 * slot) 64 in
       fault_is None none ∙ bytes_are bytes refl
       ∙ ap (λ (b : Bool). if b then described s reach slot (net_desc_of bytes) else NotReady (slice_index bytes 0))
-          (not_ready (slice_index bytes 0) (λ ready. other (is ∙ ready)))
+      (not_ready (slice_index bytes 0) (λ ready. other (is ∙ ready)))
       ∙ ap NotReady (sym is)
 
   pub ready : (bytes : List ℕ) (desc : NetDesc) → first_copy_fault reach.both Read reach.table (ring_cookies ring) (64 * slot) 64 ≡ None
@@ -78,7 +78,7 @@ module _ (s : NetEndState) (reach : Reach) (slot : ℕ) (desc : NetDesc) where
         a_frame None holds none
         ∙ ap (λ (f : List ℕ). marked s reach slot desc f (mark_fault s reach slot)) (sym is)
         ∙ ap (marked s reach slot desc frame)
-            (subst (λ (r : PeerRing). first_copy_fault reach.both Write reach.table (ring_cookies r) (64 * slot) 8 ≡ fault) same fault_is)
+        (subst (λ (r : PeerRing). first_copy_fault reach.both Write reach.table (ring_cookies r) (64 * slot) 8 ≡ fault) same fault_is)
 
     pub not_marked : (why : CopyFault) → first_copy_fault reach.both Write reach.table (ring_cookies ring) (64 * slot) 8 ≡ Some why
         → described s reach slot desc ≡ copy_refused why
@@ -90,12 +90,8 @@ module _ (s : NetEndState) (reach : Reach) (slot : ℕ) (desc : NetDesc) where
     frame_taken new bytes fault head written =
         copied_is None fault
         ∙ ap (IsFrame frame)
-            (sym (written ∙ ap (λ (r : PeerRing). moved_out reach.table reach.memory (ring_cookies r) (64 * slot) bytes) same
-            ∙ ap (moved_out reach.table reach.memory (slots_cookies s) (64 * slot)) head))
-
-pub not_false : (b : Bool) → not b ≡ false → b ≡ true
-not_false true is = refl
-not_false false is = absurd (cc is)
+        (sym (written ∙ ap (λ (r : PeerRing). moved_out reach.table reach.memory (ring_cookies r) (64 * slot) bytes) same
+        ∙ ap (moved_out reach.table reach.memory (slots_cookies s) (64 * slot)) head))
 
 -- a slot that isn't READY ends the activity, and nothing else changed
 pub fetch_ends : (s r t : NetEndState) (c d : ChannelView) (memory new : List ℕ) (table : List (Option Entry)) (peer behind : List ℕ) (place state : ℕ) (answer : NetOut)

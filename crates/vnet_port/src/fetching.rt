@@ -159,7 +159,15 @@ impl PortEnd {
             Ok(()) => {}
             Err(fault) => return Err(copy_refused(fault)),
         }
-        match mark::<64>(channel, end, table, peer, &ring, slot, done_header(desc.ack)) {
+        match mark::<64>(
+            channel,
+            end,
+            table,
+            peer,
+            &ring,
+            slot,
+            done_header(desc.ack),
+        ) {
             Ok(()) => {}
             Err(fault) => return Err(copy_refused(fault)),
         }
@@ -195,8 +203,9 @@ impl PortEnd {
     {
         match self.take_frame(session.place, channel, table, peer) {
             Ok(()) => self.note_frame(session, activity, out),
-            Err(SlotFault::NotReady(state)) =>
-                self.end_activity(session, activity, state, channel, memory, out),
+            Err(SlotFault::NotReady(state)) => self.end_activity(
+                session, activity, state, channel, memory, out,
+            ),
             Err(SlotFault::Refused(cause)) => self.fail(channel, cause, None, out),
         }
     }

@@ -88,7 +88,11 @@ impl PortEnd {
         }
     }
 
-    fn hear_decoded(&mut self, decoded: &Result<Message, TagFault>, memory: &mut Memory) -> Result<bool, Cause>
+    fn hear_decoded(
+        &mut self,
+        decoded: &Result<Message, TagFault>,
+        memory: &mut Memory,
+    ) -> Result<bool, Cause>
         requires may { MayHear self.old }
         requires room { HoldsRing self.old.slots memory.old }
         ensures heard { take_of result self.new memory.new ≡ reads (role_of self.old) self.old memory.old decoded.now }
@@ -153,13 +157,37 @@ impl PortEnd {
         ensures same_length { length memory.new ≡ length memory.old }
     {
         match (self.role, message.subtype, &message.body) {
-            (_, Subtype::Info, MsgBody::DringData { seq, ident, start, end, .. }) =>
-                self.hear_info(session, *seq, *ident, *start, *end),
-            (_, Subtype::Ack, MsgBody::DringData { ident, start, end, .. }) =>
-                self.hear_ack(session, *ident, *start, *end, memory),
+            (
+                _,
+                Subtype::Info,
+                MsgBody::DringData {
+                    seq,
+                    ident,
+                    start,
+                    end,
+                    ..
+                },
+            ) => self.hear_info(session, *seq, *ident, *start, *end),
+            (
+                _,
+                Subtype::Ack,
+                MsgBody::DringData {
+                    ident,
+                    start,
+                    end,
+                    ..
+                },
+            ) => self.hear_ack(session, *ident, *start, *end, memory),
             (_, Subtype::Nack, MsgBody::DringData { .. }) => Err(Cause::Refused),
-            (Role::Responder, Subtype::Info, MsgBody::Mcast { set, count, addresses }) =>
-                self.hear_groups(session, *set, *count, addresses),
+            (
+                Role::Responder,
+                Subtype::Info,
+                MsgBody::Mcast {
+                    set,
+                    count,
+                    addresses,
+                },
+            ) => self.hear_groups(session, *set, *count, addresses),
             (Role::Initiator, Subtype::Ack, MsgBody::Mcast { .. }) => self.hear_told(session),
             (Role::Initiator, Subtype::Nack, MsgBody::Mcast { .. }) => refuse(&session),
             _ => self.hear_handshake(message, memory),

@@ -231,8 +231,8 @@ impl PortSession {
         requires slots { slots ≤ 64 }
         requires slot { self.place < slots }
         ensures { result ≡ record self {
-            place = (self.place + 1) % slots;
-            active = Some (record activity { last = Some self.place });
+          place = (self.place + 1) % slots;
+          active = Some (record activity { last = Some self.place });
         } }
     {
         PortSession {

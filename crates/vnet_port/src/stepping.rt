@@ -116,10 +116,10 @@ impl PortEnd {
         requires up { state_of (end_of self.old) channel.old.wire ≡ Up }
         requires rule { rule_of self.old channel.old
             ≡ replies_first session session.reply
-                (fetches_first session session.active
-                (takes_first (sees self.old channel.old).first
-                (tells_first (role_of self.old) session
-                (publishes session (slice_get self.old.frames (unseen_in session)))))) }
+            (fetches_first session session.active
+            (takes_first (sees self.old channel.old).first
+            (tells_first (role_of self.old) session
+            (publishes session (slice_get self.old.frames (unseen_in session)))))) }
         requires calm { owes_control self.old.link ≡ false }
         requires free { self.old.handshake.owed ≡ None }
         requires open { self.old.session ≡ Some session }

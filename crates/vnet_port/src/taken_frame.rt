@@ -13,7 +13,6 @@ use cookie_copy::{CopyFault, copy_in};
 use dom_memory::Memory;
 use ldc_queue::{Channel, End};
 use map_table::{Cookie, MapTable};
-
 use std::alloc::Global;
 use std::marker::Model;
 use vio_bytes::NoMemory;
@@ -74,7 +73,15 @@ impl TakenFrame {
     {
         let size = desc.size as usize;
         let cookies = &desc.cookies[..desc.count as usize];
-        match copy_front(channel, end, table, memory, cookies, &mut self.moved, moved_size(size)) {
+        match copy_front(
+            channel,
+            end,
+            table,
+            memory,
+            cookies,
+            &mut self.moved,
+            moved_size(size),
+        ) {
             Ok(()) => {
                 self.size = size;
                 Ok(())

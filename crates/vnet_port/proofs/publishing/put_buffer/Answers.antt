@@ -14,4 +14,4 @@ returns-clause-written c =
     c.requires.most c.requires.room c.write.ensures.written c.write-2.ensures.written
     (c.write-3.ensures.written
     ∙ ap (λ (piece : List ℕ). put_at (c.args.place + (6 + length c.args.frame.now)) piece c.write-2.new.self)
-        (fewer_zeros behind (moved_size (length c.args.frame.now) - (6 + length c.args.frame.now)) few same))
+    (fewer_zeros behind (moved_size (length c.args.frame.now) - (6 + length c.args.frame.now)) few same))

@@ -12,7 +12,7 @@ pub returns-clause-written : goal.returns-clause-written
 returns-clause-written c =
     c.publish.ensures.written
     ∙ ap (λ (bytes : List ℕ). put_at (64 * c.args.slot) bytes c.put_buffer.new.memory)
-        (c.encode.ensures.written ∙ ap (λ (desc : NetDesc). canonical desc) c.frame_desc.ensures)
+    (c.encode.ensures.written ∙ ap (λ (desc : NetDesc). canonical desc) c.frame_desc.ensures)
     ∙ ap (λ (memory : List ℕ). put_at (64 * c.args.slot) (canonical (frame_desc c.args.slot (length c.args.frame.now))) memory)
-        (c.put_buffer.ensures.written
-        ∙ ap (λ (place : ℕ). put_at place (frame_buffer c.args.frame.now) c.args.memory.now) c.buffer_place.ensures)
+    (c.put_buffer.ensures.written
+    ∙ ap (λ (place : ℕ). put_at place (frame_buffer c.args.frame.now) c.args.memory.now) c.buffer_place.ensures)
