@@ -1,2 +1,11 @@
 pub mod Standing
 pub mod Held
+pub mod Puts
+pub mod Frames
+pub mod Ranges
+pub mod Says
+pub mod SlotFinds
+pub mod LinkTakes
+pub mod Heard
+pub mod Ruled
+pub mod HeardWhole

@@ -3,14 +3,24 @@
 //! takes memory. The calls are there that need no step; a step isn't.
 #![tactic(auto)]
 
+mod acknowledging;
 mod answers;
+mod fetching;
 mod frame_buffer;
+mod hearing;
 mod held_frames;
+mod membership;
 mod net_end;
+mod net_out;
 mod offering;
 mod port_end;
+mod publishing;
+mod putting;
+mod saying;
 mod session;
+mod stepping;
 mod taken_frame;
 
 pub use answers::{GroupsFull, SendFault};
 pub use net_end::NetEnd;
+pub use net_out::NetOut;

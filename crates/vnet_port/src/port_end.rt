@@ -5,9 +5,11 @@ ghost use Rattle.ldc_queue.specs.ChannelView.{configured_channel};
 ghost use Rattle.port_model.specs.RuleFacts.{IfOpen};
 ghost use Rattle.vnet_msg.specs.Frames.{is_frame_length};
 ghost use Rattle.vnet_port.specs.Calls.{end_at};
+ghost use Rattle.vnet_port.specs.declared.net_out.NetOut.TheVariants.{Reset};
 
 use crate::answers::{GroupsFull, SendFault};
 use crate::held_frames::HeldFrames;
+use crate::net_out::NetOut;
 use crate::offering::port_offer;
 use crate::session::PortSession;
 use crate::taken_frame::TakenFrame;
@@ -18,6 +20,7 @@ use std::alloc::Global;
 use std::marker::Model;
 use vio_bytes::NoMemory;
 use vio_handshake::Handshake;
+use vio_tag::Cause;
 use vnet_msg::{LEAST_FRAME, MOST_FRAME};
 
 /// The link and handshake of an end, its frames and groups, and the session that is open. Between its calls all is so
@@ -33,7 +36,9 @@ pub(crate) struct PortEnd {
     pub(crate) next_id: u64,
     pub(crate) groups: ArrayVec<[u8; 6], 7>,
     pub(crate) session: Option<PortSession>,
+    /// The frame that it took last, and room for the next.
     pub(crate) last: TakenFrame,
+    pub(crate) spare: TakenFrame,
 }
 
 impl Model for PortEnd {
@@ -74,7 +79,7 @@ pub(crate) fn end_at(role: Role) -> End
 impl PortEnd {
     ghost use Rattle.port_model.specs.NetEndState.{fresh_net_end, joined_net_end, kept_groups, unseen};
     ghost use Rattle.port_model.specs.NetEndStep.{NetGives, NetJoins, untold};
-    ghost use Rattle.port_model.specs.FramesStand.{CountsStand};
+    ghost use Rattle.port_model.specs.FramesStand.{CountsStand, FramesStand};
     ghost use Rattle.vnet_port.specs.Calls.{end_of, given, joining, role_of};
 
     /// An end that isn't configured.
@@ -89,6 +94,7 @@ impl PortEnd {
     {
         let frames = HeldFrames::new(alloc, slots as usize)?;
         let last = TakenFrame::new(alloc)?;
+        let spare = TakenFrame::new(alloc)?;
         Ok(PortEnd {
             role,
             link: Link::new(role),
@@ -100,7 +106,15 @@ impl PortEnd {
             groups: ArrayVec::new(),
             session: None,
             last,
+            spare,
         })
+    }
+
+    /// Its end of the channel.
+    pub(crate) fn end(&self) -> End
+        ensures { result ≡ end_of self.now }
+    {
+        end_at(self.role)
     }
 
     /// Takes a frame up and answers its id, or says why not.
@@ -159,6 +173,27 @@ impl PortEnd {
         self.forget_groups();
         self.session = None;
         lost
+    }
+
+    /// The same, for a cause that a step found.
+    pub(crate) fn fail(
+        &mut self,
+        channel: &mut Channel,
+        cause: Cause,
+        packet: Option<[u8; 64]>,
+        out: &mut NetOut,
+    )
+        requires frames { FramesStand self.old }
+        ensures answer { out.new ≡ Reset cause packet (unseen self.old.session) }
+        ensures state { self.new ≡ joined_net_end (role_of self.old) self.old }
+        ensures channel { channel.new ≡ configured_channel (end_of self.old) channel.old }
+    {
+        let lost = self.join(channel);
+        *out = NetOut::Reset {
+            cause,
+            packet,
+            lost,
+        };
     }
 
     /// What the switch's end was told of groups ends with the session.

@@ -1,6 +1,9 @@
 // An open session.
 
-ghost use Rattle.std.specs.Prelude.{◌≡◌, ◌≤◌, true};
+ghost use Rattle.std.specs.Prelude.{◌≡◌, ◌≢◌, ◌+◌, ◌-◌, ◌%◌, ◌^◌, ◌<◌, ◌≤◌, ◌&&◌, not, nat_le, nat_lt, true, false, None, Some};
+ghost use Rattle.channel_model.specs.Ranges.{wrapped};
+ghost use Rattle.port_model.specs.NetEndStep.{published};
+ghost use Rattle.port_model.specs.NetEndTaking.{active, replying};
 ghost use Rattle.port_model.specs.NetEndState.{opened_session, unseen_in};
 
 use ldc_packet::Subtype;
@@ -133,6 +136,180 @@ impl PortSession {
         self.published - self.seen
     }
 
+    /// The id of the first frame that isn't published.
+    pub(crate) fn next_id(&self) -> u64
+        requires { self.now.base + self.now.published < 2 ^ 64 }
+        ensures { result ≡ self.now.base + self.now.published }
+    {
+        self.base + self.published
+    }
+
+    /// The slots of the first frame that isn't published, and of the first that isn't acknowledged.
+    pub(crate) fn published_slot(&self, slots: u32) -> u32
+        requires { slots ≢ 0 }
+        ensures slot { result ≡ self.now.published % slots }
+        ensures within { result < slots }
+    {
+        slot_of(self.published, slots)
+    }
+
+    pub(crate) fn seen_slot(&self, slots: u32) -> u32
+        requires { slots ≢ 0 }
+        ensures slot { result ≡ self.now.seen % slots }
+        ensures within { result < slots }
+    {
+        slot_of(self.seen, slots)
+    }
+
+    /// The number of the next INFO, from 1 on.
+    pub(crate) fn next_info(&self) -> u64
+        ensures { result ≡ wrapped (self.now.infos + 1) }
+    {
+        self.infos.wrapping_add(1)
+    }
+
+    /// The list isn't told as it is, and no MCAST_INFO is unanswered.
+    pub(crate) fn is_to_tell(&self) -> bool
+        ensures { result ≡ (self.now.untold && not self.now.telling) }
+    {
+        self.untold && !self.telling
+    }
+
+    /// Published frames aren't acknowledged, and no INFO is unanswered.
+    pub(crate) fn is_to_announce(&self) -> bool
+        ensures { result ≡ (nat_lt self.now.seen self.now.published && not self.now.asking) }
+    {
+        self.seen < self.published && !self.asking
+    }
+
+    /// One more frame is published.
+    pub(crate) fn published_one(self) -> PortSession
+        requires { self.published < 2 ^ 64 - 1 }
+        ensures { result ≡ published self }
+    {
+        PortSession {
+            published: self.published + 1,
+            ..self
+        }
+    }
+
+    /// An INFO was formed.
+    pub(crate) fn announced(self) -> PortSession
+        requires { self.infos < 2 ^ 64 - 1 }
+        ensures { result ≡ record self { infos = self.infos + 1; asking = true } }
+    {
+        PortSession {
+            infos: self.infos + 1,
+            asking: true,
+            ..self
+        }
+    }
+
+    /// An MCAST_INFO was formed.
+    pub(crate) fn told(self) -> PortSession
+        ensures { result ≡ record self { untold = false; telling = true } }
+    {
+        PortSession {
+            untold: false,
+            telling: true,
+            ..self
+        }
+    }
+
+    /// The answer to an MCAST_INFO was formed.
+    pub(crate) fn replied(self) -> PortSession
+        ensures { result ≡ record self { reply = None } }
+    {
+        PortSession {
+            reply: None,
+            ..self
+        }
+    }
+
+    /// The frame of the next slot of the peer's ring, of so many slots, was taken.
+    pub(crate) fn taken(self, activity: RingActivity, slots: u32) -> PortSession
+        requires slots { slots ≤ 64 }
+        requires slot { self.place < slots }
+        ensures { result ≡ record self {
+          place = (self.place + 1) % slots;
+          active = Some (record activity { last = Some self.place });
+        } }
+    {
+        PortSession {
+            place: (self.place + 1) % slots,
+            active: Some(RingActivity {
+                last: Some(self.place),
+                ..activity
+            }),
+            ..self
+        }
+    }
+
+    /// The peer's ring is active from this INFO on.
+    pub(crate) fn activated(self, seq: u64, start: u32) -> PortSession
+        ensures { result ≡ active self seq start }
+    {
+        PortSession {
+            seq: self.seq.wrapping_add(1),
+            active: Some(RingActivity {
+                seq,
+                start,
+                last: None,
+            }),
+            ..self
+        }
+    }
+
+    /// Whether so many more frames may be acknowledged: all of them are published.
+    pub(crate) fn may_acknowledge(&self, count: u32) -> bool
+        requires { self.now.seen ≤ self.now.published }
+        ensures { result ≡ nat_le (self.now.seen + count) self.now.published }
+    {
+        count as u64 <= self.published - self.seen
+    }
+
+    /// So many more frames are acknowledged, and no INFO is unanswered.
+    pub(crate) fn acknowledged(self, count: u32) -> PortSession
+        requires { self.seen + count < 2 ^ 64 }
+        ensures { result ≡ record self { seen = self.seen + count; asking = false } }
+    {
+        PortSession {
+            seen: self.seen + count as u64,
+            asking: false,
+            ..self
+        }
+    }
+
+    /// The answer to an MCAST_INFO is owed.
+    pub(crate) fn replying(self, reply: MembershipReply) -> PortSession
+        ensures { result ≡ replying reply self }
+    {
+        PortSession {
+            reply: Some(reply),
+            ..self
+        }
+    }
+
+    /// The guest's MCAST_INFO was answered.
+    pub(crate) fn agreed_to(self) -> PortSession
+        ensures { result ≡ record self { telling = false } }
+    {
+        PortSession {
+            telling: false,
+            ..self
+        }
+    }
+
+    /// The answer to the peer's INFO was formed: its ring isn't active.
+    pub(crate) fn answered(self) -> PortSession
+        ensures { result ≡ record self { active = None } }
+    {
+        PortSession {
+            active: None,
+            ..self
+        }
+    }
+
     /// The list of groups isn't told as it is.
     pub(crate) fn to_be_told(self) -> PortSession
         ensures { result ≡ record self { untold = true } }
@@ -142,4 +319,13 @@ impl PortSession {
             ..self
         }
     }
+}
+
+/// The slot of a number, in a ring of so many.
+fn slot_of(number: u64, slots: u32) -> u32
+    requires { slots ≢ 0 }
+    ensures slot { result ≡ number % slots }
+    ensures within { result < slots }
+{
+    (number % slots as u64) as u32
 }

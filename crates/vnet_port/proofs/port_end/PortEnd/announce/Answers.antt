@@ -1,0 +1,19 @@
+use Rattle.std.proofs.Common.{◌≡◌, ◌+◌, true, false, None, refl, sym, subst}
+use Rattle.cookie_copy.specs.Reach.{Reach}
+use Rattle.port_model.specs.NetEndRule.{Announces}
+use Rattle.port_model.specs.NetEndState.{NetEndState}
+use Rattle.port_model.specs.NetEndPutting.{announcement}
+use Rattle.vnet_port.proofs.Says.{own_steps}
+use Rattle.vnet_port.specs.contracts.port_end.PortEnd.{the_view}
+use Rattle.vnet_port.specs.Stepping.{StepsAlone, rule_of}
+use Rattle.vnet_port.proofs.port_end.PortEnd.announce.Goals as goal
+
+pub returns-clause-step : goal.returns-clause-step
+returns-clause-step c =
+    let s : NetEndState = the_view c.self.inside in
+    subst (λ (s : NetEndState). StepsAlone s c.args.channel.now c.args.memory.now c.say.new.out c.say.new.self c.say.new.channel c.say.new.memory) c.self.view_is
+    (own_steps s c.say.new.self (record c.args.session { infos = c.args.session.infos + 1; asking = true }) c.announced.result (announcement s c.args.session) c.announcement-message.result (Announces c.args.session) c.args.channel.now c.say.new.channel c.args.memory.now c.say.new.memory c.say.new.out
+    (subst (λ (s : NetEndState). rule_of s c.args.channel.now ≡ Announces c.args.session) (sym c.self.view_is) c.requires.rule)
+    (λ (reach : Reach). refl)
+    (subst (λ (s : NetEndState). c.announcement-message.result ≡ announcement s c.args.session) (sym c.self.view_is) c.announcement-message.ensures)
+    c.announced.ensures c.say.ensures.put)

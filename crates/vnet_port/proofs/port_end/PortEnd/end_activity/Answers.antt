@@ -1,0 +1,22 @@
+use Rattle.std.proofs.Common.{◌≡◌, ℕ, List, Option, refl, sym, ◌∙◌, ap, subst}
+use Rattle.map_table.specs.declared.table.Entry.{Entry}
+use Rattle.port_model.specs.Fetching.{NotReady, fetched}
+use Rattle.port_model.specs.NetEndPutting.{answer}
+use Rattle.port_model.specs.NetEndRule.{Fetches}
+use Rattle.port_model.specs.NetEndState.{Activity, NetEndState}
+use Rattle.vnet_port.proofs.Says.{answer_steps}
+use Rattle.vnet_port.specs.contracts.port_end.PortEnd.{the_view}
+use Rattle.vnet_port.specs.Stepping.{Steps, reach_over, rule_of}
+use Rattle.vnet_port.proofs.port_end.PortEnd.end_activity.Goals as goal
+
+pub returns-in-Some-clause-step : goal.returns-in-Some-clause-step
+returns-in-Some-clause-step c = λ (table : List (Option Entry)) (peer : List ℕ) missing.
+    let s : NetEndState = the_view c.self.inside in
+    subst (λ (s : NetEndState). Steps s c.args.channel.now c.args.memory.now table peer c.say.new.out c.say.new.self c.say.new.channel c.say.new.memory peer) c.self.view_is
+    (answer_steps s c.say.new.self c.args.session c.answered.result c.args.activity c.in-Some.last c.args.state c.answer-message.result c.args.channel.now c.say.new.channel
+    c.args.memory.now c.say.new.memory c.say.new.out table peer
+    (subst (λ (s : NetEndState). rule_of s c.args.channel.now ≡ Fetches c.args.session c.args.activity) (sym c.self.view_is) c.requires.rule)
+    (ap (λ (a : Activity). a.last) (sym c.activity.view_is) ∙ c.in-Some.is)
+    (subst (λ (s : NetEndState). fetched s (reach_over c.args.channel.now table peer) c.args.session.place ≡ NotReady c.args.state) (sym c.self.view_is) missing)
+    (subst (λ (s : NetEndState). c.answer-message.result ≡ answer s c.args.activity c.in-Some.last) (sym c.self.view_is) c.answer-message.ensures)
+    c.answered.ensures c.say.ensures.put)
