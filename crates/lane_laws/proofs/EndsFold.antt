@@ -427,14 +427,14 @@ server_told s l both so sids =
 pub client_end : (s : LaneState) (l : DiskLog) → BothAre s l → FoldsSo Initiator (client_core s.client) l.transcript.client → s.client.handshake.last_sid ≡ l.transcript.links % 4294967296
     → ClientEndAgrees s.client l.shape l.transcript l.blocked.client
 client_end s l both so sids = record {
-      blocks = both.knows.all.stands.blocks ∙ ap (λ (n : Shape). n.blocks) both.knows.all.stands.shape;
-      slots = both.knows.counted.client.slots;
-      role = both.knows.all.transcripts.client.role;
-      phase = so.folds.phase;
-      handshake = client_told s l both so sids;
-      announcing = both.client.announcing;
-      left = client_left_is s l s.client.session both so.stands.link.cuts refl;
-    }
+  blocks = both.knows.all.stands.blocks ∙ ap (λ (n : Shape). n.blocks) both.knows.all.stands.shape;
+  slots = both.knows.counted.client.slots;
+  role = both.knows.all.transcripts.client.role;
+  phase = so.folds.phase;
+  handshake = client_told s l both so sids;
+  announcing = both.client.announcing;
+  left = client_left_is s l s.client.session both so.stands.link.cuts refl;
+}
 
 -- THE SERVER
 pub infos_are : (turns : List Turn) → infos_heard turns ≡ range_count 1 (heard turns)
