@@ -1,10 +1,14 @@
 ghost use Rattle.std.specs.Prelude.{◌≡◌, ◌-◌, ◌^◌, ◌<◌, ◌≤◌, length, is_some, IfOk};
+ghost use Rattle.cookie_copy.specs.Faults.{PagesWithin};
 ghost use Rattle.ldc_queue.specs.ChannelView.{configured_channel};
 
 use crate::answers::{GroupsFull, SendFault};
+use crate::net_out::NetOut;
 use crate::port_end::PortEnd;
+use dom_memory::Memory;
 use ldc_link::Role;
 use ldc_queue::Channel;
+use map_table::MapTable;
 use std::alloc::Global;
 use std::marker::Model;
 use vio_bytes::NoMemory;
@@ -31,6 +35,7 @@ impl NetEnd {
     ghost use Rattle.port_model.specs.NetEndState.{fresh_net_end, joined_net_end, unseen};
     ghost use Rattle.port_model.specs.NetEndStep.{NetGives, NetJoins};
     ghost use Rattle.vnet_port.specs.Calls.{end_of, given, joining, role_of};
+    ghost use Rattle.vnet_port.specs.Stepping.{HoldsRing, Steps};
 
     /// The end of the port with this address, whose rings have so many slots, 2 to 64. It isn't configured yet. Its one
     /// refusal is for want of memory.
@@ -41,6 +46,55 @@ impl NetEnd {
     {
         let end = PortEnd::new(alloc, role, address, slots)?;
         Ok(NetEnd { end })
+    }
+
+    /// Makes one step, the first rule that applies: the end isn't `Up` (`Joined`); the link has a packet to put, or a
+    /// message is owed, of the handshake or the answer to groups (`Sent`, or `Blocked` where the queue is full); the
+    /// peer's ring is active, and its next slot is looked at (`Frame`; where it isn't READY, the answer to the INFO is
+    /// `Sent` or `Blocked`, or `Reset` comes where no slot was taken for it); a packet waits (`Took`, or `Reset` for what
+    /// is wrong with it); a guest's groups are to be told (`Sent`, `Blocked`); a frame isn't published (`Published`);
+    /// published frames are to be announced (`Sent`, `Blocked`); `Idle`. `memory` is its own, with the pages of the ring
+    /// and 2,048 bytes for each slot; `table` and `peer` are the peer's.
+    pub fn step(
+        &mut self,
+        channel: &mut Channel,
+        memory: &mut Memory,
+        table: &MapTable,
+        peer: &mut Memory,
+    ) -> NetOut
+        requires room { HoldsRing self.old.slots memory.old }
+        requires pages { PagesWithin table.now (length peer.old) }
+        ensures step { Steps self.old channel.old memory.old table.now peer.old result self.new channel.new memory.new peer.new }
+        ensures same_role { role_of self.new ≡ role_of self.old }
+        ensures same_slots { self.new.slots ≡ self.old.slots }
+        ensures same_ids { self.new.next_id ≡ self.old.next_id }
+        ensures same_length { length memory.new ≡ length memory.old }
+        ensures same_peer { length peer.new ≡ length peer.old }
+    {
+        let mut out = NetOut::Idle;
+        self.step_into(channel, memory, table, peer, &mut out);
+        out
+    }
+
+    /// The same, whose answer is written into the caller's, so that it isn't copied from function to function.
+    pub fn step_into(
+        &mut self,
+        channel: &mut Channel,
+        memory: &mut Memory,
+        table: &MapTable,
+        peer: &mut Memory,
+        out: &mut NetOut,
+    )
+        requires room { HoldsRing self.old.slots memory.old }
+        requires pages { PagesWithin table.now (length peer.old) }
+        ensures step { Steps self.old channel.old memory.old table.now peer.old out.new self.new channel.new memory.new peer.new }
+        ensures same_role { role_of self.new ≡ role_of self.old }
+        ensures same_slots { self.new.slots ≡ self.old.slots }
+        ensures same_ids { self.new.next_id ≡ self.old.next_id }
+        ensures same_length { length memory.new ≡ length memory.old }
+        ensures same_peer { length peer.new ≡ length peer.old }
+    {
+        self.end.step(channel, memory, table, peer, out);
     }
 
     /// Configures the end and begins anew, in any state. It keeps frames that were never published, and all ids. The
