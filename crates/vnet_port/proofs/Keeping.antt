@@ -1,8 +1,7 @@
 -- An end stands as it should after each of its steps.
-use Rattle.std.proofs.Common.{◌≡◌, ℕ, ◌+◌, ◌%◌, ◌<◌, ◌≤◌, List, Option, Some, refl, sym, ap, ◌∙◌, subst, arith}
+use Rattle.std.proofs.Common.{◌≡◌, ℕ, ◌+◌, ◌%◌, ◌<◌, List, Option, Some, refl, sym, subst, arith}
 use Rattle.std.proofs.Math.Nat.{mod-lt}
 use Rattle.cookie_copy.specs.Reach.{Reach}
-use Rattle.ldc_link.specs.declared.phase.Role.{Role}
 use Rattle.ldc_queue.specs.ChannelView.{ChannelView}
 use Rattle.map_table.specs.declared.table.Entry.{Entry}
 use Rattle.vio_handshake.specs.declared.handshake.Phase.{Phase}
@@ -13,10 +12,9 @@ use Rattle.port_model.specs.FramesStand.{FramesStand}
 use Rattle.port_model.specs.NetEndRule.{Fetches, Publishes, port_rule}
 use Rattle.port_model.specs.NetEndState.{Activity, NetEndState, NetSession, joined_net_end}
 use Rattle.port_model.specs.NetEndStep.{Blocked, Frame, Idle, Joined, NetAnswer, NetEndStep, NetLeft, Published, Reset, Sent, Took, published, taken}
-use Rattle.vnet_port.proofs.KeptPuts.{Core, Fixed, Stays, core_of, fixed_of, held_stays, put_stays, through, with_core, within}
+use Rattle.vnet_port.proofs.KeptPuts.{Core, Stays, core_of, fixed_of, held_stays, put_stays, through, with_core, within}
 use Rattle.vnet_port.proofs.KeptTakes.{taken_stays}
 use Rattle.vnet_port.proofs.Standing.{joined_stands}
-use Rattle.vnet_port.specs.Calls.{role_of}
 use Rattle.vnet_port.specs.declared.net_out.NetOut.{NetOut}
 use Rattle.vnet_port.specs.Standing.{Knows, KnowsRing, Stands}
 use Rattle.vnet_port.specs.Stepping.{Steps, net_answer, reach_over, sees}

@@ -1,5 +1,5 @@
 -- What always holds of an end stays so where it takes a packet, but for its frames.
-use Rattle.std.proofs.Common.{◌≡◌, ◌≢◌, ℕ, zero, suc, ◌+◌, ◌<◌, ◌≤◌, Bool, true, false, List, [], ◌∷◌, length, drop, Option, Some, None, Result, Ok, Err, refl, sym, ap, ◌∙◌, subst, arith}
+use Rattle.std.proofs.Common.{◌≡◌, ◌≢◌, ℕ, ◌+◌, ◌<◌, ◌≤◌, Bool, true, false, List, [], ◌∷◌, length, drop, Option, Some, None, Result, Ok, Err, refl, sym, ap, ◌∙◌, subst, arith}
 use Rattle.std.specs.Prelude.{◌%◌, ◌==◌, ◌&&◌, not, nat_le, nat_lt, take, if◌then◌else◌, ⊤}
 use Rattle.std.specs.List.{filter}
 use Rattle.std.proofs.lemmas.Bool.{leb-true}
@@ -24,10 +24,10 @@ use Rattle.vio_tag.specs.Form.{IsWellFormed}
 use Rattle.channel_model.specs.EndPuts.{handshake_risen}
 use Rattle.channel_model.specs.Ranges.{is_other, range_length}
 use Rattle.port_model.specs.Groups.{at_most_seven, groups_after, set_groups, with_groups, without_groups}
-use Rattle.port_model.specs.NetEndState.{NetEndState, NetSession, opened_net_end, with_session}
-use Rattle.port_model.specs.NetEndTaking.{GoesOn, HearsLink, HearsWhole, NetTake, NetTakes, Resets, acknowledged, active, by_handshake, ends_outside, first_undone, hears_message, in_session, opens_by_take, reads, refused, replying, risen, sid_first, takes_ack, takes_done, takes_groups, takes_info, takes_range, told}
+use Rattle.port_model.specs.NetEndState.{NetEndState, NetSession, with_session}
+use Rattle.port_model.specs.NetEndTaking.{GoesOn, HearsLink, HearsWhole, NetTake, NetTakes, Resets, active, by_handshake, ends_outside, first_undone, hears_message, in_session, opens_by_take, reads, refused, replying, risen, sid_first, takes_ack, takes_done, takes_groups, takes_info, takes_range, told}
 use Rattle.vnet_port.proofs.HandshakeKept.{HandshakeWent, goes_open, goes_went, opens_open, opens_went, up_version, up_went}
-use Rattle.vnet_port.proofs.KeptPuts.{Core, Fixed, Stays, both_ways, fixed_of, open_up, through, with_core, within}
+use Rattle.vnet_port.proofs.KeptPuts.{Core, Stays, both_ways, fixed_of, through, with_core, within}
 use Rattle.vnet_port.proofs.LinkTakes.{LinkTook, bytes_took, took_phase, whole_up}
 use Rattle.vnet_port.specs.Hearing.{looked_at}
 use Rattle.vnet_port.specs.Standing.{Begins, HandshakeStands, IsPhaseOf, IsQuiet, SessionStands}

@@ -1,5 +1,5 @@
--- What taking a packet leaves of a link, of either role: a message becomes whole over a link that was up alone. One that
--- is up stays up, and one that begins comes up by no packet that it takes.
+-- What taking a packet leaves of a link, of either role: a message becomes whole over a link that was up alone. One
+-- that is up stays up, and one that begins comes up by no packet that it takes.
 use Rattle.std.proofs.Common.{◌≡◌, ◌≢◌, ℕ, Bool, true, false, List, None, Result, Ok, Err, refl, sym, subst}
 use Rattle.std.specs.Prelude.{◌&&◌, if◌then◌else◌, nat_eq, take, ⊤}
 use Rattle.ldc_packet.specs.declared.packet.Body.{Body}

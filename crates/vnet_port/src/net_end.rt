@@ -14,7 +14,8 @@ use std::marker::Model;
 use vio_bytes::NoMemory;
 
 /// Either end of a network port: a guest's, the initiator, whose end of the channel is A; or the switch's, the
-/// responder, whose end is B. What it publishes stands in its own memory.
+/// responder, whose end is B. What it publishes stands in its own memory. Messages and descriptors are of the VIO
+/// chapter of the UltraSPARC Virtual Machine Specification, and of Linux's vio.h (`struct vio_net_desc`).
 #[derive(Drop)]
 pub struct NetEnd {
     end: PortEnd,
@@ -48,13 +49,22 @@ impl NetEnd {
         Ok(NetEnd { end })
     }
 
-    /// Makes one step, the first rule that applies: the end isn't `Up` (`Joined`); the link has a packet to put, or a
-    /// message is owed, of the handshake or the answer to groups (`Sent`, or `Blocked` where the queue is full); the
-    /// peer's ring is active, and its next slot is looked at (`Frame`; where it isn't READY, the answer to the INFO is
-    /// `Sent` or `Blocked`, or `Reset` comes where no slot was taken for it); a packet waits (`Took`, or `Reset` for what
-    /// is wrong with it); a guest's groups are to be told (`Sent`, `Blocked`); a frame isn't published (`Published`);
-    /// published frames are to be announced (`Sent`, `Blocked`); `Idle`. `memory` is its own, with the pages of the ring
-    /// and 2,048 bytes for each slot; `table` and `peer` are the peer's.
+    /// Makes one step, by the first of these rules that applies:
+    ///
+    /// - The end isn't `Up`: `Joined`.
+    /// - The link has a packet to put, or a message is owed, of the handshake or the answer to groups: `Sent`, or
+    ///   `Blocked` where the queue is full.
+    /// - The peer's ring is active, and its next slot is READY: `Frame`, or `Reset` where what it names is refused.
+    /// - That slot isn't READY: the answer to the INFO is `Sent` or `Blocked`. Where no slot was taken for the INFO,
+    ///   `Reset`.
+    /// - A packet waits: `Took`, or `Reset` for what is wrong with it.
+    /// - In session, a guest's groups are to be told: `Sent`, `Blocked`.
+    /// - In session, a frame that is held isn't published: `Published`.
+    /// - In session, published frames are to be announced: `Sent`, `Blocked`.
+    /// - `Idle`.
+    ///
+    /// `memory` is its own, with the page of the ring and 2,048 bytes for each slot. `table` and `peer` are the peer's,
+    /// and each page that the table grants lies in `peer`.
     pub fn step(
         &mut self,
         channel: &mut Channel,
