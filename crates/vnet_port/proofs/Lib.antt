@@ -9,3 +9,7 @@ pub mod LinkTakes
 pub mod Heard
 pub mod Ruled
 pub mod HeardWhole
+pub mod HandshakeKept
+pub mod KeptPuts
+pub mod KeptTakes
+pub mod Keeping

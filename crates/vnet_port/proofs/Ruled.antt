@@ -1,5 +1,5 @@
 -- Which rule the step is, and what an end has where it is.
-use Rattle.std.proofs.Common.{◌≡◌, ◌≢◌, ℕ, Bool, true, false, List, [], ◌∷◌, Option, Some, None, is_some, slice_get, refl, sym, ◌∙◌, ap, subst}
+use Rattle.std.proofs.Common.{◌≡◌, ◌≢◌, ℕ, Bool, true, false, List, [], ◌∷◌, Option, None, is_some, refl, ◌∙◌, ap}
 use Rattle.std.specs.Prelude.{if◌then◌else◌}
 use Rattle.cookie_copy.specs.Faults.{is_up as is_configured}
 use Rattle.ldc_link.specs.declared.phase.LinkPhase.{LinkPhase}
@@ -11,8 +11,8 @@ use Rattle.ldc_queue.specs.declared.end.ChannelState.{ChannelState}
 use Rattle.ldc_queue.specs.declared.end.ChannelState.TheVariants.{Down, Resetting, Up}
 use Rattle.ldc_queue.specs.Wire.{state_of}
 use Rattle.vio_tag.specs.declared.message.Message.{Message}
-use Rattle.port_model.specs.NetEndRule.{Idles, Joins, Puts, Says, fetches_first, in_session, publishes, replies_first, says, takes_first, tells_first}
-use Rattle.port_model.specs.NetEndState.{NetEndState, NetSession, unseen_in}
+use Rattle.port_model.specs.NetEndRule.{Joins, Puts, in_session, says}
+use Rattle.port_model.specs.NetEndState.{NetEndState, NetSession}
 use Rattle.vnet_port.specs.Calls.{end_of, role_of}
 use Rattle.vnet_port.specs.Putting.{CanSay}
 use Rattle.vnet_port.specs.Standing.{Stands}

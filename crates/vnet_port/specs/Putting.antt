@@ -1,5 +1,5 @@
 -- What a packet that was put brings about, by what the link is after it.
-use Rattle.std.specs.Prelude.{◌≡◌, ◌≢◌, ℕ, ◌≤◌, Bool, true, false, if◌then◌else◌, List, [], length, is_none}
+use Rattle.std.specs.Prelude.{◌≡◌, ℕ, ◌≤◌, Bool, true, false, if◌then◌else◌, List, [], length, is_none}
 use Rattle.ldc_link.specs.Calls.{Puts as PutsPacket}
 use Rattle.ldc_link.specs.LinkState.{LinkState, is_up}
 use Rattle.ldc_link.specs.Putting.{owes}

@@ -1,7 +1,10 @@
-//! Either end of a network port, a guest's or the switch's: it holds the frames that it is given, and a guest's its
-//! groups. A port's lane is to stand on it. Each call is exactly one of the port's model, and no call but `NetEnd::new`
-//! takes memory. The calls are there that need no step. A step is inside alone, rule by rule, each exactly the model's: no
-//! call makes one yet, since it isn't proved that what always holds of an end stays so.
+//! Either end of a network port, a guest's or the switch's, as Linux's sunvnet has one. It holds the frames that it is
+//! given, and offers them to its peer through a ring of descriptors in its own memory. It takes the frames of the
+//! peer's ring by cookies. A guest's end tells its groups, and the switch's keeps what it is told. A port's lane is to
+//! stand on it.
+//!
+//! Each call is exactly one of the port's model. A step is the first rule that applies, whatever the channel, the table
+//! and both memories hold. No call but [`NetEnd::new`] takes memory.
 #![tactic(auto)]
 
 mod acknowledging;

@@ -1,16 +1,21 @@
 ghost use Rattle.std.specs.Prelude.{◌≡◌, ◌-◌, ◌^◌, ◌<◌, ◌≤◌, length, is_some, IfOk};
+ghost use Rattle.cookie_copy.specs.Faults.{PagesWithin};
 ghost use Rattle.ldc_queue.specs.ChannelView.{configured_channel};
 
 use crate::answers::{GroupsFull, SendFault};
+use crate::net_out::NetOut;
 use crate::port_end::PortEnd;
+use dom_memory::Memory;
 use ldc_link::Role;
 use ldc_queue::Channel;
+use map_table::MapTable;
 use std::alloc::Global;
 use std::marker::Model;
 use vio_bytes::NoMemory;
 
 /// Either end of a network port: a guest's, the initiator, whose end of the channel is A; or the switch's, the
-/// responder, whose end is B. What it publishes stands in its own memory.
+/// responder, whose end is B. What it publishes stands in its own memory. Messages and descriptors are of the VIO
+/// chapter of the UltraSPARC Virtual Machine Specification, and of Linux's vio.h (`struct vio_net_desc`).
 #[derive(Drop)]
 pub struct NetEnd {
     end: PortEnd,
@@ -31,6 +36,7 @@ impl NetEnd {
     ghost use Rattle.port_model.specs.NetEndState.{fresh_net_end, joined_net_end, unseen};
     ghost use Rattle.port_model.specs.NetEndStep.{NetGives, NetJoins};
     ghost use Rattle.vnet_port.specs.Calls.{end_of, given, joining, role_of};
+    ghost use Rattle.vnet_port.specs.Stepping.{HoldsRing, Steps};
 
     /// The end of the port with this address, whose rings have so many slots, 2 to 64. It isn't configured yet. Its one
     /// refusal is for want of memory.
@@ -41,6 +47,64 @@ impl NetEnd {
     {
         let end = PortEnd::new(alloc, role, address, slots)?;
         Ok(NetEnd { end })
+    }
+
+    /// Makes one step, by the first of these rules that applies:
+    ///
+    /// - The end isn't `Up`: `Joined`.
+    /// - The link has a packet to put, or a message is owed, of the handshake or the answer to groups: `Sent`, or
+    ///   `Blocked` where the queue is full.
+    /// - The peer's ring is active, and its next slot is READY: `Frame`, or `Reset` where what it names is refused.
+    /// - That slot isn't READY: the answer to the INFO is `Sent` or `Blocked`. Where no slot was taken for the INFO,
+    ///   `Reset`.
+    /// - A packet waits: `Took`, or `Reset` for what is wrong with it.
+    /// - In session, a guest's groups are to be told: `Sent`, `Blocked`.
+    /// - In session, a frame that is held isn't published: `Published`.
+    /// - In session, published frames are to be announced: `Sent`, `Blocked`.
+    /// - `Idle`.
+    ///
+    /// `memory` is its own, with the page of the ring and 2,048 bytes for each slot. `table` and `peer` are the peer's,
+    /// and each page that the table grants lies in `peer`.
+    pub fn step(
+        &mut self,
+        channel: &mut Channel,
+        memory: &mut Memory,
+        table: &MapTable,
+        peer: &mut Memory,
+    ) -> NetOut
+        requires room { HoldsRing self.old.slots memory.old }
+        requires pages { PagesWithin table.now (length peer.old) }
+        ensures step { Steps self.old channel.old memory.old table.now peer.old result self.new channel.new memory.new peer.new }
+        ensures same_role { role_of self.new ≡ role_of self.old }
+        ensures same_slots { self.new.slots ≡ self.old.slots }
+        ensures same_ids { self.new.next_id ≡ self.old.next_id }
+        ensures same_length { length memory.new ≡ length memory.old }
+        ensures same_peer { length peer.new ≡ length peer.old }
+    {
+        let mut out = NetOut::Idle;
+        self.step_into(channel, memory, table, peer, &mut out);
+        out
+    }
+
+    /// The same, whose answer is written into the caller's, so that it isn't copied from function to function.
+    pub fn step_into(
+        &mut self,
+        channel: &mut Channel,
+        memory: &mut Memory,
+        table: &MapTable,
+        peer: &mut Memory,
+        out: &mut NetOut,
+    )
+        requires room { HoldsRing self.old.slots memory.old }
+        requires pages { PagesWithin table.now (length peer.old) }
+        ensures step { Steps self.old channel.old memory.old table.now peer.old out.new self.new channel.new memory.new peer.new }
+        ensures same_role { role_of self.new ≡ role_of self.old }
+        ensures same_slots { self.new.slots ≡ self.old.slots }
+        ensures same_ids { self.new.next_id ≡ self.old.next_id }
+        ensures same_length { length memory.new ≡ length memory.old }
+        ensures same_peer { length peer.new ≡ length peer.old }
+    {
+        self.end.step(channel, memory, table, peer, out);
     }
 
     /// Configures the end and begins anew, in any state. It keeps frames that were never published, and all ids. The

@@ -1,4 +1,4 @@
-use Rattle.std.proofs.Common.{◌≡◌, ◌+◌, true, false, None, refl, sym, subst}
+use Rattle.std.proofs.Common.{◌≡◌, ◌+◌, true, refl, sym, subst}
 use Rattle.cookie_copy.specs.Reach.{Reach}
 use Rattle.port_model.specs.NetEndRule.{Announces}
 use Rattle.port_model.specs.NetEndState.{NetEndState}

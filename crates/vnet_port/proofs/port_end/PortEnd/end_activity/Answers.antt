@@ -1,4 +1,4 @@
-use Rattle.std.proofs.Common.{◌≡◌, ℕ, List, Option, refl, sym, ◌∙◌, ap, subst}
+use Rattle.std.proofs.Common.{◌≡◌, ℕ, List, Option, sym, ◌∙◌, ap, subst}
 use Rattle.map_table.specs.declared.table.Entry.{Entry}
 use Rattle.port_model.specs.Fetching.{NotReady, fetched}
 use Rattle.port_model.specs.NetEndPutting.{answer}

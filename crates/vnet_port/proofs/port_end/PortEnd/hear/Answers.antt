@@ -1,6 +1,5 @@
 use Rattle.std.proofs.Common.{refl, ap, sym, ◌∙◌}
 use Rattle.std.specs.Option.{option_copied}
-use Rattle.port_model.specs.NetEndState.{NetEndState}
 use Rattle.vnet_port.proofs.HeardWhole.{heard_whole, may_of}
 use Rattle.vnet_port.specs.Calls.{role_of}
 use Rattle.vnet_port.specs.contracts.port_end.PortEnd.{the_view}

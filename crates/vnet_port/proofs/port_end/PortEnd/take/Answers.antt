@@ -1,6 +1,5 @@
-use Rattle.std.proofs.Common.{◌≡◌, ℕ, List, Option, None, Some, slice_get, sym, ◌∙◌, ap, subst}
-use Rattle.ldc_link.specs.LinkState.{LinkState}
-use Rattle.ldc_queue.specs.ChannelView.{ChannelView, channel_without_first}
+use Rattle.std.proofs.Common.{◌≡◌, Some, slice_get, sym, ◌∙◌, ap, subst}
+use Rattle.ldc_queue.specs.ChannelView.{channel_without_first}
 use Rattle.ldc_queue.specs.declared.end.ChannelState.TheVariants.{Up}
 use Rattle.ldc_queue.specs.declared.end.End.{End}
 use Rattle.ldc_queue.specs.Wire.{state_of, waiting_for}
@@ -12,7 +11,7 @@ use Rattle.vnet_port.specs.Calls.{end_of}
 use Rattle.vnet_port.specs.contracts.port_end.PortEnd.{the_view}
 use Rattle.vnet_port.specs.declared.net_out.NetOut.TheVariants as out
 use Rattle.vnet_port.specs.Standing.{Stands}
-use Rattle.vnet_port.specs.Stepping.{StepsAlone, rule_of, sees}
+use Rattle.vnet_port.specs.Stepping.{StepsAlone, rule_of}
 use Rattle.vnet_port.proofs.port_end.PortEnd.take.Goals as goal
 
 pub hear-requires-clause-may : goal.hear-requires-clause-may
