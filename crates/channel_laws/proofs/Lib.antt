@@ -6,6 +6,7 @@ pub mod EndCases
 pub mod EndStanding
 pub mod EndResting
 pub mod Budgets
+pub mod PacketsLeft
 pub mod FewLost
 pub mod Conversations
 pub mod Lifting
