@@ -3,3 +3,4 @@ pub mod NetFits
 pub mod PortCore
 pub mod LetsGo
 pub mod Counted
+pub mod Remaining
