@@ -22,6 +22,7 @@ mod TookCounts
 mod StepCounts
 mod RemainingEnds
 mod PortCounts
+pub mod RemainingSteps
 pub mod RuleFrames
 pub mod RuleRest
 pub mod RuleIdle

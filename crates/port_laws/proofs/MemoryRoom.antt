@@ -1,7 +1,7 @@
 -- Each event of a port's lane leaves both memories as long as they were, or longer, also where somebody forges.
 use Rattle.std.proofs.Common.{◌≡◌, ℕ, zero, suc, ◌+◌, ◌≤◌, Bool, true, false, Option, Some, None, List, [], ◌∷◌, ◌++◌, length, drop, refl, sym, subst, arith, length-append, length-drop}
-use Rattle.std.specs.Prelude.{Result, Ok, Err, ◌%◌, ◌*◌, ◌==◌, ◌&&◌, map, nat_le, nat_lt, if◌then◌else◌, slice_index, take, ⊤}
-use Rattle.std.proofs.lemmas.List.{length-take}
+use Rattle.std.specs.Prelude.{Result, Ok, Err, ◌%◌, ◌*◌, ◌^◌, ◌==◌, ◌&&◌, map, nat_le, nat_lt, if◌then◌else◌, slice_index, take, ⊤}
+use Rattle.std.proofs.lemmas.List.{length-replicate, length-take}
 use Rattle.cookie_copy.proofs.Steps.{length-write_spots}
 use Rattle.cookie_copy.specs.declared.fault.Access.TheVariants.{Read}
 use Rattle.cookie_copy.specs.declared.fault.CopyFault.{CopyFault}
@@ -27,7 +27,7 @@ use Rattle.vio_tag.specs.declared.message.MsgBody.TheVariants.{DringData, Mcast}
 use Rattle.vio_tag.specs.declared.message.TagFault.{TagFault}
 use Rattle.vnet_msg.specs.declared.desc.NetDesc.{NetDesc}
 use Rattle.vnet_msg.specs.Descriptor.{canonical, net_desc_of}
-use Rattle.vnet_msg.specs.Frames.{buffer_place, frame_buffer, frame_desc, frame_in, header, holds_frame, moved_size}
+use Rattle.vnet_msg.specs.Frames.{buffer_place, frame_buffer, frame_desc, frame_in, header, holds_frame, memory_pages, moved_size}
 use Rattle.channel_model.specs.Ranges.{is_other, range_length}
 use Rattle.channel_model.specs.Seeing.{Seen}
 use Rattle.port_model.specs.Fetching.{Fetched, IsFrame, NotReady, Refuses, copied, described, fetched, frame_fault, mark_fault, marked, read, slot_read, slots_cookies}
@@ -37,8 +37,10 @@ use Rattle.port_model.specs.NetEndState.{NetEndState, NetSession, opened_net_end
 use Rattle.port_model.specs.NetEndStep.{Blocked, Frame, Idle, Joined, NetAnswer, NetEndStep, NetLeft, Published, Reset, Sent, Took, published_memory}
 use Rattle.port_model.specs.NetEndTaking.{GoesOn, HearsLink, HearsWhole, NetTake, NetTakes, Resets, active, acknowledged, by_handshake, ends_outside, first_undone, freed, hears_message, in_session, opens_by_take, reads, refused, risen, sid_first, takes_ack, takes_done, takes_groups, takes_info, takes_range, told}
 use Rattle.port_model.specs.NetEvent.{Asked, CalmTick, Declines, Gives, Injects, Joins, Loses, NetEvent, Pokes, Steps, Ticked}
-use Rattle.port_model.specs.NetLaneState.{NetLaneState}
+use Rattle.port_model.specs.NetLaneState.{IsNetShape, NetLaneState, NetShape, fresh_net}
 use Rattle.port_model.specs.NetLaneStep.{NetLaneStep}
+use Rattle.port_model.specs.PortState.{OnLane, PortEvent, PortState, PortStep, Receives, before, fresh_port, moves_first, takes_more}
+use Rattle.runs.specs.Run.{Run, run_keeps}
 
 -- WRITES
 pub put_longer : (at : ℕ) (piece bytes : List ℕ) → length bytes ≤ length (put_at at piece bytes)
@@ -243,3 +245,54 @@ event_room slots s (Pokes A at bytes) t step room =
 event_room slots s (Pokes B at bytes) t step room =
     subst (HasRoom slots) (sym step.1) (record { guest = room.guest; hub = omega (arith, room.hub, put_longer at bytes s.hub_memory) })
 event_room slots s (Declines d) t step room = subst (HasRoom slots) (sym step.1) room
+
+-- A RUN
+moves_memory : (b : Bool) (queue : List (List ℕ)) (slots : ℕ) (s : PortState) → HasRoom slots s.lane → HasRoom slots (moves_first b queue s).lane
+moves_memory true [] slots s room = room
+moves_memory true (frame ∷ frames) slots s room = record { guest = room.guest; hub = room.hub }
+moves_memory false queue slots s room = room
+
+pub before_room : (slots : ℕ) (event : NetEvent) (s : PortState) → HasRoom slots s.lane → HasRoom slots (before event s).lane
+before_room slots (Steps B answer) s room = moves_memory (takes_more s.lane.hub) s.queue slots s room
+before_room slots (Steps A answer) s room = room
+before_room slots (Asked e lost) s room = room
+before_room slots (Ticked queued lost) s room = room
+before_room slots (CalmTick queued) s room = room
+before_room slots (Gives e given) s room = room
+before_room slots (Joins joining) s room = room
+before_room slots (Loses e packet) s room = room
+before_room slots (Injects e packet) s room = room
+before_room slots (Pokes e at bytes) s room = room
+before_room slots (Declines d) s room = room
+
+port_room : (slots : ℕ) (s : PortState) (event : PortEvent) (t : PortState) → PortStep s event t → HasRoom slots s.lane → HasRoom slots t.lane
+port_room slots s (OnLane event) t step room = event_room slots (before event s).lane event t.lane step.1 (before_room slots event s room)
+port_room slots s (Receives frame) t step room = subst (λ (x : PortState). HasRoom slots x.lane) (sym step.2) (record { guest = room.guest; hub = room.hub })
+
+-- the pages of a ring of 2 to 64 slots
+power_some : (n : ℕ) → 1 ≤ 2 ^ n
+power_some zero = omega arith
+power_some (suc n) = omega (arith, power_some n)
+
+abbrev Enough : ℕ → Type 0
+Enough slots = 8192 + 2048 * slots ≤ 8192 * memory_pages slots
+
+power_room : (k slots : ℕ) → slots ≡ 2 ^ k → 2 ≤ slots → slots ≤ 64 → Enough slots
+power_room zero slots is some most = absurd (omega (arith, is, some))
+power_room (suc zero) slots is some most = subst Enough (sym is) (omega arith)
+power_room (suc (suc zero)) slots is some most = subst Enough (sym is) (omega arith)
+power_room (suc (suc (suc zero))) slots is some most = subst Enough (sym is) (omega arith)
+power_room (suc (suc (suc (suc zero)))) slots is some most = subst Enough (sym is) (omega arith)
+power_room (suc (suc (suc (suc (suc zero))))) slots is some most = subst Enough (sym is) (omega arith)
+power_room (suc (suc (suc (suc (suc (suc zero)))))) slots is some most = subst Enough (sym is) (omega arith)
+power_room (suc (suc (suc (suc (suc (suc (suc k))))))) slots is some most = absurd (omega (arith, is, most, power_some k))
+
+fresh_room : (shape : NetShape) → IsNetShape shape → HasRoom shape.slots (fresh_net shape)
+fresh_room shape is =
+    let enough = power_room is.slots.0 shape.slots is.slots.1 is.some_slots is.most_slots in
+    let long = length-replicate {A = ℕ} (8192 * memory_pages shape.slots) 0 in
+    record { guest = omega (arith, enough, long); hub = omega (arith, enough, long) }
+
+pub room_behind : (shape : NetShape) (events : List PortEvent) (s : PortState) → IsNetShape shape → Run PortStep (fresh_port shape) events s → HasRoom shape.slots s.lane
+room_behind shape events s is run =
+    run_keeps PortStep (λ (x : PortState). HasRoom shape.slots x.lane) (port_room shape.slots) (fresh_port shape) s events run (fresh_room shape is)

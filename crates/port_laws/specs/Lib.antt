@@ -4,3 +4,4 @@ pub mod PortCore
 pub mod LetsGo
 pub mod Counted
 pub mod Remaining
+pub mod RemainingSteps
