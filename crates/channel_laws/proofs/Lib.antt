@@ -27,6 +27,7 @@ pub mod HandshakeResets
 pub mod LinkRefuses
 pub mod Resets
 pub mod UnforgedResets
+pub mod PacketsTaken
 pub mod Sids
 pub mod CoreLaws
 pub mod Opening

@@ -39,7 +39,7 @@ left_more _ all n m more less = omega arith
 part_less : (xs : List ℕ) → 57 ≤ length xs → parts (length (drop 56 xs)) + 1 ≤ parts (length xs)
 part_less xs long = omega (arith, length-drop 56 xs, long)
 
-held_empty : (own : Bool) (xs : List ℕ) (owed : Option Message) → xs ≡ [] → held_left own xs owed ≡ parts_owed owed
+pub held_empty : (own : Bool) (xs : List ℕ) (owed : Option Message) → xs ≡ [] → held_left own xs owed ≡ parts_owed owed
 held_empty own [] owed empty = refl
 held_empty own (x ∷ xs) owed empty = absurd (cc empty)
 
@@ -62,10 +62,10 @@ held_part false (x ∷ xs) (y ∷ ys) owed some more less = omega (arith, less)
 later_at : (both_rings : Bool) (one other : Role) (at next : Phase) → one ≡ other → at ≡ next → later both_rings one at ≡ later both_rings other next
 later_at both_rings one other at next role phase_is = ap (λ (r : Role). later both_rings r at) role ∙ ap (later both_rings other) phase_is
 
-version_part : (sid major minor class : ℕ) → parts (length (canonical (info sid (Ver major minor class)))) ≡ 1
+pub version_part : (sid major minor class : ℕ) → parts (length (canonical (info sid (Ver major minor class)))) ≡ 1
 version_part sid major minor class = omega (arith, length_canonical (info sid (Ver major minor class)))
 
-ready_part : (sid : ℕ) → parts (length (canonical (info sid Rdx))) ≡ 1
+pub ready_part : (sid : ℕ) → parts (length (canonical (info sid Rdx))) ≡ 1
 ready_part sid = omega (arith, length_canonical (info sid Rdx))
 
 begun_left : (role : Role) (h : Handshake) → h.role ≡ role
@@ -74,7 +74,7 @@ begun_left Initiator h is =
     omega (arith, later_at h.offer.both_rings h.role Initiator Version Version is refl, version_part (next_sid (joined_handshake h)) 1 h.offer.minor h.offer.class)
 begun_left Responder h is = omega (arith, later_at h.offer.both_rings h.role Responder Version Version is refl)
 
-up_left : (h : Handshake) → later_in (handshake_up h) + parts_owed (handshake_up h).owed ≤ all_in h
+pub up_left : (h : Handshake) → later_in (handshake_up h) + parts_owed (handshake_up h).owed ≤ all_in h
 up_left h = begun_left h.role h refl
 
 -- once its message was put, the next one was counted
