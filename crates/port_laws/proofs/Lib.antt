@@ -23,6 +23,7 @@ mod StepCounts
 mod RemainingEnds
 mod PortCounts
 pub mod RemainingSteps
+pub mod RemainingTakes
 pub mod RuleFrames
 pub mod RuleRest
 pub mod RuleIdle

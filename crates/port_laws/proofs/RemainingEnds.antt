@@ -71,7 +71,7 @@ no_less : (role : Role) (n own : ℕ) → own ≡ 0 → n + put_weight role * ow
 no_less Initiator n own none = omega (arith, none)
 no_less Responder n own none = omega (arith, none)
 
-answers_less : (role : Role) (frames few many groups own : ℕ) → few + own ≤ many → frames + put_weight role * few + groups + put_weight role * own ≤ frames + put_weight role * many + groups
+pub answers_less : (role : Role) (frames few many groups own : ℕ) → few + own ≤ many → frames + put_weight role * few + groups + put_weight role * own ≤ frames + put_weight role * many + groups
 answers_less Initiator frames few many groups own less = omega (arith, less)
 answers_less Responder frames few many groups own less = omega (arith, less)
 
@@ -91,7 +91,7 @@ in_session_less role more memory s message p q what is less =
     subst (λ (x : Option NetSession). session_left role s.slots (length s.frames + more) memory (Some q) + put_weight role * own_in what
     ≤ session_left role s.slots (length s.frames + more) memory x) (sym is) less
 
-groups_same : (role : Role) (p q : NetSession) → q.untold ≡ p.untold → groups_left role (Some q) ≡ groups_left role (Some p)
+pub groups_same : (role : Role) (p q : NetSession) → q.untold ≡ p.untold → groups_left role (Some q) ≡ groups_left role (Some p)
 groups_same Initiator p q same = ap (λ (b : Bool). 4 * one_if b) same
 groups_same Responder p q same = refl
 
@@ -300,7 +300,7 @@ published_left role more memory new s p seen within ready =
     (omega (arith, seen, within)) (omega (arith, seen)) ready in
     omega (arith, less, groups_same role p (published p) refl)
 
-counts_stand : (s : NetEndState) (p : NetSession) → FramesStand s → s.session ≡ Some p → CountsStand s p
+pub counts_stand : (s : NetEndState) (p : NetSession) → FramesStand s → s.session ≡ Some p → CountsStand s p
 counts_stand s p stands is = subst (λ (x : Option NetSession). IfOpen x (CountsStand s)) is stands.session
 
 pub publishes_lower : (role : Role) (slots : ℕ) (queue : List (List ℕ)) (s : NetEndState) (l : EndLog) (turns : List Turn) (at : Seen) (memory : List ℕ) (reach : Reach) (id : ℕ)

@@ -1,9 +1,10 @@
 -- How many slots of an end's own ring are READY: a cleared ring has none, and a frame that is published makes it one more at most.
-use Rattle.std.proofs.Common.{◌≡◌, ◌≢◌, ℕ, zero, suc, ◌+◌, ◌*◌, ◌<◌, ◌≤◌, ◌⊎◌, inl, inr, Bool, true, false, List, length, refl, sym, ap, ◌∙◌, arith, length-append}
+use Rattle.std.proofs.Common.{◌≡◌, ◌≢◌, ℕ, zero, suc, ◌+◌, ◌*◌, ◌%◌, ◌<◌, ◌≤◌, ◌⊎◌, inl, inr, Bool, true, false, List, [], ◌∷◌, length, refl, sym, ap, ◌∙◌, arith, length-append}
 use Rattle.std.specs.Prelude.{◌==◌, slice_index}
 use Rattle.std.proofs.lemmas.Bool.{cases_order}
-use Rattle.dring.proofs.Turning.{one_slot_front, slot_cleared}
-use Rattle.dring.specs.Slots.{OneSlot, free_slots, ready_state, slot_bytes}
+use Rattle.std.proofs.lemmas.Nat.{mod_below}
+use Rattle.dring.proofs.Turning.{one_slot_front, slot_cleared, slot_front}
+use Rattle.dring.specs.Slots.{OneSlot, free_state, ready_state, slot_bytes}
 use Rattle.map_table.proofs.Putting.{length-cookies_bytes}
 use Rattle.vio_bytes.proofs.Putting.{take-put_at}
 use Rattle.vio_bytes.proofs.Ranges.{range_at-take}
@@ -14,7 +15,7 @@ use Rattle.vnet_msg.specs.Frames.{buffer_place, frame_buffer, frame_cookies, fra
 use Rattle.map_table.specs.Cookies.{cookies_bytes}
 use Rattle.port_model.specs.NetEndPutting.{cleared_ring}
 use Rattle.port_model.specs.NetEndStep.{published_memory}
-use Rattle.port_model.specs.NetEndTaking.{slot_state}
+use Rattle.port_model.specs.NetEndTaking.{freed, slot_state}
 use Rattle.port_laws.specs.NetCore.{one_if}
 use Rattle.port_laws.specs.Remaining.{ready_slots}
 use Rattle.port_laws.proofs.MemoryRoom.{put_longer}
@@ -58,6 +59,46 @@ one_more slots k (suc n) memory new one within below =
     goes_on : ready_slots n new ≤ ready_slots n memory + 1 → (n < k) ⊎ (k < n) → ready_slots (suc n) new ≤ ready_slots (suc n) memory + 1
     goes_on before (inl less) = next before (λ same. absurd (omega (arith, same, less)))
     goes_on before (inr past) = next before (λ same. absurd (omega (arith, same, past)))
+
+-- that isn't READY then
+one_less : (slots k n : ℕ) (memory new : List ℕ) → OneSlot 64 slots k memory new → slot_state k new ≡ free_state → n ≤ slots → ready_slots n new ≤ ready_slots n memory
+one_less slots k zero memory new one free within = omega arith
+one_less slots k (suc n) memory new one free within =
+    let before = one_less slots k n memory new one free (omega (arith, within)) in
+    elim (cases_order n k) [
+      | inl same ↦ (
+          let state : slot_state n new ≡ free_state = ap (λ (i : ℕ). slot_state i new) same ∙ free in
+          omega (arith, before, ap (λ (x : ℕ). one_if (x == ready_state)) state))
+      | inr apart ↦ goes_on before apart
+    ]
+  where
+    next : ready_slots n new ≤ ready_slots n memory → n ≢ k → ready_slots (suc n) new ≤ ready_slots (suc n) memory
+    next before other =
+        let state : slot_state n new ≡ slot_state n memory = ap (λ (bytes : List ℕ). slice_index bytes 0) (one.others n (omega (arith, within)) other) in
+        omega (arith, before, ap (λ (x : ℕ). one_if (x == ready_state)) state)
+
+    goes_on : ready_slots n new ≤ ready_slots n memory → (n < k) ⊎ (k < n) → ready_slots (suc n) new ≤ ready_slots (suc n) memory
+    goes_on before (inl less) = next before (λ same. absurd (omega (arith, same, less)))
+    goes_on before (inr past) = next before (λ same. absurd (omega (arith, same, past)))
+
+free_byte : (bytes : List ℕ) → slice_index (put_at 0 (free_state ∷ []) bytes) 0 ≡ free_state
+free_byte bytes = refl
+
+-- SLOTS THAT BECOME FREE
+pub freed_less : (slots number count : ℕ) (memory : List ℕ) → 1 ≤ slots → 64 * slots ≤ length memory → ready_slots slots (freed slots number count memory) ≤ ready_slots slots memory
+freed_less slots number zero memory some room = omega arith
+freed_less slots number (suc count) memory some room =
+    let k : ℕ = number % slots in
+    let below : k < slots = mod_below number slots some in
+    let next : List ℕ = put_at (64 * k) (free_state ∷ []) memory in
+    let one : OneSlot 64 slots k memory next = one_slot_front 64 slots k (free_state ∷ []) memory below (omega arith) room in
+    let free : slot_state k next ≡ free_state =
+    ap (λ (bytes : List ℕ). slice_index bytes 0) (slot_front 64 slots k (free_state ∷ []) memory below (omega arith) room) ∙ free_byte (slot_bytes 64 k memory) in
+    omega (
+      arith,
+      one_less slots k slots memory next one free (omega arith),
+      freed_less slots (number + 1) count next some (omega (arith, one.long, room)),
+    )
 
 -- a write behind the ring leaves its slots
 buffer_slot : (at slot : ℕ) (piece memory : List ℕ) → 64 * slot + 64 ≤ at → at ≤ length memory → slot_bytes 64 slot (put_at at piece memory) ≡ slot_bytes 64 slot memory

@@ -61,7 +61,7 @@ moves_same true (frame ∷ frames) s is =
     )
 moves_same false queue s is = refl
 
-steps_before : (e : End) (answer : NetAnswer) (s : PortState) → remaining (before (Steps e answer) s) ≡ remaining s
+pub steps_before : (e : End) (answer : NetAnswer) (s : PortState) → remaining (before (Steps e answer) s) ≡ remaining s
 steps_before A answer s = refl
 steps_before B answer s = moves_same (takes_more s.lane.hub) s.queue s refl
 
@@ -118,7 +118,7 @@ joined_left role begun s turns memory more stands =
     first_sum role s.slots n (length (drop (unseen s.session) s.frames) + more) (length s.frames + more) (packets_left (net_core role (joined_net_end role s))) memory is
     (omega (arith, length-drop (unseen s.session) s.frames))
 
-second_less : (lossy : Bool) (n m : ℕ) → n ≤ m → second_life lossy n ≤ second_life lossy m
+pub second_less : (lossy : Bool) (n m : ℕ) → n ≤ m → second_life lossy n ≤ second_life lossy m
 second_less true n m less = omega (arith, less)
 second_less false n m less = omega arith
 
@@ -170,7 +170,7 @@ joins_b Resetting h u queued away less frames =
     omega (arith, less, second_less u.wire.lossy (length u.guest.frames + length h.frames + queued) (length u.guest.frames + length u.hub.frames + queued) (omega (arith, frames)))
 
 -- A STEP, by its answer
-up_of : (x : ChannelState) → is_up x ≡ true → x ≡ Up
+pub up_of : (x : ChannelState) → is_up x ≡ true → x ≡ Up
 up_of Up is = refl
 up_of Down is = false_true is
 up_of Resetting is = false_true is
@@ -298,7 +298,7 @@ lane_calm shape u l A answer t ready step calm = guest_calm shape u l answer t r
 lane_calm shape u l B answer t ready step calm = hub_calm shape u l answer t ready step calm
 
 -- ALONG EVERY RUN
-abbrev ready_here : (shape : NetShape) (events : List PortEvent) (s : PortState) (event : NetEvent) → IsNetShape shape → Run PortStep (fresh_port shape) events s
+abbrev pub ready_here : (shape : NetShape) (events : List PortEvent) (s : PortState) (event : NetEvent) → IsNetShape shape → Run PortStep (fresh_port shape) events s
     → Ready shape (before event s) (log_of after (no_events shape) events)
 ready_here shape events s event is run = ready_before shape s (log_of after (no_events shape) events) event is (port_counts shape events s is run)
 
