@@ -1,17 +1,16 @@
 -- How many packets an end has still to put: the number falls with each packet that it puts, and rises by one as its link holds a message of
 -- its session.
-use Rattle.std.proofs.Common.{◌≡◌, ℕ, ◌+◌, ◌≤◌, Bool, true, false, Option, Some, None, List, [], ◌∷◌, length, drop, refl, sym, ap, ◌∙◌, subst, arith, length-drop}
+use Rattle.std.proofs.Common.{◌≡◌, ℕ, ◌+◌, ◌≤◌, Bool, true, false, Option, List, [], ◌∷◌, length, drop, refl, sym, ap, ◌∙◌, subst, arith, length-drop}
 use Rattle.std.proofs.lemmas.Bool.{leb-false}
 use Rattle.ldc_link.specs.declared.phase.LinkPhase.{LinkPhase}
 use Rattle.ldc_link.specs.declared.phase.LinkPhase.TheVariants as phase
 use Rattle.ldc_link.specs.declared.phase.Role.{Role}
 use Rattle.ldc_link.specs.declared.phase.Role.TheVariants.{Initiator, Responder}
-use Rattle.ldc_link.specs.LinkState.{LinkState, first_phase, fresh_link, is_established, is_up, offered}
+use Rattle.ldc_link.specs.LinkState.{LinkState, is_established, offered}
 use Rattle.ldc_queue.specs.Transcript.{Turn}
 use Rattle.vio_handshake.specs.declared.handshake.Handshake.{Handshake}
 use Rattle.vio_handshake.specs.declared.handshake.Phase.{Phase}
 use Rattle.vio_handshake.specs.declared.handshake.Phase.TheVariants.{Open, OwnReady, OwnRing, PeerReadyTaken, PeerRingTaken, Version}
-use Rattle.vio_handshake.specs.declared.session.Offer.{Offer}
 use Rattle.vio_handshake.specs.Messages.{info, own_ring}
 use Rattle.vio_handshake.specs.Rules.{handshake_sent}
 use Rattle.vio_handshake.specs.State.{begun, handshake_up, joined_handshake, next_sid}

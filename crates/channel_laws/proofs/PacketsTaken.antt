@@ -1,6 +1,6 @@
 -- How many packets an end has still to put doesn't grow by what it takes, where nobody forged and each ring has at most five cookies.
 use Rattle.std.proofs.Common.{◌≡◌, ℕ, ◌+◌, ◌≤◌, Bool, true, false, Option, Some, None, List, [], ◌∷◌, ◌++◌, length, refl, sym, ap, ◌∙◌, subst, inl, inr, arith}
-use Rattle.std.specs.Prelude.{if◌then◌else◌, nat_eq, slice_get, take, ⊤}
+use Rattle.std.specs.Prelude.{if◌then◌else◌, nat_eq, slice_get, take}
 use Rattle.std.proofs.lemmas.List.{length-take}
 use Rattle.runs.specs.Lawful.{log_of}
 use Rattle.runs.specs.Run.{Run}
@@ -20,7 +20,6 @@ use Rattle.ldc_queue.specs.Transcript.{Turn}
 use Rattle.map_table.proofs.Putting.{length-cookies_bytes}
 use Rattle.map_table.specs.declared.cookie.Cookie.{Cookie}
 use Rattle.vio_handshake.specs.declared.handshake.Handshake.{Handshake}
-use Rattle.vio_handshake.specs.declared.handshake.Phase.{Phase}
 use Rattle.vio_handshake.specs.declared.handshake.Phase.TheVariants.{Open}
 use Rattle.vio_handshake.specs.declared.session.Offer.{Offer}
 use Rattle.vio_handshake.specs.Messages.{ack, info}
@@ -28,12 +27,12 @@ use Rattle.vio_handshake.specs.Offers.{Match}
 use Rattle.vio_handshake.specs.Rules.{handshake_take}
 use Rattle.vio_handshake.specs.State.{handshake_up}
 use Rattle.vio_handshake.proofs.MessageWidths.{answered_long, said_long}
-use Rattle.vio_handshake.specs.Attributes.{answered_attributes, said_attributes}
+use Rattle.vio_handshake.specs.Attributes.{said_attributes}
 use Rattle.vio_handshake.proofs.PlaceRows.{take_at}
 use Rattle.vio_handshake.proofs.Places.{AllSaid, AttributesAnswered, AttributesSaid, Deal, IsPlace, PeerReadyAnswered, PeerReadySaid, PeerRingAnswered, PeerRingSaid, Place, ReadyAnswered, ReadySaid, RingAnswered, RingSaid, VersionAnswered, VersionSaid, handshake_at, message_at, minor_of, next, offer_at, owner, phase_at}
 use Rattle.vio_tag.proofs.Canonical.{length_canonical}
 use Rattle.vio_tag.specs.declared.message.Message.{Message}
-use Rattle.vio_tag.specs.declared.message.MsgBody.TheVariants.{Attr, DringReg, Rdx, Ver}
+use Rattle.vio_tag.specs.declared.message.MsgBody.TheVariants.{DringReg}
 use Rattle.vio_tag.specs.Spelling.{canonical}
 use Rattle.channel_model.specs.Sayings.{heard, said}
 use Rattle.channel_model.specs.TranscriptLog.{TranscriptLog}
@@ -43,11 +42,11 @@ use Rattle.channel_laws.proofs.CoreRuns.{Knows}
 use Rattle.channel_laws.proofs.EndCases.{EndTook, NoMessage, Rises, TookHandshake, TookMessage, TookOwn, TookWhat, end_took, taken_down}
 use Rattle.channel_laws.proofs.EndStanding.{SameSending, heard_sending, holds_some, open_declines, up_empty}
 use Rattle.channel_laws.proofs.HandshakeCases.{HandshakeTook}
-use Rattle.channel_laws.proofs.HandshakePlaces.{AtPlace, IsOwn, Matches, deal, deal_fits, goes_alike, message_is, open_place, own_heard, owes_at, owes_not, peer_said, place_bytes, who}
+use Rattle.channel_laws.proofs.HandshakePlaces.{AtPlace, IsOwn, Matches, deal, deal_fits, goes_alike, message_is, open_place, own_heard, owes_at, peer_said, place_bytes, who}
 use Rattle.channel_laws.proofs.HandshakesPlaced.{Meets, meets_keep, never_declined, peer_place}
 use Rattle.channel_laws.proofs.Lifting.{BothStand}
 use Rattle.channel_laws.proofs.LinkCases.{ControlHeard, ControlTaken, LinkHeard, ModeAgreed, ModeAsked, PartHeard, ReadyHeard, VersionAgreed, VersionAsked}
-use Rattle.channel_laws.proofs.PacketsLeft.{held_empty, ready_part, up_left}
+use Rattle.channel_laws.proofs.PacketsLeft.{held_empty, up_left}
 use Rattle.channel_laws.proofs.Script.{not_last}
 use Rattle.channel_laws.proofs.Sessions.{meets_knows}
 use Rattle.channel_laws.specs.CoreLog.{after, nothing_yet}

@@ -1,5 +1,5 @@
 -- Each event of a port's lane leaves both memories as long as they were, or longer, also where somebody forges.
-use Rattle.std.proofs.Common.{◌≡◌, ℕ, zero, suc, ◌+◌, ◌≤◌, Bool, true, false, Option, Some, None, List, [], ◌∷◌, ◌++◌, length, drop, refl, sym, subst, arith, length-append, length-drop}
+use Rattle.std.proofs.Common.{◌≡◌, ℕ, zero, suc, ◌+◌, ◌≤◌, Bool, true, false, Option, Some, None, List, [], ◌∷◌, ◌++◌, length, drop, sym, subst, arith, length-append, length-drop}
 use Rattle.std.specs.Prelude.{Result, Ok, Err, ◌%◌, ◌*◌, ◌^◌, ◌==◌, ◌&&◌, map, nat_le, nat_lt, if◌then◌else◌, slice_index, take, ⊤}
 use Rattle.std.proofs.lemmas.List.{length-replicate, length-take}
 use Rattle.cookie_copy.proofs.Steps.{length-write_spots}
@@ -15,7 +15,6 @@ use Rattle.ldc_link.specs.LinkState.{cleared}
 use Rattle.ldc_link.specs.Taking.{Heard, LinkTake, Unheard}
 use Rattle.ldc_packet.specs.declared.packet.Subtype.{Subtype}
 use Rattle.ldc_packet.specs.declared.packet.Subtype.TheVariants.{Ack, Info, Nack}
-use Rattle.ldc_queue.specs.declared.end.End.{End}
 use Rattle.ldc_queue.specs.declared.end.End.TheVariants.{A, B}
 use Rattle.vio_bytes.specs.Place.{put_at}
 use Rattle.vio_handshake.specs.Rules.{Faults, Goes, GoesOpen, HandshakeTake, handshake_take, sid_fault}
@@ -27,15 +26,15 @@ use Rattle.vio_tag.specs.declared.message.MsgBody.TheVariants.{DringData, Mcast}
 use Rattle.vio_tag.specs.declared.message.TagFault.{TagFault}
 use Rattle.vnet_msg.specs.declared.desc.NetDesc.{NetDesc}
 use Rattle.vnet_msg.specs.Descriptor.{canonical, net_desc_of}
-use Rattle.vnet_msg.specs.Frames.{buffer_place, frame_buffer, frame_desc, frame_in, header, holds_frame, memory_pages, moved_size}
+use Rattle.vnet_msg.specs.Frames.{buffer_place, frame_buffer, frame_desc, header, holds_frame, memory_pages}
 use Rattle.channel_model.specs.Ranges.{is_other, range_length}
 use Rattle.channel_model.specs.Seeing.{Seen}
 use Rattle.port_model.specs.Fetching.{Fetched, IsFrame, NotReady, Refuses, copied, described, fetched, frame_fault, mark_fault, marked, read, slot_read, slots_cookies}
 use Rattle.port_model.specs.Groups.{groups_after}
 use Rattle.port_model.specs.NetEndPutting.{cleared_by_put, net_opens}
-use Rattle.port_model.specs.NetEndState.{NetEndState, NetSession, opened_net_end, with_session}
+use Rattle.port_model.specs.NetEndState.{NetEndState, NetSession, with_session}
 use Rattle.port_model.specs.NetEndStep.{Blocked, Frame, Idle, Joined, NetAnswer, NetEndStep, NetLeft, Published, Reset, Sent, Took, published_memory}
-use Rattle.port_model.specs.NetEndTaking.{GoesOn, HearsLink, HearsWhole, NetTake, NetTakes, Resets, active, acknowledged, by_handshake, ends_outside, first_undone, freed, hears_message, in_session, opens_by_take, reads, refused, risen, sid_first, takes_ack, takes_done, takes_groups, takes_info, takes_range, told}
+use Rattle.port_model.specs.NetEndTaking.{GoesOn, HearsLink, HearsWhole, NetTake, Resets, active, by_handshake, ends_outside, first_undone, freed, hears_message, in_session, opens_by_take, reads, refused, risen, sid_first, takes_ack, takes_done, takes_groups, takes_info, takes_range, told}
 use Rattle.port_model.specs.NetEvent.{Asked, CalmTick, Declines, Gives, Injects, Joins, Loses, NetEvent, Pokes, Steps, Ticked}
 use Rattle.port_model.specs.NetLaneState.{IsNetShape, NetLaneState, NetShape, fresh_net}
 use Rattle.port_model.specs.NetLaneStep.{NetLaneStep}

@@ -1,5 +1,5 @@
 -- What remains on a port that nobody forged falls by each packet that an end takes.
-use Rattle.std.proofs.Common.{◌≡◌, ℕ, ◌+◌, ◌-◌, ◌*◌, ◌%◌, ◌<◌, ◌≤◌, Bool, true, false, Option, Some, None, List, [], ◌∷◌, length, drop, refl, sym, subst, ap, ◌∙◌, arith, length-drop}
+use Rattle.std.proofs.Common.{◌≡◌, ℕ, ◌+◌, ◌-◌, ◌*◌, ◌<◌, ◌≤◌, Bool, true, false, Option, Some, None, List, [], ◌∷◌, length, drop, refl, sym, subst, ap, ◌∙◌, arith, length-drop}
 use Rattle.std.specs.Prelude.{Result, Ok, Err, is_some, slice_get, ⊤}
 use Rattle.ldc_link.specs.declared.phase.Role.{Role}
 use Rattle.ldc_link.specs.declared.phase.Role.TheVariants.{Initiator, Responder}
@@ -7,7 +7,7 @@ use Rattle.ldc_link.specs.LinkState.{LinkState, cleared}
 use Rattle.ldc_link.specs.Taking.{Heard, LinkTake, Unheard}
 use Rattle.ldc_packet.specs.declared.packet.Subtype.{Subtype}
 use Rattle.ldc_queue.specs.declared.end.ChannelState.{ChannelState}
-use Rattle.ldc_queue.specs.declared.end.ChannelState.TheVariants.{Down, Resetting, Up}
+use Rattle.ldc_queue.specs.declared.end.ChannelState.TheVariants.{Up}
 use Rattle.ldc_queue.specs.declared.end.End.{End}
 use Rattle.ldc_queue.specs.declared.end.End.TheVariants.{A, B}
 use Rattle.ldc_queue.specs.Transcript.{Turn}
@@ -25,32 +25,29 @@ use Rattle.channel_laws.specs.LaneCore.{end_of}
 use Rattle.channel_laws.specs.PacketsLeft.{packets_left}
 use Rattle.channel_laws.specs.Standing.{EndStands, is_open_in}
 use Rattle.port_model.proofs.Ruling.{says_of}
-use Rattle.port_model.specs.EndLog.{EndLog}
 use Rattle.port_model.specs.FramesStand.{CountsStand, FramesStand}
 use Rattle.port_model.specs.NetEndPutting.{cleared_ring}
-use Rattle.port_model.specs.NetEndRule.{Takes, port_rule}
-use Rattle.port_model.specs.NetEndState.{Activity, GroupsReply, NetEndState, NetSession, opened_net_end, unseen_in, with_session}
-use Rattle.port_model.specs.NetEndStep.{NetAnswer, NetLeft, Took}
+use Rattle.port_model.specs.NetEndRule.{Takes}
+use Rattle.port_model.specs.NetEndState.{GroupsReply, NetEndState, NetSession, opened_net_end, unseen_in, with_session}
+use Rattle.port_model.specs.NetEndStep.{Took}
 use Rattle.port_model.specs.NetEndTaking.{GoesOn, HearsLink, HearsWhole, NetTake, NetTakes, Resets, acknowledged, active, by_handshake, freed, hears_message, opens_by_take, reads, replying, risen}
 use Rattle.port_model.specs.NetEvent.{NetEvent, Steps}
-use Rattle.port_model.specs.NetLaneState.{IsNetShape, NetLaneState, NetShape, seen_at, with_left}
+use Rattle.port_model.specs.NetLaneState.{IsNetShape, NetLaneState, NetShape, seen_at}
 use Rattle.port_model.specs.NetLaneStep.{EndSteps}
 use Rattle.port_model.specs.Offers.{port_offer}
 use Rattle.port_model.specs.PortLog.{PortLog, after, no_events}
 use Rattle.port_model.specs.PortState.{OnLane, PortEvent, PortState, PortStep, before, fresh_port}
-use Rattle.port_model.specs.RuleFacts.{IfOpen, MayListen}
 use Rattle.port_laws.specs.NetCore.{is_begun, lane_core, net_core, net_core_at, one_if}
 use Rattle.port_laws.specs.PortCore.{port_core, port_events}
-use Rattle.port_laws.specs.Remaining.{answers_left, end_left, frames_left, groups_left, put_weight, ready_slots, ready_weight, remaining, remaining_of, second_life, session_left, took_some}
+use Rattle.port_laws.specs.Remaining.{answers_left, end_left, frames_left, groups_left, put_weight, ready_slots, ready_weight, remaining, remaining_of, session_left, took_some}
 use Rattle.port_laws.proofs.CoreLaws.{offers_match, sizes_fit}
 use Rattle.port_laws.proofs.MemoryRoom.{HasRoom, before_room, room_behind}
-use Rattle.port_laws.proofs.MessageDoes.{Acks, Asks, Declines, Does, MessageDoes, Names, TakeDoes, Told, message_does}
+use Rattle.port_laws.proofs.MessageDoes.{Acks, Asks, Declines, MessageDoes, Names, TakeDoes, Told, message_does}
 use Rattle.port_laws.proofs.PortCounts.{Ready, guest_acts, hub_acts}
 use Rattle.port_laws.proofs.PortRuns.{before_core, fresh_port_core, port_fits_behind, port_step_core}
-use Rattle.port_laws.proofs.RemainingEnds.{answers_less, counts_stand, groups_same, own_left, up_left}
+use Rattle.port_laws.proofs.RemainingEnds.{answers_less, counts_stand, groups_same, own_left}
 use Rattle.port_laws.proofs.RemainingReady.{cleared_none, freed_less}
 use Rattle.port_laws.proofs.RemainingSteps.{ready_here, second_less, steps_before, up_of}
-use Rattle.port_laws.proofs.StepCounts.{Acting}
 use Rattle.port_laws.proofs.TookCounts.{risen_up, session_open, session_up}
 
 -- WHAT AN END MAY OWE for a packet that it takes: the switch's end an answer to groups
