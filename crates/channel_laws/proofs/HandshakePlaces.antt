@@ -293,7 +293,7 @@ abbrev pub peer_said : (both : Bool) (d : Deal) (r : Role) (h : Handshake) (turn
 peer_said both d r h turns at = record { place = at.place; more = at.mine; is = at.said_is; only = λ far. (at.only far).0 }
 
 -- IT HEARS the message of its place
-goes_alike : (h g : Handshake) (take answer : HandshakeTake) → take ≡ answer → GoesTo take h → GoesTo answer g → h ≡ g
+pub goes_alike : (h g : Handshake) (take answer : HandshakeTake) → take ≡ answer → GoesTo take h → GoesTo answer g → h ≡ g
 goes_alike h g take answer is (inl one) (inl two) = let same : Goes h ≡ Goes g = sym one ∙ is ∙ two in cc same
 goes_alike h g take answer is (inl one) (inr two) = let same : Goes h ≡ GoesOpen g = sym one ∙ is ∙ two in absurd (cc same)
 goes_alike h g take answer is (inr one) (inl two) = let same : GoesOpen h ≡ Goes g = sym one ∙ is ∙ two in absurd (cc same)

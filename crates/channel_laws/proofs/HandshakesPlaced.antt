@@ -324,7 +324,7 @@ declined_code Info (Plain envelope) (inl form) is = omega (arith, form)
 declined_code Info (Plain envelope) (inr form) is = omega (arith, form)
 declined_code s b form is = absurd (cc is)
 
-never_declined : (m d : Message) (bytes : List ℕ) → IsOfSession m.body → bytes ≡ canonical m → HasForm d.body → SpellsMessage bytes d → is_declined d.subtype d.body ≡ true → ⊥
+pub never_declined : (m d : Message) (bytes : List ℕ) → IsOfSession m.body → bytes ≡ canonical m → HasForm d.body → SpellsMessage bytes d → is_declined d.subtype d.body ≡ true → ⊥
 never_declined m d bytes of is form spells declined =
     let same : envelope_code m.body ≡ envelope_code d.body = sym (envelope_reads m of) ∙ sym (ap envelope_at is) ∙ spells.envelope in
     elim (own_code m.body of) [

@@ -6,6 +6,7 @@ pub mod EndCases
 pub mod EndStanding
 pub mod EndResting
 pub mod Budgets
+pub mod PacketsLeft
 pub mod FewLost
 pub mod Conversations
 pub mod Lifting
@@ -26,6 +27,7 @@ pub mod HandshakeResets
 pub mod LinkRefuses
 pub mod Resets
 pub mod UnforgedResets
+pub mod PacketsTaken
 pub mod Sids
 pub mod CoreLaws
 pub mod Opening

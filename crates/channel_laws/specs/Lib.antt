@@ -14,3 +14,4 @@ pub mod CoreLog
 pub mod Resetting
 pub mod ToyKind
 pub mod EndFold
+pub mod PacketsLeft

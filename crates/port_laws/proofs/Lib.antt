@@ -12,13 +12,18 @@ mod MessageDoes
 mod OwnBytes
 mod HandshakeKeeps
 mod EndCounting
+mod MemoryRoom
+mod RemainingReady
 pub mod LettingGo
 mod HeardCounts
 mod HeldCounts
 mod PutCounts
 mod TookCounts
 mod StepCounts
+mod RemainingEnds
 mod PortCounts
+pub mod RemainingSteps
+pub mod RemainingTakes
 pub mod RuleFrames
 pub mod RuleRest
 pub mod RuleIdle

@@ -60,7 +60,7 @@ risen_if true true h g up = refl
 risen_if false true h g up = refl
 risen_if b false h g up = false_true up
 
-risen_up : (role : Role) (before behind : LinkState) (h : Handshake) → is_up before ≡ true → risen role before behind h ≡ h
+pub risen_up : (role : Role) (before behind : LinkState) (h : Handshake) → is_up before ≡ true → risen role before behind h ≡ h
 risen_up Initiator before behind h up = refl
 risen_up Responder before behind h up = risen_if (is_up behind) (is_up before) h (handshake_up h) up
 

@@ -3,3 +3,5 @@ pub mod NetFits
 pub mod PortCore
 pub mod LetsGo
 pub mod Counted
+pub mod Remaining
+pub mod RemainingSteps

@@ -1,0 +1,290 @@
+-- What remains on a port that nobody forged falls by each packet that an end takes.
+use Rattle.std.proofs.Common.{◌≡◌, ℕ, ◌+◌, ◌-◌, ◌*◌, ◌<◌, ◌≤◌, Bool, true, false, Option, Some, None, List, [], ◌∷◌, length, drop, refl, sym, subst, ap, ◌∙◌, arith, length-drop}
+use Rattle.std.specs.Prelude.{Result, Ok, Err, is_some, slice_get, ⊤}
+use Rattle.ldc_link.specs.declared.phase.Role.{Role}
+use Rattle.ldc_link.specs.declared.phase.Role.TheVariants.{Initiator, Responder}
+use Rattle.ldc_link.specs.LinkState.{LinkState, cleared}
+use Rattle.ldc_link.specs.Taking.{Heard, LinkTake, Unheard}
+use Rattle.ldc_packet.specs.declared.packet.Subtype.{Subtype}
+use Rattle.ldc_queue.specs.declared.end.ChannelState.{ChannelState}
+use Rattle.ldc_queue.specs.declared.end.ChannelState.TheVariants.{Up}
+use Rattle.ldc_queue.specs.declared.end.End.{End}
+use Rattle.ldc_queue.specs.declared.end.End.TheVariants.{A, B}
+use Rattle.ldc_queue.specs.Transcript.{Turn}
+use Rattle.runs.specs.Lawful.{log_of}
+use Rattle.runs.specs.Run.{Run}
+use Rattle.vio_handshake.specs.declared.handshake.Handshake.{Handshake}
+use Rattle.vio_handshake.specs.Rules.{Faults, Goes, GoesOpen, HandshakeTake, handshake_take}
+use Rattle.vio_tag.specs.declared.message.Message.{Message}
+use Rattle.vio_tag.specs.declared.message.MsgBody.{MsgBody}
+use Rattle.vio_tag.specs.declared.message.TagFault.{TagFault}
+use Rattle.channel_model.specs.Ranges.{range_length}
+use Rattle.channel_model.specs.Seeing.{Seen}
+use Rattle.channel_laws.proofs.PacketsTaken.{unforged_took}
+use Rattle.channel_laws.specs.LaneCore.{end_of}
+use Rattle.channel_laws.specs.PacketsLeft.{packets_left}
+use Rattle.channel_laws.specs.Standing.{EndStands, is_open_in}
+use Rattle.port_model.proofs.Ruling.{says_of}
+use Rattle.port_model.specs.FramesStand.{CountsStand, FramesStand}
+use Rattle.port_model.specs.NetEndPutting.{cleared_ring}
+use Rattle.port_model.specs.NetEndRule.{Takes}
+use Rattle.port_model.specs.NetEndState.{GroupsReply, NetEndState, NetSession, opened_net_end, unseen_in, with_session}
+use Rattle.port_model.specs.NetEndStep.{Took}
+use Rattle.port_model.specs.NetEndTaking.{GoesOn, HearsLink, HearsWhole, NetTake, NetTakes, Resets, acknowledged, active, by_handshake, freed, hears_message, opens_by_take, reads, replying, risen}
+use Rattle.port_model.specs.NetEvent.{NetEvent, Steps}
+use Rattle.port_model.specs.NetLaneState.{IsNetShape, NetLaneState, NetShape, seen_at}
+use Rattle.port_model.specs.NetLaneStep.{EndSteps}
+use Rattle.port_model.specs.Offers.{port_offer}
+use Rattle.port_model.specs.PortLog.{PortLog, after, no_events}
+use Rattle.port_model.specs.PortState.{OnLane, PortEvent, PortState, PortStep, before, fresh_port}
+use Rattle.port_laws.specs.NetCore.{is_begun, lane_core, net_core, net_core_at, one_if}
+use Rattle.port_laws.specs.PortCore.{port_core, port_events}
+use Rattle.port_laws.specs.Remaining.{answers_left, end_left, frames_left, groups_left, put_weight, ready_slots, ready_weight, remaining, remaining_of, session_left, took_some}
+use Rattle.port_laws.proofs.CoreLaws.{offers_match, sizes_fit}
+use Rattle.port_laws.proofs.MemoryRoom.{HasRoom, before_room, room_behind}
+use Rattle.port_laws.proofs.MessageDoes.{Acks, Asks, Declines, MessageDoes, Names, TakeDoes, Told, message_does}
+use Rattle.port_laws.proofs.PortCounts.{Ready, guest_acts, hub_acts}
+use Rattle.port_laws.proofs.PortRuns.{before_core, fresh_port_core, port_fits_behind, port_step_core}
+use Rattle.port_laws.proofs.RemainingEnds.{answers_less, counts_stand, groups_same, own_left}
+use Rattle.port_laws.proofs.RemainingReady.{cleared_none, freed_less}
+use Rattle.port_laws.proofs.RemainingSteps.{ready_here, second_less, steps_before, up_of}
+use Rattle.port_laws.proofs.TookCounts.{risen_up, session_open, session_up}
+
+-- WHAT AN END MAY OWE for a packet that it takes: the switch's end an answer to groups
+abbrev slack : Role → ℕ
+slack Initiator = 0
+slack Responder = 2
+
+abbrev Gained : Role → ℕ → List ℕ → NetEndState → List ℕ → NetEndState → Type 0
+Gained role more memory s new t = (own_left role more new t ≤ own_left role more memory s + slack role) × (length t.frames ≤ length s.frames)
+
+abbrev Gains : Role → ℕ → List ℕ → NetEndState → NetTake → Type 0
+Gains role more memory s (GoesOn t opens new) = Gained role more memory s new t
+Gains role more memory s (Resets cause) = ⊤
+
+same_gained : (role : Role) (more : ℕ) (memory : List ℕ) (s : NetEndState) → Gained role more memory s memory s
+same_gained role more memory s = (omega arith, omega arith)
+
+-- IN SESSION, by its sums
+abbrev Sum : Role → ℕ → ℕ → List ℕ → NetSession → ℕ
+Sum role slots held memory p = session_left role slots held memory (Some p)
+
+with_gained : (role : Role) (more : ℕ) (memory new : List ℕ) (s t : NetEndState) (p q : NetSession) → s.session ≡ Some p → t.session ≡ Some q → length t.frames ≤ length s.frames
+    → Sum role t.slots (length t.frames + more) new q ≤ Sum role s.slots (length s.frames + more) memory p + slack role → Gained role more memory s new t
+with_gained role more memory new s t p q is after frames less = (
+  subst (λ (x : Option NetSession). session_left role t.slots (length t.frames + more) new x ≤ own_left role more memory s + slack role) (sym after)
+      (subst (λ (x : Option NetSession). Sum role t.slots (length t.frames + more) new q ≤ session_left role s.slots (length s.frames + more) memory x + slack role) (sym is) less),
+  frames,
+)
+
+asks_sum : (role : Role) (slots held : ℕ) (memory : List ℕ) (p : NetSession) (seq start : ℕ) → Sum role slots held memory (active p seq start) ≤ Sum role slots held memory p
+asks_sum role slots held memory p seq start =
+    let less = answers_less role (frames_left role slots held memory (Some p)) (0 + one_if (is_some p.reply)) (one_if (took_some p.active) + one_if (is_some p.reply)) (groups_left role (Some p)) 0 (omega arith) in
+    omega (arith, less, groups_same role p (active p seq start) refl)
+
+one_most : (b : Bool) → one_if b ≤ 1
+one_most true = omega arith
+one_most false = omega arith
+
+ack_falls : (role : Role) (fresh few many ready more rest : ℕ) → few ≤ many → ready ≤ more
+    → 8 * fresh + put_weight role * few + ready_weight role * ready + rest ≤ 8 * fresh + put_weight role * many + ready_weight role * more + rest
+ack_falls Initiator fresh few many ready more rest one two = omega (arith, one, two)
+ack_falls Responder fresh few many ready more rest one two = omega (arith, one, two)
+
+acks_sum : (role : Role) (slots count more : ℕ) (memory new : List ℕ) (frames : List (List ℕ)) (p : NetSession) → 1 ≤ count → p.seen + count ≤ p.published → unseen_in p ≤ length frames
+    → ready_slots slots new ≤ ready_slots slots memory
+    → Sum role slots (length (drop count frames) + more) new (record p { seen = p.seen + count; asking = false }) ≤ Sum role slots (length frames + more) memory p
+acks_sum role slots count more memory new frames p some within held ready =
+    let q : NetSession = record p { seen = p.seen + count; asking = false } in
+    let fresh : length (drop count frames) + more - unseen_in q ≡ length frames + more - unseen_in p = omega (arith, within, held, length-drop count frames) in
+    let less = ack_falls role (length frames + more - unseen_in p) (unseen_in q - 0) (unseen_in p - one_if p.asking) (ready_slots slots new) (ready_slots slots memory)
+    (answers_left role (Some p) + groups_left role (Some p)) (omega (arith, some, within, one_most p.asking)) ready in
+    omega (arith, less, fresh, groups_same role p q refl)
+
+names_sum : (role : Role) (slots held : ℕ) (memory : List ℕ) (p : NetSession) (reply : GroupsReply) → role ≡ Responder
+    → Sum role slots held memory (replying reply p) ≤ Sum role slots held memory p + slack role
+names_sum Responder slots held memory p reply is = omega arith
+names_sum Initiator slots held memory p reply is = absurd (cc is)
+
+told_sum : (role : Role) (slots held : ℕ) (memory : List ℕ) (p : NetSession) → Sum role slots held memory (record p { telling = false }) ≤ Sum role slots held memory p
+told_sum role slots held memory p = omega (arith, groups_same role p (record p { telling = false }) refl)
+
+range_some : (slots start end : ℕ) → 1 ≤ range_length slots start end
+range_some slots start end = omega arith
+
+abbrev GainedBy : Role → ℕ → List ℕ → NetEndState → NetEndState → List ℕ → Type 0
+GainedBy role more memory s t new = Gained role more memory s new t
+
+does_gain : (role : Role) (more : ℕ) (memory : List ℕ) (s : NetEndState) (p : NetSession) (subtype : Subtype) (b : MsgBody) (t : NetEndState) (new : List ℕ) → s.session ≡ Some p → CountsStand s p
+    → 1 ≤ s.slots → 64 * s.slots ≤ length memory → MessageDoes role s p memory subtype b t new → Gained role more memory s new t
+does_gain role more memory s p subtype b t new session stands some room (Asks seq ident start end state kind body place stays is) =
+    subst (λ (x : List ℕ). GainedBy role more memory s t x) (sym stays)
+    (subst (λ (x : NetEndState). GainedBy role more memory s x memory) (sym is)
+    (with_gained role more memory memory s (with_session (active p seq start) s) p (active p seq start) session refl (omega arith)
+    (omega (arith, asks_sum role s.slots (length s.frames + more) memory p seq start))))
+does_gain role more memory s p subtype b t new session stands some room (Acks seq ident start end state kind body begins inside most undone stays is) =
+    let count : ℕ = range_length s.slots start end in
+    subst (λ (x : List ℕ). GainedBy role more memory s t x) (sym stays)
+    (subst (λ (x : NetEndState). GainedBy role more memory s x (freed s.slots p.seen count memory)) (sym is)
+    (with_gained role more memory (freed s.slots p.seen count memory) s (acknowledged p count s) p (record p { seen = p.seen + count; asking = false }) session refl
+    (omega (arith, length-drop count s.frames))
+    (omega (
+      arith,
+      acks_sum role s.slots count more memory (freed s.slots p.seen count memory) s.frames p (range_some s.slots start end) most stands.held
+          (freed_less s.slots p.seen count memory some room),
+    ))))
+does_gain role more memory s p subtype b t new session stands some room (Names set count addresses groups reply answer hub kind body stays is) =
+    subst (λ (x : List ℕ). GainedBy role more memory s t x) (sym stays)
+    (subst (λ (x : NetEndState). GainedBy role more memory s x memory) (sym is)
+    (with_gained role more memory memory s (with_session (replying reply p) (record s { groups = groups })) p (replying reply p) session refl (omega arith)
+    (names_sum role s.slots (length s.frames + more) memory p reply hub)))
+does_gain role more memory s p subtype b t new session stands some room (Told set count addresses guest kind body telling stays is) =
+    subst (λ (x : List ℕ). GainedBy role more memory s t x) (sym stays)
+    (subst (λ (x : NetEndState). GainedBy role more memory s x memory) (sym is)
+    (with_gained role more memory memory s (with_session (record p { telling = false }) s) p (record p { telling = false }) session refl (omega arith)
+    (omega (arith, told_sum role s.slots (length s.frames + more) memory p))))
+does_gain role more memory s p subtype b t new session stands some room (Declines h declined stays is) =
+    subst (λ (x : List ℕ). GainedBy role more memory s t x) (sym stays)
+    (subst (λ (x : NetEndState). GainedBy role more memory s x memory) (sym is) (same_gained role more memory s))
+
+take_gains : (role : Role) (more : ℕ) (memory : List ℕ) (s : NetEndState) (p : NetSession) (subtype : Subtype) (b : MsgBody) (take : NetTake) → s.session ≡ Some p → CountsStand s p
+    → 1 ≤ s.slots → 64 * s.slots ≤ length memory → TakeDoes role s p memory subtype b take → Gains role more memory s take
+take_gains role more memory s p subtype b (GoesOn t opens new) session stands some room does = does_gain role more memory s p subtype b t new session stands some room does.does
+take_gains role more memory s p subtype b (Resets cause) session stands some room does = tt
+
+-- WITHOUT A SESSION one may open, whose ring is cleared
+opens_gain : (role : Role) (more : ℕ) (memory : List ℕ) (s : NetEndState) → s.session ≡ None → Gains role more memory s (opens_by_take role s memory)
+opens_gain Initiator more memory s closed = same_gained Initiator more memory s
+opens_gain Responder more memory s closed = (
+  subst (λ (x : Option NetSession). own_left Responder more (cleared_ring s.slots memory) (opened_net_end s) ≤ session_left Responder s.slots (length s.frames + more) memory x + 2) (sym closed)
+      (omega (arith, cleared_none s.slots memory)),
+  omega arith,
+)
+
+handshake_gains : (role : Role) (more : ℕ) (memory : List ℕ) (s : NetEndState) (take : HandshakeTake) → s.session ≡ None → Gains role more memory s (by_handshake role s memory take)
+handshake_gains role more memory s (Goes h) closed = same_gained role more memory s
+handshake_gains role more memory s (GoesOpen h) closed = opens_gain role more memory (record s { handshake = h }) closed
+handshake_gains role more memory s (Faults cause) closed = tt
+
+-- THE PACKET
+pub took_gains : (role : Role) (more : ℕ) (memory packet : List ℕ) (s t : NetEndState) (turns : List Turn) (opens : Bool) (new : List ℕ) → EndStands role (net_core role s) turns → FramesStand s
+    → 1 ≤ s.slots → 64 * s.slots ≤ length memory → NetTakes role s memory packet (GoesOn t opens new) → Gained role more memory s new t
+took_gains role more memory packet s t turns opens new ends stands some room takes = by_link takes.link takes.hears
+  where
+    seen : LinkState → NetEndState
+    seen k = record s { link = cleared k; handshake = risen role s.link k s.handshake }
+
+    by_session : (k : LinkState) (m : Message) (session : Option NetSession) → s.session ≡ session → Gains role more memory (seen k) (hears_message role (seen k) memory session m)
+    by_session k m None closed = handshake_gains role more memory (seen k) (handshake_take (seen k).handshake m) closed
+    by_session k m (Some p) session =
+        let stays : risen role s.link k s.handshake ≡ s.handshake = risen_up role s.link k s.handshake (session_up role s turns p ends session) in
+        let opened : is_open_in (seen k).handshake.phase ≡ true = ap (λ (h : Handshake). is_open_in h.phase) stays ∙ session_open role s turns p ends session in
+        let counts : CountsStand s p = counts_stand s p stands session in
+        take_gains role more memory (seen k) p m.subtype m.body (hears_message role (seen k) memory (Some p) m) session
+        (record { seen = counts.seen; held = counts.held; ids = counts.ids; asked = counts.asked; answered = counts.answered; some = counts.some })
+        some room (message_does role (seen k) p memory m opened)
+
+    by_decoded : (k : LinkState) (d : Result Message TagFault) → Gains role more memory s (reads role (seen k) memory d)
+    by_decoded k (Ok m) = gains_as k (hears_message role (seen k) memory s.session m) (by_session k m s.session refl)
+      where
+        gains_as : (k : LinkState) (take : NetTake) → Gains role more memory (seen k) take → Gains role more memory s take
+        gains_as k (GoesOn u opened now) gains = gains
+        gains_as k (Resets cause) gains = tt
+    by_decoded k (Err fault) = tt
+
+    by_whole : (k : LinkState) (whole : Option (List ℕ)) → HearsWhole role (record s { link = k; handshake = risen role s.link k s.handshake }) memory whole (GoesOn t opens new)
+        → Gained role more memory s new t
+    by_whole k None is = subst (Gains role more memory s) (sym is) (same_gained role more memory s)
+    by_whole k (Some bytes) hears = subst (Gains role more memory s) (sym hears.2) (by_decoded k hears.0)
+
+    by_link : (link : LinkTake) → HearsLink role s memory link (GoesOn t opens new) → Gained role more memory s new t
+    by_link (Heard k) hears = by_whole k k.whole hears
+    by_link (Unheard cause) hears = absurd (cc hears)
+
+-- THE LANE
+first_gone : (packet : List ℕ) (packets : List (List ℕ)) → slice_get packets 0 ≡ Some packet → length (drop 1 packets) + 1 ≡ length packets
+first_gone packet [] is = absurd (cc is)
+first_gone packet (one ∷ packets) is = omega (arith, length-drop 1 (one ∷ packets))
+
+weighs : (role : Role) (few many left less : ℕ) → few ≤ many → left ≤ less + slack role → put_weight role * few + left ≤ put_weight role * many + less + slack role
+weighs Initiator few many left less packets own = omega (arith, packets, own)
+weighs Responder few many left less packets own = omega (arith, packets, own)
+
+end_took : (x : ChannelState) (role : Role) (more : ℕ) (memory new : List ℕ) (s t : NetEndState) → x ≡ Up → packets_left (net_core role t) ≤ packets_left (net_core role s)
+    → Gained role more memory s new t → end_left x role more new t ≤ end_left x role more memory s + slack role
+end_took x role more memory new s t up packets gained =
+    subst (λ (y : ChannelState). end_left y role more new t ≤ end_left y role more memory s + slack role) (sym up)
+    (weighs role (packets_left (net_core role t)) (packets_left (net_core role s)) (own_left role more new t) (own_left role more memory s) packets gained.0)
+
+at_up : (x : ChannelState) (role : Role) (s : NetEndState) → x ≡ Up → packets_left (net_core_at role (is_begun x) s) ≡ packets_left (net_core role s)
+at_up x role s up = ap (λ (y : ChannelState). packets_left (net_core_at role (is_begun y) s)) up
+
+guest_took : (shape : NetShape) (u : PortState) (l : PortLog) (packet : List ℕ) (opens : Bool) (t : NetLaneState) → Ready shape u l → HasRoom shape.slots u.lane → EndSteps A u.lane (Took packet opens) t
+    → packets_left (lane_core t).a ≤ packets_left (lane_core u.lane).a → remaining_of t (length u.queue) + 1 ≤ remaining_of u.lane (length u.queue)
+guest_took shape u l packet opens t ready room step packets =
+    let at : Seen = seen_at A u.lane in
+    let says = says_of Initiator u.lane.guest at (Takes packet) step.step.0 in
+    let up : u.lane.wire.wire.end_a ≡ Up = up_of u.lane.wire.wire.end_a says.0.up in
+    let acting = guest_acts shape u l ready says.0.up in
+    let slots_is = acting.counts.slots_is in
+    let gained = took_gains Initiator 0 u.lane.guest_memory packet u.lane.guest step.left.end l.transcript.client opens step.left.own acting.ends acting.stands
+    (omega (arith, slots_is, acting.slots_fit.some)) (omega (arith, slots_is, room.guest)) step.step.1 in
+    let now : packets_left (net_core_at Initiator (is_begun u.lane.wire.wire.end_a) step.left.end) ≤ packets_left (lane_core u.lane).a =
+    subst (λ (x : NetLaneState). packets_left (lane_core x).a ≤ packets_left (lane_core u.lane).a) step.is packets in
+    let fewer : packets_left (net_core Initiator step.left.end) ≤ packets_left (net_core Initiator u.lane.guest) =
+    omega (arith, now, at_up u.lane.wire.wire.end_a Initiator step.left.end up, at_up u.lane.wire.wire.end_a Initiator u.lane.guest up) in
+    subst (λ (x : NetLaneState). remaining_of x (length u.queue) + 1 ≤ remaining_of u.lane (length u.queue)) (sym step.is)
+    (omega (
+      arith,
+      end_took u.lane.wire.wire.end_a Initiator 0 u.lane.guest_memory step.left.own u.lane.guest step.left.end up fewer gained,
+      first_gone packet u.lane.wire.wire.to_a says.1,
+      ap (λ (memory : List ℕ). end_left u.lane.wire.wire.end_b Responder (length u.queue) memory u.lane.hub) step.step.2,
+      second_less u.lane.wire.lossy (length step.left.end.frames + length u.lane.hub.frames + length u.queue) (length u.lane.guest.frames + length u.lane.hub.frames + length u.queue)
+          (omega (arith, gained.1)),
+    ))
+
+hub_took : (shape : NetShape) (u : PortState) (l : PortLog) (packet : List ℕ) (opens : Bool) (t : NetLaneState) → Ready shape u l → HasRoom shape.slots u.lane → EndSteps B u.lane (Took packet opens) t
+    → packets_left (lane_core t).b ≤ packets_left (lane_core u.lane).b → remaining_of t (length u.queue) + 1 ≤ remaining_of u.lane (length u.queue)
+hub_took shape u l packet opens t ready room step packets =
+    let at : Seen = seen_at B u.lane in
+    let says = says_of Responder u.lane.hub at (Takes packet) step.step.0 in
+    let up : u.lane.wire.wire.end_b ≡ Up = up_of u.lane.wire.wire.end_b says.0.up in
+    let acting = hub_acts shape u l ready says.0.up in
+    let slots_is = acting.counts.slots_is in
+    let gained = took_gains Responder (length u.queue) u.lane.hub_memory packet u.lane.hub step.left.end l.transcript.server opens step.left.own acting.ends acting.stands
+    (omega (arith, slots_is, acting.slots_fit.some)) (omega (arith, slots_is, room.hub)) step.step.1 in
+    let now : packets_left (net_core_at Responder (is_begun u.lane.wire.wire.end_b) step.left.end) ≤ packets_left (lane_core u.lane).b =
+    subst (λ (x : NetLaneState). packets_left (lane_core x).b ≤ packets_left (lane_core u.lane).b) step.is packets in
+    let fewer : packets_left (net_core Responder step.left.end) ≤ packets_left (net_core Responder u.lane.hub) =
+    omega (arith, now, at_up u.lane.wire.wire.end_b Responder step.left.end up, at_up u.lane.wire.wire.end_b Responder u.lane.hub up) in
+    subst (λ (x : NetLaneState). remaining_of x (length u.queue) + 1 ≤ remaining_of u.lane (length u.queue)) (sym step.is)
+    (omega (
+      arith,
+      end_took u.lane.wire.wire.end_b Responder (length u.queue) u.lane.hub_memory step.left.own u.lane.hub step.left.end up fewer gained,
+      first_gone packet u.lane.wire.wire.to_b says.1,
+      ap (λ (memory : List ℕ). end_left u.lane.wire.wire.end_a Initiator 0 memory u.lane.guest) step.step.2,
+      second_less u.lane.wire.lossy (length u.lane.guest.frames + length step.left.end.frames + length u.queue) (length u.lane.guest.frames + length u.lane.hub.frames + length u.queue)
+          (omega (arith, gained.1)),
+    ))
+
+lane_took : (shape : NetShape) (u : PortState) (l : PortLog) (e : End) (packet : List ℕ) (opens : Bool) (t : NetLaneState) → Ready shape u l → HasRoom shape.slots u.lane
+    → EndSteps e u.lane (Took packet opens) t → packets_left (end_of e (lane_core t)) ≤ packets_left (end_of e (lane_core u.lane))
+    → remaining_of t (length u.queue) + 1 ≤ remaining_of u.lane (length u.queue)
+lane_took shape u l A packet opens t ready room step packets = guest_took shape u l packet opens t ready room step packets
+lane_took shape u l B packet opens t ready room step packets = hub_took shape u l packet opens t ready room step packets
+
+-- ALONG EVERY RUN
+pub port_took : (shape : NetShape) (events : List PortEvent) (s : PortState) (e : End) (packet : List ℕ) (opens : Bool) (t : PortState) → IsNetShape shape → Run PortStep (fresh_port shape) events s
+    → s.lane.wire.forged ≡ false → PortStep s (OnLane (Steps e (Took packet opens))) t → remaining t < remaining s
+port_took shape events s e packet opens t is run clean step =
+    let event : NetEvent = Steps e (Took packet opens) in
+    let u : PortState = before event s in
+    let one : 1 ≤ 5 = omega arith in
+    let packets : packets_left (end_of e (port_core t)) ≤ packets_left (end_of e (port_core s)) =
+    unforged_took shape.entries (port_offer Initiator shape.address shape.slots) (port_offer Responder shape.address shape.slots) (port_events events) (port_core s) e packet opens (port_core t)
+    (sizes_fit shape is) (offers_match shape is) one one (fresh_port_core shape events s run) clean (port_step_core s (OnLane event) t (port_fits_behind shape events s run) step) in
+    let here : packets_left (end_of e (lane_core t.lane)) ≤ packets_left (end_of e (lane_core u.lane)) =
+    subst (λ x. packets_left (end_of e (lane_core t.lane)) ≤ packets_left (end_of e x)) (sym (before_core event s)) packets in
+    let less = lane_took shape u (log_of after (no_events shape) events) e packet opens t.lane (ready_here shape events s event is run)
+    (before_room shape.slots event s (room_behind shape events s is run)) step.1 here in
+    omega (arith, less, steps_before e (Took packet opens) s, ap (λ (x : List (List ℕ)). remaining_of t.lane (length x)) step.2)
