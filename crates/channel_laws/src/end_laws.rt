@@ -19,10 +19,10 @@ ghost use Rattle.channel_laws.specs.Resetting.{ResetsFor};
 ghost use Rattle.channel_laws.specs.Standing.{EndStands};
 ghost use Rattle.channel_laws.specs.Utterances.{SaysEach};
 
-/// Along every run of two ends on a channel each stands by its role: its link is in a phase of the role and follows what
-/// the end said and heard since it last began, and has shown each whole message; its handshake offers what the end does,
-/// and that stays; the session is open exactly where the handshake is; before its link is up it holds and owes nothing;
-/// and what the link holds is the rest of the message that the handshake owes, or of one of the open session.
+/// Along every run of two ends on a channel each stands by its role. Its link is in a phase of the role, follows what
+/// the end said and heard since it last began, and has shown each whole message. Its handshake offers what the end
+/// does, and that stays; the session is open exactly where the handshake is. Before its link is up it holds and owes
+/// nothing. And what the link holds is the rest of the message that the handshake owes, or of one of the open session.
 pub fn an_end_stands_by_its_role()
     ensures initiator { (entries : ℕ) (asks answers : Offer) (events : List CoreEvent) (s : LaneCore)
         → CoreFits entries asks answers → Run CoreStep (fresh_core entries asks answers) events s
@@ -34,9 +34,9 @@ pub fn an_end_stands_by_its_role()
         → Run CoreStep (fresh_core entries asks answers) events s → (s.a.offer ≡ asks) × (s.b.offer ≡ answers) }
 {}
 
-/// Along every run of two ends on a channel what an end's handshake knows is of messages that the end heard since it last
-/// began: the version, the agreement to its own ring and the registration of the other's, each as far as the
-/// handshake has come, and all where the session is open. All have the session's sid.
+/// Along every run of two ends on a channel what an end's handshake knows is of messages that the end heard since it
+/// last began. These are the version, the agreement to its own ring and the registration of the other's. Each is there
+/// as far as the handshake has come, and all where the session is open. All have the session's sid.
 pub fn an_end_rests_on_what_it_heard()
     ensures initiator { (entries : ℕ) (asks answers : Offer) (events : List CoreEvent) (s : LaneCore)
         → CoreFits entries asks answers → Run CoreStep (fresh_core entries asks answers) events s
@@ -52,9 +52,9 @@ pub fn an_end_rests_on_what_it_heard()
         → s.b.is_open ≡ true → OpenRests Responder s.b.handshake (heard (transcript_behind events).server) }
 {}
 
-/// Along every run of two ends on a channel each message that an end said since it last began is as its handshake has it:
-/// an initiator's have its sid and offer its version, a responder's agree to the version that it holds; each registers
-/// its ring as it offers it, and agrees to the other's by the number that it holds.
+/// Along every run of two ends on a channel each message that an end said since it last began is as its handshake has
+/// it. An initiator's have its sid and offer its version, a responder's agree to the version that it holds. Each
+/// registers its ring as it offers it, and agrees to the other's by the number that it holds.
 pub fn an_end_says_what_its_handshake_holds()
     ensures { (entries : ℕ) (asks answers : Offer) (events : List CoreEvent) (s : LaneCore) (e : End)
         → CoreFits entries asks answers → Run CoreStep (fresh_core entries asks answers) events s
@@ -62,8 +62,8 @@ pub fn an_end_says_what_its_handshake_holds()
         (said (transcript_of e (transcript_behind events))) }
 {}
 
-/// Along every run of two ends on a channel each packet that an end puts is the canonical spelling of a packet; where it
-/// has a number, it is one more than how many with numbers the end put before; a part of a message has START exactly
+/// Along every run of two ends on a channel each packet that an end puts is the canonical spelling of a packet. Where
+/// it has a number, it is one more than how many with numbers the end put before. A part of a message has START exactly
 /// where nothing of one was put, 56 bytes where another part follows, and makes no message above 256 bytes.
 pub fn what_an_end_says_is_cut_and_numbered()
     ensures { (entries : ℕ) (asks answers : Offer) (events : List CoreEvent) (s : LaneCore)
@@ -72,7 +72,7 @@ pub fn what_an_end_says_is_cut_and_numbered()
 {}
 
 /// Along every run of two ends on a channel each packet that an end takes and doesn't reset itself for is 64 bytes that
-/// spell a packet; where it has a number, it is one more than how many with numbers the end heard before; and a part of
+/// spell a packet. Where it has a number, it is one more than how many with numbers the end heard before. And a part of
 /// a message has START exactly where nothing of a message had come, and makes no message above 256 bytes.
 pub fn what_an_end_hears_may_come()
     ensures { (entries : ℕ) (asks answers : Offer) (events : List CoreEvent) (s : LaneCore)
@@ -80,9 +80,10 @@ pub fn what_an_end_hears_may_come()
         → Lawful HeardAt after (nothing_yet entries) events }
 {}
 
-/// Where the session of an end on a channel opens, by a message that it says or hears, what the end said and heard since it
-/// last began is the row of its handshake, one line after the other, and between them only what may stand aside. Where
-/// both ends have a ring the row has the messages of the responder's too. All messages of the row have one sid.
+/// Let the session of an end on a channel open, by a message that it says or hears. What the end said and heard since
+/// it last began is then the row of its handshake, one line after the other. Between them stands only what may stand
+/// aside. Where both ends have a ring the row has the messages of the responder's too. All messages of the row have one
+/// sid.
 pub fn sessions_of_an_end_open_in_order()
     ensures saying { (entries : ℕ) (asks answers : Offer) (events : List CoreEvent) (s : LaneCore) (e : End)
         (packet : List ℕ) (t : LaneCore)
@@ -97,8 +98,8 @@ pub fn sessions_of_an_end_open_in_order()
 {}
 
 /// Where an end on a channel resets itself, the packet that it carries says why, by its own bytes or by those of the
-/// message that it ends, and a gap names the number that was to come and the one that came; or the end's session is
-/// open, and the cause lies in a message of that which the packet ends, or in no packet.
+/// message that it ends. A gap names the number that was to come and the one that came. Or the end's session is open,
+/// and the cause lies in a message of that which the packet ends, or in no packet.
 pub fn a_reset_of_an_end_says_why()
     ensures { (entries : ℕ) (asks answers : Offer) (events : List CoreEvent) (s : LaneCore) (e : End) (cause : Cause)
         (packet : Option (List ℕ)) (lost : ℕ) (t : LaneCore)
@@ -107,8 +108,8 @@ pub fn a_reset_of_an_end_says_why()
         → ResetsFor (end_of e s) (transcript_of e (transcript_behind events)) cause packet }
 {}
 
-/// Along every run of two ends on a channel the initiator's last sid is how often its link came up since its values were
-/// made new, modulo 2^32; a responder counts none.
+/// Along every run of two ends on a channel the initiator's last sid is how often its link came up since its values
+/// were made new, modulo 2^32. A responder counts none.
 pub fn sids_count_how_often_a_link_came_up()
     ensures counts { (entries : ℕ) (asks answers : Offer) (events : List CoreEvent) (s : LaneCore)
         → CoreFits entries asks answers → Run CoreStep (fresh_core entries asks answers) events s

@@ -25,9 +25,9 @@ ghost use Rattle.channel_laws.specs.Resetting.{LiesInSession};
 ghost use Rattle.channel_laws.specs.Sides.{sides_of};
 ghost use Rattle.channel_laws.specs.Utterances.{SaysEach};
 
-/// On a channel that nobody forged, whatever was lost, reset or closed: each direction is one stream, of which fewer
+/// On a channel that nobody forged, whatever was lost, reset or closed: each direction is one stream. Of it fewer
 /// packets with numbers than 2^32 are lost between two that an end takes. So what an end that is up has heard is a
-/// front of what the other end has said, each since it last began: packet by packet of those with numbers, and
+/// front of what the other end has said, each since it last began. It is so packet by packet of those with numbers, and
 /// message by message.
 pub fn two_ends_converse()
     ensures streams { (entries : ℕ) (asks answers : Offer) (events : List CoreEvent) (s : LaneCore)
@@ -55,16 +55,16 @@ pub fn what_an_end_heard_is_as_the_other_has_it()
         (heard (transcript_of e (transcript_behind events))) }
 {}
 
-/// On a channel that nobody forged both links stand at one place of their own handshake: it gives their phases, the packet
-/// without a number that may wait for one of them, and what was said and heard of packets with numbers. An end that
-/// isn't up counts as one that begins.
+/// On a channel that nobody forged both links stand at one place of their own handshake. It gives their phases, the
+/// packet without a number that may wait for one of them, and what was said and heard of packets with numbers. An end
+/// that isn't up counts as one that begins.
 pub fn links_stand_at_one_place()
     ensures { (entries : ℕ) (asks answers : Offer) (events : List CoreEvent) (s : LaneCore)
         → CoreFits entries asks answers → Run CoreStep (fresh_core entries asks answers) events s
         → s.wire.forged ≡ false → LinksAt Initiator (sides_of s (transcript_behind events)) }
 {}
 
-/// On a channel that nobody forged, where the sessions of both ends are open both ends are up; and where their offers
+/// On a channel that nobody forged, where the sessions of both ends are open both ends are up. And where their offers
 /// match, the sessions are one, with one ring or with rings both ways.
 pub fn open_sessions_of_both_ends_are_one()
     ensures up { (entries : ℕ) (asks answers : Offer) (events : List CoreEvent) (s : LaneCore)
@@ -79,7 +79,7 @@ pub fn open_sessions_of_both_ends_are_one()
 {}
 
 /// On a channel that nobody forged, between ends whose offers match, an end resets itself for a gap, and only once a
-/// packet was lost; or for a cause of its open session, which lies in a message that the packet ends or in no packet.
+/// packet was lost. Or for a cause of its open session, which lies in a message that the packet ends or in no packet.
 pub fn an_end_resets_itself_behind_a_loss_or_for_its_session()
     ensures { (entries : ℕ) (asks answers : Offer) (events : List CoreEvent) (s : LaneCore) (e : End) (cause : Cause)
         (packet : Option (List ℕ)) (lost : ℕ) (t : LaneCore)
@@ -89,10 +89,10 @@ pub fn an_end_resets_itself_behind_a_loss_or_for_its_session()
         → IsOwnReset s.wire cause ⊎ LiesInSession (end_of e s) packet }
 {}
 
-/// Along every run of two ends on a channel, also where somebody forges packets: each event stands where the states of the
-/// ends and what waits for them let it, and a packet finds no room only where the queue holds all that it can; each
-/// queue holds fewer packets than it has entries; the wire is as the events say; never do both ends wait to begin
-/// anew; and the session of an end that was never configured, or is closed, isn't open.
+/// Along every run of two ends on a channel, forged or not: each event stands where the states of the ends and what
+/// waits for them let it. A packet finds no room only where the queue holds all that it can. Each queue holds fewer
+/// packets than it has entries; the wire is as the events say; never do both ends wait to begin anew. And the session
+/// of an end that was never configured, or is closed, isn't open.
 pub fn events_stand_by_both_ends()
     ensures table { (entries : ℕ) (asks answers : Offer) (events : List CoreEvent) (s : LaneCore)
         → CoreFits entries asks answers → Run CoreStep (fresh_core entries asks answers) events s

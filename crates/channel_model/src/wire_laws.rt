@@ -5,8 +5,9 @@ ghost use Rattle.ldc_queue.specs.Messages as in_order;
 ghost use Rattle.ldc_queue.specs.Transcript.{Turn};
 ghost use Rattle.channel_model.specs.Sayings.{half_heard, half_said, heard, said};
 
-/// What a transcript comes to turn by turn, newest first, is what its numbered packets make in their order: the messages that are whole, and
-/// what came of one more. So the law of a channel, that what an end heard is a front of what the other said, speaks of these.
+/// What a transcript comes to turn by turn, newest first, is what its numbered packets make in their order. These are
+/// the messages that are whole, and what came of one more. So the law of a channel, that what an end heard is a front
+/// of what the other said, speaks of these.
 pub fn transcripts_count_messages()
     ensures said { (turns : List Turn) → said turns ≡ in_order.messages_said turns }
     ensures heard { (turns : List Turn) → heard turns ≡ in_order.messages_heard turns }

@@ -2,8 +2,8 @@
 
 use crate::descriptor::Descriptor;
 
-/// What comes next of a descriptor. Of a read each unit is read from the store and then copied out, of a write copied in and then
-/// stored; in between the unit's bytes stand in the server's buffer.
+/// What comes next of a descriptor. Of a read each unit is read from the store and then copied out, of a write copied
+/// in and then stored. In between the unit's bytes stand in the server's buffer.
 #[derive(Clone, Copy, Debug, PartialEq, Eq)]
 pub enum Progress {
     /// A unit is to be read from the store.

@@ -16,9 +16,9 @@ ghost use Rattle.disk_model.specs.ServerState.{ServerState};
 ghost use Rattle.disk_model.specs.ServerStep.{ServerFails};
 ghost use Rattle.cookie_copy.specs.Reach.{Reach};
 
-/// A fresh lane accepts a write of two blocks, and the first 24 rounds, a step of the client and one of the server in each, are
-/// these: the ends join, the link and the session open, and the write is published and announced, all with the packets that are
-/// listed there.
+/// A fresh lane accepts a write of two blocks. The first 24 rounds, a step of the client and one of the server in each,
+/// are these. The ends join, the link and the session open, and the write is published and announced, all with the
+/// packets that are listed there.
 pub fn first_rounds_are_steps()
     ensures { (memory : List ℕ) (table : List (Option Entry)) (fill : Fill) → IsFill fill → RunsFirstRounds memory table (Write 3 2 fill) }
 {}

@@ -9,7 +9,7 @@ pub struct Name {
     pub bytes: [u8; 8],
 }
 
-/// A disk: its blocks of 512 bytes, 1 to 65,536; the slots of its descriptor ring, a power of two from 2 to 256; the
+/// A disk: its blocks of 512 bytes, 1 to 65,536; the slots of its descriptor ring, a power of two from 2 to 256. The
 /// entries of its channel's queues, a power of two from 8 to 256.
 #[derive(Clone, Copy, Debug, PartialEq, Eq)]
 pub struct DiskDecl {

@@ -5,8 +5,8 @@ ghost use Rattle.vio_bytes.specs.Place.{put_at};
 ghost use Rattle.vio_bytes.specs.Range.{range_at};
 ghost use Rattle.dring.specs.Slots.{OneSlot, slot_bytes};
 
-/// A write within a slot changes that slot alone: it is a write to its bytes, and no other slot of the
-/// ring changes, nor any byte after the ring.
+/// A write within a slot changes that slot alone. It is a write to its bytes, and no other slot of the ring changes,
+/// nor any byte after the ring.
 pub fn one_slot_at_a_time()
     ensures alone { (size n k at : ℕ) (piece memory : List ℕ) → k < n → at + length piece ≤ size → size * n ≤ length memory
         → OneSlot size n k memory (put_at (size * k + at) piece memory) }

@@ -10,7 +10,7 @@ ghost use Rattle.kind_cases.specs.Ports.{HasRoom, IsClean, IsUnforged, Port, por
 ghost use Rattle.kind_cases.specs.World.{said_port, said_twin, two_switches, WorldEntry};
 
 /// A settle over the ports of two switches, at most eight each, none of them forged, ends settled, though each frame
-/// that is switched gives one to every other port: what remains on all of them falls by each round that goes on.
+/// that is switched gives one to every other port. What remains on all of them falls by each round that goes on.
 pub fn two_switches_end_settled()
     ensures { (start : Two (List Port) (List Port)) (part : List WorldEntry) (behind : Two (List Port) (List Port))
         → BothHold (AreClean IsClean) (AreClean IsClean) start → SettlePart two_switches start part behind
@@ -26,7 +26,7 @@ pub fn ports_are_finished_behind_a_settle()
         at.now.marks }
 {}
 
-/// The part of a settle says what happened to each port of both switches: it is run by its own events and by what the
+/// The part of a settle says what happened to each port of both switches. It is run by its own events and by what the
 /// others of its switch gave it, and entries of the other switch say nothing of it.
 pub fn each_port_is_run_by_what_happened_to_it()
     ensures one { (start : Two (List Port) (List Port)) (part : List WorldEntry) (behind : Two (List Port) (List Port))

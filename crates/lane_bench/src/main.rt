@@ -1,5 +1,5 @@
 //! A lane of the two ends of a disk over memory, for the clock: `lane_bench SHAPE COUNT` asks for COUNT requests of the
-//! shape, `writes` of one block, `large-writes` and `large-reads` of 64, and settles after every 32; or it makes COUNT
+//! shape, `writes` of one block, `large-writes` and `large-reads` of 64, and settles after every 32. Or it makes COUNT
 //! rounds in which both ends rest, `idle`. It prints how many requests succeeded.
 #![tactic(auto)]
 

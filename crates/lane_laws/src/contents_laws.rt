@@ -37,10 +37,10 @@ pub fn buffers_hold_what_was_asked()
         → s.wire.forged ≡ false → s.failed ≡ false → WorkHeld (view_of s) }
 {}
 
-/// The image of a disk is near the content of its requests that are done: on a fresh lane the image is the content;
-/// and each event leaves it so where nobody forged and no store failed. A unit that is stored, a completion, a
-/// reset of either end, a stop and a restart are among these events. A completion applies its request to the
-/// content, and no other event changes it.
+/// The image of a disk is near the content of its requests that are done: on a fresh lane the image is the content. And
+/// each event leaves it so where nobody forged and no store failed. A unit that is stored, a completion, a reset of
+/// either end, a stop and a restart are among these events. A completion applies its request to the content, and no
+/// other event changes it.
 pub fn images_stay_near()
     ensures fresh { (shape : Shape) (image : List ℕ)
         → length image ≡ 512 * shape.blocks → IsNear image (fresh shape) image }
@@ -51,8 +51,8 @@ pub fn images_stay_near()
         → ImageStep s event t image next → IsNear content s image → IsNear (content_after s content event) t next }
 {}
 
-/// On a lane that nobody forged and whose store didn't fail, where the image is near the content of the requests that
-/// are done: a completion of a read carries its blocks, and each of them is the content's, or that of a write after it
+/// On a lane that nobody forged and whose store didn't fail, let the image be near the content of the requests that are
+/// done. Then a completion of a read carries its blocks. Each of them is the content's, or that of a write after it
 /// which was published in an earlier session; any other completion carries nothing.
 pub fn completions_show_their_content()
     ensures { (shape : Shape) (events : List DiskEvent) (s : LaneState) (id operation status : ℕ) (bytes : List ℕ)
@@ -63,7 +63,7 @@ pub fn completions_show_their_content()
 {}
 
 /// On a lane that nobody forged and whose store didn't fail: no copy of a unit is refused, each descriptor gets the
-/// status 0, and so does each completion; and in the log each slot of the ring that is DONE has it, and each session
+/// status 0, and so does each completion. And in the log each slot of the ring that is DONE has it, and each session
 /// that the server opened has no other.
 pub fn statuses_are_zero()
     ensures moved { (shape : Shape) (events : List DiskEvent) (s : LaneState) (unit : ℕ) (fault : Option CopyFault)
@@ -83,8 +83,8 @@ pub fn statuses_are_zero()
         → StatusesZero (log_of after (nothing_yet shape) events) }
 {}
 
-/// On a lane that nobody forged and whose store didn't fail, where the image is near the content of the requests that
-/// are done: each block of the image is the content's, or that of a pending write; and where nothing is pending the
+/// On a lane that nobody forged and whose store didn't fail, let the image be near the content of the requests that are
+/// done. Then each block of the image is the content's, or that of a pending write; and where nothing is pending the
 /// image is the content.
 pub fn near_images_hold_the_content()
     ensures holds { (shape : Shape) (events : List DiskEvent) (s : LaneState) (content image : List ℕ)
@@ -122,8 +122,8 @@ pub fn a_store_has_the_image_as_its_region()
 {}
 
 /// On a lane that nobody forged, also where a store failed: its near counts are those of its log. Of the pending
-/// requests the server finished the first k in its session, and stored the first u blocks of the write after them;
-/// the first m were published in an earlier session, and the first p ever.
+/// requests the server finished the first k in its session, and stored the first u blocks of the write after them. The
+/// first m were published in an earlier session, and the first p ever.
 pub fn near_counts_are_the_logs()
     ensures { (shape : Shape) (events : List DiskEvent) (s : LaneState)
         → IsShape shape → Run LaneStep (fresh shape) events s
@@ -150,11 +150,10 @@ pub fn near_counts_stand_in_order()
         → Lawful NearAt after (nothing_yet shape) events }
 {}
 
-/// Along every run of a lane with the image of its disk, each completion is of the first request that isn't done,
-/// with status 0; that of a read shows for each block the last earlier write, or the first content where there is
-/// none; or else a write that was issued after it, where both were disturbed by a reset or a stop. The run begins
-/// with a first content, nobody forged the lane and its store didn't fail, whatever was lost, reset, stopped or
-/// restarted.
+/// Along every run of a lane with the image of its disk, each completion is of the first request that isn't done, with
+/// status 0. That of a read shows for each block the last earlier write, or the first content where there is none. Or
+/// else a write that was issued after it, where both were disturbed by a reset or a stop. The run begins with a first
+/// content, nobody forged the lane and its store didn't fail, whatever was lost, reset, stopped or restarted.
 pub fn completions_show_the_last_write()
     ensures { (shape : Shape) (first : List ℕ) (events : List DiskEvent) (a : Imaged)
         (id operation status : ℕ) (bytes : List ℕ) (b : Imaged)
@@ -164,9 +163,9 @@ pub fn completions_show_the_last_write()
         → CompletionShows first (log_of after (nothing_yet shape) events) status bytes }
 {}
 
-/// At each moment of such a run each block of the image is that of the first content with the requests that are
-/// done; or it is that of a write that was accepted and isn't done; and where all are done the image is the first
-/// content with all of them, once each. Those that are done are applied in their order.
+/// At each moment of such a run each block of the image is that of the first content with the requests that are done.
+/// Or it is that of a write that was accepted and isn't done. And where all are done the image is the first content
+/// with all of them, once each. Those that are done are applied in their order.
 pub fn an_image_holds_what_is_done()
     ensures holds { (shape : Shape) (first : List ℕ) (events : List DiskEvent) (a : Imaged)
         → IsShape shape → length first ≡ 512 * shape.blocks → Run ImagedStep (fresh_image shape first) events a

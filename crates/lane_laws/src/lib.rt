@@ -1,5 +1,6 @@
-//! What always holds of a disk's lane, whatever was lost, reset, stopped or restarted: the invariant of its ends, its ring and its wire,
-//! what its buffers hold and how near its image is to what is done, and where each event of a run may stand in its log. It has no code.
+//! What always holds of a disk's lane, whatever was lost, reset, stopped or restarted. It is the invariant of its ends,
+//! its ring and its wire, what its buffers hold, and how near its image is to what is done. It is also where each event
+//! of a run may stand in its log. It has no code.
 #![tactic(auto)]
 
 mod contents_laws;

@@ -9,8 +9,8 @@ ghost use Rattle.ldc_packet.specs.Spelling.{canonical, SpellsPacket};
 ghost use Rattle.ldc_packet.specs.declared.packet.Packet.{Packet};
 ghost use Rattle.ldc_packet.specs.declared.packet.PacketFault.{PacketFault};
 
-/// Bytes spell at most one well-formed packet, and its canonical bytes spell it: so decoding what was
-/// encoded gives the packet back, and packets with the same canonical bytes are the same.
+/// Bytes spell at most one well-formed packet, and its canonical bytes spell it. So decoding what was encoded gives the
+/// packet back, and packets with the same canonical bytes are the same.
 pub fn spellings_are_unique()
     ensures at_most_one { (bytes : List ℕ) (one other : Packet) → IsWellFormed one → IsWellFormed other
         → SpellsPacket bytes one → SpellsPacket bytes other → one ≡ other }
@@ -19,8 +19,8 @@ pub fn spellings_are_unique()
         → (one ≡ other) ↔ (canonical one ≡ canonical other) }
 {}
 
-/// 64 bytes decode to exactly one result: they spell a well-formed packet or have a first fault, and
-/// never two packets, two first faults, or a packet and a fault.
+/// 64 bytes decode to exactly one result. They spell a well-formed packet or have a first fault, and never two packets,
+/// two first faults, or a packet and a fault.
 pub fn bytes_decode_once()
     ensures some_result { (bytes : List ℕ) → length bytes ≡ 64 → AllByRecursion (λ byte. byte < 256) bytes
         → (d : Result Packet PacketFault) × Unpacks bytes d }

@@ -1,7 +1,7 @@
-//! Packets of a Logical Domain Channel, 64 bytes each, as Linux's `struct ldc_packet` has them: the
-//! handshake of a link (VERS, RTS, RTR, RDX) and the parts of a message. Links and the dump stand on
-//! it. `decode` answers a packet exactly where the bytes spell it, and else the first fault in a
-//! stated order; `encode` writes the canonical spelling, so that decoding gives the packet back.
+//! Packets of a Logical Domain Channel, 64 bytes each, as Linux's `struct ldc_packet` has them: the handshake of a link
+//! (VERS, RTS, RTR, RDX) and the parts of a message. Links and the dump stand on it. `decode` answers a packet exactly
+//! where the bytes spell it, and else the first fault in a stated order. `encode` writes the canonical spelling, so
+//! that decoding gives the packet back.
 #![tactic(auto)]
 
 mod decoding;

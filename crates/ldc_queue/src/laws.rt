@@ -24,9 +24,8 @@ pub fn heard_is_a_front_of_said()
         → IsFront (messages_heard (transcript_of e l)) (messages_said (transcript_of (peer_of e) l)) }
 {}
 
-/// Parts are those of messages, one after the other, and the first ones of a further message, exactly where each
-/// may come and these are the messages that they make. A part may come with START exactly where nothing of a
-/// message has come.
+/// Parts are those of messages, one after the other, and the first ones of one more, exactly where each may come and
+/// these are the messages that they make. A part may come with START exactly where nothing of a message has come.
 pub fn messages_are_cut_into_parts()
     ensures { (fragments : List Fragment) (messages : List (List ℕ)) (half : List ℕ) → (AreCutFrom fragments messages half)
         ↔ (AllMayCome [] fragments × (whole_in [] fragments ≡ messages) × (half_in [] fragments ≡ half)) }

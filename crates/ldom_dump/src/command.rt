@@ -13,9 +13,9 @@ use vio_io::{Sink, Source};
 
 /// Does all of the command `dump`: reads lines of 128 lower-case hexadecimal digits, within the limits of a script's
 /// lines, and writes for each the fields of the packet that its 64 bytes spell, or what is wrong with it, and those of
-/// the message that the packet carries whole; at last how the lines ended. The text is written as the lines are read.
+/// the message that the packet carries whole. At last how the lines ended. The text is written as the lines are read.
 ///
-/// Answers `Done` at the end; `Script` with `Hex` at a line that isn't 128 such digits; `Limit` at a line that is too
+/// Answers `Done` at the end; `Script` with `Hex` at a line that isn't 128 such digits. `Limit` at a line that is too
 /// long or one too many; `SourceFault` and `SinkFault` where one of them failed; `NoMemory`.
 pub fn dump<S: Source, K: Sink>(alloc: Global, script: &mut S, out: &mut K) -> Status
     // The text is that of the lines up to where the reading ended, and an end line that says why. Of it all was written,

@@ -49,9 +49,9 @@ pub struct Outcome<D: Store> {
 }
 
 /// Does what the words of a command line say, without the program's name: `run IMAGE` runs the script that the source
-/// gives over the image that the host has under this name, and writes the short report to the sink; `trace IMAGE` does
-/// the same, and its report shows each entry; `sample N` runs the sample script of N over `-`, and its report is the
-/// end line alone; `dump` writes the fields of the packets that it gives in hexadecimal digits. Other words are
+/// gives over the image that the host has under this name, and writes the short report to the sink. `trace IMAGE` does
+/// the same, and its report shows each entry. `sample N` runs the sample script of N over `-`, and its report is the
+/// end line alone. `dump` writes the fields of the packets that it gives in hexadecimal digits. Other words are
 /// answered by the usage line.
 pub fn replay<H: Host, S: Source, K: Sink>(
     alloc: Global,

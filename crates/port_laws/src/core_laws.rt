@@ -37,7 +37,7 @@ pub fn a_port_is_two_ends_on_a_channel()
         → Match (port_offer Initiator shape.address shape.slots) (port_offer Responder shape.address shape.slots) }
 {}
 
-/// On a port that nobody forged, whatever was lost and reset, the messages that an end which is up has heard are a
+/// On a port that nobody forged, whatever was lost and reset, let an end be up. The messages that it has heard are a
 /// front of those that the other end has said, each since it last began.
 pub fn an_end_heard_a_front_of_what_the_other_said()
     ensures { (shape : NetShape) (events : List NetEvent) (s : NetLaneState) (e : End) → IsNetShape shape
@@ -46,9 +46,9 @@ pub fn an_end_heard_a_front_of_what_the_other_said()
         (said (transcript_of (peer_of e) (transcript_behind (core_events events)))) }
 {}
 
-/// Where the session of an end of a port opens, what the end said and heard since it last began is the row of its
-/// handshake, with the rings of both ends, one line after the other, and between them only what may stand aside. This
-/// holds where somebody forges too.
+/// Let the session of an end of a port open. Then what the end said and heard since it last began is the row of its
+/// handshake, with the rings of both ends. It is so one line after the other, and between them stands only what may
+/// stand aside. This holds where somebody forges too.
 pub fn sessions_of_a_port_open_in_order()
     ensures saying { (shape : NetShape) (events : List NetEvent) (s : NetLaneState) (e : End) (packet : List ℕ) (t : NetLaneState) → IsNetShape shape
         → Run NetLaneStep (fresh_net shape) events s → NetLaneStep s (Steps e (Sent packet true)) t
@@ -58,8 +58,8 @@ pub fn sessions_of_a_port_open_in_order()
         → HandshakeOrder true (role_at e) (Heard packet ∷ transcript_of e (transcript_behind (core_events events))) }
 {}
 
-/// On a port that nobody forged, where the sessions of both ends are open both ends are up, and the sessions are one:
-/// they have one sid, and each end knows the ring of the other as that offers it.
+/// On a port that nobody forged, where the sessions of both ends are open both ends are up, and the sessions are one.
+/// They have one sid, and each end knows the ring of the other as that offers it.
 pub fn open_sessions_of_a_port_are_one()
     ensures up { (shape : NetShape) (events : List NetEvent) (s : NetLaneState) → IsNetShape shape
         → Run NetLaneStep (fresh_net shape) events s → s.wire.forged ≡ false
@@ -69,7 +69,7 @@ pub fn open_sessions_of_a_port_are_one()
         → is_some s.guest.session ≡ true → is_some s.hub.session ≡ true → AreOneSession s.guest.handshake s.hub.handshake }
 {}
 
-/// On a port that nobody forged an end resets itself for a gap, and only once a packet was lost; or for a cause of its
+/// On a port that nobody forged an end resets itself for a gap, and only once a packet was lost. Or for a cause of its
 /// open session, which lies in a message that the packet ends or in no packet.
 pub fn a_port_resets_itself_behind_a_loss_or_for_its_session()
     ensures { (shape : NetShape) (events : List NetEvent) (s : NetLaneState) (e : End) (cause : Cause) (packet : Option (List ℕ)) (lost : ℕ)

@@ -10,10 +10,9 @@ ghost use Rattle.port_model.specs.PortState.{fresh_port, OnLane, PortEvent, Port
 ghost use Rattle.port_laws.specs.Remaining.{remaining};
 ghost use Rattle.port_laws.specs.RemainingSteps.{IsCalm, TakesNothing};
 
-/// What remains to be done on a port, along every run, also where somebody forges packets and memory. A fresh port has
-/// 76 before it. Each step of an end that takes nothing lowers it: that an end joins, puts a packet, or publishes a
-/// frame. A step that is idle or has no room for its packet doesn't raise it. Where nobody forged, a packet that an end
-/// takes lowers it too.
+/// What remains to be done on a port, along every run, forged or not. A fresh port has 76 before it. Each step of an
+/// end that takes nothing lowers it: that an end joins, puts a packet, or publishes a frame. A step that is idle or has
+/// no room for its packet doesn't raise it. Where nobody forged, a packet that an end takes lowers it too.
 pub fn what_remains_on_a_port_falls_by_what_an_end_does()
     ensures fresh { (shape : NetShape) → remaining (fresh_port shape) ≡ 76 }
     ensures steps { (shape : NetShape) (events : List PortEvent) (s : PortState) (e : End) (answer : NetAnswer) (t : PortState)

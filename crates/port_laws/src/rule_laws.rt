@@ -8,9 +8,9 @@ ghost use Rattle.port_model.specs.NetLaneState.{IsNetShape, NetShape};
 ghost use Rattle.port_model.specs.PortLog.{after, no_events};
 ghost use Rattle.port_model.specs.PortState.{fresh_port, PortEvent, PortState, PortStep};
 
-/// Along every run of a port, forged or not, a frame that is handed to the guest is refused for its length exactly where
-/// it hasn't 14 to 1,514 bytes. Else it is refused as one too many exactly where as many are held as the ring has slots.
-/// Held are those given that no ACK named and no reset lost. Else its id is the number of those given before it.
+/// Along every run of a port, forged or not, a frame that is given to the guest is refused for its length exactly where
+/// it hasn't 14 to 1,514 bytes. Else it is refused as one too many exactly where as many are held as the ring has
+/// slots. Held are those given that no ACK named and no reset lost. Else its id is the number of those given before it.
 pub fn a_frame_is_queued_or_refused_rightly()
     ensures { (shape : NetShape) (events : List PortEvent) (s : PortState) → IsNetShape shape → Run PortStep (fresh_port shape) events s
         → Lawful AdmissionAt after (no_events shape) events }
@@ -30,9 +30,9 @@ pub fn lost_frames_are_published_and_not_acknowledged()
         → Lawful LostAt after (no_events shape) events }
 {}
 
-/// Along every run of a port, forged or not, the DRING_DATA INFO that an end says in a session have the numbers 1, 2 and
-/// so on, no end and state 1. An ACK was taken between two of them. Each begins at the slot of the first frame that no
-/// ACK named, and there is one.
+/// Along every run of a port, forged or not: the DRING_DATA INFO that an end says in a session have the numbers 1, 2
+/// and so on. They have no end and state 1. An ACK was taken between two of them. Each begins at the slot of the first
+/// frame that no ACK named, and there is one.
 pub fn each_announcement_begins_at_the_first_frame_left()
     ensures { (shape : NetShape) (events : List PortEvent) (s : PortState) → IsNetShape shape → Run PortStep (fresh_port shape) events s
         → Lawful AnnouncesAt after (no_events shape) events }

@@ -18,14 +18,14 @@ pub fn what_a_port_says_is_cut_and_numbered()
 {}
 
 /// Along every run of a port, forged or not, each packet that an end takes and doesn't reset itself for has 64 bytes
-/// that spell one, with the next number where it has one, and a part that makes a message with what had come before.
+/// that spell one. It has the next number where it has one, and a part that makes a message with what had come before.
 pub fn what_a_port_hears_may_come()
     ensures { (shape : NetShape) (events : List PortEvent) (s : PortState) → IsNetShape shape → Run PortStep (fresh_port shape) events s
         → Lawful (λ (l : PortLog) (event : PortEvent). OfWire (WireHeardAt l.transcript) event) after (no_events shape) events }
 {}
 
 /// Along every run of a port, forged or not, a session opens only where its end said and heard the whole row of the
-/// handshake, with the rings of both ends: no end's first packet opens one.
+/// handshake. The row has the rings of both ends. No end's first packet opens one.
 pub fn a_port_opens_behind_its_handshake()
     ensures { (shape : NetShape) (events : List PortEvent) (s : PortState) → IsNetShape shape → Run PortStep (fresh_port shape) events s
         → Lawful OpeningsAt after (no_events shape) events }

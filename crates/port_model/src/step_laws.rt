@@ -19,13 +19,13 @@ pub fn an_end_resets_itself_for_its_own_causes()
 {}
 
 /// The step of an end is a function of the end, of what it sees of the channel, of its memory, and of what it reaches
-/// of the other end's: two steps of one state have one answer and leave the same.
+/// of the other end's. Two steps of one state have one answer and leave the same.
 pub fn an_end_has_one_step()
     ensures { (role : Role) (s : NetEndState) (at : Seen) (memory : List ℕ) (reach : Reach) (one other : NetAnswer) (t u : NetLeft)
         → NetEndStep role s at memory reach one t → NetEndStep role s at memory reach other u → (one ≡ other) × (t ≡ u) }
 {}
 
-/// An end always has a step, whatever packet waits for it, and whatever stands in both memories and in the tables: its
+/// An end always has a step, whatever packet waits for it, and whatever stands in both memories and in the tables. Its
 /// link must be up where its handshake owes a message and where its session is open.
 pub fn an_end_always_has_a_step()
     ensures { (role : Role) (s : NetEndState) (at : Seen) (memory : List ℕ) (reach : Reach) → CanStep s at

@@ -10,15 +10,15 @@ ghost use Rattle.world_parts.specs.Declared.{bytes_needed, world_of};
 ghost use Rattle.world_parts.specs.Script.{FitsScript, ScriptParts};
 
 /// For every script over at most eight disks, whatever it resets, stops, restarts and loses, and wherever its run
-/// ended: each disk's lane is lawful. At the end and behind each front of the entries it stands as its log says, an end
-/// that is up heard in order what the other said, and sessions that are open are one, whose counts and slots stand in
+/// ended: each disk's lane is lawful. At the end and behind each front of the entries it stands as its log says, and an
+/// end that is up heard in order what the other said. Sessions that are open are one, whose counts and slots stand in
 /// their order. After each settle both its ends are still and, where its server runs, it is finished: its client's
-/// session is open, and all its accepted requests have completed. Each settle, also one that want of memory cut off, has
-/// at most one tick of a lane: where its server runs, a packet was lost and both ends are still. Over an image that tells
-/// its bytes, where no call of the store failed for the disk, as where the image counts no fault: each completed read
-/// shows the last earlier write; each block of the disk is that of its completed writes or of one that isn't completed;
-/// where all are completed, the disk holds exactly the accepted ones applied once in order. Outside of all disks the
-/// image stays.
+/// session is open, and all its accepted requests have completed. Each settle, also one that want of memory cut off,
+/// has at most one tick of a lane. It has it where its server runs, a packet was lost and both ends are still. Let the
+/// image tell its bytes, and let no call of the store fail for the disk, as where the image counts no fault. Then each
+/// completed read shows the last earlier write. Each block of the disk is that of its completed writes or of one that
+/// isn't completed. Where all are completed, the disk holds exactly the accepted ones applied once in order. Outside of
+/// all disks the image stays.
 pub fn the_headline_holds()
     ensures { (disks : List DiskDecl) (image : ImageState) (parts : ScriptParts) (v : WorldState)
         → AreDisks disks → length disks ≤ 8 → IfSome image.told (λ bytes. bytes_needed disks ≤ length bytes)

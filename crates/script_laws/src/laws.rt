@@ -16,9 +16,9 @@ ghost use Rattle.script_laws.specs.Stored.{flush_count, stored_count};
 ghost use Rattle.world_parts.specs.Declared.{bytes_needed, world_of};
 ghost use Rattle.world_parts.specs.Script.{FitsScript, ScriptParts, all_lines, events_of, journal_of};
 
-/// A journal cuts into the parts of its lines in one way: over at most eight disks, two lists of lines with the same
-/// events, whose parts make the same journal and may come of the same world, have the same parts. Of each the last may
-/// have been cut off for want of memory.
+/// A journal cuts into the parts of its lines in one way. Over at most eight disks, take two lists of lines with the
+/// same events, whose parts make the same journal and may come of the same world. They have the same parts. Of each the
+/// last may have been cut off for want of memory.
 pub fn a_journal_cuts_in_one_way()
     ensures { (disks : List DiskDecl) (image : ImageState) (parts others : ScriptParts) (v u : WorldState)
         → AreDisks disks → length disks ≤ 8
@@ -27,8 +27,8 @@ pub fn a_journal_cuts_in_one_way()
         → all_lines parts ≡ all_lines others }
 {}
 
-/// In the parts of all lines of a script each request is refused for its defect, finds no room or is accepted with
-/// the next id: also where want of memory cut off the last line. It finds no room where as many are pending as its
+/// In the parts of all lines of a script each request is refused for its defect, finds no room or is accepted with the
+/// next id. It is so too where want of memory cut off the last line. It finds no room where as many are pending as its
 /// disk's ring has slots.
 pub fn requests_are_admitted()
     ensures { (disks : List DiskDecl) (image : ImageState) (entries : ℕ) (parts : ScriptParts) (v : WorldState)
@@ -43,8 +43,8 @@ pub fn requests_complete_once_in_order()
         → (x : ℕ) → CompletesOnceInOrder (history x (journal_of parts)) }
 {}
 
-/// An image that tells its bytes goes on to tell as many, and outside of the blocks that accepted requests write
-/// they stay as they were: also where an image failed, and where memory was wanted within a line. Each request
+/// An image that tells its bytes goes on to tell as many, and outside of the blocks that accepted requests write they
+/// stay as they were. It is so too where an image failed, and where memory was wanted within a line. Each request
 /// writes to its own disk.
 pub fn bytes_outside_of_writes_stay()
     ensures { (disks : List DiskDecl) (image : ImageState) (entries : ℕ) (parts : ScriptParts) (v : WorldState)
@@ -61,8 +61,8 @@ pub fn failed_completions_are_counted()
         → image.faults ≡ 0 → length (journal_of parts) < 2 ^ 63 → failed_count (journal_of parts) ≤ v.image.faults }
 {}
 
-/// Each call of the image is told: it was called as often as the journal says `stored`, and asked to flush as often as
-/// that says so of a flush, whether it failed or not; where nothing was asked of it at first and its count can't have
+/// Each call of the image is told. It was called as often as the journal says `stored`, and asked to flush as often as
+/// that says so of a flush, whether it failed or not. Where nothing was asked of it at first and its count can't have
 /// stopped at the last value. These are counts: so many flushes were asked of it as are told, and no more calls.
 pub fn calls_of_the_image_are_told()
     ensures calls { (disks : List DiskDecl) (image : ImageState) (entries : ℕ) (parts : ScriptParts) (v : WorldState)

@@ -1,6 +1,6 @@
-//! What a script's run is, as definitions over lists, and its laws: how far a script is read; what its journal says of
-//! the requests of its disks, of failures and of the image; the headline, which holds of each disk whatever disturbs
-//! it; what a quiet script comes to; and how a run's journal, image and lanes are put together. The top call's contract
+//! What a script's run is, as definitions over lists, and its laws: how far a script is read. What its journal says of
+//! the requests of its disks, of failures and of the image. The headline, which holds of each disk whatever disturbs
+//! it; what a quiet script comes to. And how a run's journal, image and lanes are put together. The top call's contract
 //! cites them. It has no code: its functions carry laws, so they do nothing and promise a theorem.
 #![tactic(auto)]
 

@@ -14,8 +14,8 @@ ghost use Rattle.script_laws.specs.Completed.{completed_ids};
 ghost use Rattle.world_parts.specs.Declared.{world_of};
 ghost use Rattle.world_parts.specs.Script.{FitsScript, ScriptParts, events_of, journal_of};
 
-/// A quiet script that its journal fits has the text, leaves the content and completes the ids that the plain run
-/// gives: over an image that tells its bytes, is long enough and never failed.
+/// Let an image tell its bytes, be long enough and never have failed. Over it a quiet script that its journal fits has
+/// the text, leaves the content and completes the ids that the plain run gives.
 pub fn a_quiet_script_runs_plainly()
     ensures text { (disk : DiskDecl) (image : ImageState) (content : List ℕ) (parts : ScriptParts) (v : WorldState)
         → IsDisk disk → image.told ≡ Some content → 512 * disk.blocks ≤ length content

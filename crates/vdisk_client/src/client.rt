@@ -58,10 +58,10 @@ impl Client {
         self.end.issue(request)
     }
 
-    /// Makes one step, the first rule that applies: the end isn't `Up` (`Joined`); an acknowledged request isn't done,
-    /// and its slot is looked at (`Done`, or `Reset` where it isn't DONE); a handshake owes something, or the link holds
-    /// a packet and no session is open (`Sent`, or `Blocked` where the queue is full); a packet waits (`Took`, or
-    /// `Reset` for what is wrong with it); the link holds a packet (`Sent`, `Blocked`); a pending request isn't
+    /// Makes one step, the first rule that applies: the end isn't `Up` (`Joined`). An acknowledged request isn't done,
+    /// and its slot is looked at (`Done`, or `Reset` where it isn't DONE). A handshake owes something, or the link
+    /// holds a packet and no session is open (`Sent`, or `Blocked` where the queue is full). A packet waits (`Took`, or
+    /// `Reset` for what is wrong with it); the link holds a packet (`Sent`, `Blocked`). A pending request isn't
     /// published (`Published`); published requests aren't announced, all of them by one INFO (`Sent`, `Blocked`);
     /// `Idle`. The memory has the pages of the ring, and four for each slot.
     pub fn step(&mut self, channel: &mut Channel, memory: &mut Memory) -> ClientOut

@@ -10,8 +10,8 @@ ghost use Rattle.vdisk_client.specs.Calls.{Steps, client_event};
 ghost use Rattle.vdisk_client.specs.OnLane.{client_moved};
 ghost use Rattle.vdisk_client.specs.declared.answers.ClientOut.{ClientOut};
 
-/// A client's step on the channel and the memory of a disk's lane is one step of the lane, by its answer; and the
-/// channel is the lane's after it, as it was before.
+/// A client's step on the channel and the memory of a disk's lane is one step of the lane, by its answer. The channel
+/// is the lane's after it, as it was before.
 pub fn steps_are_the_lanes()
     ensures step { (s : LaneState) (c d : ChannelView) (answer : ClientOut) (t : ClientState) (new : List ℕ)
         → IsChannelOf c s → Steps s.client c s.memory answer t d new

@@ -15,7 +15,7 @@ impl ClientEnd {
     ghost use Rattle.vdisk_client.specs.Standing.{Stands};
 
     /// An end that isn't up joins; an acknowledged request is completed; what is urgent is put; a packet that waits is
-    /// taken; and then the rest is put, published and announced. Each rule writes its answer into the caller's, once.
+    /// taken. And then the rest is put, published and announced. Each rule writes its answer into the caller's, once.
     pub(crate) fn step(&mut self, channel: &mut Channel, memory: &mut Memory, out: &mut ClientOut)
         requires stands { Stands self.old }
         requires room { HoldsRing self.old.slots memory.old }

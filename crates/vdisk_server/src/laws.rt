@@ -10,8 +10,9 @@ ghost use Rattle.vdisk_server.specs.Answering.{Serves, channel_after, server_eve
 ghost use Rattle.vdisk_server.specs.InLane.{lane_after};
 ghost use Rattle.descriptor_work.specs.declared.answers.ServerOut.{ServerOut};
 
-/// A step of the server is one of its lane, with what the store gave: of a lane whose server runs, whose wire is what the channel
-/// shows, and whose memory and table are those that the step was given. The channel after the step shows the wire after it.
+/// A step of the server is one of its lane, with what the store gave. It is of a lane whose server runs, whose wire is
+/// what the channel shows, and whose memory and table are those that the step was given. The channel after the step
+/// shows the wire after it.
 pub fn steps_are_the_lanes()
     ensures served { (s : LaneState) (c : ChannelView) (told new_told : Option (List ℕ)) (answer : ServerOut) (server : ServerState) (memory : List ℕ)
         → s.stopped ≡ false → IsChannelOf c s → Serves s.server c s.table s.memory told answer server memory new_told

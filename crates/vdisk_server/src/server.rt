@@ -17,8 +17,8 @@ use std::marker::Model;
 use vio_bytes::NoMemory;
 use vio_io::Store;
 
-/// The server of a virtual disk, at the end B of its channel (the virtual disk chapter of the UltraSPARC Virtual Machine
-/// Specification; `struct vio_disk_desc` and `struct vio_dring_data` of Linux's vio.h).
+/// The server of a virtual disk, at the end B of its channel (the virtual disk chapter of the UltraSPARC Virtual
+/// Machine Specification; `struct vio_disk_desc` and `struct vio_dring_data` of Linux's vio.h).
 #[derive(Drop)]
 pub struct Server {
     end: ServerEnd,
@@ -50,11 +50,11 @@ impl Server {
         })
     }
 
-    /// One step, the first rule that applies: the end isn't `Up` (`Joined`); the link has a packet to put, or a message is owed, of
-    /// the handshake or the answer to a range (`Sent`, or `Blocked` where the queue is full); a range is in work, of which the next
-    /// descriptor is fetched (`Desc`) or the next piece of the one in work is done (`Moved`, `Stored`, `Finished`); a packet waits
-    /// (`Took`); `Idle`. A packet that it can't take, or a descriptor that it can't fetch or end, resets the end (`Reset`). `table`
-    /// and `memory` are the client's.
+    /// One step, the first rule that applies: the end isn't `Up` (`Joined`). The link has a packet to put, or a message
+    /// is owed, of the handshake or the answer to a range (`Sent`, or `Blocked` where the queue is full). A range is in
+    /// work, of which the next descriptor is fetched (`Desc`) or the next piece of the one in work is done (`Moved`,
+    /// `Stored`, `Finished`). A packet waits (`Took`); `Idle`. A packet that it can't take, or a descriptor that it
+    /// can't fetch or end, resets the end (`Reset`). `table` and `memory` are the client's.
     pub fn step<D: Store>(
         &mut self,
         channel: &mut Channel,

@@ -26,8 +26,8 @@ pub fn fields_lie_apart()
     ensures { (fields : List (ℕ × ℕ)) (len : ℕ) → IsSoundTable fields len → AreApart fields len }
 {}
 
-/// A range that was written reads back, and so does each part of it; a range outside of it stays; and
-/// in a range around it the write is a write.
+/// A range that was written reads back, and so does each part of it. A range outside of it stays, and in a range around
+/// it the write is a write.
 pub fn writes_meet_ranges()
     ensures same { (at n : ℕ) (piece bytes : List ℕ) → length piece ≡ n → at ≤ length bytes
         → range_at at n (put_at at piece bytes) ≡ piece }

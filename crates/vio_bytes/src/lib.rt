@@ -1,8 +1,7 @@
-//! Numbers at places: what every layout of the stack is read and written with, the packets of a
-//! channel, the messages over it and the descriptors of a ring. A layout is a constant [`Table`] of
-//! the places and widths of its fields. A number that was put reads back and no other byte changes,
-//! at every width; the fields of a sound table lie apart and within its length; a range of bytes that
-//! was written reads back. [`NoMemory`] is the one answer for want of memory.
+//! Numbers at places: what every layout of the stack is read and written with, the packets of a channel, the messages
+//! over it and the descriptors of a ring. A layout is a constant [`Table`] of the places and widths of its fields. A
+//! number that was put reads back and no other byte changes, at every width. The fields of a sound table lie apart and
+//! within its length. A range of bytes that was written reads back. [`NoMemory`] is the one answer for want of memory.
 #![tactic(auto)]
 
 mod field;

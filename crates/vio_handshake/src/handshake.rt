@@ -80,8 +80,8 @@ impl Handshake {
         }
     }
 
-    /// Takes one message of the handshake, of this state or any other. A message of another session is a fault, `Sid`;
-    /// so is one that the state doesn't take, `Order`, and a refusal, or an agreement that this end doesn't accept,
+    /// Takes one message of the handshake, of this state or any other. A message of another session is a fault, `Sid`.
+    /// So is one that the state doesn't take, `Order`, and a refusal, or an agreement that this end doesn't accept,
     /// `Refused`: the first of these. Then nothing changes. What the peer says and this end doesn't accept is answered
     /// by NACK.
     pub fn take(&mut self, message: &Message) -> HsOut

@@ -15,9 +15,9 @@ ghost use Rattle.ldc_link.specs.declared.phase.Role.{Role};
 ghost use Rattle.vio_handshake.specs.declared.handshake.Handshake.{Handshake};
 
 /// Two handshakes whose offers match, and whose links just came up, are given each other's messages, in any
-/// interleaving of their steps: no message is a fault; and once neither end owes a message and none is on the way,
-/// both are open in one session and agree on it. That session is the initiator's next. Until then one of them can
-/// act, and each of the at most 12 messages is put and taken once.
+/// interleaving of their steps. No message is a fault. And once neither end owes a message and none is on the way, both
+/// are open in one session and agree on it. That session is the initiator's next. Until then one of them can act, and
+/// each of the at most 12 messages is put and taken once.
 pub fn handshakes_agree()
     ensures heard { (initiator responder : Handshake) (acts : List Act) (pair : Pair)
         → initiator.role ≡ Initiator → responder.role ≡ Responder → Match initiator.offer responder.offer
@@ -35,7 +35,7 @@ pub fn handshakes_agree()
 {}
 
 /// Two handshakes whose offers match say the attributes of a session of the smaller minor, in any interleaving of their
-/// steps: neither says of the device what came with a later version, whatever its own is.
+/// steps. Neither says of the device what came with a later version, whatever its own is.
 pub fn attributes_are_of_the_smaller_minor()
     ensures { (initiator responder : Handshake) (acts : List Act) (pair : Pair)
         → initiator.role ≡ Initiator → responder.role ≡ Responder → Match initiator.offer responder.offer

@@ -11,8 +11,8 @@ ghost use Rattle.vio_tag.specs.declared.attributes.NetAttr.{NetAttr};
 ghost use Rattle.vio_tag.specs.declared.message.Message.{Message};
 ghost use Rattle.vio_tag.specs.declared.message.TagFault.{TagFault};
 
-/// Bytes spell at most one well-formed message, and its canonical bytes spell it: so decoding what was
-/// encoded gives the message back, and messages with the same canonical bytes are the same.
+/// Bytes spell at most one well-formed message, and its canonical bytes spell it. So decoding what was encoded gives
+/// the message back, and messages with the same canonical bytes are the same.
 pub fn spellings_are_unique()
     ensures at_most_one { (bytes : List ℕ) (one other : Message) → IsWellFormed one → IsWellFormed other
         → SpellsMessage bytes one → SpellsMessage bytes other → one ≡ other }

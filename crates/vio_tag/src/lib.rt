@@ -1,10 +1,9 @@
-//! Messages of the virtual I/O protocol, which the ends of a device send each other over a link, as
-//! Linux's vio.h has them; the attributes of disks and network devices that they carry; and the causes of
-//! a link's reset.
+//! Messages of the virtual I/O protocol, which the ends of a device send each other over a link, as Linux's vio.h has
+//! them. The attributes of disks and network devices that they carry; and the causes of a link's reset.
 //!
-//! Links, handshakes, rings, the journal and the dump stand on it. `decode` answers a message exactly
-//! where the bytes spell it, and else the first fault in a stated order; `encode` writes the canonical
-//! spelling, so that decoding gives the message back.
+//! Links, handshakes, rings, the journal and the dump stand on it. `decode` answers a message exactly where the bytes
+//! spell it, and else the first fault in a stated order. `encode` writes the canonical spelling, so that decoding gives
+//! the message back.
 #![tactic(auto)]
 
 mod attributes;

@@ -18,10 +18,10 @@ ghost use Rattle.world_laws.specs.World.{AreShapes, fresh_world, WorldState, Wor
 ghost use Rattle.world_laws.specs.Failures.{in_entry, is_failed_done, is_failed_store, is_flush, is_store, NeverFailed};
 ghost use Rattle.world_laws.specs.Statuses.{CarriesAsAsked, StatusAt, TellsStore};
 
-/// On a lane that nobody forged, whether its store failed or not, whatever was lost, reset, stopped or restarted on
-/// the way there: each descriptor is ended with the status 0 or 5; and each completion is of the request that was
-/// accepted with its id. It has the status 0 and as many bytes as the request reads, or the status 5 and none. So
-/// it is along every run, where nobody forged until then, and on each lane of a world.
+/// On a lane that nobody forged, whether its store failed or not, whatever was lost, reset, stopped or restarted: each
+/// descriptor is ended with the status 0 or 5. And each completion is of the request that was accepted with its id. It
+/// has the status 0 and as many bytes as the request reads, or the status 5 and none. So it is along every run, where
+/// nobody forged until then, and on each lane of a world.
 pub fn statuses_tell_failing_stores()
     ensures finished { (shape : Shape) (events : List DiskEvent) (s : LaneState) (slot status : ℕ) (t : LaneState)
         → IsShape shape → Run LaneStep (fresh shape) events s → s.wire.forged ≡ false
@@ -40,10 +40,10 @@ pub fn statuses_tell_failing_stores()
         → Lawful StatusAt after (nothing_yet shape) (happened k entries) }
 {}
 
-/// On a lane that nobody forged there are no more completions with the status 5 than calls of the store that
-/// failed. So it is whatever was lost, reset, stopped or restarted on the way there. In a world the image's count
-/// of faults is that of the start, and one higher for each call that failed, of any lane; so where it began at 0
-/// and nobody forged a lane, the completions with the status 5 of all lanes together are no more than it counts.
+/// On a lane that nobody forged there are no more completions with the status 5 than calls of the store that failed. So
+/// it is whatever was lost, reset, stopped or restarted on the way there. In a world the image's count of faults is
+/// that of the start, and one higher for each call that failed, of any lane. So where it began at 0 and nobody forged a
+/// lane, the completions with the status 5 of all lanes together are no more than it counts.
 pub fn failed_completions_are_counted()
     ensures lane { (shape : Shape) (events : List DiskEvent) (s : LaneState)
         → IsShape shape → Run LaneStep (fresh shape) events s → s.wire.forged ≡ false
@@ -58,8 +58,8 @@ pub fn failed_completions_are_counted()
 {}
 
 /// In a world the image's count of calls is that of the start, and one higher for each call of a store that its journal
-/// tells, of any lane; and its count of flushes is one higher for each that flushes. So it is called and flushed as often
-/// as that is told: also where somebody forges packets and memory and where the store fails.
+/// tells, of any lane. And its count of flushes is one higher for each that flushes. So it is called and flushed as
+/// often as that is told: also where somebody forges packets and memory and where the store fails.
 pub fn calls_of_the_image_are_told()
     ensures calls { (w : WorldState) (entries : List SettleEntry) (v : WorldState)
         → Run WorldStep w entries v → v.image.calls ≡ count_after (count_by (in_entry is_store) entries) w.image.calls }
@@ -68,8 +68,8 @@ pub fn calls_of_the_image_are_told()
         → v.image.flushes ≡ count_after (count_by (in_entry is_flush) entries) w.image.flushes }
 {}
 
-/// Where the image of a world counts no faults, no call of the store failed, on no lane; and each completion on a
-/// lane that nobody forged has the status 0.
+/// Where the image of a world counts no faults, no call of the store failed, on no lane. And each completion on a lane
+/// that nobody forged has the status 0.
 pub fn an_image_that_never_failed()
     ensures lanes { (shapes : List Shape) (image : ImageState) (entries : List SettleEntry) (w : WorldState)
         → Run WorldStep (fresh_world shapes image) entries w → w.image.faults ≡ 0 → Each NeverFailed w.lanes }

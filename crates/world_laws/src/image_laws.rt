@@ -20,9 +20,9 @@ ghost use Rattle.world_laws.specs.NamesNo.{NamesNo};
 ghost use Rattle.world_laws.specs.OwnImage.{OwnImage};
 ghost use Rattle.world_laws.specs.Stays.{StaysAround, StaysAt, StaysBehind};
 
-/// A step of a disk's lane changes of a told image only bytes of the disk's region, also where somebody forges packets
-/// and memory, and where the store fails: the image is told still and as long, and the same before the region and
-/// after it. So it is of any lane that was reached, and of each lane of a world.
+/// A step of a disk's lane changes of a told image only bytes of the disk's region, forged or not, whether the store
+/// fails or not. The image is told still and as long, and the same before the region and after it. So it is of any lane
+/// that was reached, and of each lane of a world.
 pub fn stores_stay_within_their_disks()
     ensures lane { (shape : Shape) (events : List DiskEvent) (s : LaneState) (event : DiskEvent) (t : LaneState)
         (image next : ImageState) (store : List ℕ)
@@ -36,17 +36,17 @@ pub fn stores_stay_within_their_disks()
         → StaysAround shape store v.image.told }
 {}
 
-/// After all disks of a world a told image is as it was at the start, and it is as long: also where somebody forges
-/// packets and memory, and where the store fails.
+/// After all disks of a world a told image is as it was at the start, and it is as long, forged or not, whether the
+/// store fails or not.
 pub fn images_outside_all_disks_stay()
     ensures { (shapes : List Shape) (image : ImageState) (first : List ℕ)
         → IsWorld shapes image → image.told ≡ Some first → (entries : List SettleEntry) (w : WorldState)
         → Run WorldStep (fresh_world shapes image) entries w → StaysBehind shapes first w.image.told }
 {}
 
-/// Along every run of a world each disk that nobody forged and whose store didn't fail has its own image: its lane,
-/// beside its region of the world's image, is run by what happened to it, whatever happened to the others, also where
-/// they were forged and their stores failed.
+/// Along every run of a world each disk that nobody forged and whose store didn't fail has its own image. Its lane,
+/// beside its region of the world's image, is run by what happened to it. That is so whatever happened to the others,
+/// also where they were forged and their stores failed.
 pub fn each_disk_has_its_own_image()
     ensures { (shapes : List Shape) (image : ImageState) (first : List ℕ) (k : ℕ) (shape : Shape)
         → IsWorld shapes image → image.told ≡ Some first → slice_get shapes k ≡ Some shape
@@ -56,9 +56,9 @@ pub fn each_disk_has_its_own_image()
 {}
 
 /// Each completion of a disk that nobody forged and whose store didn't fail until then is of the first request that
-/// isn't done, with status 0; that of a read shows for each block the last earlier write of the disk, or the first
-/// image where there is none; or else a write that was issued after it, where both were disturbed by a reset or a
-/// stop. So it is whatever happened to the other disks, at each completion of a disk that is so at the end of a run.
+/// isn't done, with status 0. That of a read shows for each block the last earlier write of the disk, or the first
+/// image where there is none. Or else a write that was issued after it, where both were disturbed by a reset or a stop.
+/// So it is whatever happened to the other disks, at each completion of a disk that is so at the end of a run.
 pub fn completions_of_each_disk_show_the_last_write()
     ensures steps { (shapes : List Shape) (image : ImageState) (first : List ℕ) (k : ℕ) (shape : Shape)
         → IsWorld shapes image → image.told ≡ Some first → slice_get shapes k ≡ Some shape
@@ -78,10 +78,10 @@ pub fn completions_of_each_disk_show_the_last_write()
         → CompletionShows (region_of shape first) (log_of after (nothing_yet shape) (happened k before)) status bytes }
 {}
 
-/// At each moment of a world each block of a disk is that of the first image with the requests that are done; or it
-/// is that of a write that the disk accepted and that isn't done; and where all are done its region is the first
-/// content with all of them, once each. That is so where nobody forged the disk's lane and its store didn't fail,
-/// and those that are done are applied in their order.
+/// At each moment of a world each block of a disk is that of the first image with the requests that are done. Or it is
+/// that of a write that the disk accepted and that isn't done. And where all are done its region is the first content
+/// with all of them, once each. That is so where nobody forged the disk's lane and its store didn't fail, and those
+/// that are done are applied in their order.
 pub fn each_disk_holds_what_is_done()
     ensures holds { (shapes : List Shape) (image : ImageState) (first : List ℕ) (k : ℕ) (shape : Shape)
         → IsWorld shapes image → image.told ≡ Some first → slice_get shapes k ≡ Some shape
@@ -101,8 +101,9 @@ pub fn each_disk_holds_what_is_done()
         ≡ after_requests (region_of shape first) (log_of after (nothing_yet shape) (happened k entries)).work.issued }
 {}
 
-/// On a world whose lanes nobody forged, whether stores failed or not: a place of a told image that lies in no write
-/// that a disk accepted keeps its byte, and the image its length, whatever was lost, reset, stopped or restarted.
+/// On a world whose lanes nobody forged, whether stores failed or not, take a place of a told image that lies in no
+/// write that a disk accepted. It keeps its byte, and the image its length, whatever was lost, reset, stopped or
+/// restarted.
 pub fn images_keep_what_no_write_names()
     ensures { (shapes : List Shape) (image : ImageState) (first : List ℕ) (place : ℕ)
         → IsWorld shapes image → image.told ≡ Some first → (entries : List SettleEntry) (w : WorldState)

@@ -1,6 +1,6 @@
-//! Worlds of disks' lanes over one image: rounds, ticks and what a settle comes to; what each line of a script does and the part of the
-//! journal that it gives; then each disk's requests, its region of the image, failures, and a quiet script as a plain list of requests.
-//! It has no code: the code of a world stands on it.
+//! Worlds of disks' lanes over one image: rounds, ticks and what a settle comes to. What each line of a script does and
+//! the part of the journal that it gives. Then each disk's requests, its region of the image, failures, and a quiet
+//! script as a plain list of requests. It has no code: the code of a world stands on it.
 #![tactic(auto)]
 
 mod fault_laws;

@@ -18,7 +18,7 @@ ghost use Rattle.world_laws.specs.RoundMade.{all_true, LaneMade, RoundBegun, Rou
 ghost use Rattle.world_laws.specs.TicksMade.{LaneTicked, TicksBegun, TicksUpTo};
 
 /// A round begins with no lane, goes on by a step of the next lane's client and one of its server, and after the last
-/// lane it is a round; the marks then say whether all lanes were quiet in it.
+/// lane it is a round. The marks then say whether all lanes were quiet in it.
 pub fn a_round_is_made_lane_by_lane()
     ensures begins { (w : WorldState) (quiet : List Bool) → RoundUpTo 0 w [] quiet w }
     ensures goes_on { (k : ℕ) (start w m v : WorldState) (entries one two : List SettleEntry) (quiet marks : List Bool)
@@ -55,7 +55,7 @@ pub fn names_are_given_lane_by_lane()
         → slice_get quiet k ≡ Some calm → one ≡ name_of k calm lane → NamesUpTo (k + 1) w quiet (entries ++ one) }
 {}
 
-/// A settle begins with no round; it goes on by one in which not all lanes were quiet, or by one in which they were and
+/// A settle begins with no round. It goes on by one in which not all lanes were quiet, or by one in which they were and
 /// after which some got a tick. It ends settled by one after which none got a tick, where fewer than the most were
 /// made; and where the most were made it ends with the names.
 pub fn a_settle_is_made_round_by_round()

@@ -8,11 +8,11 @@ ghost use Rattle.world_laws.specs.Lines.{Line};
 ghost use Rattle.world_laws.specs.World.{WorldState};
 ghost use Rattle.world_laws.specs.Quiet.{IsFront, RunsPlainly, RunsQuietly};
 
-/// In a world of one disk whose lines only ask the disk, settle or do nothing, what the lines show is what a plain
-/// list of requests shows. The disk begins the image, which is told and never failed. A request is refused for its
-/// defect, finds as many waiting as the ring has slots, or waits; a settle completes all that wait, in order, each
-/// once and with the status 0; each read has the bytes that the image has after the writes before it; and nothing
-/// else is shown, so that no end was reset. After each line the image has exactly the plain list's bytes.
+/// In a world of one disk whose lines only ask the disk, settle or do nothing, what the lines show is what a plain list
+/// of requests shows. The disk begins the image, which is told and never failed. A request is refused for its defect,
+/// finds as many waiting as the ring has slots, or waits. A settle completes all that wait, in order, each once and
+/// with the status 0. Each read has the bytes that the image has after the writes before it. And nothing else is shown,
+/// so that no end was reset. After each line the image has exactly the plain list's bytes.
 pub fn a_quiet_world_is_a_plain_list()
     ensures { (shape : Shape) (image : ImageState) (first : List ℕ) (lines : List (Line × List SettleEntry))
         (w : WorldState)

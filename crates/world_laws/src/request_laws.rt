@@ -17,10 +17,10 @@ ghost use Rattle.world_laws.specs.Accepted.{accepted_in, next_ids};
 ghost use Rattle.world_laws.specs.Requests.{requests_of};
 ghost use Rattle.world_laws.specs.Running.{AllLeaveRunning, IsRunning};
 
-/// In every run of a world, also where somebody forges packets and memory and where the store fails: what the
-/// journal says of the requests of a disk is what a disk with a plain list of requests does. A request is refused
-/// for its defect; else it finds no room where as many are pending as the ring has slots; else it is accepted with
-/// the number of those before it. Each is completed at most once, in the order in which they were accepted.
+/// In every run of a world, forged or not, whether the store fails or not: what the journal says of a disk's requests
+/// is what a plain list does. A request is refused for its defect; else it finds no room where as many are pending as
+/// the ring has slots. Else it is accepted with the number of those before it. Each is completed at most once, in the
+/// order in which they were accepted.
 pub fn requests_of_each_disk_are_admitted_and_complete_once()
     ensures once { (shapes : List Shape) (image : ImageState) (entries : List SettleEntry) (w : WorldState)
         (k : ℕ) (shape : Shape)
@@ -32,8 +32,8 @@ pub fn requests_of_each_disk_are_admitted_and_complete_once()
         → Admission shape.blocks shape.slots (requests_of (happened k entries)) }
 {}
 
-/// Along every run of a lane, and so of each disk of a world: the client holds the requests that were accepted and
-/// aren't completed, in their order, and its next id is how many were accepted.
+/// Along every run of a lane, and so of each disk of a world, the client holds the requests that were accepted and
+/// aren't completed, in their order. Its next id is how many were accepted.
 pub fn requests_of_a_lane_are_pending_in_order()
     ensures pending { (shape : Shape) (events : List DiskEvent) (s : LaneState)
         → IsShape shape → Run LaneStep (fresh shape) events s
@@ -54,8 +54,8 @@ pub fn requests_of_a_lane_are_pending_in_order()
         → s.client.next_id ≡ length (issued (requests_of (happened k entries))) }
 {}
 
-/// The lines of a script forge no packet and write into no memory: nobody forged any lane of the world that they
-/// lead to, also where want of memory cut a line; and where no line stops a server, each runs.
+/// The lines of a script forge no packet and write into no memory. So nobody forged any lane of the world that they
+/// lead to, also where want of memory cut a line. And where no line stops a server, each runs.
 pub fn nobody_forges_by_lines()
     ensures unforged { (shapes : List Shape) (image : ImageState) (lines : List (Line × List SettleEntry))
         (w : WorldState)

@@ -19,9 +19,9 @@ ghost use Rattle.world_laws.specs.Settle.{SettleEntry, Settled, SettlePart, Sett
 ghost use Rattle.world_laws.specs.Ticks.{waits_on};
 ghost use Rattle.world_laws.specs.Sums.{IsUnforged, remaining_on};
 
-/// Where nobody forged any of at most eight lanes, whatever was lost, reset, stopped or restarted on the way there, a
-/// settle ends settled: each of its rounds that isn't the last lowers what remains on all lanes together, so that fewer
-/// are made than may be, and it never runs out of them.
+/// Where nobody forged any of at most eight lanes, whatever was lost, reset, stopped or restarted, a settle ends
+/// settled. Each of its rounds that isn't the last lowers what remains on all lanes together. So fewer are made than
+/// may be, and it never runs out of them.
 pub fn a_settle_of_unforged_lanes_ends_settled()
     ensures falls { (start : List LaneState) (rounds : List SettleRound) (now : Settling)
         → Each IsReached start → Each IsUnforged start → Run GoesOn (begin start) rounds now
@@ -38,7 +38,7 @@ pub fn a_settle_of_unforged_lanes_ends_settled()
 {}
 
 /// After a settle that ends settled each lane that runs is finished, its client's session open and nothing pending, or
-/// had its tick; where nobody forged it, it is finished, also beside lanes that somebody forged; and where moreover no
+/// had its tick. Where nobody forged it, it is finished, also beside lanes that somebody forged. And where moreover no
 /// packet was lost since the queues were last emptied, both sessions are open and nothing waits for either end.
 pub fn running_lanes_are_finished_behind_a_settle()
     ensures part { (start : List LaneState) (part : List SettleEntry) (behind : List LaneState)
@@ -49,16 +49,16 @@ pub fn running_lanes_are_finished_behind_a_settle()
         → EachMarked EndsFinished behind now.marks }
 {}
 
-/// After a round in which all lanes are quiet each end of every lane is still, but for a stopped server's, also where
-/// somebody forges packets and memory. So it is at each tick of a settle, and where it ends settled.
+/// After a round in which all lanes are quiet each end of every lane is still, but for a stopped server's, forged or
+/// not. So it is at each tick of a settle, and where it ends settled.
 pub fn all_ends_are_still_behind_a_quiet_round()
     ensures { (lanes : List LaneState) (steps : List LaneRound) (behind : List LaneState)
         → MakeRound lanes steps behind → are_quiet steps ≡ true → AllStill lanes steps behind }
 {}
 
 /// In the part of a settle no end of a lane finds no room three times with nothing but Blocked between. Where the
-/// rounds ran out, the steps other than Blocked and the ticks in it are at least as many as the most rounds; for
-/// each round that isn't the last leaves one. Then at least one lane is named.
+/// rounds ran out, the steps other than Blocked and the ticks in it are at least as many as the most rounds. For each
+/// round that isn't the last leaves one. Then at least one lane is named.
 pub fn each_round_of_a_settle_moves()
     ensures stuck { (start : List LaneState) (part : List SettleEntry) (behind : List LaneState) (k : ℕ) (e : End)
         → SettlePart start part behind → NeverThree k e 0 part }
@@ -69,8 +69,8 @@ pub fn each_round_of_a_settle_moves()
         → 1 ≤ length (left_over 0 out.last.steps behind) }
 {}
 
-/// The part of a settle says what happened to each lane: the lane is run by the events that its entries have, one after
-/// another, since a step that leaves no entry left the lane as it was; so it is where want of memory cut the part. In
+/// The part of a settle says what happened to each lane. The lane is run by the events that its entries have, one after
+/// another, since a step that leaves no entry left the lane as it was. So it is where want of memory cut the part. In
 /// one settle each lane gets one tick at most. Lanes that are moved by a part stay reached.
 pub fn a_settle_moves_each_lane_by_its_part()
     ensures runs { (start : List LaneState) (part : List SettleEntry) (behind : List LaneState)

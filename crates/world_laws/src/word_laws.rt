@@ -18,11 +18,10 @@ ghost use Rattle.world_laws.specs.Lines.{Line, LineBegins, LineStep, entries_of_
 ghost use Rattle.world_laws.specs.World.{AreShapes, fresh_world, WorldState, WorldStep};
 ghost use Rattle.world_laws.specs.Words.{HasWords};
 
-/// Along every run of a world, also where somebody forges packets and memory and where the store fails: each event is
-/// one of a disk that the world has, and can be told in words. An operation is a read, a write or a flush; what a read
-/// carries that succeeded is whole blocks, and at least one; a copy was refused for one of its six faults; and no end
-/// loses frames by being configured. The disks that a settle of a script leaves over are the world's too, also where
-/// want of memory cut its line.
+/// Along every run of a world, forged or not, whether the store fails or not, each event is of a disk of it and can be
+/// told in words. An operation is a read, a write or a flush; what a read carries that succeeded is whole blocks, and
+/// at least one. A copy was refused for one of its six faults; and no end loses frames by being configured. The disks
+/// that a settle of a script leaves over are the world's too, also where want of memory cut its line.
 pub fn events_have_their_words()
     ensures lanes { (shapes : List Shape) (image : ImageState) (entries : List SettleEntry) (w : WorldState)
         (before : List SettleEntry) (k : ℕ) (event : DiskEvent) (behind : List SettleEntry)
@@ -43,9 +42,9 @@ pub fn events_have_their_words()
         → before ++ Unsettled k ∷ behind ≡ entries_of_lines lines ++ part → k < length shapes }
 {}
 
-/// Along every run of a world, also where somebody forges packets and memory and where the store fails: what its
-/// journal says of a disk is lawful, each event in the log of those before it, and the disk's lane agrees with the log
-/// of them all. Where nobody forged it and both sessions are open, both ends are up, and the sessions are one.
+/// Along every run of a world, forged or not, whether the store fails or not: what its journal says of a disk is
+/// lawful. Each event may stand in the log of those before it. The disk's lane agrees with the log of them all. Where
+/// nobody forged it and both sessions are open, both ends are up, and the sessions are one.
 pub fn lanes_are_lawful()
     ensures lawful { (shapes : List Shape) (image : ImageState) (entries : List SettleEntry) (w : WorldState)
         (k : ℕ) (shape : Shape)
