@@ -1,22 +1,21 @@
 // The descriptor of a request.
 
 ghost use Rattle.std.specs.Prelude.{◌≡◌, ◌+◌, ◌*◌, ◌<◌, ◌≤◌};
+ghost use Rattle.vdisk_msg.specs.Check.{most_bytes};
 ghost use Rattle.vdisk_msg.specs.Requested.{block_of, buffer_cookie, buffer_cookies, buffer_place, cookie_count, descriptor_of, size_of};
 ghost use Rattle.vdisk_msg.specs.Requests.{given_count, operation_of};
 
-use crate::offering::{PAGE, ring_pages};
+use crate::offering::ring_pages;
+use dom_memory::PAGE;
 use dring::{Ring, VIO_DESC_READY};
 use map_table::Cookie;
-use vdisk_msg::{BLOCK, DiskDesc, Request, VD_OP_BREAD, VD_OP_BWRITE, VD_OP_FLUSH};
+use vdisk_msg::{BLOCK, BUFFER_PAGES, DiskDesc, Request, VD_OP_BREAD, VD_OP_BWRITE, VD_OP_FLUSH};
 
 /// An acknowledgement is asked for.
 const VIO_ACK_ENABLE: u8 = 1;
 
 /// The whole disk.
 const WHOLE_DISK: u8 = 0xff;
-
-/// The pages of a slot's buffer.
-const BUFFER_PAGES: u64 = 4;
 
 /// What a request asks of the disk.
 pub fn operation_of(request: &Request) -> u8
@@ -41,7 +40,7 @@ fn block_of(request: &Request) -> u64
 
 /// The bytes that it moves.
 fn size_of(request: &Request) -> u64
-    requires { size_of request.now ≤ 32768 }
+    requires { size_of request.now ≤ most_bytes }
     ensures { result ≡ size_of request.now }
 {
     match request {
@@ -63,7 +62,7 @@ pub fn buffer_place(slots: u32, slot: u32) -> u64
     requires slot { slot < slots }
     ensures { result ≡ buffer_place slots slot }
 {
-    PAGE * (ring_pages(slots) as u64 + BUFFER_PAGES * slot as u64)
+    PAGE as u64 * (ring_pages(slots) + BUFFER_PAGES * slot) as u64
 }
 
 /// The descriptor of the request with this id, in a slot of a ring of so many: READY, with the slot's buffer as far as
@@ -72,7 +71,7 @@ pub fn buffer_place(slots: u32, slot: u32) -> u64
 pub(crate) fn descriptor_of(id: u64, request: &Request, slot: u32, slots: u32) -> DiskDesc
     requires few { slots ≤ 256 }
     requires slot { slot < slots }
-    requires size { size_of request.now ≤ 32768 }
+    requires size { size_of request.now ≤ most_bytes }
     ensures { result ≡ descriptor_of id request.now slot slots }
 {
     let size = size_of(request);

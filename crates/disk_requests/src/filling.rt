@@ -2,6 +2,7 @@
 
 ghost use Rattle.std.specs.Prelude.{◌≡◌, ◌+◌, ◌*◌, ◌%◌, ◌<◌, ◌≤◌, ◌++◌, length, take};
 ghost use Rattle.vio_bytes.specs.Place.{put_at};
+ghost use Rattle.vdisk_msg.specs.Check.{most_bytes};
 ghost use Rattle.vdisk_msg.specs.Fills.{IsFill, IsRequest};
 ghost use Rattle.vdisk_msg.specs.Requested.{size_of};
 ghost use Rattle.vdisk_msg.specs.Requests.{repeated};
@@ -17,7 +18,7 @@ use vdisk_msg::{BLOCK, Fill, Request, encode};
 pub fn put_request(memory: &mut Memory, slots: u32, slot: u32, id: u64, request: &Request)
     requires few { slots ≤ 256 }
     requires slot { slot < slots }
-    requires size { size_of request.now ≤ 32768 }
+    requires size { size_of request.now ≤ most_bytes }
     requires fill { IsRequest request.now }
     requires room { HoldsRing slots memory.old }
     ensures written { memory.new ≡ published_memory slots slot id request.now memory.old }
@@ -31,10 +32,10 @@ pub fn put_request(memory: &mut Memory, slots: u32, slot: u32, id: u64, request:
 
 /// Writes a write's bytes to the place.
 fn put_data(memory: &mut Memory, place: u64, request: &Request)
-    requires size { size_of request.now ≤ 32768 }
+    requires size { size_of request.now ≤ most_bytes }
     requires fill { IsRequest request.now }
     requires place { place ≤ 16777216 }
-    requires room { place + 32768 ≤ length memory.old }
+    requires room { place + most_bytes ≤ length memory.old }
     ensures written { memory.new ≡ filled_buffer request.now place memory.old }
     ensures same_length { length memory.new ≡ length memory.old }
 {
@@ -53,7 +54,7 @@ const FEW: usize = 1024;
 fn put_fill(memory: &mut Memory, place: u64, fill: &Fill, total: usize)
     requires fill { IsFill fill.now }
     requires place { place ≤ 16777216 }
-    requires total { total ≤ 32768 }
+    requires total { total ≤ most_bytes }
     requires room { place + total ≤ length memory.old }
     ensures written { memory.new ≡ put_at place (repeated fill.now 0 total) memory.old }
     ensures same_length { length memory.new ≡ length memory.old }

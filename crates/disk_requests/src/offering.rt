@@ -6,15 +6,11 @@ ghost use Rattle.vio_tag.specs.Attributes.{disk_attr_bytes};
 ghost use Rattle.channel_model.specs.OwnMemory.{filled, page_cookies};
 ghost use Rattle.disk_model.specs.Offering.{client_offer, disk_of, own_cookies};
 
+use dom_memory::PAGE;
 use map_table::Cookie;
+use vdisk_msg::SLOT;
 use vio_handshake::Offer;
 use vio_tag::{DiskAttr, put_disk_attr};
-
-/// The bytes of a slot of the ring.
-pub(crate) const SLOT: u32 = 128;
-
-/// The bytes of a page.
-pub(crate) const PAGE: u64 = 8192;
 
 /// The highest version is 1.1.
 const MINOR: u16 = 1;
@@ -33,7 +29,7 @@ pub fn client_offer(blocks: u64, slots: u32) -> Offer
         class: VDEV_DISK,
         attr: disk_bytes(blocks),
         slots,
-        slot_size: SLOT,
+        slot_size: SLOT as u32,
         count,
         cookies,
         both_rings: false,
@@ -62,7 +58,7 @@ pub(crate) fn ring_pages(slots: u32) -> u32
     requires { slots ≤ 256 }
     ensures { result ≡ ring_pages slots }
 {
-    (SLOT * slots).div_ceil(PAGE as u32)
+    (SLOT as u32 * slots).div_ceil(PAGE as u32)
 }
 
 /// The ring's cookies, one for each page of it, or one of its size where it is below a page; and how many.
@@ -71,14 +67,14 @@ fn own_cookies(slots: u32) -> (u32, [Cookie; 14])
     ensures count { result.0 ≡ length (own_cookies slots) }
     ensures cookies { result.1 ≡ filled 14 (own_cookies slots) }
 {
-    if slots >= PAGE as u32 / SLOT {
+    if slots >= (PAGE / SLOT) as u32 {
         let pages = ring_pages(slots);
         return (pages, page_cookies(pages));
     }
     let mut cookies = [Cookie::NONE; 14];
     cookies[0] = Cookie {
         address: 0,
-        size: (SLOT * slots) as u64,
+        size: SLOT as u64 * slots as u64,
     };
     (1, cookies)
 }
@@ -91,8 +87,8 @@ fn page_cookies(pages: u32) -> [Cookie; 14]
     let mut cookies = [Cookie::NONE; 14];
     for page in 0..pages {
         cookies[page as usize] = Cookie {
-            address: PAGE * page as u64,
-            size: PAGE,
+            address: PAGE as u64 * page as u64,
+            size: PAGE as u64,
         };
     }
     cookies

@@ -8,7 +8,7 @@ use std::marker::Model;
 use vio_bytes::NoMemory;
 use zero_pages::ZeroPages;
 
-/// The bytes of a page.
+/// The bytes of a page, 8 KiB: the base page of sun4v (`PAGE_SIZE` of Linux's page_64.h).
 pub const PAGE: usize = 8192;
 
 /// The memory of a domain, 1 to 1,028 pages of 8,192 bytes, of which what was never written isn't touched.

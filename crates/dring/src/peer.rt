@@ -35,7 +35,8 @@ pub enum RingFault {
 pub fn slot_of(id: u64, base: u64, slots: u32) -> u32
     requires since { base ≤ id }
     requires some { slots ≢ 0 }
-    ensures { result ≡ (id - base) % slots }
+    ensures slot { result ≡ (id - base) % slots }
+    ensures within { result < slots }
 {
     ((id - base) % slots as u64) as u32
 }

@@ -5,6 +5,7 @@ ghost use Rattle.map_table.specs.Table.{KeepsTaken, TakenBelow, entry_bytes, ent
 ghost use Rattle.map_table.specs.Table.{look_at, right_bit};
 
 use crate::rights::Rights;
+use dom_memory::PAGE;
 use std::alloc::Global;
 use std::marker::Model;
 use vio_bytes::{NoMemory, put_u64};
@@ -65,8 +66,6 @@ const MTE_COPY_R: u64 = 0x200;
 
 const PAGE_SHIFT: u32 = 13;
 
-const PAGE: u64 = 8192;
-
 impl MapTable {
     /// So many free entries. The one refusal is for want of memory.
     pub fn new(alloc: Global, entries: u32) -> Result<MapTable, NoMemory>
@@ -108,10 +107,10 @@ impl MapTable {
         if address >> 60 != 0 {
             return Err(LookFault::BadPage);
         }
-        match entry_at(&self.entries, address / PAGE) {
+        match entry_at(&self.entries, address / PAGE as u64) {
             Some(entry) => Ok(Spot {
                 page: entry.page,
-                offset: (address % PAGE) as u32,
+                offset: (address % PAGE as u64) as u32,
                 rights: entry.rights,
             }),
             None => Err(LookFault::NoMap),

@@ -11,7 +11,7 @@ use Rattle.vdisk_msg.specs.declared.desc.DescFault.TheVariants.{Cookies, Size, R
 use Rattle.vdisk_msg.specs.declared.request.Fill.{Fill}
 use Rattle.vdisk_msg.specs.declared.request.Request.{Request}
 use Rattle.vdisk_msg.specs.declared.request.Request.TheVariants.{Read, Write, Flush}
-use Rattle.vdisk_msg.specs.Check.{first_defect, has_size, holds_cookies, is_within}
+use Rattle.vdisk_msg.specs.Check.{first_defect, has_size, holds_cookies, is_within, most_bytes}
 use Rattle.vdisk_msg.specs.Descriptor.{HasWidths, canonical}
 use Rattle.vdisk_msg.specs.Pieces.{Finishes, checked_pieces, operation_pieces, pieces, read_pieces, unit_count, write_pieces}
 use Rattle.vdisk_msg.specs.Requested.{block_of, buffer_cookies, buffer_place, cookie_count, descriptor_of, header, size_of, status_word}
@@ -66,7 +66,7 @@ admitted_count blocks block count is = (grind (arith, nat_tests), grind (arith, 
 
 -- what is known of an admitted request
 pub record IsAdmitted (blocks : ℕ) (request : Request) : Type 0 where
-  pub most : size_of request ≤ 32768
+  pub most : size_of request ≤ most_bytes
   pub within : block_of request ≤ blocks
   pub operation : operation_of request ≤ 3
 

@@ -17,9 +17,13 @@ moves_data operation = operation == 1 || operation == 2
 abbrev pub holds_cookies : ℕ → Bool
 holds_cookies count = nat_le 1 count && nat_le count 5
 
+-- the most bytes of one descriptor, 64 blocks
+abbrev pub most_bytes : ℕ
+most_bytes = 32768
+
 -- whole blocks of 512 bytes, at least one and at most 64
 abbrev pub has_size : ℕ → Bool
-has_size size = nat_lt 0 size && nat_le size 32768 && size % 512 == 0
+has_size size = nat_lt 0 size && nat_le size most_bytes && size % 512 == 0
 
 -- the blocks end at or before the disk's end
 abbrev pub is_within : ℕ → ℕ → ℕ → Bool

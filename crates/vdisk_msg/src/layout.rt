@@ -22,6 +22,9 @@ pub(crate) const DISK_DESC: Table<9> = Table {
     length: HEAD,
 };
 
+/// The bytes of a slot of a disk's ring: a descriptor's head and five cookies, which Linux's sunvdc.c registers for it.
+pub const SLOT: usize = 128;
+
 /// The bytes of the head.
 pub(crate) const HEAD: usize = 48;
 
@@ -60,6 +63,9 @@ pub const MOST_BLOCKS: u64 = 64;
 
 /// The most bytes of one descriptor, 64 blocks.
 pub const MOST_BYTES: u64 = 32_768;
+
+/// The pages of the buffer that a client keeps for each slot: as many as the most bytes of a descriptor fill.
+pub const BUFFER_PAGES: u32 = 4;
 
 pub(crate) const NCOOKIES: usize = 8;
 

@@ -20,6 +20,7 @@ pub use desc::{DescFault, DiskDesc};
 pub use encoding::encode;
 pub use laws::descriptors_read_back;
 pub use layout::{
-    BLOCK, MOST_BLOCKS, MOST_BYTES, VD_OP_BREAD, VD_OP_BWRITE, VD_OP_FLUSH, layouts_are_sound,
+    BLOCK, BUFFER_PAGES, MOST_BLOCKS, MOST_BYTES, SLOT, VD_OP_BREAD, VD_OP_BWRITE, VD_OP_FLUSH,
+    layouts_are_sound,
 };
 pub use request::{Fill, Request};

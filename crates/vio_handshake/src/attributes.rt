@@ -15,7 +15,8 @@ use crate::rows::{ORDER, REFUSED};
 use crate::session::{HsOut, Offer};
 use ldc_packet::Subtype;
 use vio_tag::{
-    DiskAttr, Message, MsgBody, NetAttr, disk_attr, net_attr, put_disk_attr, put_net_attr,
+    DISK_OPERATIONS, DiskAttr, Message, MsgBody, NetAttr, disk_attr, net_attr, put_disk_attr,
+    put_net_attr,
 };
 
 /// Data moves by rings of descriptors.
@@ -28,8 +29,6 @@ const VD_DISK_TYPE_DISK: u8 = 2;
 const VD_MEDIA_TYPE_FIXED: u8 = 1;
 
 const BLOCK_SIZE: u32 = 512;
-/// A bit for each of read, write and flush.
-const OPERATIONS: u64 = 0x0e;
 /// From version 1.2 on the disk also tells and sets whether it caches writes.
 const OPERATIONS_FROM_1_2: u64 = 0x3e;
 /// The most blocks of one request.
@@ -175,7 +174,7 @@ fn server_attributes(offer: &Offer, minor: u16, asked: &DiskAttr) -> DiskAttr
         operations: if minor >= 2 {
             OPERATIONS_FROM_1_2
         } else {
-            OPERATIONS
+            DISK_OPERATIONS
         },
         blocks: if minor >= 1 {
             disk_attr(&offer.attr).blocks
@@ -192,7 +191,7 @@ fn accepts_server(offer: &Offer, minor: u16, attr: &DiskAttr) -> bool
 {
     attr.kind == VD_DISK_TYPE_DISK
         && attr.block_size == BLOCK_SIZE
-        && attr.operations & OPERATIONS == OPERATIONS
+        && attr.operations & DISK_OPERATIONS == DISK_OPERATIONS
         && attr.max_transfer == MAX_TRANSFER
         && (minor < 1 || attr.blocks == disk_attr(&offer.attr).blocks)
         && (minor < 2 || attr.physical == BLOCK_SIZE)

@@ -12,6 +12,10 @@ use vio_bytes::{
     get_field, get_u8, get_u16, get_u32, get_u64, put_field, put_u8, put_u16, put_u32, put_u64,
 };
 
+/// The operations of a disk in its attributes, a bit for each code (`VD_OP_BREAD`, `VD_OP_BWRITE` and `VD_OP_FLUSH`
+/// of Linux's vio.h): read, write and flush.
+pub const DISK_OPERATIONS: u64 = 0x0e;
+
 /// The attributes of a disk (`struct vio_disk_attr_info` of Linux's vio.h).
 #[derive(Clone, Copy, Debug, PartialEq, Eq)]
 pub struct DiskAttr {

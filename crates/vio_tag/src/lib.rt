@@ -14,7 +14,9 @@ mod laws;
 mod layout;
 mod message;
 
-pub use attributes::{DiskAttr, NetAttr, disk_attr, net_attr, put_disk_attr, put_net_attr};
+pub use attributes::{
+    DISK_OPERATIONS, DiskAttr, NetAttr, disk_attr, net_attr, put_disk_attr, put_net_attr,
+};
 pub use cause::{Cause, packet_word, tag_word};
 pub use decoding::{decode, decode_into};
 pub use encoding::encode;
