@@ -15,7 +15,6 @@ use Rattle.domain_script.specs.declared.event.Side.{Side}
 use Rattle.domain_script.specs.declared.event.Side.TheVariants.{Client, Server}
 use Rattle.domain_script.specs.declared.event.EndName.{EndName}
 use Rattle.domain_script.specs.declared.event.Lane.{Lane}
-use Rattle.domain_script.specs.declared.event.Lane.TheVariants as lane
 use Rattle.domain_script.specs.declared.fields.Field.{Field}
 use Rattle.domain_script.specs.declared.fields.Field.TheVariants.{NewName, DiskName, LaneName, End, Number, Bytes}
 use Rattle.domain_script.specs.declared.rows.RowKind.{RowKind}
@@ -24,11 +23,12 @@ use Rattle.domain_script.specs.Faults.{is_empty}
 use Rattle.domain_script.specs.NamesState.{NamesState}
 use Rattle.domain_script.specs.Pieces.{HasNo}
 use Rattle.domain_script.specs.Rows.{row_of}
-use Rattle.domain_script.specs.Spells.{NamesEnd, NamesLane, SpellsField, SpellsFields, is_printable}
+use Rattle.domain_script.specs.Spells.{NamesDisk, NamesEnd, NamesLane, SpellsField, SpellsFields, is_printable}
 use Rattle.domain_script.specs.Values.{ValueOf, ValuesOf}
 use Rattle.domain_script.specs.Words.{IsNameWord, SpellsFill, SpellsName, SpellsNumber, is_lower_digit, is_name_byte, side_text, words}
 use Rattle.domain_script.proofs.WordLemmas.{words_none, words_space}
 use Rattle.domain_script.proofs.WordTests.{is_bytes_from}
+use Rattle.domain_script.proofs.LaneKinds.{of_disks}
 
 -- printable bytes without the space, and at least one
 abbrev pub is_graphic : ℕ → Bool
@@ -92,7 +92,8 @@ side_clean (b ∷ bs) Client clean = record { graphic = list_all-append is_graph
 side_clean (b ∷ bs) Server clean = record { graphic = list_all-append is_graphic (b ∷ bs) (side_text Server) ∙ and_from _ _ clean.graphic refl; some = refl }
 
 lane_clean : (names : NamesState) (word : List ℕ) (l : Lane) → NamesLane names word l → IsClean word
-lane_clean names word (lane.Disk disk) named = name_clean word named.name named.spelled
+lane_clean names word l named =
+    of_disks (λ x. IsClean word) (NamesDisk names word) (λ disk is. name_clean word is.name is.spelled) l named
 
 end_clean : (names : NamesState) (word : List ℕ) (end : EndName) → NamesEnd names word end → IsClean word
 end_clean names word end named =

@@ -7,11 +7,11 @@ use Rattle.vdisk_msg.specs.declared.request.Fill.{Fill}
 use Rattle.vdisk_msg.specs.declared.request.Request.TheVariants.{Read, Write}
 use Rattle.domain_script.specs.declared.event.DiskDecl.{DiskDecl}
 use Rattle.domain_script.specs.declared.event.Event.TheVariants.{Blank, Disk, Issue, Settle, Step, Round, Restart, Stop, Tick}
-use Rattle.domain_script.specs.declared.event.Lane.TheVariants as lane
 use Rattle.domain_script.specs.declared.event.Side.TheVariants.{Client, Server}
 use Rattle.domain_script.specs.ScriptEvents.{AllSpell, no_names}
 use Rattle.domain_script.specs.ScriptLines.{script_lines}
 use Rattle.domain_script.proofs.ComputedEvents.{events_spelled}
+use Rattle.domain_script.specs.LaneKinds.{disk_lane}
 
 abbrev bytes : List ℕ
 bytes = codes "disk d0 64 8 16\nwrite d0 3 2 ab\nread d0 2 3\nsettle\n"
@@ -34,8 +34,8 @@ abbrev other_disk : DiskDecl
 other_disk = record { name = record { len = 1; bytes = 101 ∷ replicate 7 0 }; blocks = 1; ring = 2; queue = 8 }
 
 rows_of_two_disks : AllSpell (script_lines other_bytes) no_names
-    (Disk disk ∷ Blank ∷ Disk other_disk ∷ Step (record { lane = lane.Disk 1; side = Client }) 12 ∷ Round 100
-    ∷ Restart (record { lane = lane.Disk 0; side = Server }) ∷ Stop 1 ∷ Tick (lane.Disk 1) ∷ [])
+    (Disk disk ∷ Blank ∷ Disk other_disk ∷ Step (record { lane = disk_lane 1; side = Client }) 12 ∷ Round 100
+    ∷ Restart (record { lane = disk_lane 0; side = Server }) ∷ Stop 1 ∷ Tick (disk_lane 1) ∷ [])
     (record { disks = disk ∷ other_disk ∷ []; ended = true })
 unfolding digits count_ones
 rows_of_two_disks = events_spelled (script_lines other_bytes) no_names

@@ -7,7 +7,6 @@ use Rattle.std.proofs.lemmas.Bool.{and_from, and_left, and_right, cond-false, eq
 use Rattle.domain_script.specs.declared.event.EndName.{EndName}
 use Rattle.domain_script.specs.declared.event.Event.{Event}
 use Rattle.domain_script.specs.declared.event.Lane.{Lane}
-use Rattle.domain_script.specs.declared.event.Lane.TheVariants as lane
 use Rattle.domain_script.specs.declared.event.LineFault.{LineFault}
 use Rattle.domain_script.specs.declared.event.LineFault.TheVariants as line_fault
 use Rattle.domain_script.specs.declared.event.Name.{Name}
@@ -27,11 +26,12 @@ use Rattle.domain_script.proofs.NamingTests.{disk_is, disk_of_name, end_is, free
 use Rattle.domain_script.proofs.OneEvent.{words_of_hash}
 use Rattle.domain_script.proofs.RowLemmas.{word_of_row}
 use Rattle.domain_script.proofs.WordTests.{is_bytes_from, is_name_from, is_number_from, name_is, number_is, within_test}
+use Rattle.domain_script.specs.LaneKinds.{disk_lane}
 
 -- A FIELD whose word spells a value
 not_taken : (names : NamesState) (word : List ℕ) (name : Name) → is_name word ≡ true → number_named (name_of word) names.disks ≡ None → is_some (lane_named names word) ≡ false
 not_taken names word name is none =
-    ap (λ (o : Option ℕ). is_some (option_map (λ k. lane.Disk k) o)) (disk_of_name names word is ∙ none)
+    ap (λ (o : Option ℕ). is_some (option_map disk_lane o)) (disk_of_name names word is ∙ none)
 
 not_wrong : (which : LineFault) (names : NamesState) (field : Field) (word : List ℕ) (value : ValueOf field) → SpellsField names field word value → is_wrong which names field word ≡ false
 not_wrong line_fault.Name names (NewName kind) word name spelled = not_from_true (is_name word) (is_name_from word name spelled.0)

@@ -6,7 +6,6 @@ use Rattle.std.specs.Option.{option_map}
 use Rattle.std.proofs.lemmas.Bool.{and_parts, eqb-true, leb-false, not-false, or_parts}
 use Rattle.domain_script.specs.declared.event.EndName.{EndName}
 use Rattle.domain_script.specs.declared.event.Event.TheVariants.{Blank}
-use Rattle.domain_script.specs.declared.event.Lane.TheVariants as lane
 use Rattle.domain_script.specs.declared.event.LineFault.{LineFault}
 use Rattle.domain_script.specs.declared.event.LineFault.TheVariants as line_fault
 use Rattle.domain_script.specs.declared.event.Side.TheVariants.{Client}
@@ -23,6 +22,7 @@ use Rattle.domain_script.specs.Spells.{IsBlank, IsOfKind, NamesDisk, NamesEnd, N
 use Rattle.domain_script.specs.Words.{is_bytes, is_name, is_number, is_within, name_of, number_of, words}
 use Rattle.domain_script.proofs.NamingTests.{disk_found, disk_of_name, end_found, kind_from_test, lane_found, none_free}
 use Rattle.domain_script.proofs.WordTests.{fill_spelled, name_spelled, number_spelled, within_from_test}
+use Rattle.domain_script.specs.LaneKinds.{disk_lane}
 
 -- A FIELD whose word has no fault
 is_there : {A : Type 0} (o : Option A) (d : A) (P : A → Type 0) → is_none o ≡ false → IfSome o P → P (unwrap_or o d)
@@ -33,7 +33,7 @@ end_there : (kind : EndKind) (o : Option EndName) (d : EndName) (P : EndName →
 end_there kind None d P some holds = absurd (cc some)
 end_there kind (Some end) d P some holds = (holds, kind_from_test kind end some)
 
-none_of_map : (o : Option ℕ) → is_some (option_map (λ k. lane.Disk k) o) ≡ false → o ≡ None
+none_of_map : (o : Option ℕ) → is_some (option_map disk_lane o) ≡ false → o ≡ None
 none_of_map None none = refl
 none_of_map (Some k) none = absurd (cc none)
 
@@ -52,9 +52,9 @@ spells_value names (NewName kind) word right =
       },
     )
 spells_value names DiskName word right = is_there (disk_named names word) 0 (NamesDisk names word) (right line_fault.Unknown) (disk_found names word)
-spells_value names LaneName word right = is_there (lane_named names word) (lane.Disk 0) (NamesLane names word) (right line_fault.Unknown) (lane_found names word)
+spells_value names LaneName word right = is_there (lane_named names word) (disk_lane 0) (NamesLane names word) (right line_fault.Unknown) (lane_found names word)
 spells_value names (End kind) word right =
-    end_there kind (end_named names word) (record { lane = lane.Disk 0; side = Client }) (NamesEnd names word)
+    end_there kind (end_named names word) (record { lane = disk_lane 0; side = Client }) (NamesEnd names word)
     (not-false (some_of_kind kind (end_named names word)) (right line_fault.Unknown)) (end_found names word)
 spells_value names (Number bounds) word right =
     let is : is_number word ≡ true = not-false (is_number word) (right line_fault.Number) in

@@ -3,7 +3,6 @@ use Rattle.std.proofs.Common.{◌≡◌, ℕ, zero, suc, ◌<◌, List, [], ◌�
 use Rattle.std.proofs.lemmas.Fmt.{decimal_injective}
 use Rattle.domain_script.specs.declared.event.DiskDecl.{DiskDecl}
 use Rattle.domain_script.specs.declared.event.Lane.{Lane}
-use Rattle.domain_script.specs.declared.event.Lane.TheVariants as lane
 use Rattle.domain_script.specs.declared.event.Name.{Name}
 use Rattle.domain_script.specs.declared.fields.Bounds.{Bounds}
 use Rattle.domain_script.specs.declared.fields.Bounds.TheVariants as numbers
@@ -16,6 +15,8 @@ use Rattle.domain_script.specs.Values.{ValueOf, ValuesOf}
 use Rattle.domain_script.specs.Words.{IsName, IsWithin, SpellsNumber}
 use Rattle.domain_script.proofs.HexWords.{one_fill}
 use Rattle.domain_script.proofs.Naming.{lane_within, named_within, names_one_disk, names_one_end, one_lane, one_name}
+use Rattle.domain_script.specs.LaneKinds.{disk_of}
+use Rattle.domain_script.proofs.LaneKinds.{some_weaker}
 
 -- a word spells at most one number
 pub one_number : (word : List ℕ) (m n : ℕ) → SpellsNumber word m → SpellsNumber word n → m ≡ n
@@ -87,7 +88,8 @@ disk_has_name : (names : NamesState) (word : List ℕ) (disk : ℕ) → NamesDis
 disk_has_name names word disk named = has_name names.disks named.name disk (record { word = word; spelled = named.spelled }) named.declared_as
 
 lane_has_name : (names : NamesState) (word : List ℕ) (l : Lane) → NamesLane names word l → IsLaneNamed names l
-lane_has_name names word (lane.Disk disk) named = disk_has_name names word disk named
+lane_has_name names word l named =
+    some_weaker (disk_of l) (NamesDisk names word) (HasName names) (disk_has_name names word) named
 
 stands_in_field : (names : NamesState) (field : Field) (word : List ℕ) (value : ValueOf field) → SpellsField names field word value → CanStand names field value
 stands_in_field names (NewName kind) word name spelled = spelled.1

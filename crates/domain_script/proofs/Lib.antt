@@ -6,6 +6,7 @@ pub mod NumberLemmas
 pub mod DecimalDigits
 pub mod HexWords
 pub mod SameName
+pub mod LaneKinds
 pub mod Naming
 pub mod WordTests
 pub mod NamingTests

@@ -5,7 +5,6 @@ use Rattle.std.proofs.lemmas.List.{append_cancel_right, same_from_push}
 use Rattle.domain_script.specs.declared.event.DiskDecl.{DiskDecl}
 use Rattle.domain_script.specs.declared.event.EndName.{EndName}
 use Rattle.domain_script.specs.declared.event.Lane.{Lane}
-use Rattle.domain_script.specs.declared.event.Lane.TheVariants as lane
 use Rattle.domain_script.specs.declared.event.Name.{Name}
 use Rattle.domain_script.specs.declared.event.Side.{Side}
 use Rattle.domain_script.specs.declared.event.Side.TheVariants.{Client, Server}
@@ -13,6 +12,8 @@ use Rattle.domain_script.specs.NamesState.{NamesState, IsDiskNamed, IsFree, IsLa
 use Rattle.domain_script.specs.Spells.{NamesDisk, NamesEnd, NamesLane}
 use Rattle.domain_script.specs.Words.{side_text, SpellsName}
 use Rattle.domain_script.proofs.SameName.{same_end, same_name}
+use Rattle.domain_script.specs.LaneKinds.{disk_lane, disk_of}
+use Rattle.domain_script.proofs.LaneKinds.{of_disks, some_weaker}
 
 -- a word spells at most one name
 pub one_name : (word : List ℕ) (a b : Name) → SpellsName word a → SpellsName word b → a ≡ b
@@ -66,10 +67,15 @@ none_named names word name (Some k) spelled named = tt
 
 -- the lane that a word names is declared
 pub lane_within : (names : NamesState) (word : List ℕ) (l : Lane) → NamesLane names word l → IsLane names l
-lane_within names word (lane.Disk disk) named = named_within names.disks named.name disk named.declared_as
+lane_within names word l named =
+    some_weaker (disk_of l) (NamesDisk names word) (λ disk. disk < length names.disks)
+    (λ disk is. named_within names.disks is.name disk is.declared_as) named
 
 pub one_lane : (names : NamesState) (word : List ℕ) (a b : Lane) → NamesLane names word a → NamesLane names word b → a ≡ b
-one_lane names word (lane.Disk j) (lane.Disk k) first second = ap (λ (n : ℕ). lane.Disk n) (names_one_disk names word j k first second)
+one_lane names word a b first second =
+    of_disks (λ (x : Lane). x ≡ b) (NamesDisk names word)
+    (λ j one. of_disks (λ (y : Lane). disk_lane j ≡ y) (NamesDisk names word)
+    (λ k two. ap disk_lane (names_one_disk names word j k one two)) b second) a first
 
 -- two sides are written differently
 other_letter : (xs ys : List ℕ) (a b : ℕ) → xs ++ 46 ∷ a ∷ [] ≡ ys ++ 46 ∷ b ∷ [] → a ≡ b

@@ -9,7 +9,6 @@ use Rattle.std.proofs.lemmas.Slice.Eq.{bytes_eq-Decides}
 use Rattle.domain_script.specs.declared.event.DiskDecl.{DiskDecl}
 use Rattle.domain_script.specs.declared.event.EndName.{EndName}
 use Rattle.domain_script.specs.declared.event.Lane.{Lane}
-use Rattle.domain_script.specs.declared.event.Lane.TheVariants as lane
 use Rattle.domain_script.specs.declared.event.Name.{Name}
 use Rattle.domain_script.specs.declared.event.Side.{Side}
 use Rattle.domain_script.specs.declared.event.Side.TheVariants.{Client, Server}
@@ -21,6 +20,8 @@ use Rattle.domain_script.specs.Spells.{IsOfKind, NamesDisk, NamesEnd, NamesLane}
 use Rattle.domain_script.specs.Words.{is_name, name_of, side_text}
 use Rattle.domain_script.proofs.SameName.{name_from_test, not_from_test, test_from_name, test_from_other}
 use Rattle.domain_script.proofs.WordTests.{is_name_from, name_is, name_spelled}
+use Rattle.domain_script.specs.LaneKinds.{disk_lane}
+use Rattle.domain_script.proofs.LaneKinds.{of_disks}
 
 -- what holds of a value that an option may have
 pub weaker : {A : Type 0} (o : Option A) (P Q : A → Type 0) → ((a : A) → P a → Q a) → IfSome o P → IfSome o Q
@@ -100,10 +101,12 @@ disk_is names word disk named =
 -- LANES
 pub lane_found : (names : NamesState) (word : List ℕ) → IfSome (lane_named names word) (NamesLane names word)
 lane_found names word =
-    if_mapped (λ k. lane.Disk k) (disk_named names word) (NamesDisk names word) (NamesLane names word) (λ disk named. named) (disk_found names word)
+    if_mapped disk_lane (disk_named names word) (NamesDisk names word) (NamesLane names word) (λ disk named. named) (disk_found names word)
 
 pub lane_is : (names : NamesState) (word : List ℕ) (l : Lane) → NamesLane names word l → lane_named names word ≡ Some l
-lane_is names word (lane.Disk disk) named = ap (λ (o : Option ℕ). option_map (λ k. lane.Disk k) o) (disk_is names word disk named)
+lane_is names word l named =
+    of_disks (λ (x : Lane). lane_named names word ≡ Some x) (NamesDisk names word)
+    (λ disk is. ap (λ (o : Option ℕ). option_map disk_lane o) (disk_is names word disk is)) l named
 
 -- ENDS
 side_found : (bytes : List ℕ) → IfSome (side_of bytes) (λ side. bytes ≡ side_text side)

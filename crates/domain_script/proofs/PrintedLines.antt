@@ -7,7 +7,6 @@ use Rattle.hex.proofs.HexLemmas.{decode_of-encode_lower}
 use Rattle.domain_script.specs.declared.event.DiskDecl.{DiskDecl}
 use Rattle.domain_script.specs.declared.event.Event.{Event}
 use Rattle.domain_script.specs.declared.event.Lane.{Lane}
-use Rattle.domain_script.specs.declared.event.Lane.TheVariants as lane
 use Rattle.domain_script.specs.declared.event.Name.{Name}
 use Rattle.domain_script.specs.declared.fields.Field.{Field}
 use Rattle.domain_script.specs.declared.fields.Field.TheVariants.{NewName, DiskName, LaneName, End, Number, Bytes}
@@ -21,6 +20,7 @@ use Rattle.domain_script.specs.Values.{Said, ValueOf, ValuesOf, said}
 use Rattle.domain_script.specs.Words.{IsName, SpellsName, side_text, words}
 use Rattle.domain_script.proofs.CleanWords.{AreClean, clean_more, cut_again, fields_clean, row_clean}
 use Rattle.domain_script.proofs.RowLemmas.{IsMade, made_said, said_made, word_of_row}
+use Rattle.domain_script.proofs.LaneKinds.{of_disks}
 
 -- a word is the text of the name that it spells
 text_of_name : (word : List ℕ) (name : Name) → SpellsName word name → word ≡ name_text name
@@ -49,7 +49,7 @@ module _ (names : NamesState) (differ : NamesDiffer names.disks) where
   disk_spells k has = found_spells k (slice_get names.disks k) (differ k) has
 
   lane_spells : (l : Lane) → IsLaneNamed names l → NamesLane names (lane_text names l) l
-  lane_spells (lane.Disk k) has = disk_spells k has
+  lane_spells l has = of_disks (λ (x : Lane). NamesLane names (lane_text names x) x) (HasName names) disk_spells l has
 
   field_spells : (field : Field) (value : ValueOf field) → FitsField names field value → CanStand names field value → AreBytes field value
       → SpellsField names field (field_text names field value) value
@@ -106,7 +106,8 @@ text_of_disk : (names : NamesState) (word : List ℕ) (k : ℕ) → NamesDisk na
 text_of_disk names word k named = text_of_name word named.name named.spelled ∙ named_text names.disks named.name k named.declared_as
 
 text_of_lane : (names : NamesState) (word : List ℕ) (l : Lane) → NamesLane names word l → word ≡ lane_text names l
-text_of_lane names word (lane.Disk k) named = text_of_disk names word k named
+text_of_lane names word l named =
+    of_disks (λ (x : Lane). word ≡ lane_text names x) (NamesDisk names word) (text_of_disk names word) l named
 
 text_of_field : (names : NamesState) (field : Field) (word : List ℕ) (value : ValueOf field) → SpellsField names field word value → word ≡ field_text names field value
 text_of_field names (NewName kind) word name spelled = text_of_name word name spelled.0

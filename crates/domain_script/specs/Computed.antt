@@ -3,7 +3,6 @@ use Rattle.std.specs.Prelude.{ℕ, ◌-◌, ◌*◌, ◌+◌, ◌++◌, cond, na
 use Rattle.vdisk_msg.specs.declared.request.Fill.{Fill}
 use Rattle.domain_script.specs.declared.event.Event.{Event}
 use Rattle.domain_script.specs.declared.event.Event.TheVariants.{Blank}
-use Rattle.domain_script.specs.declared.event.Lane.TheVariants as lane
 use Rattle.domain_script.specs.declared.event.LineFault.{LineFault}
 use Rattle.domain_script.specs.declared.event.Side.TheVariants.{Client}
 use Rattle.domain_script.specs.declared.fields.Field.{Field}
@@ -15,6 +14,7 @@ use Rattle.domain_script.specs.NamesState.{NamesState, noted}
 use Rattle.domain_script.specs.Rows.{row_named, row_of}
 use Rattle.domain_script.specs.Values.{ValueOf, ValuesOf, made}
 use Rattle.domain_script.specs.Words.{name_of, number_of, words}
+use Rattle.domain_script.specs.LaneKinds.{disk_lane}
 
 -- the bytes of lower-case digits, two by two
 abbrev pub digit_of : ℕ → ℕ
@@ -32,8 +32,8 @@ fill_of word = record { len = length (bytes_of word); bytes = bytes_of word ++ r
 abbrev pub field_value : NamesState → (field : Field) → List ℕ → ValueOf field
 field_value names (NewName kind) word = name_of word
 field_value names DiskName word = unwrap_or (disk_named names word) 0
-field_value names LaneName word = unwrap_or (lane_named names word) (lane.Disk 0)
-field_value names (End kind) word = unwrap_or (end_named names word) (record { lane = lane.Disk 0; side = Client })
+field_value names LaneName word = unwrap_or (lane_named names word) (disk_lane 0)
+field_value names (End kind) word = unwrap_or (end_named names word) (record { lane = disk_lane 0; side = Client })
 field_value names (Number bounds) word = number_of word
 field_value names Bytes word = fill_of word
 

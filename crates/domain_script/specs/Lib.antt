@@ -1,5 +1,6 @@
 pub mod Limits
 pub mod Declarations
+pub mod LaneKinds
 pub mod NamesState
 pub mod ScriptLines
 pub mod Pieces

@@ -1,14 +1,14 @@
 -- The names that a script has declared so far.
-use Rattle.std.specs.Prelude.{◌≡◌, ◌≢◌, ℕ, zero, suc, ◌<◌, Bool, true, false, List, [], ◌∷◌, ◌++◌, length, slice_get, IfSome}
+use Rattle.std.specs.Prelude.{◌≡◌, ◌≢◌, ℕ, zero, suc, ◌<◌, Bool, true, false, List, [], ◌∷◌, ◌++◌, length, slice_get, IfSome, IsSomeAnd}
 use Rattle.domain_script.specs.declared.event.DiskDecl.{DiskDecl}
 use Rattle.domain_script.specs.declared.event.Event.{Event}
 use Rattle.domain_script.specs.declared.event.Event.TheVariants.{Blank, Disk}
 use Rattle.domain_script.specs.declared.event.Lane.{Lane}
-use Rattle.domain_script.specs.declared.event.Lane.TheVariants as lane
 use Rattle.domain_script.specs.declared.event.Name.{Name}
 use Rattle.domain_script.specs.declared.fields.LaneKind.{LaneKind}
 use Rattle.domain_script.specs.declared.fields.LaneKind.TheVariants as lanes
 use Rattle.domain_script.specs.Limits.{most_of_a_kind}
+use Rattle.domain_script.specs.LaneKinds.{disk_of}
 
 pub record NamesState : Type 0 where
   -- in the order of declaration
@@ -33,7 +33,7 @@ NamesDiffer disks = (k : ℕ) → IfSome (slice_get disks k) (λ disk. IsDiskNam
 
 -- the lane is that of a disk which is declared
 abbrev pub IsLane : NamesState → Lane → Type 0
-IsLane names (lane.Disk disk) = disk < length names.disks
+IsLane names lane = IsSomeAnd (disk_of lane) (λ disk. disk < length names.disks)
 
 -- how many lanes of a kind are declared
 abbrev pub count_of : LaneKind → NamesState → ℕ

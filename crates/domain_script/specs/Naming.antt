@@ -4,7 +4,6 @@ use Rattle.std.specs.Str.{bytes_eq}
 use Rattle.domain_script.specs.declared.event.DiskDecl.{DiskDecl}
 use Rattle.domain_script.specs.declared.event.EndName.{EndName}
 use Rattle.domain_script.specs.declared.event.Lane.{Lane}
-use Rattle.domain_script.specs.declared.event.Lane.TheVariants as lane
 use Rattle.domain_script.specs.declared.event.Name.{Name}
 use Rattle.domain_script.specs.declared.event.Side.{Side}
 use Rattle.domain_script.specs.declared.event.Side.TheVariants.{Client, Server}
@@ -12,6 +11,7 @@ use Rattle.domain_script.specs.declared.fields.EndKind.{EndKind}
 use Rattle.domain_script.specs.declared.fields.EndKind.TheVariants as ends
 use Rattle.domain_script.specs.NamesState.{NamesState}
 use Rattle.domain_script.specs.Words.{is_name, name_of, side_text}
+use Rattle.domain_script.specs.LaneKinds.{disk_lane}
 
 -- whether a disk has a name, and the number of the first that has it
 abbrev pub has_name : Name → DiskDecl → Bool
@@ -26,7 +26,7 @@ abbrev pub disk_named : NamesState → List ℕ → Option ℕ
 disk_named names word = if is_name word then number_named (name_of word) names.disks else None
 
 abbrev pub lane_named : NamesState → List ℕ → Option Lane
-lane_named names word = option_map (λ k. lane.Disk k) (disk_named names word)
+lane_named names word = option_map disk_lane (disk_named names word)
 
 -- the last two bytes of a word, those before them, and the side that two bytes spell
 abbrev pub last_two : List ℕ → List ℕ

@@ -6,7 +6,6 @@ use Rattle.domain_script.specs.declared.event.DiskDecl.{DiskDecl}
 use Rattle.domain_script.specs.declared.event.EndName.{EndName}
 use Rattle.domain_script.specs.declared.event.Event.{Event}
 use Rattle.domain_script.specs.declared.event.Lane.{Lane}
-use Rattle.domain_script.specs.declared.event.Lane.TheVariants as lane
 use Rattle.domain_script.specs.declared.event.Name.{Name}
 use Rattle.domain_script.specs.declared.fields.Field.{Field}
 use Rattle.domain_script.specs.declared.fields.Field.TheVariants.{NewName, DiskName, LaneName, End, Number, Bytes}
@@ -15,6 +14,7 @@ use Rattle.domain_script.specs.Rows.{row_of}
 use Rattle.domain_script.specs.Spells.{IsDeclared}
 use Rattle.domain_script.specs.Values.{Said, ValueOf, ValuesOf, said}
 use Rattle.domain_script.specs.Words.{side_text, IsName}
+use Rattle.domain_script.specs.LaneKinds.{disk_of}
 
 -- a name; that of a declared disk, and nothing where there is none; that of a lane; an end
 abbrev pub name_text : Name → List ℕ
@@ -27,8 +27,12 @@ declared_name (Some disk) = name_text disk.name
 abbrev pub disk_text : NamesState → ℕ → List ℕ
 disk_text names k = declared_name (slice_get names.disks k)
 
+abbrev pub option_text : (ℕ → List ℕ) → Option ℕ → List ℕ
+option_text text None = []
+option_text text (Some k) = text k
+
 abbrev pub lane_text : NamesState → Lane → List ℕ
-lane_text names (lane.Disk k) = disk_text names k
+lane_text names lane = option_text (disk_text names) (disk_of lane)
 
 abbrev pub end_text : NamesState → EndName → List ℕ
 end_text names end = lane_text names end.lane ++ side_text end.side
@@ -68,7 +72,7 @@ abbrev pub HasName : NamesState → ℕ → Type 0
 HasName names disk = IsSomeAnd (slice_get names.disks disk) (λ d. IsName d.name)
 
 abbrev pub IsLaneNamed : NamesState → Lane → Type 0
-IsLaneNamed names (lane.Disk disk) = HasName names disk
+IsLaneNamed names lane = IsSomeAnd (disk_of lane) (HasName names)
 
 -- a new name may be declared, and what is named has a name
 abbrev pub CanStand : NamesState → (field : Field) → ValueOf field → Type 0

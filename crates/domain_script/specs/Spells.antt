@@ -1,10 +1,9 @@
 -- The rows of a script: which event a line spells.
-use Rattle.std.specs.Prelude.{◌≡◌, ℕ, ◌^◌, ◌<◌, ◌⊎◌, nat_le, ◌&&◌, Bool, IsTrue, List, [], ◌∷◌, ◌++◌, length, Option, Some, None, ⊤}
+use Rattle.std.specs.Prelude.{◌≡◌, ℕ, ◌^◌, ◌<◌, ◌⊎◌, nat_le, ◌&&◌, Bool, IsTrue, List, [], ◌∷◌, ◌++◌, length, Option, Some, None, IsSomeAnd, ⊤}
 use Rattle.std.specs.List.{list_all}
 use Rattle.domain_script.specs.declared.event.Event.{Event}
 use Rattle.domain_script.specs.declared.event.EndName.{EndName}
 use Rattle.domain_script.specs.declared.event.Lane.{Lane}
-use Rattle.domain_script.specs.declared.event.Lane.TheVariants as lane
 use Rattle.domain_script.specs.declared.event.Event.TheVariants.{Blank}
 use Rattle.domain_script.specs.declared.event.Name.{Name}
 use Rattle.domain_script.specs.declared.event.Side.TheVariants.{Server}
@@ -18,6 +17,7 @@ use Rattle.domain_script.specs.NamesState.{NamesState, CanDeclare, IsDiskNamed, 
 use Rattle.domain_script.specs.Rows.{row_named, row_of}
 use Rattle.domain_script.specs.Values.{Said, ValueOf, ValuesOf, made, said}
 use Rattle.domain_script.specs.Words.{side_text, words, IsName, IsWithin, SpellsNumber, SpellsName, SpellsFill}
+use Rattle.domain_script.specs.LaneKinds.{disk_of}
 
 -- from the space to the tilde
 abbrev pub is_printable : ℕ → Bool
@@ -34,9 +34,9 @@ pub record NamesDisk (names : NamesState) (word : List ℕ) (disk : ℕ) : Type 
   pub spelled : SpellsName word name
   pub declared_as : IsDiskNamed name names.disks disk
 
--- the word names the lane
+-- the word names the lane: that of a disk
 abbrev pub NamesLane : NamesState → List ℕ → Lane → Type 0
-NamesLane names word (lane.Disk disk) = NamesDisk names word disk
+NamesLane names word lane = IsSomeAnd (disk_of lane) (NamesDisk names word)
 
 -- the word is the name of the end's lane with its side after it
 pub record NamesEnd (names : NamesState) (word : List ℕ) (end : EndName) : Type 0 where

@@ -1,3 +1,4 @@
+use crate::fields::LaneKind;
 use thiserror::Error;
 use vdisk_msg::Request;
 
@@ -19,10 +20,11 @@ pub struct DiskDecl {
     pub queue: u32,
 }
 
-/// A disk by its number in the order of declaration, counted from 0.
+/// A lane by its kind and its number among the lanes of that kind, in the order of declaration and counted from 0.
 #[derive(Clone, Copy, Debug, PartialEq, Eq)]
-pub enum Lane {
-    Disk(u32),
+pub struct Lane {
+    pub kind: LaneKind,
+    pub number: u32,
 }
 
 /// The guest's side of a lane, or its service domain's.

@@ -5,7 +5,7 @@ ghost use Rattle.domain_script.specs.Spells.{IsOfKind, NamesDisk, NamesEnd, Name
 ghost use Rattle.domain_script.specs.Values.{ValuesOf};
 ghost use Rattle.domain_script.specs.Words.{words};
 
-use crate::fields::{EndKind, Field};
+use crate::fields::{EndKind, Field, LaneKind};
 use crate::spellings::{name, name_and_side};
 use crate::words::one_word;
 use crate::{EndName, Lane, Names, Side};
@@ -23,8 +23,11 @@ pub fn declared_lane(word: &[u8], names: &Names) -> Option<Lane>
     ensures some { IfSome result (NamesLane names.now word.now) }
     ensures none { IfNone result ((lane : lane_data) → NamesLane names.now word.now lane → ⊥) }
 {
-    let disk = declared_disk(word, names)?;
-    Some(Lane::Disk(disk))
+    let number = declared_disk(word, names)?;
+    Some(Lane {
+        kind: LaneKind::Disk,
+        number,
+    })
 }
 
 /// The end of this kind that a word names.

@@ -23,6 +23,7 @@ mod words;
 
 pub use digits::decode_lower;
 pub use event::{DiskDecl, EndName, Event, Lane, LineFault, Name, Side};
+pub use fields::LaneKind;
 pub use laws::{faulty_lines_spell_nothing, parsed_lines_are_printed, spells_at_most_one};
 pub use names::Names;
 pub use numbers::number;

@@ -6,6 +6,7 @@ ghost use Rattle.domain_script.specs.Printed.{HasName, IsLaneNamed, disk_text, e
 ghost use Rattle.domain_script.specs.Rows.{row_of};
 ghost use Rattle.domain_script.specs.Words.{side_text, IsName};
 
+use crate::fields::LaneKind;
 use crate::rows::RowKind;
 use crate::{EndName, Fill, Lane, Name, Names, Side};
 use hex::encode_to_slice;
@@ -80,8 +81,8 @@ pub fn put_lane(lane: Lane, names: &Names, out: &mut [u8; 3100], len: usize) -> 
     ensures text { take result out.new ≡ take len out.old ++ 32 ∷ lane_text names.now lane }
     ensures len { result ≤ len + 9 }
 {
-    match lane {
-        Lane::Disk(disk) => put_disk(disk, names, out, len),
+    match lane.kind {
+        LaneKind::Disk => put_disk(lane.number, names, out, len),
     }
 }
 

@@ -120,14 +120,14 @@ module _ {S V E : Type 0} (K : LaneKind S V) (N : Entries V E) (ticks : ℕ → 
   alone : (n m : ℕ) → n ≡ m → n + 0 ≡ m
   alone n m is = omega (arith, is)
 
-  tick_is : (get : Bool) (k j : ℕ) (s : S) → sum_over (ticks k) (if get then N.of_lane j (K.tick s) ∷ [] else []) ≡ once ((j == k) && get)
+  pub tick_is : (get : Bool) (k j : ℕ) (s : S) → sum_over (ticks k) (if get then N.of_lane j (K.tick s) ∷ [] else []) ≡ once ((j == k) && get)
   tick_is true k j s = alone (ticks k (N.of_lane j (K.tick s))) (once ((j == k) && true)) (laws.tick k j s ∙ with_true (j == k))
   tick_is false k j s = with_false (j == k)
 
   lane_ticks : (all one rest x mark marks new more : ℕ) → all ≡ one + rest → one ≡ x → x + mark ≡ new → rest + marks ≡ more → all + (mark + marks) ≡ new + more
   lane_ticks all one rest x mark marks new more sum few here others = omega (arith, sum, few, here, others)
 
-  ticks_mark : (k j : ℕ) (lanes : List S) (marks : List Bool) (behind : List S) → TickAll K lanes marks behind
+  pub ticks_mark : (k j : ℕ) (lanes : List S) (marks : List Bool) (behind : List S) → TickAll K lanes marks behind
       → sum_over (ticks k) (tick_entries K N j lanes marks) + mark_at k j marks ≡ mark_at k j (marked K lanes marks)
   ticks_mark k j [] [] [] made = omega (arith)
   ticks_mark k j (s ∷ lanes) (had ∷ marks) (t ∷ behind) made =
@@ -143,7 +143,7 @@ module _ {S V E : Type 0} (K : LaneKind S V) (N : Entries V E) (ticks : ℕ → 
   first_none true rest none = omega (arith, none)
   first_none false rest none = omega (arith, none)
 
-  none_marked : (k j : ℕ) (lanes : List S) → mark_at k j (unmarked lanes) ≡ 0
+  pub none_marked : (k j : ℕ) (lanes : List S) → mark_at k j (unmarked lanes) ≡ 0
   none_marked k j [] = refl
   none_marked k j (s ∷ lanes) = first_none (j == k) (mark_at k (j + 1) (unmarked lanes)) (none_marked k (j + 1) lanes)
 
@@ -160,7 +160,7 @@ module _ {S V E : Type 0} (K : LaneKind S V) (N : Entries V E) (ticks : ℕ → 
   one_mark true false rest j k same none few = omega (arith, few)
   one_mark false had rest j k same none few = omega (arith, few)
 
-  mark_most : (k j : ℕ) (marks : List Bool) → mark_at k j marks ≤ 1
+  pub mark_most : (k j : ℕ) (marks : List Bool) → mark_at k j marks ≤ 1
   mark_most k j [] = omega (arith)
   mark_most k j (had ∷ marks) = one_mark (j == k) had (mark_at k (j + 1) marks) j k (eqb-true j k) (λ less. no_marks_behind k (j + 1) marks less) (mark_most k (j + 1) marks)
 

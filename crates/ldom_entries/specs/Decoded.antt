@@ -1,9 +1,9 @@
 -- The entries by their headers and by what stands beside them.
 use Rattle.std.specs.Prelude.{◌≡◌, ℕ, Bool, true, false, List, [], ◌∷◌, Option, Some, None, slice_index_or}
 use Rattle.domain_script.specs.declared.event.EndName.{EndName}
-use Rattle.domain_script.specs.declared.event.Lane.TheVariants.{Disk}
 use Rattle.domain_script.specs.declared.event.Side.{Side}
 use Rattle.domain_script.specs.declared.event.Side.TheVariants.{Client, Server}
+use Rattle.domain_script.specs.declared.fields.LaneKind.{LaneKind}
 use Rattle.vdisk_msg.specs.declared.request.Request.{Request}
 use Rattle.vdisk_msg.specs.declared.request.Request.TheVariants.{Flush}
 use Rattle.vio_tag.specs.declared.cause.Cause.{Cause}
@@ -19,14 +19,14 @@ use Rattle.ldom_entries.specs.declared.header.Header.TheVariants as header
 use Rattle.ldom_entries.specs.declared.header.Part.{Part}
 use Rattle.ldom_entries.specs.declared.header.Part.TheVariants as the_part
 
--- an end of the disk with this number; and its lane as a whole, or one of its ends
-abbrev pub end_at : ℕ → Side → EndName
-end_at disk side = record { lane = Disk disk; side = side }
+-- an end of the lane of this kind with this number; and the lane as a whole, or one of its ends
+abbrev pub end_at : LaneKind → ℕ → Side → EndName
+end_at kind number side = record { lane = record { kind = kind; number = number }; side = side }
 
-abbrev pub who_at : ℕ → Part → Who
-who_at disk the_part.Lane = OfLane (Disk disk)
-who_at disk the_part.Client = OfEnd (end_at disk Client)
-who_at disk the_part.Server = OfEnd (end_at disk Server)
+abbrev pub who_at : LaneKind → ℕ → Part → Who
+who_at kind number the_part.Lane = OfLane (record { kind = kind; number = number })
+who_at kind number the_part.Client = OfEnd (end_at kind number Client)
+who_at kind number the_part.Server = OfEnd (end_at kind number Server)
 
 -- the first number beside an entry, and the second; its packet; its descriptor; its request; its cause; itself
 abbrev pub first_number : Lists → ℕ
@@ -84,51 +84,55 @@ a_whole = record (needs 0 0) { wholes = 1 }
 -- HOW MUCH STANDS BESIDE A HEADER
 abbrev pub share : Header → Share
 share (header.Accepted disk) = these 1 0 0 0 1 0
-share (header.Full part disk) = needs 0 0
-share (header.Refused part why disk) = needs 0 0
+share (header.Full part kind number) = needs 0 0
+share (header.Refused part kind why number) = needs 0 0
 share (header.Stopped disk) = needs 0 0
 share (header.Started disk) = needs 0 0
-share (header.Calm part disk) = needs 0 0
+share (header.Calm part kind number) = needs 0 0
 share header.Settled = needs 0 0
-share (header.Unsettled part disk) = needs 0 0
-share (header.Idle side disk) = needs 0 0
-share (header.Off side disk) = needs 0 0
-share (header.Blocked side disk) = needs 0 0
-share (header.Joined side disk) = needs 1 0
-share (header.Took side opens disk) = needs 0 1
-share (header.Sent side opens disk) = needs 0 1
-share (header.Published side disk) = needs 1 0
+share (header.Unsettled part kind number) = needs 0 0
+share (header.Idle side kind number) = needs 0 0
+share (header.Off side kind number) = needs 0 0
+share (header.Blocked side kind number) = needs 0 0
+share (header.Joined side kind number) = needs 1 0
+share (header.Took side kind opens number) = needs 0 1
+share (header.Sent side kind opens number) = needs 0 1
+share (header.Published side kind number) = needs 1 0
 share (header.Done operation read disk) = these 2 0 0 (one_where read) 0 0
-share (header.Desc side disk) = these 1 0 1 0 0 0
-share (header.Moved side fault disk) = needs 1 0
-share (header.Stored side operation failed disk) = needs 2 0
-share (header.Finished side disk) = needs 2 0
-share (header.Reset side packet disk) = these 1 (one_where packet) 0 0 0 1
+share (header.Desc side kind number) = these 1 0 1 0 0 0
+share (header.Moved side kind number) = needs 1 0
+share (header.NotMoved side kind fault number) = needs 1 0
+share (header.Stored side kind operation number) = needs 2 0
+share (header.NotStored side kind operation number) = needs 2 0
+share (header.Finished side kind number) = needs 2 0
+share (header.Reset side kind packet number) = these 1 (one_where packet) 0 0 0 1
 share header.Whole = a_whole
 
 -- THE ENTRY of a header and what stands beside it
 abbrev pub entry_of : Header → Lists → Entry
 entry_of (header.Accepted disk) l = entry.Accepted disk (first_number l) (request_in l)
-entry_of (header.Full part disk) l = entry.Full (who_at disk part)
-entry_of (header.Refused part why disk) l = entry.Refused (who_at disk part) why
+entry_of (header.Full part kind number) l = entry.Full (who_at kind number part)
+entry_of (header.Refused part kind why number) l = entry.Refused (who_at kind number part) why
 entry_of (header.Stopped disk) l = entry.Stopped disk
 entry_of (header.Started disk) l = entry.Started disk
-entry_of (header.Calm part disk) l = entry.Calm (who_at disk part)
+entry_of (header.Calm part kind number) l = entry.Calm (who_at kind number part)
 entry_of header.Settled l = entry.Settled
-entry_of (header.Unsettled part disk) l = entry.Unsettled (who_at disk part)
-entry_of (header.Idle side disk) l = entry.Idle (end_at disk side)
-entry_of (header.Off side disk) l = entry.Off (end_at disk side)
-entry_of (header.Blocked side disk) l = entry.Blocked (end_at disk side)
-entry_of (header.Joined side disk) l = entry.Joined (end_at disk side) (first_number l)
-entry_of (header.Took side opens disk) l = entry.Took (end_at disk side) (packet_in l) opens
-entry_of (header.Sent side opens disk) l = entry.Sent (end_at disk side) (packet_in l) opens
-entry_of (header.Published side disk) l = entry.Published (end_at disk side) (first_number l)
+entry_of (header.Unsettled part kind number) l = entry.Unsettled (who_at kind number part)
+entry_of (header.Idle side kind number) l = entry.Idle (end_at kind number side)
+entry_of (header.Off side kind number) l = entry.Off (end_at kind number side)
+entry_of (header.Blocked side kind number) l = entry.Blocked (end_at kind number side)
+entry_of (header.Joined side kind number) l = entry.Joined (end_at kind number side) (first_number l)
+entry_of (header.Took side kind opens number) l = entry.Took (end_at kind number side) (packet_in l) opens
+entry_of (header.Sent side kind opens number) l = entry.Sent (end_at kind number side) (packet_in l) opens
+entry_of (header.Published side kind number) l = entry.Published (end_at kind number side) (first_number l)
 entry_of (header.Done operation read disk) l = entry.Done disk (first_number l) operation (second_number l) (read_in read l)
-entry_of (header.Desc side disk) l = entry.Desc (end_at disk side) (first_number l) (descriptor_in l)
-entry_of (header.Moved side fault disk) l = entry.Moved (end_at disk side) (first_number l) fault
-entry_of (header.Stored side operation failed disk) l = entry.Stored (end_at disk side) operation (first_number l) (second_number l) failed
-entry_of (header.Finished side disk) l = entry.Finished (end_at disk side) (first_number l) (second_number l)
-entry_of (header.Reset side packet disk) l = entry.Reset (end_at disk side) (cause_in l) (packet_where packet l) (first_number l)
+entry_of (header.Desc side kind number) l = entry.Desc (end_at kind number side) (first_number l) (descriptor_in l)
+entry_of (header.Moved side kind number) l = entry.Moved (end_at kind number side) (first_number l) None
+entry_of (header.NotMoved side kind fault number) l = entry.Moved (end_at kind number side) (first_number l) (Some fault)
+entry_of (header.Stored side kind operation number) l = entry.Stored (end_at kind number side) operation (first_number l) (second_number l) false
+entry_of (header.NotStored side kind operation number) l = entry.Stored (end_at kind number side) operation (first_number l) (second_number l) true
+entry_of (header.Finished side kind number) l = entry.Finished (end_at kind number side) (first_number l) (second_number l)
+entry_of (header.Reset side kind packet number) l = entry.Reset (end_at kind number side) (cause_in l) (packet_where packet l) (first_number l)
 entry_of header.Whole l = whole_in l
 
 -- the same, which takes its share from the front of the lists

@@ -10,7 +10,7 @@ use crate::entry_ref::EntryRef;
 use crate::header::{Header, Part, end_at, who_at};
 use crate::{Bytes, KeptRequest, WholeEntry, Why};
 use cookie_copy::CopyFault;
-use domain_script::Side;
+use domain_script::{LaneKind, Side};
 use std::marker::Model;
 use trimmed_arrays::{TrimmedArray, TrimmedRest};
 use vio_tag::Cause;
@@ -171,25 +171,22 @@ impl<'a> Beside<'a> {
     {
         match header {
             Header::Accepted { disk } => *entry = self.accepted(disk),
-            Header::Joined { side, disk } => *entry = self.joined(side, disk),
-            Header::Took { side, opens, disk } => *entry = self.took(side, opens, disk),
-            Header::Sent { side, opens, disk } => *entry = self.sent(side, opens, disk),
-            Header::Published { side, disk } => *entry = self.published(side, disk),
+            Header::Joined { side, kind, number } => *entry = self.joined(side, kind, number),
+            Header::Took { side, kind, opens, number } => *entry = self.took(side, kind, opens, number),
+            Header::Sent { side, kind, opens, number } => *entry = self.sent(side, kind, opens, number),
+            Header::Published { side, kind, number } => *entry = self.published(side, kind, number),
             Header::Done {
                 operation,
                 read,
                 disk,
             } => *entry = self.done(operation, read, disk),
-            Header::Desc { side, disk } => *entry = self.desc(side, disk),
-            Header::Moved { side, fault, disk } => *entry = self.moved(side, fault, disk),
-            Header::Stored {
-                side,
-                operation,
-                failed,
-                disk,
-            } => *entry = self.stored(side, operation, failed, disk),
-            Header::Finished { side, disk } => *entry = self.finished(side, disk),
-            Header::Reset { side, packet, disk } => *entry = self.reset(side, packet, disk),
+            Header::Desc { side, kind, number } => *entry = self.desc(side, kind, number),
+            Header::Moved { side, kind, number } => *entry = self.moved(side, kind, number),
+            Header::NotMoved { side, kind, fault, number } => *entry = self.not_moved(side, kind, fault, number),
+            Header::Stored { side, kind, operation, number } => *entry = self.stored(side, kind, operation, number),
+            Header::NotStored { side, kind, operation, number } => *entry = self.not_stored(side, kind, operation, number),
+            Header::Finished { side, kind, number } => *entry = self.finished(side, kind, number),
+            Header::Reset { side, kind, packet, number } => *entry = self.reset(side, kind, packet, number),
             Header::Whole => *entry = EntryRef::Whole(self.whole()),
             plain => read_plain(plain, entry),
         }
@@ -207,13 +204,16 @@ impl<'a> Beside<'a> {
             Header::Took { .. } | Header::Sent { .. } => {
                 self.packet();
             }
-            Header::Joined { .. } | Header::Published { .. } | Header::Moved { .. } => {
+            Header::Joined { .. } | Header::Published { .. } => {
                 self.number();
             }
-            Header::Stored { .. } | Header::Finished { .. } => {
+            Header::Moved { .. } | Header::NotMoved { .. } => {
+                self.number();
+            }
+            Header::Stored { .. } | Header::NotStored { .. } | Header::Finished { .. } => {
                 self.two_numbers();
             }
-            other => self.read_into(other, &mut idle(Side::Client, 0)),
+            other => self.read_into(other, &mut idle(Side::Client, LaneKind::Disk, 0)),
         }
     }
 
@@ -231,51 +231,51 @@ impl<'a> Beside<'a> {
     }
 
     /// An end was configured. Beside it: how many frames were lost by that.
-    fn joined(&mut self, side: Side, disk: u32) -> EntryRef<'a>
+    fn joined(&mut self, side: Side, kind: LaneKind, number: u32) -> EntryRef<'a>
         requires { Holds (needs 1 0) self.old }
-        ensures told { told result ≡ first_entry (the_header.Joined side disk) self.old }
+        ensures told { told result ≡ first_entry (the_header.Joined side kind number) self.old }
         ensures rest { self.new ≡ rest_of (needs 1 0) self.old }
     {
         EntryRef::Joined {
-            end: end_at(disk, side),
+            end: end_at(kind, number, side),
             lost: self.number(),
         }
     }
 
     /// An end took a packet. Beside it: the packet.
-    fn took(&mut self, side: Side, opens: bool, disk: u32) -> EntryRef<'a>
+    fn took(&mut self, side: Side, kind: LaneKind, opens: bool, number: u32) -> EntryRef<'a>
         requires { Holds (needs 0 1) self.old }
-        ensures told { told result ≡ first_entry (the_header.Took side opens disk) self.old }
+        ensures told { told result ≡ first_entry (the_header.Took side kind opens number) self.old }
         ensures rest { self.new ≡ rest_of (needs 0 1) self.old }
     {
         EntryRef::Took {
-            end: end_at(disk, side),
+            end: end_at(kind, number, side),
             packet: self.packet(),
             opens,
         }
     }
 
     /// An end put a packet. Beside it: the packet.
-    fn sent(&mut self, side: Side, opens: bool, disk: u32) -> EntryRef<'a>
+    fn sent(&mut self, side: Side, kind: LaneKind, opens: bool, number: u32) -> EntryRef<'a>
         requires { Holds (needs 0 1) self.old }
-        ensures told { told result ≡ first_entry (the_header.Sent side opens disk) self.old }
+        ensures told { told result ≡ first_entry (the_header.Sent side kind opens number) self.old }
         ensures rest { self.new ≡ rest_of (needs 0 1) self.old }
     {
         EntryRef::Sent {
-            end: end_at(disk, side),
+            end: end_at(kind, number, side),
             packet: self.packet(),
             opens,
         }
     }
 
     /// The client put a request into its ring. Beside it: its id.
-    fn published(&mut self, side: Side, disk: u32) -> EntryRef<'a>
+    fn published(&mut self, side: Side, kind: LaneKind, number: u32) -> EntryRef<'a>
         requires { Holds (needs 1 0) self.old }
-        ensures told { told result ≡ first_entry (the_header.Published side disk) self.old }
+        ensures told { told result ≡ first_entry (the_header.Published side kind number) self.old }
         ensures rest { self.new ≡ rest_of (needs 1 0) self.old }
     {
         EntryRef::Published {
-            end: end_at(disk, side),
+            end: end_at(kind, number, side),
             id: self.number(),
         }
     }
@@ -306,69 +306,98 @@ impl<'a> Beside<'a> {
     }
 
     /// The server fetched the descriptor of a slot. Beside it: the slot, and the descriptor.
-    fn desc(&mut self, side: Side, disk: u32) -> EntryRef<'a>
+    fn desc(&mut self, side: Side, kind: LaneKind, number: u32) -> EntryRef<'a>
         requires { Holds (these 1 0 1 0 0 0) self.old }
-        ensures told { told result ≡ first_entry (the_header.Desc side disk) self.old }
+        ensures told { told result ≡ first_entry (the_header.Desc side kind number) self.old }
         ensures rest { self.new ≡ rest_of (these 1 0 1 0 0 0) self.old }
     {
         EntryRef::Desc {
-            end: end_at(disk, side),
+            end: end_at(kind, number, side),
             slot: self.number(),
             bytes: self.descriptor(),
         }
     }
 
-    /// The server copied a unit, or why it couldn't. Beside it: the unit.
-    fn moved(&mut self, side: Side, fault: Option<CopyFault>, disk: u32) -> EntryRef<'a>
+    /// The server copied a unit. Beside it: the unit.
+    fn moved(&mut self, side: Side, kind: LaneKind, number: u32) -> EntryRef<'a>
         requires { Holds (needs 1 0) self.old }
-        ensures told { told result ≡ first_entry (the_header.Moved side fault disk) self.old }
+        ensures told { told result ≡ first_entry (the_header.Moved side kind number) self.old }
         ensures rest { self.new ≡ rest_of (needs 1 0) self.old }
     {
         EntryRef::Moved {
-            end: end_at(disk, side),
+            end: end_at(kind, number, side),
             unit: self.number(),
-            fault,
+            fault: None,
+        }
+    }
+
+    /// It couldn't. Beside it: the unit.
+    fn not_moved(&mut self, side: Side, kind: LaneKind, fault: CopyFault, number: u32) -> EntryRef<'a>
+        requires { Holds (needs 1 0) self.old }
+        ensures told { told result ≡ first_entry (the_header.NotMoved side kind fault number) self.old }
+        ensures rest { self.new ≡ rest_of (needs 1 0) self.old }
+    {
+        EntryRef::Moved {
+            end: end_at(kind, number, side),
+            unit: self.number(),
+            fault: Some(fault),
         }
     }
 
     /// The server called its store. Beside it: the first block, and how many.
-    fn stored(&mut self, side: Side, operation: u8, failed: bool, disk: u32) -> EntryRef<'a>
+    fn stored(&mut self, side: Side, kind: LaneKind, operation: u8, number: u32) -> EntryRef<'a>
         requires { Holds (needs 2 0) self.old }
-        ensures told { told result ≡ first_entry (the_header.Stored side operation failed disk) self.old }
+        ensures told { told result ≡ first_entry (the_header.Stored side kind operation number) self.old }
         ensures rest { self.new ≡ rest_of (needs 2 0) self.old }
     {
         let (block, count) = self.two_numbers();
         EntryRef::Stored {
-            end: end_at(disk, side),
+            end: end_at(kind, number, side),
             operation,
             block,
             count,
-            failed,
+            failed: false,
+        }
+    }
+
+    /// The call failed. Beside it: the first block, and how many.
+    fn not_stored(&mut self, side: Side, kind: LaneKind, operation: u8, number: u32) -> EntryRef<'a>
+        requires { Holds (needs 2 0) self.old }
+        ensures told { told result ≡ first_entry (the_header.NotStored side kind operation number) self.old }
+        ensures rest { self.new ≡ rest_of (needs 2 0) self.old }
+    {
+        let (block, count) = self.two_numbers();
+        EntryRef::Stored {
+            end: end_at(kind, number, side),
+            operation,
+            block,
+            count,
+            failed: true,
         }
     }
 
     /// The server gave the descriptor of a slot its status. Beside it: the slot, and the status.
-    fn finished(&mut self, side: Side, disk: u32) -> EntryRef<'a>
+    fn finished(&mut self, side: Side, kind: LaneKind, number: u32) -> EntryRef<'a>
         requires { Holds (needs 2 0) self.old }
-        ensures told { told result ≡ first_entry (the_header.Finished side disk) self.old }
+        ensures told { told result ≡ first_entry (the_header.Finished side kind number) self.old }
         ensures rest { self.new ≡ rest_of (needs 2 0) self.old }
     {
         let (slot, status) = self.two_numbers();
         EntryRef::Finished {
-            end: end_at(disk, side),
+            end: end_at(kind, number, side),
             slot,
             status,
         }
     }
 
     /// An end was reset. Beside it: the cause, the packet where it has one, and how many frames were lost by that.
-    fn reset(&mut self, side: Side, packet: bool, disk: u32) -> EntryRef<'a>
+    fn reset(&mut self, side: Side, kind: LaneKind, packet: bool, number: u32) -> EntryRef<'a>
         requires { Holds (these 1 (one_where packet) 0 0 0 1) self.old }
-        ensures told { told result ≡ first_entry (the_header.Reset side packet disk) self.old }
+        ensures told { told result ≡ first_entry (the_header.Reset side kind packet number) self.old }
         ensures rest { self.new ≡ rest_of (these 1 (one_where packet) 0 0 0 1) self.old }
     {
         EntryRef::Reset {
-            end: end_at(disk, side),
+            end: end_at(kind, number, side),
             cause: self.cause(),
             packet: self.packet_where(packet),
             lost: self.number(),
@@ -382,81 +411,81 @@ fn read_plain<'a>(header: Header, entry: &mut EntryRef<'a>)
     ensures { (l : Lists) → told entry.new ≡ entry_of header l }
 {
     match header {
-        Header::Full { part, disk } => *entry = full(part, disk),
-        Header::Refused { part, why, disk } => *entry = refused(part, why, disk),
+        Header::Full { part, kind, number } => *entry = full(part, kind, number),
+        Header::Refused { part, kind, why, number } => *entry = refused(part, kind, why, number),
         Header::Stopped { disk } => *entry = EntryRef::Stopped { disk },
         Header::Started { disk } => *entry = EntryRef::Started { disk },
-        Header::Calm { part, disk } => *entry = calm(part, disk),
+        Header::Calm { part, kind, number } => *entry = calm(part, kind, number),
         Header::Settled => *entry = EntryRef::Settled,
-        Header::Unsettled { part, disk } => *entry = unsettled(part, disk),
-        Header::Idle { side, disk } => *entry = idle(side, disk),
-        Header::Off { side, disk } => *entry = off(side, disk),
-        Header::Blocked { side, disk } => *entry = blocked(side, disk),
+        Header::Unsettled { part, kind, number } => *entry = unsettled(part, kind, number),
+        Header::Idle { side, kind, number } => *entry = idle(side, kind, number),
+        Header::Off { side, kind, number } => *entry = off(side, kind, number),
+        Header::Blocked { side, kind, number } => *entry = blocked(side, kind, number),
         _ => unreachable!(),
     }
 }
 
 /// As many requests are pending as the ring holds.
-fn full<'a>(part: Part, disk: u32) -> EntryRef<'a>
-    ensures { told result ≡ kind_of (the_header.Full part disk) }
+fn full<'a>(part: Part, kind: LaneKind, number: u32) -> EntryRef<'a>
+    ensures { told result ≡ kind_of (the_header.Full part kind number) }
 {
     EntryRef::Full {
-        who: who_at(disk, part),
+        who: who_at(kind, number, part),
     }
 }
 
 /// A request was refused.
-fn refused<'a>(part: Part, why: Why, disk: u32) -> EntryRef<'a>
-    ensures { told result ≡ kind_of (the_header.Refused part why disk) }
+fn refused<'a>(part: Part, kind: LaneKind, why: Why, number: u32) -> EntryRef<'a>
+    ensures { told result ≡ kind_of (the_header.Refused part kind why number) }
 {
     EntryRef::Refused {
-        who: who_at(disk, part),
+        who: who_at(kind, number, part),
         why,
     }
 }
 
 /// What the line asked for changes nothing.
-fn calm<'a>(part: Part, disk: u32) -> EntryRef<'a>
-    ensures { told result ≡ kind_of (the_header.Calm part disk) }
+fn calm<'a>(part: Part, kind: LaneKind, number: u32) -> EntryRef<'a>
+    ensures { told result ≡ kind_of (the_header.Calm part kind number) }
 {
     EntryRef::Calm {
-        who: who_at(disk, part),
+        who: who_at(kind, number, part),
     }
 }
 
 /// A settle ended though something is left to do here.
-fn unsettled<'a>(part: Part, disk: u32) -> EntryRef<'a>
-    ensures { told result ≡ kind_of (the_header.Unsettled part disk) }
+fn unsettled<'a>(part: Part, kind: LaneKind, number: u32) -> EntryRef<'a>
+    ensures { told result ≡ kind_of (the_header.Unsettled part kind number) }
 {
     EntryRef::Unsettled {
-        who: who_at(disk, part),
+        who: who_at(kind, number, part),
     }
 }
 
 /// An end has nothing to do.
-pub(crate) fn idle<'a>(side: Side, disk: u32) -> EntryRef<'a>
-    ensures { told result ≡ kind_of (the_header.Idle side disk) }
+pub(crate) fn idle<'a>(side: Side, kind: LaneKind, number: u32) -> EntryRef<'a>
+    ensures { told result ≡ kind_of (the_header.Idle side kind number) }
 {
     EntryRef::Idle {
-        end: end_at(disk, side),
+        end: end_at(kind, number, side),
     }
 }
 
 /// The end of a stopped server was to make a step.
-fn off<'a>(side: Side, disk: u32) -> EntryRef<'a>
-    ensures { told result ≡ kind_of (the_header.Off side disk) }
+fn off<'a>(side: Side, kind: LaneKind, number: u32) -> EntryRef<'a>
+    ensures { told result ≡ kind_of (the_header.Off side kind number) }
 {
     EntryRef::Off {
-        end: end_at(disk, side),
+        end: end_at(kind, number, side),
     }
 }
 
 /// An end has no room for its next packet.
-fn blocked<'a>(side: Side, disk: u32) -> EntryRef<'a>
-    ensures { told result ≡ kind_of (the_header.Blocked side disk) }
+fn blocked<'a>(side: Side, kind: LaneKind, number: u32) -> EntryRef<'a>
+    ensures { told result ≡ kind_of (the_header.Blocked side kind number) }
 {
     EntryRef::Blocked {
-        end: end_at(disk, side),
+        end: end_at(kind, number, side),
     }
 }
 

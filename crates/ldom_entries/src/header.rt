@@ -1,10 +1,12 @@
-ghost use Rattle.std.specs.Prelude.{◌≡◌};
+ghost use Rattle.std.specs.Prelude.{◌≡◌, ℕ};
+ghost use Rattle.domain_script.specs.declared.fields.LaneKind.{LaneKind as lane_kind};
+ghost use Rattle.ldom_entries.specs.declared.entry.Who.TheVariants.{End as OfEnd};
 ghost use Rattle.ldom_entries.specs.Decoded.{end_at, kind_of, who_at};
 ghost use Rattle.ldom_entries.specs.Seen.{may_be_seen};
 
 use crate::{Who, Why};
 use cookie_copy::CopyFault;
-use domain_script::{EndName, Lane, Side};
+use domain_script::{EndName, Lane, LaneKind, Side};
 
 /// A lane as a whole, or one of its ends: its client's or its server's.
 #[derive(Clone, Copy, Debug, PartialEq, Eq)]
@@ -14,7 +16,7 @@ pub enum Part {
     Server,
 }
 
-/// The kind of an entry, its disk and its flags, in eight bytes: the disk stands last, so that no gap is before it.
+/// The kind of an entry, its lane and its flags, in eight bytes: the number stands last, so that no gap is before it.
 /// What else it has stands in lists beside it, and so does all of an entry that is kept whole.
 #[derive(Clone, Copy, Debug, PartialEq, Eq)]
 pub enum Header {
@@ -24,12 +26,14 @@ pub enum Header {
     },
     Full {
         part: Part,
-        disk: u32,
+        kind: LaneKind,
+        number: u32,
     },
     Refused {
         part: Part,
+        kind: LaneKind,
         why: Why,
-        disk: u32,
+        number: u32,
     },
     Stopped {
         disk: u32,
@@ -39,50 +43,59 @@ pub enum Header {
     },
     Calm {
         part: Part,
-        disk: u32,
+        kind: LaneKind,
+        number: u32,
     },
     Settled,
     Unsettled {
         part: Part,
-        disk: u32,
+        kind: LaneKind,
+        number: u32,
     },
     Idle {
         side: Side,
-        disk: u32,
+        kind: LaneKind,
+        number: u32,
     },
     Off {
         side: Side,
-        disk: u32,
+        kind: LaneKind,
+        number: u32,
     },
     Blocked {
         side: Side,
-        disk: u32,
+        kind: LaneKind,
+        number: u32,
     },
 
     /// Beside it: how many frames were lost.
     Joined {
         side: Side,
-        disk: u32,
+        kind: LaneKind,
+        number: u32,
     },
 
     /// Beside it: the packet.
     Took {
         side: Side,
+        kind: LaneKind,
         opens: bool,
-        disk: u32,
+        number: u32,
     },
 
     /// Beside it: the packet.
     Sent {
         side: Side,
+        kind: LaneKind,
         opens: bool,
-        disk: u32,
+        number: u32,
     },
 
     /// Beside it: the id.
     Published {
         side: Side,
-        disk: u32,
+        kind: LaneKind,
+        number: u32,
     },
 
     /// Beside it: the id, the status and, where `read` says so, the bytes.
@@ -95,35 +108,54 @@ pub enum Header {
     /// Beside it: the slot, and the descriptor.
     Desc {
         side: Side,
-        disk: u32,
+        kind: LaneKind,
+        number: u32,
     },
 
-    /// Beside it: the unit.
+    /// A unit that was copied. Beside it: the unit.
     Moved {
         side: Side,
-        fault: Option<CopyFault>,
-        disk: u32,
+        kind: LaneKind,
+        number: u32,
     },
 
-    /// Beside it: the first block, and how many.
+    /// One that wasn't. Beside it: the unit.
+    NotMoved {
+        side: Side,
+        kind: LaneKind,
+        fault: CopyFault,
+        number: u32,
+    },
+
+    /// A call of the store that went well. Beside it: the first block, and how many.
     Stored {
         side: Side,
+        kind: LaneKind,
         operation: u8,
-        failed: bool,
-        disk: u32,
+        number: u32,
+    },
+
+    /// One that failed. Beside it: the first block, and how many.
+    NotStored {
+        side: Side,
+        kind: LaneKind,
+        operation: u8,
+        number: u32,
     },
 
     /// Beside it: the slot, and the status.
     Finished {
         side: Side,
-        disk: u32,
+        kind: LaneKind,
+        number: u32,
     },
 
     /// Beside it: the cause, how many frames were lost, and the packet where it has one.
     Reset {
         side: Side,
+        kind: LaneKind,
         packet: bool,
-        disk: u32,
+        number: u32,
     },
 
     /// Beside it: the entry, of any other kind.
@@ -151,52 +183,43 @@ impl Header {
 // An idle step takes no more.
 const _: () = prove!(size_of::<Header>() <= 8);
 
-/// The disk of an end.
-pub fn disk_of(end: EndName) -> u32
-    ensures { end_at result end.side ≡ end }
-{
-    let Lane::Disk(disk) = end.lane;
-    disk
-}
-
-/// The disk of whom an entry is about, and which part of its lane.
-pub fn part_of(who: Who) -> (u32, Part)
-    ensures { who_at result.0 result.1 ≡ who }
+/// Which part of a lane an entry is about, and the lane.
+pub fn part_of(who: Who) -> (Part, Lane)
+    ensures { who_at result.1.kind result.1.number result.0 ≡ who }
 {
     match who {
-        Who::Lane(Lane::Disk(disk)) => (disk, Part::Lane),
-        Who::End(
-            EndName {
-                lane: Lane::Disk(disk),
-                side: Side::Client,
-            },
-        ) => (disk, Part::Client),
-        Who::End(
-            EndName {
-                lane: Lane::Disk(disk),
-                side: Side::Server,
-            },
-        ) => (disk, Part::Server),
+        Who::Lane(lane) => (Part::Lane, lane),
+        Who::End(end) => (part_at(end.side), end.lane),
     }
 }
 
-/// An end of the disk with this number.
-pub fn end_at(disk: u32, side: Side) -> EndName
-    ensures { result ≡ end_at disk side }
+/// The end of a lane that a side has.
+fn part_at(side: Side) -> Part
+    ensures { (kind : lane_kind) (number : ℕ) → who_at kind number result ≡ OfEnd (end_at kind number side) }
+{
+    match side {
+        Side::Client => Part::Client,
+        Side::Server => Part::Server,
+    }
+}
+
+/// An end of the lane of this kind with this number.
+pub fn end_at(kind: LaneKind, number: u32, side: Side) -> EndName
+    ensures { result ≡ end_at kind number side }
 {
     EndName {
-        lane: Lane::Disk(disk),
+        lane: Lane { kind, number },
         side,
     }
 }
 
-/// The lane of the disk with this number, or one of its ends.
-pub fn who_at(disk: u32, part: Part) -> Who
-    ensures { result ≡ who_at disk part }
+/// The lane of this kind with this number, or one of its ends.
+pub fn who_at(kind: LaneKind, number: u32, part: Part) -> Who
+    ensures { result ≡ who_at kind number part }
 {
     match part {
-        Part::Lane => Who::Lane(Lane::Disk(disk)),
-        Part::Client => Who::End(end_at(disk, Side::Client)),
-        Part::Server => Who::End(end_at(disk, Side::Server)),
+        Part::Lane => Who::Lane(Lane { kind, number }),
+        Part::Client => Who::End(end_at(kind, number, Side::Client)),
+        Part::Server => Who::End(end_at(kind, number, Side::Server)),
     }
 }

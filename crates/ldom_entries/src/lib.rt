@@ -10,11 +10,11 @@ mod whole_entry;
 
 pub use beside::Beside;
 pub use cookie_copy::CopyFault;
-pub use domain_script::{EndName, Lane, Side};
+pub use domain_script::{EndName, Lane, LaneKind, Side};
 pub use entries::Entries;
 pub use entry::{Entry, Who, Why};
 pub use entry_ref::EntryRef;
-pub use header::{Header, Part, disk_of, end_at, part_of};
+pub use header::{Header, Part, end_at, part_of};
 pub use kept_requests::{Bytes, KeptRequest, shortest_word};
 pub use vio_tag::Cause;
 pub use whole_entry::WholeEntry;

@@ -3,6 +3,7 @@ use Rattle.std.proofs.Common.{◌≡◌, ℕ, ◌+◌, ◌-◌, ◌≤◌, Bool,
 use Rattle.std.proofs.Math.Seq.{take-length, drop-length}
 use Rattle.std.proofs.lemmas.List.{take-append-le, drop-append-le, length-append}
 use Rattle.domain_script.specs.declared.event.Side.{Side}
+use Rattle.domain_script.specs.declared.fields.LaneKind.{LaneKind}
 use Rattle.vdisk_msg.specs.declared.request.Request.{Request}
 use Rattle.vio_tag.specs.declared.cause.Cause.{Cause}
 use Rattle.kept_requests.specs.Bytes.{BytesState}
@@ -162,12 +163,12 @@ kept_more headers later s t m h capacity grown room kept puts more is same =
     }
 
 -- a reset has its packet beside it where it has one
-pub reset_share : (side : Side) (disk n : ℕ) (cause : Cause) (is : Bool) (packet : Option (List ℕ)) → is ≡ is_some packet → share (header.Reset side is disk) ≡ all_share (with_cause n cause packet)
-reset_share side disk n cause is None e = ap (λ (b : Bool). share (header.Reset side b disk)) e
-reset_share side disk n cause is (Some p) e = ap (λ (b : Bool). share (header.Reset side b disk)) e
+pub reset_share : (side : Side) (kind : LaneKind) (number n : ℕ) (cause : Cause) (is : Bool) (packet : Option (List ℕ)) → is ≡ is_some packet → share (header.Reset side kind is number) ≡ all_share (with_cause n cause packet)
+reset_share side kind number n cause is None e = ap (λ (b : Bool). share (header.Reset side kind b number)) e
+reset_share side kind number n cause is (Some p) e = ap (λ (b : Bool). share (header.Reset side kind b number)) e
 
-pub reset_entry : (side : Side) (disk n : ℕ) (cause : Cause) (is : Bool) (packet : Option (List ℕ)) → is ≡ is_some packet → entry_of (header.Reset side is disk) (with_cause n cause packet) ≡ entry.Reset (end_at disk side) cause packet n
-reset_entry side disk n cause is None e =
-    ap (λ (b : Bool). entry_of (header.Reset side b disk) (with_cause n cause None)) e
-reset_entry side disk n cause is (Some p) e =
-    ap (λ (b : Bool). entry_of (header.Reset side b disk) (with_cause n cause (Some p))) e
+pub reset_entry : (side : Side) (kind : LaneKind) (number n : ℕ) (cause : Cause) (is : Bool) (packet : Option (List ℕ)) → is ≡ is_some packet → entry_of (header.Reset side kind is number) (with_cause n cause packet) ≡ entry.Reset (end_at kind number side) cause packet n
+reset_entry side kind number n cause is None e =
+    ap (λ (b : Bool). entry_of (header.Reset side kind b number) (with_cause n cause None)) e
+reset_entry side kind number n cause is (Some p) e =
+    ap (λ (b : Bool). entry_of (header.Reset side kind b number) (with_cause n cause (Some p))) e

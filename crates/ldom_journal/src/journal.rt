@@ -6,7 +6,7 @@ use crate::reading::nth;
 use cookie_copy::CopyFault;
 use domain_script::EndName;
 use ldom_entries::{
-    Bytes, Entries, Entry, EntryRef, Header, KeptRequest, Who, Why, disk_of, part_of,
+    Bytes, Entries, Entry, EntryRef, Header, KeptRequest, Who, Why, part_of,
 };
 use std::alloc::Global;
 use std::marker::Model;
@@ -85,7 +85,8 @@ impl Journal {
     {
         self.kept.push_plain(Header::Idle {
             side: end.side,
-            disk: disk_of(end),
+            kind: end.lane.kind,
+            number: end.lane.number,
         });
     }
 
@@ -96,7 +97,8 @@ impl Journal {
     {
         self.kept.push_plain(Header::Off {
             side: end.side,
-            disk: disk_of(end),
+            kind: end.lane.kind,
+            number: end.lane.number,
         });
     }
 
@@ -107,7 +109,8 @@ impl Journal {
     {
         self.kept.push_plain(Header::Blocked {
             side: end.side,
-            disk: disk_of(end),
+            kind: end.lane.kind,
+            number: end.lane.number,
         });
     }
 
@@ -118,7 +121,8 @@ impl Journal {
     {
         let header = Header::Joined {
             side: end.side,
-            disk: disk_of(end),
+            kind: end.lane.kind,
+            number: end.lane.number,
         };
         self.kept.push_number(header, u64::from(lost));
     }
@@ -130,8 +134,9 @@ impl Journal {
     {
         let header = Header::Took {
             side: end.side,
+            kind: end.lane.kind,
             opens,
-            disk: disk_of(end),
+            number: end.lane.number,
         };
         self.kept.push_packet(header, packet);
     }
@@ -143,8 +148,9 @@ impl Journal {
     {
         let header = Header::Sent {
             side: end.side,
+            kind: end.lane.kind,
             opens,
-            disk: disk_of(end),
+            number: end.lane.number,
         };
         self.kept.push_packet(header, packet);
     }
@@ -156,7 +162,8 @@ impl Journal {
     {
         let header = Header::Published {
             side: end.side,
-            disk: disk_of(end),
+            kind: end.lane.kind,
+            number: end.lane.number,
         };
         self.kept.push_number(header, id);
     }
@@ -184,10 +191,19 @@ impl Journal {
         requires { 0 < self.old.room }
         ensures { PutsEntry self.old (the_entry.Moved end unit fault) self.new }
     {
-        let header = Header::Moved {
-            side: end.side,
-            fault,
-            disk: disk_of(end),
+        let EndName { lane, side } = end;
+        let header = match fault {
+            None => Header::Moved {
+                side,
+                kind: lane.kind,
+                number: lane.number,
+            },
+            Some(fault) => Header::NotMoved {
+                side,
+                kind: lane.kind,
+                fault,
+                number: lane.number,
+            },
         };
         self.kept.push_number(header, u64::from(unit));
     }
@@ -197,11 +213,21 @@ impl Journal {
         requires { 0 < self.old.room }
         ensures { PutsEntry self.old (the_entry.Stored end operation block count failed) self.new }
     {
-        let header = Header::Stored {
-            side: end.side,
-            operation,
-            failed,
-            disk: disk_of(end),
+        let EndName { lane, side } = end;
+        let header = if failed {
+            Header::NotStored {
+                side,
+                kind: lane.kind,
+                operation,
+                number: lane.number,
+            }
+        } else {
+            Header::Stored {
+                side,
+                kind: lane.kind,
+                operation,
+                number: lane.number,
+            }
         };
         self.kept.push_numbers(header, block, count);
     }
@@ -213,7 +239,8 @@ impl Journal {
     {
         let header = Header::Finished {
             side: end.side,
-            disk: disk_of(end),
+            kind: end.lane.kind,
+            number: end.lane.number,
         };
         self.kept
             .push_numbers(header, u64::from(slot), u64::from(status));
@@ -234,8 +261,12 @@ impl Journal {
         requires { 0 < self.old.room }
         ensures { PutsEntry self.old (the_entry.Full who) self.new }
     {
-        let (disk, part) = part_of(who);
-        self.kept.push_plain(Header::Full { part, disk });
+        let (part, lane) = part_of(who);
+        self.kept.push_plain(Header::Full {
+            part,
+            kind: lane.kind,
+            number: lane.number,
+        });
     }
 
     /// A request that was refused.
@@ -243,8 +274,13 @@ impl Journal {
         requires { 0 < self.old.room }
         ensures { PutsEntry self.old (the_entry.Refused who why) self.new }
     {
-        let (disk, part) = part_of(who);
-        self.kept.push_plain(Header::Refused { part, why, disk });
+        let (part, lane) = part_of(who);
+        self.kept.push_plain(Header::Refused {
+            part,
+            kind: lane.kind,
+            why,
+            number: lane.number,
+        });
     }
 
     /// What a line asked for and changes nothing.
@@ -252,8 +288,12 @@ impl Journal {
         requires { 0 < self.old.room }
         ensures { PutsEntry self.old (the_entry.Calm who) self.new }
     {
-        let (disk, part) = part_of(who);
-        self.kept.push_plain(Header::Calm { part, disk });
+        let (part, lane) = part_of(who);
+        self.kept.push_plain(Header::Calm {
+            part,
+            kind: lane.kind,
+            number: lane.number,
+        });
     }
 
     /// A settle that ended though something is left to do here.
@@ -261,8 +301,12 @@ impl Journal {
         requires { 0 < self.old.room }
         ensures { PutsEntry self.old (the_entry.Unsettled who) self.new }
     {
-        let (disk, part) = part_of(who);
-        self.kept.push_plain(Header::Unsettled { part, disk });
+        let (part, lane) = part_of(who);
+        self.kept.push_plain(Header::Unsettled {
+            part,
+            kind: lane.kind,
+            number: lane.number,
+        });
     }
 
     /// PutsEntry an entry last, into room that was reserved. It takes no memory.

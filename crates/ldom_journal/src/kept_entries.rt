@@ -3,7 +3,7 @@ ghost use Rattle.ldom_entries.specs.Decoded.{entry_of, needs, share, these};
 
 use crate::parts::Parts;
 use domain_script::EndName;
-use ldom_entries::{Bytes, Entries, Entry, Header, KeptRequest, disk_of};
+use ldom_entries::{Bytes, Entries, Entry, Header, KeptRequest};
 use std::alloc::Global;
 use std::marker::Model;
 use vio_bytes::NoMemory;
@@ -163,7 +163,8 @@ impl KeptEntries {
     {
         let header = Header::Desc {
             side: end.side,
-            disk: disk_of(end),
+            kind: end.lane.kind,
+            number: end.lane.number,
         };
         self.parts.put_descriptor(u64::from(slot), bytes);
         self.headers.push_reserved(header);
@@ -183,8 +184,9 @@ impl KeptEntries {
     {
         let header = Header::Reset {
             side: end.side,
+            kind: end.lane.kind,
             packet: packet.is_some(),
-            disk: disk_of(end),
+            number: end.lane.number,
         };
         self.parts
             .put_cause(u64::from(lost), cause, packet.as_ref());

@@ -14,11 +14,9 @@ use Rattle.world_laws.specs.Moves.{is_end, moves_in}
 use Rattle.world_laws.specs.Rounds.{LaneRound, MakeRound, MakesRound, are_quiet, is_calm, is_quiet}
 use Rattle.world_laws.specs.Settle.{OfLane, SettleEntry, Unsettled, entry_of, left_over, round_entries, tick_entries}
 use Rattle.world_laws.specs.Ticks.{gets_tick, some_get_ticks, tick, waits_on}
+use Rattle.lane_kinds.specs.LaneCounts.{once}
 
 -- ONE STEP
-abbrev pub once : Bool → ℕ
-once c = if c then 1 else 0
-
 bounded : (c : Bool) → 0 ≤ once c
 bounded c = omega (arith)
 

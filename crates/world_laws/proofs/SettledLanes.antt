@@ -6,8 +6,8 @@ use Rattle.disk_model.specs.ClientState.{is_finished}
 use Rattle.disk_model.specs.LaneState.{LaneState}
 use Rattle.disk_model.specs.Reached.{IsReached}
 use Rattle.world_laws.proofs.Behind.{ends_finished}
-use Rattle.world_laws.proofs.RoundCounts.{once}
-use Rattle.world_laws.proofs.TicksOnce.{mark_at, part_ticks, settles_ticks}
+use Rattle.lane_kinds.specs.LaneCounts.{mark_at, once}
+use Rattle.world_laws.proofs.TicksOnce.{part_ticks, settles_ticks}
 use Rattle.world_laws.specs.Ended.{EndsFinished, LanesEnd}
 use Rattle.world_laws.specs.Moves.{ticks_in}
 use Rattle.world_laws.specs.Rounds.{Each, EachMarked}

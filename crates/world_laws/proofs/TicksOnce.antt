@@ -1,6 +1,5 @@
 -- In one settle each lane gets one tick at most, and no tick comes from a step.
 use Rattle.std.proofs.Common.{◌≡◌, ℕ, ◌+◌, ◌≤◌, ◌<◌, Bool, true, false, List, [], ◌∷◌, ◌++◌, refl, arith}
-use Rattle.std.proofs.lemmas.Bool.{eqb-true}
 use Rattle.std.specs.Prelude.{◌&&◌, ◌||◌, ◌==◌, if◌then◌else◌}
 use Rattle.ldc_queue.specs.declared.end.End.{End}
 use Rattle.ldc_queue.specs.declared.end.End.TheVariants.{A, B}
@@ -9,14 +8,17 @@ use Rattle.channel_model.specs.WireEvent.{Idle, Reset}
 use Rattle.disk_model.specs.DiskEvent.{DiskEvent, Off, OnWire, Switches}
 use Rattle.disk_model.specs.LaneState.{LaneState}
 use Rattle.lane_kinds.proofs.Counting.{part_counted, settles_counted}
+use Rattle.lane_kinds.proofs.LaneCounts.{mark_most, none_marked, tick_is, ticks_mark}
+use Rattle.lane_kinds.specs.LaneCounts.{LaneTicks, mark_at, once}
+use Rattle.lane_kinds.specs.Lanes.{EachStep}
 use Rattle.lane_kinds.specs.Laws.{Counts}
 use Rattle.lane_laws.specs.CalmEnds.{IsStep}
 use Rattle.world_laws.proofs.Counts.{ticks_both}
-use Rattle.world_laws.proofs.RoundCounts.{once, tick_entry}
-use Rattle.world_laws.specs.Moves.{ticks_in}
+use Rattle.world_laws.proofs.RoundCounts.{tick_entry}
+use Rattle.world_laws.specs.Moves.{ticks, ticks_in}
 use Rattle.world_laws.specs.Rounds.{LaneRound, MakeRound, is_quiet}
-use Rattle.world_laws.specs.Settle.{SettleEntry, SettlePart, Settles, Unsettled, disks, entry_of, left_over, round_entries, tick_entries}
-use Rattle.world_laws.specs.Ticks.{TickLanes, gets_tick, marked, no_marks, waits_on}
+use Rattle.world_laws.specs.Settle.{OfLane, SettleEntry, SettlePart, Settles, Unsettled, disk_entries, disks, entry_of, left_over, round_entries}
+use Rattle.world_laws.specs.Ticks.{IsTurn, disk_kind, waits_on}
 
 -- A STEP is no tick
 never_ticks : (c : Bool) → once (c && false) + 0 ≤ 0
@@ -41,63 +43,34 @@ round_ticks k j (s ∷ lanes) (r ∷ rounds) (t ∷ behind) made =
     (round_ticks k (j + 1) lanes rounds behind made.1)
 round_ticks k j _ _ _ made = absurd made
 
--- THE MARK of a lane, as a number
-abbrev pub mark_at : ℕ → ℕ → List Bool → ℕ
-mark_at k j [] = 0
-mark_at k j (had ∷ marks) = once ((j == k) && had) + mark_at k (j + 1) marks
+-- A TICK is one of its lane
+never : (c : Bool) → once (c && false) ≡ 0
+never true = refl
+never false = refl
 
-no_mark : (c had : Bool) (rest j k : ℕ) → (c ≡ true → j ≡ k) → k < j → rest ≤ 0 → once (c && had) + rest ≤ 0
-no_mark true had rest j k same less none = absurd (omega (arith, same refl, less))
-no_mark false had rest j k same less none = omega (arith, none)
+step_never : (k j : ℕ) (e : End) (event : DiskEvent) → IsStep e event → ticks k (OfLane j event) ≡ 0
+step_never k j e (OnWire (Reset d the_cause.Tick packet lost)) own = absurd (cc own.1)
+step_never k j e _ own = never (j == k)
 
-below_next : (j k : ℕ) → k < j → k < j + 1
-below_next j k less = omega (arith, less)
+one_tick : (c : Bool) → once (c && true) ≡ once c
+one_tick true = refl
+one_tick false = refl
 
-no_marks_behind : (k j : ℕ) (marks : List Bool) → k < j → mark_at k j marks ≤ 0
-no_marks_behind k j [] less = omega (arith)
-no_marks_behind k j (had ∷ marks) less =
-    no_mark (j == k) had (mark_at k (j + 1) marks) j k (eqb-true j k) less (no_marks_behind k (j + 1) marks (below_next j k less))
+turn_steps : (events : List DiskEvent) → IsTurn events → EachStep disk_kind events
+turn_steps (first ∷ second ∷ []) turn = ((A, turn.0), ((B, turn.1), tt))
+turn_steps _ turn = absurd turn
 
-one_mark : (c had : Bool) (rest j k : ℕ) → (c ≡ true → j ≡ k) → (k < j + 1 → rest ≤ 0) → rest ≤ 1 → once (c && had) + rest ≤ 1
-one_mark true true rest j k same none few = omega (arith, none (omega (arith, same refl)))
-one_mark true false rest j k same none few = omega (arith, few)
-one_mark false had rest j k same none few = omega (arith, few)
+of_lanes : LaneTicks disk_kind disk_entries ticks
+of_lanes = record {
+  turn_steps = turn_steps;
+  step = λ k j event own. step_never k j own.0 event own.1;
+  tick = λ k j s. one_tick (j == k);
+  left = λ k j. refl;
+  answer = λ k. refl;
+}
 
-mark_most : (k j : ℕ) (marks : List Bool) → mark_at k j marks ≤ 1
-mark_most k j [] = omega (arith)
-mark_most k j (had ∷ marks) =
-    one_mark (j == k) had (mark_at k (j + 1) marks) j k (eqb-true j k) (λ less. no_marks_behind k (j + 1) marks less) (mark_most k (j + 1) marks)
-
--- A TICK marks its lane, which had no mark
-tick_counts : (c had waits : Bool) → once (c && (if had then false else waits)) + once (c && had) ≡ once (c && (had || (if had then false else waits)))
-tick_counts true true waits = omega (arith)
-tick_counts true false true = omega (arith)
-tick_counts true false false = omega (arith)
-tick_counts false had waits = omega (arith)
-
-with_nothing : (n : ℕ) → n + 0 ≡ n
-with_nothing n = omega (arith)
-
-no_tick : (c : Bool) → 0 ≡ once (c && false)
-no_tick true = refl
-no_tick false = refl
-
-pub entry_ticks : (k j : ℕ) (get : Bool) → ticks_in k (tick_entry j get) ≡ once ((j == k) && get)
-entry_ticks k j true = with_nothing (once ((j == k) && true))
-entry_ticks k j false = no_tick (j == k)
-
-lane_ticks : (all one rest x mark marks new more : ℕ) → all ≡ one + rest → one ≡ x → x + mark ≡ new → rest + marks ≡ more → all + (mark + marks) ≡ new + more
-lane_ticks all one rest x mark marks new more sum few here others = omega (arith, sum, few, here, others)
-
-ticks_mark : (k j : ℕ) (lanes : List LaneState) (marks : List Bool) (behind : List LaneState) → TickLanes lanes marks behind
-    → ticks_in k (tick_entries j lanes marks) + mark_at k j marks ≡ mark_at k j (marked lanes marks)
-ticks_mark k j [] [] [] made = omega (arith)
-ticks_mark k j (s ∷ lanes) (had ∷ marks) (t ∷ behind) made =
-    lane_ticks (ticks_in k (tick_entries j (s ∷ lanes) (had ∷ marks))) (ticks_in k (tick_entry j (gets_tick s had))) (ticks_in k (tick_entries (j + 1) lanes marks))
-    (once ((j == k) && gets_tick s had)) (once ((j == k) && had)) (mark_at k (j + 1) marks) (once ((j == k) && (had || gets_tick s had))) (mark_at k (j + 1) (marked lanes marks))
-    (ticks_both k (tick_entry j (gets_tick s had)) (tick_entries (j + 1) lanes marks)) (entry_ticks k j (gets_tick s had)) (tick_counts (j == k) had (waits_on s))
-    (ticks_mark k (j + 1) lanes marks behind made.1)
-ticks_mark k j _ _ _ made = absurd made
+pub entry_ticks : (k j : ℕ) (s : LaneState) (get : Bool) → ticks_in k (tick_entry j get) ≡ once ((j == k) && get)
+entry_ticks k j s get = tick_is disk_kind disk_entries ticks of_lanes get k j s
 
 -- NAMES are no ticks, and none is marked as a settle begins
 name_ticks : (k j : ℕ) (c : Bool) → ticks_in k (if c then [] else Unsettled j ∷ []) ≤ 0
@@ -115,21 +88,13 @@ left_ticks k j (r ∷ steps) (s ∷ lanes) =
     (ticks_in k (left_over (j + 1) steps lanes)) (ticks_both k (if is_quiet r && (if waits_on s then false else true) then [] else Unsettled j ∷ []) (left_over (j + 1) steps lanes))
     (name_ticks k j (is_quiet r && (if waits_on s then false else true))) (left_ticks k (j + 1) steps lanes)
 
-first_none : (c : Bool) (rest : ℕ) → rest ≡ 0 → once (c && false) + rest ≡ 0
-first_none true rest none = omega (arith, none)
-first_none false rest none = omega (arith, none)
-
-none_marked : (k j : ℕ) (lanes : List LaneState) → mark_at k j (no_marks lanes) ≡ 0
-none_marked k j [] = refl
-none_marked k j (s ∷ lanes) = first_none (j == k) (mark_at k (j + 1) (no_marks lanes)) (none_marked k (j + 1) lanes)
-
 pub counts : (k : ℕ) → Counts disks (ticks_in k) (mark_at k 0)
 counts k = record {
   both = ticks_both k;
   round = λ w r v made. round_ticks k 0 w r v made;
-  ticks = λ w m v ticks. ticks_mark k 0 w m v ticks;
-  unmarked = none_marked k 0;
-  most = mark_most k 0;
+  ticks = λ w m v made. ticks_mark disk_kind disk_entries ticks of_lanes k 0 w m v made;
+  unmarked = none_marked disk_kind disk_entries ticks of_lanes k 0;
+  most = mark_most disk_kind disk_entries ticks of_lanes k 0;
   answer = refl;
   names = left_ticks k 0;
 }

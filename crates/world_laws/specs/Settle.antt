@@ -1,12 +1,14 @@
 -- A settle over the lanes of disks: what their rounds and ticks leave in the journal, and the part that it gives.
 use Rattle.std.specs.Prelude.{ℕ, ◌+◌, ◌*◌, Bool, true, false, ◌&&◌, if◌then◌else◌, List, [], ◌∷◌, ◌++◌, length}
+use Rattle.lane_kinds.specs.Lanes.{Entries}
+use Rattle.lane_kinds.specs.Lanes as lanes
 use Rattle.lane_kinds.specs.Rounds.{Rounds}
 use Rattle.lane_kinds.specs.Settles as settle
 use Rattle.channel_model.specs.WireEvent.{Idle}
 use Rattle.disk_model.specs.DiskEvent.{DiskEvent, Off, OnWire, Switches}
 use Rattle.disk_model.specs.LaneState.{LaneState}
 use Rattle.world_laws.specs.Rounds.{LaneRound, MakeRound, are_quiet, is_quiet}
-use Rattle.world_laws.specs.Ticks.{TickLanes, gets_tick, marked, no_marks, some_get_ticks, tick, waits_on}
+use Rattle.world_laws.specs.Ticks.{TickLanes, disk_kind, marked, no_marks, some_get_ticks, waits_on}
 
 -- AN ENTRY of the part: an event of the lane with this number, or the answer of the settle
 pub data SettleEntry : Type 0 where
@@ -25,9 +27,11 @@ abbrev pub round_entries : ℕ → List LaneRound → List SettleEntry
 round_entries k [] = []
 round_entries k (r ∷ rounds) = entry_of k r.client ++ entry_of k r.server ++ round_entries (k + 1) rounds
 
+abbrev pub disk_entries : Entries DiskEvent SettleEntry
+disk_entries = record { of_lane = OfLane; left_over = Unsettled; settled = Settled }
+
 abbrev pub tick_entries : ℕ → List LaneState → List Bool → List SettleEntry
-tick_entries k (s ∷ lanes) (had ∷ marks) = (if gets_tick s had then OfLane k tick ∷ [] else []) ++ tick_entries (k + 1) lanes marks
-tick_entries k _ _ = []
+tick_entries = lanes.tick_entries disk_kind disk_entries
 
 -- how many requests are pending on all of them
 abbrev pub pending_on : List LaneState → ℕ
