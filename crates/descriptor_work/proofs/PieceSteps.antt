@@ -6,6 +6,7 @@ use Rattle.cookie_copy.specs.declared.fault.Access.TheVariants.{Read, Write}
 use Rattle.cookie_copy.specs.declared.fault.CopyFault.{CopyFault}
 use Rattle.cookie_copy.specs.Faults.{first_copy_fault}
 use Rattle.cookie_copy.specs.Moved.{moved_in, moved_out}
+use Rattle.vdisk_msg.specs.Check.{most_bytes}
 use Rattle.vdisk_msg.specs.Pieces.{unit_count}
 use Rattle.map_table.specs.declared.cookie.Cookie.{Cookie}
 use Rattle.vio_io.specs.Causes.{next_count}
@@ -166,7 +167,7 @@ pub unit_within : (blocks unit offset size n : ℕ) → 8192 * unit < size → 5
 unit_within blocks unit offset size n unit_in within is block count at counted = omega arith
 
 -- at the end of the last unit
-pub unit_next : (unit size : ℕ) → size ≤ 32768 → IsTrue (nat_lt (unit + 1) ((size + 8192 - 1) / 8192)) → unit + 1 < 2 ^ 32
+pub unit_next : (unit size : ℕ) → size ≤ most_bytes → IsTrue (nat_lt (unit + 1) ((size + 8192 - 1) / 8192)) → unit + 1 < 2 ^ 32
 unit_next unit size most more =
     let less : unit + 1 < (size + 8192 - 1) / 8192 = ltb-true (unit + 1) ((size + 8192 - 1) / 8192) more in
     omega arith

@@ -2,7 +2,7 @@
 
 ghost use Rattle.std.specs.Prelude.{◌≡◌, ◌+◌, ◌*◌, ◌/◌, ◌^◌, ◌<◌, ◌≤◌, ℕ, List, length, nat_lt, IsTrue, None, Some};
 ghost use Rattle.cookie_copy.specs.Faults.{PagesWithin};
-ghost use Rattle.vdisk_msg.specs.Check.{first_defect};
+ghost use Rattle.vdisk_msg.specs.Check.{first_defect, most_bytes};
 ghost use Rattle.vdisk_msg.specs.Descriptor.{disk_desc_of};
 ghost use Rattle.vdisk_msg.specs.Pieces.{refusal_status, unit_count};
 ghost use Rattle.disk_model.specs.ServerWork.{data_cookies, desc_of, first_progress, first_progress_of, gathers_next, length_of, or_ends, reads_next, unit_block, unit_length};
@@ -23,9 +23,7 @@ use ldc_queue::{Channel, End};
 use map_table::{Cookie, MapTable};
 use vdisk_msg::{BLOCK, DescFault, DiskDesc, VD_OP_BREAD, VD_OP_BWRITE, VD_OP_FLUSH, check};
 use vio_io::Store;
-
-/// The operations that this server takes, a bit for each.
-const OPERATIONS: u64 = 0x0e;
+use vio_tag::DISK_OPERATIONS;
 
 /// The statuses that it gives, by their Linux names.
 const OK: u32 = 0;
@@ -58,7 +56,7 @@ impl Work {
 fn first_progress(desc: &DiskDesc, blocks: u64) -> Progress
     ensures { (bytes : List ℕ) → progress_of result bytes ≡ first_progress blocks desc.now }
 {
-    match check(desc, blocks, OPERATIONS) {
+    match check(desc, blocks, DISK_OPERATIONS) {
         Ok(()) => first_piece(desc.operation),
         Err(fault) => Progress::Ends {
             status: refusal_status(fault),
@@ -230,7 +228,7 @@ impl Work {
 
     // The next unit of a write, or the status 0 where there is none.
     fn gathers_next(&self, unit: u32) -> Progress
-        requires { (disk_desc_of self.now.descriptor).size ≤ 32768 }
+        requires { (disk_desc_of self.now.descriptor).size ≤ most_bytes }
         ensures { (bytes : List ℕ) → progress_of result bytes ≡ gathers_next (disk_desc_of self.now.descriptor).size unit }
     {
         if self.has_next(unit) {
@@ -321,7 +319,7 @@ impl Work {
 
     // The next unit of a read, or the status 0 where there is none.
     fn reads_next(&self, unit: u32) -> Progress
-        requires { (disk_desc_of self.now.descriptor).size ≤ 32768 }
+        requires { (disk_desc_of self.now.descriptor).size ≤ most_bytes }
         ensures { (bytes : List ℕ) → progress_of result bytes ≡ reads_next (disk_desc_of self.now.descriptor).size unit }
     {
         if self.has_next(unit) {
@@ -332,7 +330,7 @@ impl Work {
     }
 
     fn has_next(&self, unit: u32) -> bool
-        requires { (disk_desc_of self.now.descriptor).size ≤ 32768 }
+        requires { (disk_desc_of self.now.descriptor).size ≤ most_bytes }
         ensures next { result ≡ nat_lt (unit + 1) (unit_count (disk_desc_of self.now.descriptor).size) }
         ensures below { IsTrue result → unit + 1 < 2 ^ 32 }
     {

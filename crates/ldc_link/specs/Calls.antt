@@ -7,12 +7,8 @@ use Rattle.ldc_queue.specs.ChannelView.{ChannelView, HasRoom, IsFull, channel_wi
 use Rattle.ldc_queue.specs.Wire.{peer_of, waiting_for}
 use Rattle.ldc_link.specs.declared.answers.SendOut.{SendOut}
 use Rattle.ldc_link.specs.declared.answers.SendOut.TheVariants as send
-use Rattle.ldc_link.specs.declared.answers.Sending.{Sending}
-use Rattle.ldc_link.specs.declared.answers.Sending.TheVariants as sending
 use Rattle.ldc_link.specs.declared.answers.TakeOut.{TakeOut}
 use Rattle.ldc_link.specs.declared.answers.TakeOut.TheVariants as taken
-use Rattle.ldc_link.specs.declared.answers.Taking.{Taking}
-use Rattle.ldc_link.specs.declared.answers.Taking.TheVariants as taking
 use Rattle.ldc_link.specs.LinkState.{LinkState}
 use Rattle.ldc_link.specs.Putting.{link_puts, owes}
 use Rattle.ldc_link.specs.Taking.{Heard, TakesBytes, Unheard}
@@ -37,14 +33,3 @@ abbrev pub Takes : End → LinkState → ChannelView → TakeOut → LinkState �
 Takes e k c taken.Nothing behind d = (waiting_for e c.wire ≡ []) × (behind ≡ k) × (d ≡ c)
 Takes e k c (taken.Took bytes) behind d = Leaves e c bytes d × TakesBytes k bytes (Heard behind)
 Takes e k c (taken.Fault bytes cause) behind d = Leaves e c bytes d × TakesBytes k bytes (Unheard cause) × (behind ≡ k)
-
--- what answers come to with the packet that was written
-abbrev pub send_out : Sending → List ℕ → SendOut
-send_out sending.Nothing packet = send.Nothing
-send_out sending.Blocked packet = send.Blocked
-send_out sending.Sent packet = send.Sent packet
-
-abbrev pub take_out : Taking → List ℕ → TakeOut
-take_out taking.Nothing packet = taken.Nothing
-take_out taking.Took packet = taken.Took packet
-take_out (taking.Fault cause) packet = taken.Fault packet cause

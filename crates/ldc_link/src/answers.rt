@@ -22,28 +22,6 @@ pub enum TakeOut {
     Fault { packet: [u8; 64], cause: Cause },
 }
 
-/// What a link did when it was to put a packet, where that is written over the caller's.
-#[derive(Clone, Copy, Debug, PartialEq, Eq)]
-pub enum Sending {
-    /// The link owes none.
-    Nothing,
-    /// The queue is full.
-    Blocked,
-    /// It put that one.
-    Sent,
-}
-
-/// What a link did when it was to take a packet, where that is written over the caller's.
-#[derive(Clone, Copy, Debug, PartialEq, Eq)]
-pub enum Taking {
-    /// None waits.
-    Nothing,
-    /// It took that one.
-    Took,
-    /// That one has left the queue, and the link is as it was. The caller resets.
-    Fault(Cause),
-}
-
 /// A message is offered that isn't wholly put.
 #[derive(Clone, Copy, Debug, PartialEq, Eq)]
 pub struct Busy;

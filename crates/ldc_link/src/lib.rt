@@ -14,7 +14,7 @@ mod packets;
 mod phase;
 mod taking;
 
-pub use answers::{Busy, SendOut, Sending, TakeOut, Taking};
+pub use answers::{Busy, SendOut, TakeOut};
 pub use laws::{
     links_follow_what_their_ends_say, messages_are_heard_by_their_fragments,
     messages_are_said_as_their_fragments,

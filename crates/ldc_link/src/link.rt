@@ -7,7 +7,7 @@ ghost use Rattle.ldc_queue.specs.ChannelView.{configured_channel};
 ghost use Rattle.ldc_queue.specs.Wire.{state_of};
 ghost use Rattle.ldc_queue.specs.declared.end.ChannelState.TheVariants.{Up};
 
-use crate::answers::{Busy, SendOut, Sending, TakeOut, Taking};
+use crate::answers::{Busy, SendOut, TakeOut};
 use crate::handshake::{MAJOR, MODE, first_phase};
 use crate::packets::{PART, info, version};
 use crate::phase::{LinkPhase, Role};
@@ -53,7 +53,7 @@ impl Model for Link {
 }
 
 impl Link {
-    ghost use Rattle.ldc_link.specs.Calls.{Sends, Takes, send_out, take_out};
+    ghost use Rattle.ldc_link.specs.Calls.{Sends, Takes};
     ghost use Rattle.ldc_link.specs.LinkState.{cleared, fresh_link, is_up, joined_link, offered};
     ghost use Rattle.ldc_link.specs.Putting.{owes, owes_control};
 
@@ -81,14 +81,6 @@ impl Link {
     {
         channel.configure(end);
         self.forget();
-    }
-
-    /// The same, of an end that may be up. What differs is what is told of it.
-    pub fn reset(&mut self, channel: &mut Channel, end: End)
-        ensures link { self.new ≡ joined_link self.old }
-        ensures channel { channel.new ≡ configured_channel end channel.old }
-    {
-        self.join(channel, end);
     }
 
     /// Begins anew without touching the channel.
@@ -135,34 +127,22 @@ impl Link {
     }
 
     /// Puts the packet that is owed, if any and if there is room: that of the handshake, or else the next part of the offered message.
+    #[tactic(auto, using(crate::proofs::Owing::puts_owed, crate::proofs::Owing::nothing_put))]
     pub fn send(&mut self, channel: &mut Channel, end: End) -> SendOut
         requires { state_of end channel.old.wire ≡ Up }
         ensures { Sends end self.old channel.old result self.new channel.new }
     {
-        let mut packet = [0; 64];
-        match self.send_into(channel, end, &mut packet) {
-            Sending::Nothing => SendOut::Nothing,
-            Sending::Blocked => SendOut::Blocked,
-            Sending::Sent => SendOut::Sent(packet),
-        }
-    }
-
-    /// The same, where the packet is written over the caller's. It has no meaning unless it was put.
-    #[tactic(auto, using(crate::proofs::Owing::puts_owed, crate::proofs::Owing::nothing_put))]
-    pub fn send_into(&mut self, channel: &mut Channel, end: End, packet: &mut [u8; 64]) -> Sending
-        requires { state_of end channel.old.wire ≡ Up }
-        ensures { Sends end self.old channel.old (send_out result packet.new) self.new channel.new }
-    {
         if !self.owes() {
-            return Sending::Nothing;
+            return SendOut::Nothing;
         }
-        self.write_owed(packet);
-        match channel.put(end, packet) {
+        let mut packet = [0; 64];
+        self.write_owed(&mut packet);
+        match channel.put(end, &packet) {
             Ok(()) => {
                 self.note_put();
-                Sending::Sent
+                SendOut::Sent(packet)
             }
-            Err(PutFault::Full) => Sending::Blocked,
+            Err(PutFault::Full) => SendOut::Blocked,
             Err(PutFault::NotUp) => unreachable!(),
         }
     }
@@ -175,25 +155,10 @@ impl Link {
         requires no_message { self.old.whole ≡ None }
         ensures { Takes end self.old channel.old result self.new channel.new }
     {
-        let mut packet = [0; 64];
-        match self.take_into(channel, end, &mut packet) {
-            Taking::Nothing => TakeOut::Nothing,
-            Taking::Took => TakeOut::Took(packet),
-            Taking::Fault(cause) => TakeOut::Fault { packet, cause },
-        }
-    }
-
-    /// The same, where the packet is written over the caller's. If none waits, nothing is said of that.
-    pub fn take_into(&mut self, channel: &mut Channel, end: End, packet: &mut [u8; 64]) -> Taking
-        requires up { state_of end channel.old.wire ≡ Up }
-        requires nothing_owed { owes_control self.old ≡ false }
-        requires no_message { self.old.whole ≡ None }
-        ensures { Takes end self.old channel.old (take_out result packet.new) self.new channel.new }
-    {
         if channel.waiting(end) == 0 {
-            return Taking::Nothing;
+            return TakeOut::Nothing;
         }
-        self.take_first(channel, end, packet)
+        self.take_first(channel, end)
     }
 
     /// The message that is whole, until `clear_message`.
@@ -358,21 +323,22 @@ impl Link {
 
 // What a link takes.
 impl Link {
-    ghost use Rattle.ldc_link.specs.Calls.{Takes, take_out};
+    ghost use Rattle.ldc_link.specs.Calls.{Takes};
 
     // Takes the packet that has waited longest. Not within its caller, so that where none waits nothing is done.
     #[inline(never)]
-    fn take_first(&mut self, channel: &mut Channel, end: End, packet: &mut [u8; 64]) -> Taking
+    fn take_first(&mut self, channel: &mut Channel, end: End) -> TakeOut
         requires up { state_of end channel.old.wire ≡ Up }
         requires no_message { self.old.whole ≡ None }
-        ensures { Takes end self.old channel.old (take_out result packet.new) self.new channel.new }
+        ensures { Takes end self.old channel.old result self.new channel.new }
     {
-        let Ok(true) = channel.take_into(end, packet) else {
-            return Taking::Nothing;
+        let mut packet = [0; 64];
+        let Ok(true) = channel.take_into(end, &mut packet) else {
+            return TakeOut::Nothing;
         };
-        match self.take_bytes(packet) {
-            Ok(()) => Taking::Took,
-            Err(cause) => Taking::Fault(cause),
+        match self.take_bytes(&packet) {
+            Ok(()) => TakeOut::Took(packet),
+            Err(cause) => TakeOut::Fault { packet, cause },
         }
     }
 }

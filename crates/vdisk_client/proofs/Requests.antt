@@ -2,6 +2,7 @@
 use Rattle.std.specs.Prelude.{if◌then◌else◌}
 use Rattle.std.proofs.Common.{◌≡◌, ℕ, zero, suc, ◌≤◌, Bool, true, false, List, [], ◌∷◌, ◌++◌, Some, None, slice_get, drop, arith, subst}
 use Rattle.std.proofs.lemmas.Bool.Decides.{nat_tests}
+use Rattle.vdisk_msg.specs.Check.{most_bytes}
 use Rattle.vdisk_msg.specs.declared.request.Request.{Request}
 use Rattle.vdisk_msg.specs.declared.request.Request.TheVariants.{Read, Write, Flush}
 use Rattle.vdisk_msg.specs.Fills.{IsRequest}
@@ -29,12 +30,12 @@ sound_at blocks (first ∷ requests) (suc k) request sound is = sound_at blocks 
 small_count : (blocks block count : ℕ) → blocks_defect blocks block count ≡ None → count ≤ 64
 small_count blocks block count is = grind (arith, nat_tests)
 
-pub small_size : (blocks : ℕ) (request : Request) → defect blocks request ≡ None → size_of request ≤ 32768
+pub small_size : (blocks : ℕ) (request : Request) → defect blocks request ≡ None → size_of request ≤ most_bytes
 small_size blocks (Read block count) is = omega (arith, small_count blocks block count is)
 small_size blocks (Write block count fill) is = omega (arith, small_count blocks block count is)
 small_size blocks Flush is = omega arith
 
-pub small_given : (blocks : ℕ) (request : Request) → defect blocks request ≡ None → given_count request ≤ 32768
+pub small_given : (blocks : ℕ) (request : Request) → defect blocks request ≡ None → given_count request ≤ most_bytes
 small_given blocks (Read block count) is = omega (arith, small_count blocks block count is)
 small_given blocks (Write block count fill) is = omega arith
 small_given blocks Flush is = omega arith
@@ -43,6 +44,6 @@ small_given blocks Flush is = omega arith
 pub front_read : (blocks : ℕ) (requests : List Request) (block count : ℕ) → AreSound blocks requests → slice_get requests 0 ≡ Some (Read block count) → count ≤ 64
 front_read blocks requests block count sound is = small_count blocks block count (sound_at blocks requests 0 (Read block count) sound is).admitted
 
-pub most_given : (b : Bool) (n : ℕ) → n ≤ 32768 → (if b then n else 0) ≤ 32768
+pub most_given : (b : Bool) (n : ℕ) → n ≤ most_bytes → (if b then n else 0) ≤ most_bytes
 most_given true n few = few
 most_given false n few = omega arith

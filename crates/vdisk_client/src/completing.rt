@@ -3,6 +3,7 @@
 ghost use Rattle.std.specs.Prelude.{◌≡◌, ◌+◌, ◌<◌, ◌≤◌, ◌==◌, if◌then◌else◌, length, drop, take};
 ghost use Rattle.ldc_queue.specs.ChannelView.{ChannelView};
 ghost use Rattle.vio_bytes.specs.Range.{range_at};
+ghost use Rattle.vdisk_msg.specs.Check.{most_bytes};
 ghost use Rattle.vdisk_msg.specs.Requested.{buffer_of};
 ghost use Rattle.vdisk_msg.specs.Requests.{given_count};
 
@@ -92,7 +93,7 @@ impl ClientEnd {
     fn take_bytes(&mut self, memory: &Memory, slot: u32, len: usize)
         requires slot { slot < self.old.slots }
         requires few { self.old.slots ≤ 256 }
-        requires most { len ≤ 32768 }
+        requires most { len ≤ most_bytes }
         requires room { HoldsRing self.old.slots memory.now }
         ensures { self.new ≡ record self.old { last = buffer_of self.old.slots slot len memory.now } }
     {
@@ -121,7 +122,7 @@ fn read_front(memory: &Memory, place: u64, buffer: &mut [u8], len: usize)
 
 /// How many bytes a request gives with this status.
 fn given_len(status: u32, request: &Request) -> usize
-    requires { given_count request.now ≤ 32768 }
+    requires { given_count request.now ≤ most_bytes }
     ensures { result ≡ (if status == 0 then given_count request.now else 0) }
 {
     match request {

@@ -43,6 +43,7 @@ pub(crate) struct ClientEnd {
 impl Model for ClientEnd {
     ghost use Rattle.std.specs.Prelude.{◌≡◌, ◌≤◌, length, take};
     ghost use Rattle.disk_model.specs.ClientState.{ClientState};
+    ghost use Rattle.vdisk_msg.specs.Check.{most_bytes};
 
     ghost Value = { ClientState };
 
@@ -61,8 +62,8 @@ impl Model for ClientEnd {
     ghost invariant = { λ c. record {
       ring : c.pending.capacity ≡ c.slots;
       slots : c.slots ≤ 256;
-      buffer : length c.buffer.items ≡ 32768;
-      given : c.given ≤ 32768;
+      buffer : length c.buffer.items ≡ most_bytes;
+      given : c.given ≤ most_bytes;
     } };
 }
 

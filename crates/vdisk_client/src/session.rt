@@ -1,8 +1,10 @@
 // The counts of an open session.
 
 ghost use Rattle.std.specs.Prelude.{◌≡◌, ◌≢◌, ◌+◌, ◌-◌, ◌%◌, ◌^◌, ◌<◌, ◌≤◌, nat_le, nat_lt, true, false};
+ghost use Rattle.channel_model.specs.Ranges.{wrapped};
 ghost use Rattle.disk_model.specs.ClientState.{opened_session};
 
+use dring::slot_of;
 use std::marker::Model;
 
 /// The requests of an open session by counts, from the id `base` on: the id `base + j` has the number j, and stands in
@@ -114,7 +116,7 @@ impl OpenSession {
         ensures slot { result ≡ self.now.completed % slots }
         ensures within { result < slots }
     {
-        slot_of(self.completed, slots)
+        slot_of(self.completed, 0, slots)
     }
 
     pub(crate) fn acked_slot(&self, slots: u32) -> u32
@@ -122,7 +124,7 @@ impl OpenSession {
         ensures slot { result ≡ self.now.acked % slots }
         ensures within { result < slots }
     {
-        slot_of(self.acked, slots)
+        slot_of(self.acked, 0, slots)
     }
 
     pub(crate) fn announced_slot(&self, slots: u32) -> u32
@@ -130,7 +132,7 @@ impl OpenSession {
         ensures slot { result ≡ self.now.announced % slots }
         ensures within { result < slots }
     {
-        slot_of(self.announced, slots)
+        slot_of(self.announced, 0, slots)
     }
 
     pub(crate) fn last_published_slot(&self, slots: u32) -> u32
@@ -139,7 +141,7 @@ impl OpenSession {
         ensures slot { result ≡ (self.now.published - 1) % slots }
         ensures within { result < slots }
     {
-        slot_of(self.published - 1, slots)
+        slot_of(self.published - 1, 0, slots)
     }
 
     pub(crate) fn published_slot(&self, slots: u32) -> u32
@@ -147,12 +149,12 @@ impl OpenSession {
         ensures slot { result ≡ self.now.published % slots }
         ensures within { result < slots }
     {
-        slot_of(self.published, slots)
+        slot_of(self.published, 0, slots)
     }
 
     /// The number of the next INFO, from 1 on.
     pub(crate) fn next_info(&self) -> u64
-        ensures { result ≡ (self.now.infos + 1) % 18446744073709551616 }
+        ensures { result ≡ wrapped (self.now.infos + 1) }
     {
         self.infos.wrapping_add(1)
     }
@@ -220,13 +222,4 @@ impl OpenSession {
             ..self
         }
     }
-}
-
-/// The slot of a number, in a ring of so many.
-fn slot_of(number: u64, slots: u32) -> u32
-    requires { slots ≢ 0 }
-    ensures slot { result ≡ number % slots }
-    ensures within { result < slots }
-{
-    (number % slots as u64) as u32
 }

@@ -56,7 +56,7 @@ impl ClientEnd {
     fn owes_message(&self) -> bool
         ensures { result ≡ is_some self.now.handshake.owed }
     {
-        self.handshake.next().is_some()
+        self.handshake.owes()
     }
 
     /// What goes before taking: a packet of the link's handshake, all of the handshake of the session, and in session

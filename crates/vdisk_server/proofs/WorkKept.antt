@@ -11,7 +11,7 @@ use Rattle.cookie_copy.specs.Moved.{byte_of, moved_in, moved_spots}
 use Rattle.cookie_copy.proofs.Loops.{moved_map}
 use Rattle.cookie_copy.proofs.Walking.{length-moved}
 use Rattle.map_table.specs.declared.cookie.Cookie.{Cookie}
-use Rattle.vdisk_msg.specs.Check.{first_defect, has_size, holds_cookies, is_allowed, is_within, moves_data}
+use Rattle.vdisk_msg.specs.Check.{first_defect, has_size, holds_cookies, is_allowed, is_within, most_bytes, moves_data}
 use Rattle.vdisk_msg.specs.declared.desc.DescFault.{DescFault}
 use Rattle.vdisk_msg.specs.declared.desc.DescFault.TheVariants as defect
 use Rattle.vdisk_msg.specs.declared.desc.DiskDesc.{DiskDesc}
@@ -50,12 +50,12 @@ first_unit blocks desc none moves_is =
     let sound : Sound (holds_cookies desc.count) (has_size desc.size) (is_within desc.offset (desc.size / 512) blocks) =
     sound_by (is_allowed desc.operation 0x0e) (moves_data desc.operation) (holds_cookies desc.count) (has_size desc.size)
     (is_within desc.offset (desc.size / 512) blocks) none moves_is in
-    let sizes : ((nat_lt 0 desc.size && nat_le desc.size 32768) ≡ true) × ((desc.size % 512 == 0) ≡ true) =
-    and_parts (nat_lt 0 desc.size && nat_le desc.size 32768) (desc.size % 512 == 0) sound.size_is in
-    let bounds : (nat_lt 0 desc.size ≡ true) × (nat_le desc.size 32768 ≡ true) = and_parts (nat_lt 0 desc.size) (nat_le desc.size 32768) sizes.0 in
+    let sizes : ((nat_lt 0 desc.size && nat_le desc.size most_bytes) ≡ true) × ((desc.size % 512 == 0) ≡ true) =
+    and_parts (nat_lt 0 desc.size && nat_le desc.size most_bytes) (desc.size % 512 == 0) sound.size_is in
+    let bounds : (nat_lt 0 desc.size ≡ true) × (nat_le desc.size most_bytes ≡ true) = and_parts (nat_lt 0 desc.size) (nat_le desc.size most_bytes) sizes.0 in
     let whole : desc.size % 512 ≡ 0 = eqb-true (desc.size % 512) 0 sizes.1 in
     let some : 0 < desc.size = ltb-true 0 desc.size bounds.0 in
-    let most : desc.size ≤ 32768 = leb-true desc.size 32768 bounds.1 in
+    let most : desc.size ≤ most_bytes = leb-true desc.size most_bytes bounds.1 in
     let fits : desc.offset + desc.size / 512 ≤ blocks = leb-true (desc.offset + desc.size / 512) blocks sound.within_is in
     let few : desc.count ≤ 5 = leb-true desc.count 5 (and_parts (nat_le 1 desc.count) (nat_le desc.count 5) sound.cookies_are).1 in
     record { whole = whole; most = most; unit_in = omega arith; within = omega arith; cookies = few }

@@ -13,7 +13,6 @@ ghost use Rattle.vdisk_server.specs.Answering.{channel_after};
 ghost use Rattle.vdisk_server.specs.Rules.{in_hand, owed_message, session_owes};
 ghost use Rattle.vdisk_server.specs.Standing.{IsOpen};
 
-use crate::fetching::SLOT;
 use crate::session::RingSession;
 use descriptor_work::{ServerOut, UnitBuffer, Work};
 use disk_requests::disk_bytes;
@@ -25,6 +24,7 @@ use ldc_queue::{Channel, End};
 use map_table::Cookie;
 use std::alloc::Global;
 use std::marker::Model;
+use vdisk_msg::SLOT;
 use vio_bytes::NoMemory;
 use vio_handshake::{Handshake, Offer, Session};
 use vio_tag::{Cause, Message, MsgBody};
@@ -206,7 +206,7 @@ impl ServerEnd {
         ensures some { result ≡ is_some (owed_message self.now) }
         ensures none { result ≡ false → owed_message self.now ≡ None }
     {
-        self.handshake.next().is_some() || self.owes_answer()
+        self.handshake.owes() || self.owes_answer()
     }
 
     /// Whether each descriptor of a range is finished.

@@ -20,10 +20,8 @@ use dom_memory::Memory;
 use dring::{RingFault, VIO_DESC_ACCEPTED, fetch, mark};
 use ldc_queue::{Channel, End};
 use map_table::MapTable;
+use vdisk_msg::SLOT;
 use vio_tag::Cause;
-
-/// The bytes of a descriptor's slot.
-pub(crate) const SLOT: usize = 128;
 
 impl ServerEnd {
     /// The next descriptor of the range is fetched and marked ACCEPTED.

@@ -11,13 +11,14 @@ ghost use Rattle.vdisk_server.specs.Rules.{one_finished, work_ended};
 ghost use Rattle.vdisk_server.specs.Standing.{RingStands};
 
 use crate::end::ServerEnd;
-use crate::fetching::{SLOT, copy_number};
+use crate::fetching::copy_number;
 use crate::session::RingSession;
 use descriptor_work::{Descriptor, ServerOut};
 use dom_memory::Memory;
 use dring::{VIO_DESC_DONE, mark, put_word};
 use ldc_queue::{Channel, End};
 use map_table::MapTable;
+use vdisk_msg::SLOT;
 use vio_bytes::put_u32;
 use vio_tag::Cause;
 

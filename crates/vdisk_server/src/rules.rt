@@ -116,7 +116,7 @@ impl ServerEnd {
         if !in_message || self.link.owes() {
             return;
         }
-        if self.handshake.next().is_some() {
+        if self.handshake.owes() {
             let _opens = self.handshake.sent();
         } else {
             self.note_answered();

@@ -1,6 +1,6 @@
 // The state of a handshake, and its calls.
 
-ghost use Rattle.std.specs.Prelude.{◌≡◌, ◌≢◌, None, Some};
+ghost use Rattle.std.specs.Prelude.{◌≡◌, ◌≢◌, None, Some, is_some};
 ghost use Rattle.vio_handshake.specs.Rules.{is_declined, opens_by_put, owes, handshake_sent, handshake_take, sid_fault, taken};
 ghost use Rattle.vio_handshake.specs.State.{IsFault, forgotten_handshake, fresh_handshake, joined_handshake, session_of, handshake_up};
 ghost use Rattle.vio_handshake.specs.declared.handshake.Phase.TheVariants.{Down};
@@ -105,6 +105,13 @@ impl Handshake {
         ensures { result ≡ self.now.owed }
     {
         self.owed
+    }
+
+    /// Whether a message is owed. A message is long, so it is made only where it is said.
+    pub fn owes(&self) -> bool
+        ensures { result ≡ is_some self.now.owed }
+    {
+        self.owed.is_some()
     }
 
     /// The message that was owed was put whole. Tells whether the session opened by that.

@@ -29,6 +29,7 @@ use vio_bytes::{get_field, get_u8, get_u16, get_u32, get_u64};
 /// The message that the bytes spell, or their first fault in the order of `TagFault`.
 ///
 /// Bytes that the message's form doesn't name are free, and of a plain message all after the tag.
+#[tactic(auto, using(crate::proofs::Reading::only_spelled, crate::proofs::Reading::only_refused))]
 pub fn decode(bytes: &[u8]) -> Result<Message, TagFault>
     ensures decodes { Decodes bytes.now result }
 
@@ -41,23 +42,13 @@ pub fn decode(bytes: &[u8]) -> Result<Message, TagFault>
         sid: 0,
         body: MsgBody::Rdx,
     };
-    match decode_into(bytes, &mut message) {
+    match message_into(bytes, &mut message) {
         Ok(()) => Ok(message),
         Err(fault) => Err(fault),
     }
 }
 
-/// The same, written over a message of the caller's. After a fault nothing is said of that.
-pub fn decode_into(bytes: &[u8], message: &mut Message) -> Result<(), TagFault>
-    ensures decodes { Decodes bytes.now (decoded result message.new) }
-    ensures only { (spelled : Message) → IsWellFormed spelled → SpellsMessage bytes.now spelled
-        → decoded result message.new ≡ Ok spelled }
-    ensures refused { (fault : TagFault) → first_fault bytes.now ≡ Some fault
-        → decoded result message.new ≡ Err fault }
-{
-    message_into(bytes, message)
-}
-
+// Written over a message of the caller's. After a fault nothing is said of that.
 fn message_into(bytes: &[u8], message: &mut Message) -> Result<(), TagFault>
     ensures decodes { Decodes bytes.now (decoded result message.new) }
 {

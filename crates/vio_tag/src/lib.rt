@@ -18,7 +18,7 @@ pub use attributes::{
     DISK_OPERATIONS, DiskAttr, NetAttr, disk_attr, net_attr, put_disk_attr, put_net_attr,
 };
 pub use cause::{Cause, packet_word, tag_word};
-pub use decoding::{decode, decode_into};
+pub use decoding::decode;
 pub use encoding::encode;
 pub use laws::{attributes_read_back, bytes_decode_once, spellings_are_unique};
 pub use layout::layouts_are_sound;
