@@ -19,7 +19,8 @@ use Rattle.disk_model.specs.ClientTaking.{acknowledged}
 use Rattle.disk_model.specs.LaneState.{Shape}
 use Rattle.disk_model.specs.Offering.{client_offer}
 use Rattle.channel_model.specs.Ranges.{range_length}
-use Rattle.lane_laws.proofs.ClientTaken.{ClientAcked, ClientHearsPart, ClientHandshakes, ClientTook, HandshakesTo}
+use Rattle.lane_laws.proofs.ClientAnswers.{HandshakesTo}
+use Rattle.lane_laws.proofs.ClientTaken.{ClientAcked, ClientHearsPart, ClientHandshakes, ClientTook}
 use Rattle.lane_laws.proofs.Fitting.{TakesFit, joined_fits, take_fits}
 use Rattle.lane_laws.proofs.RangeSums.{sum_heard, sum_more}
 use Rattle.lane_laws.proofs.RangesSaid.{IsNoData, heard_no_range, heard_range}

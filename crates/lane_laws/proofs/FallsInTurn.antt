@@ -18,7 +18,8 @@ use Rattle.lane_laws.proofs.RangeSums.{sum_front}
 use Rattle.lane_laws.proofs.RemainingRuns.{steps_stand, steps_fall}
 use Rattle.lane_laws.proofs.RulesFree.{ServerFree, TakesFree, server_free}
 use Rattle.lane_laws.proofs.ServerCounting.{opens_new}
-use Rattle.lane_laws.proofs.ServerTaken.{ServerAsked, ServerTook, opened_or, server_took_what}
+use Rattle.lane_laws.proofs.ServerAnswers.{opened_or}
+use Rattle.lane_laws.proofs.ServerTaken.{ServerAsked, ServerTook, server_took_what}
 use Rattle.lane_laws.specs.Budget.{one_range, range_left}
 use Rattle.lane_laws.specs.Counted.{range_sum}
 use Rattle.lane_laws.specs.Remaining.{asked_in, total}
@@ -67,7 +68,7 @@ pub client_falls : (shape : Shape) (events : List DiskEvent) (s : LaneState) (pa
     → LaneStep s (OnWire (Took A packet opens)) t → remaining t < remaining s
 client_falls shape events s packet opens t sound run clean step =
     let knows : Knows s (log_of after (nothing_yet shape) events) = run_knows shape events s sound run in
-    let falls = client_took_falls s packet opens t knows.all.transcripts.client.asking (client_in_turn shape events s packet opens t sound run clean step) step in
+    let falls = client_took_falls s packet opens t knows.rests.client.stands.link.of_role (client_in_turn shape events s packet opens t sound run clean step) step in
     omega (arith, falls)
 
 -- THE SERVER
@@ -145,7 +146,7 @@ server_in_turn shape events s packet opens t sound run clean step =
     let may : ServerMay s.server at (server_rules.Takes packet) = subst (ServerMay s.server at) step.1.step.1.0 (server_may s.server at) in
     let free : TakesFree s.server = subst (ServerFree s.server) step.1.step.1.0 (server_free s.server at) in
     let on = lane_meets_next shape events s (OnWire (Took B packet opens)) t sound run step (ap (λ (x : LaneState). x.wire.forged) step.1.is ∙ clean) in
-    let took = server_took_what s.server l.transcript.server packet t.server opens knows.all.transcripts.follows_b knows.rests.server.whole step.1.step.1.1 in
+    let took = server_took_what s.server l.transcript.server packet t.server opens knows.rests.server.stands.link.follows knows.rests.server.whole step.1.step.1.1 in
     let up : t.wire.wire.end_b ≡ Up = ap (λ (x : LaneState). x.wire.wire.end_b) step.1.is ∙ may.0 in
     record {
       role = knows.counted.server.handshake.role_is;

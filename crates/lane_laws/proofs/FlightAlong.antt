@@ -31,7 +31,7 @@ client_called : (shape : Shape) (events : List DiskEvent) (s : LaneState) (cause
     → CallsReset s (record s { client = joined_client s.client }) cause A packet lost t → InFlight s (log_at shape events).transcript.client → InFlight t []
 client_called shape events s cause packet lost t known calls flight =
     flight_is (record s { client = joined_client s.client; wire = wire_moved s.wire (Reset A cause packet lost); near = _ }) t [] calls.2
-    (client_anew s (joined_client s.client) (log_at shape events).transcript.client (knows_at shape events s (OnWire (Reset A cause packet lost)) t known).all.transcripts.client.role refl flight)
+    (client_anew s (joined_client s.client) (log_at shape events).transcript.client (knows_at shape events s (OnWire (Reset A cause packet lost)) t known).rests.client.stands.link.role_is refl flight)
 
 server_called : (s : LaneState) (v : ServerState) (cause : Cause) (packet : Option (List ℕ)) (lost : ℕ) (t : LaneState) (turns : List Turn) → Flight (wire_moved s.wire (Joined B 0)) s.client v turns
     → CallsReset s (record s { server = v }) cause B packet lost t → InFlight t turns
@@ -45,7 +45,7 @@ reset_by ByStep B shape events s cause packet lost t known step flight = server_
 reset_by ByScript A shape events s cause packet lost t known step flight = client_called shape events s cause packet lost t known step flight
 reset_by ByScript B shape events s cause packet lost t known step flight =
     server_called s (joined_server s.server) cause packet lost t (log_at shape events).transcript.client
-    (began s (joined_server s.server) (log_at shape events).transcript.client (knows_at shape events s (OnWire (Reset B cause packet lost)) t known).all.transcripts.server.role refl flight) step.1
+    (began s (joined_server s.server) (log_at shape events).transcript.client (knows_at shape events s (OnWire (Reset B cause packet lost)) t known).rests.server.stands.link.role_is refl flight) step.1
 reset_by ByRestart A shape events s cause packet lost t known step flight = absurd step
 reset_by ByRestart B shape events s cause packet lost t known step flight =
     server_called s (restarted_server s.server) cause packet lost t (log_at shape events).transcript.client (server_anew s (restarted_server s.server) (log_at shape events).transcript.client refl refl flight) step.1

@@ -21,16 +21,17 @@ use Rattle.disk_model.specs.DiskEvent.{Accepted, Admitted, Full, Refused}
 use Rattle.channel_model.specs.EndPuts.{EndsOwn, EndsHandshake, Goes, PutKind, ending, kind_in, handshake_behind}
 use Rattle.channel_model.specs.Ranges.{wrapped}
 use Rattle.channel_model.specs.Seeing.{Seen}
-use Rattle.lane_laws.proofs.ClientHolding.{client_held, not_own}
+use Rattle.lane_laws.proofs.ClientHolding.{not_own}
 use Rattle.lane_laws.proofs.Awake.{up_empty}
-use Rattle.lane_laws.proofs.RemainingHandshake.{range_part, sent_left, up_left}
+use Rattle.lane_laws.proofs.RemainingHandshake.{MayPut, may_put, range_part, sent_left, up_left}
 use Rattle.lane_laws.proofs.RemainingSums.{held_empty, held_more, held_other, held_own, held_part, part_less, some_part}
 use Rattle.lane_laws.proofs.Ruling.{client_may}
 use Rattle.lane_laws.proofs.Sharing.{nothing, some_left}
+use Rattle.lane_laws.proofs.Speaking.{client_blocked_rests}
 use Rattle.channel_laws.proofs.Short.{some_bytes}
 use Rattle.lane_laws.specs.LinkMoves.{IsAsking}
 use Rattle.lane_laws.specs.Counted.{infos_of}
-use Rattle.lane_laws.specs.LaneRests.{ClientUtters}
+use Rattle.lane_laws.specs.LaneRests.{ClientRests, ClientUtters}
 use Rattle.lane_laws.specs.Remaining.{client_packets, client_puts, held_left, later, parts, parts_owed}
 use Rattle.lane_laws.specs.RuleFacts.{ClientMay}
 use Rattle.lane_laws.specs.Sound.{ClientSound}
@@ -84,40 +85,40 @@ opened_infos : (b : Bool) (c : ClientState) → (b ≡ true → c.session ≡ No
 opened_infos true c closed = ap infos_of (sym (closed refl))
 opened_infos false c closed = refl
 
-handshake_flies : (c : ClientState) → ClientSound c → (opens_by_put c.handshake.role c.handshake.phase ≡ true → c.session ≡ None) → is_announcing c.session ≡ false → 1 ≤ length c.link.to_send
+handshake_flies : (c : ClientState) → MayPut c → (opens_by_put c.handshake.role c.handshake.phase ≡ true → c.session ≡ None) → is_announcing c.session ≡ false → 1 ≤ length c.link.to_send
     → length c.link.to_send ≤ 56 → FliesBy EndsHandshake c
-handshake_flies c sound closed other some short =
+handshake_flies c ready closed other some short =
     let none : left_of c ≡ [] = nothing (left_of c) (omega (arith, length-drop 56 c.link.to_send, short)) in
     let before : held_left (is_announcing c.session) c.link.to_send c.handshake.owed ≡ parts (length c.link.to_send) =
     ap (λ (b : Bool). held_left b c.link.to_send c.handshake.owed) other ∙ held_other c.link.to_send c.handshake.owed some in
     let behind : held_left (is_announcing (session_behind EndsHandshake c)) (left_of c) (handshake_sent c.handshake).owed ≡ parts_owed (handshake_sent c.handshake).owed =
     held_empty (is_announcing (session_behind EndsHandshake c)) (left_of c) (handshake_sent c.handshake).owed none in
-    omega (arith, before, behind, some_part (length c.link.to_send) some, sent_left c.handshake sound.short, opened_infos (opens_by_put c.handshake.role c.handshake.phase) c closed)
+    omega (arith, before, behind, some_part (length c.link.to_send) some, sent_left c.handshake ready.1, opened_infos (opens_by_put c.handshake.role c.handshake.phase) c closed)
 
-ends_fly : (c : ClientState) (own : Bool) → ClientSound c → (opens_by_put c.handshake.role c.handshake.phase ≡ true → c.session ≡ None) → is_announcing c.session ≡ own
+ends_fly : (c : ClientState) (own : Bool) → MayPut c → (opens_by_put c.handshake.role c.handshake.phase ≡ true → c.session ≡ None) → is_announcing c.session ≡ own
     → 1 ≤ length c.link.to_send → length c.link.to_send ≤ 56 → FliesBy (ending true own) c
-ends_fly c true sound closed is some short = own_flies c is some short
-ends_fly c false sound closed is some short = handshake_flies c sound closed is some short
+ends_fly c true ready closed is some short = own_flies c is some short
+ends_fly c false ready closed is some short = handshake_flies c ready closed is some short
 
-parts_fly : (c : ClientState) (last : Bool) → ClientSound c → (opens_by_put c.handshake.role c.handshake.phase ≡ true → c.session ≡ None) → nat_le (length c.link.to_send) 56 ≡ last
+parts_fly : (c : ClientState) (last : Bool) → MayPut c → (opens_by_put c.handshake.role c.handshake.phase ≡ true → c.session ≡ None) → nat_le (length c.link.to_send) 56 ≡ last
     → 1 ≤ length c.link.to_send → FliesBy (ending last (is_announcing c.session)) c
-parts_fly c true sound closed is some = ends_fly c (is_announcing c.session) sound closed refl some (leb-true (length c.link.to_send) 56 is)
-parts_fly c false sound closed is some = part_flies c (omega (arith, leb-false (length c.link.to_send) 56 is))
+parts_fly c true ready closed is some = ends_fly c (is_announcing c.session) ready closed refl some (leb-true (length c.link.to_send) 56 is)
+parts_fly c false ready closed is some = part_flies c (omega (arith, leb-false (length c.link.to_send) 56 is))
 
-flies_in : (ph : LinkPhase) (c : ClientState) (one : Packet × LinkState) (m : LinkState) → ClientSound c → (opens_by_put c.handshake.role c.handshake.phase ≡ true → c.session ≡ None) → IsAsking ph
+flies_in : (ph : LinkPhase) (c : ClientState) (one : Packet × LinkState) (m : LinkState) → MayPut c → (opens_by_put c.handshake.role c.handshake.phase ≡ true → c.session ≡ None) → IsAsking ph
     → with_link (owed_in ph c.link) m ≡ Some one → Flies ph c
-flies_in phase.OwesVersInfo c one m sound closed asking is = omega arith
-flies_in phase.OwesRts c one m sound closed asking is = omega arith
-flies_in phase.OwesRdx c one m sound closed asking is =
+flies_in phase.OwesVersInfo c one m ready closed asking is = omega arith
+flies_in phase.OwesRts c one m ready closed asking is = omega arith
+flies_in phase.OwesRdx c one m ready closed asking is =
     omega (arith, up_left c.handshake, held_more (is_announcing c.session) c.link.to_send c.handshake.owed (handshake_up c.handshake).owed)
-flies_in phase.Established c one m sound closed asking is = parts_fly c (nat_le (length c.link.to_send) 56) sound closed refl (some_left c.link c.link.to_send one m is)
-flies_in phase.AwaitsVersAck c one m sound closed asking is = absurd (cc)
-flies_in phase.AwaitsRtr c one m sound closed asking is = absurd (cc)
-flies_in _ c one m sound closed asking is = absurd asking
+flies_in phase.Established c one m ready closed asking is = parts_fly c (nat_le (length c.link.to_send) 56) ready closed refl (some_left c.link c.link.to_send one m is)
+flies_in phase.AwaitsVersAck c one m ready closed asking is = absurd (cc)
+flies_in phase.AwaitsRtr c one m ready closed asking is = absurd (cc)
+flies_in _ c one m ready closed asking is = absurd asking
 
-put_flies : (c : ClientState) (bytes : List ℕ) (m : LinkState) → ClientSound c → (opens_by_put c.handshake.role c.handshake.phase ≡ true → c.session ≡ None) → PutsPacket c.link bytes m
+put_flies : (c : ClientState) (bytes : List ℕ) (m : LinkState) → MayPut c → (opens_by_put c.handshake.role c.handshake.phase ≡ true → c.session ≡ None) → PutsPacket c.link bytes m
     → ClientFlies 1 c (client_put c)
-put_flies c bytes m sound closed puts = flies_in c.link.phase c (puts.packet, m) (behind_put c.link) sound closed sound.asking puts.next
+put_flies c bytes m ready closed puts = flies_in c.link.phase c (puts.packet, m) (behind_put c.link) ready closed ready.0 puts.next
 
 -- HOLDING a message
 empty_by : (b : Bool) (k : LinkState) → is_up k ≡ b → (is_up k ≡ false → k.to_send ≡ []) → owes k ≡ false → k.to_send ≡ []
@@ -189,12 +190,12 @@ held_closed s (Publishes session request) held at may holds closed = absurd (cc)
 held_closed s Idles held at may holds closed = absurd (cc)
 
 pub client_sends_flies : (s : ClientState) (at : Seen) (memory packet : List ℕ) (opens : Bool) (t : ClientState) (new : List ℕ) (turns : List Turn) → ClientSends s at memory packet opens t new → ClientSound s
-    → ClientUtters s turns → (opens_by_put s.handshake.role s.handshake.phase ≡ true → s.session ≡ None) → ClientFlies 1 s t
-client_sends_flies s at memory packet opens t new turns sends sound utters closed =
+    → ClientRests s turns → ClientUtters s turns → (opens_by_put s.handshake.role s.handshake.phase ≡ true → s.session ≡ None) → ClientFlies 1 s t
+client_sends_flies s at memory packet opens t new turns sends sound rests utters closed =
     let first : ClientFlies 0 s sends.held = client_blocked_flies s at sends.held turns sends.holds sound utters in
-    let held = client_held s at (client_rule s at) sends.held (client_may s at) sends.holds sound in
+    let held = client_blocked_rests s at sends.held turns sound sends.holds rests in
     let next : ClientFlies 1 sends.held (client_put sends.held) =
-    put_flies sends.held packet t.link held.sound (held_closed s (client_rule s at) sends.held at (client_may s at) sends.holds closed) sends.packet in
+    put_flies sends.held packet t.link (may_put sends.held turns held.stands) (held_closed s (client_rule s at) sends.held at (client_may s at) sends.holds closed) sends.packet in
     subst (ClientFlies 1 s) (sym sends.is) (two_steps (client_packets s) (client_packets sends.held) (client_packets (client_put sends.held)) (infos_of s.session) (infos_of sends.held.session)
     (infos_of (client_put sends.held).session) first next)
   where

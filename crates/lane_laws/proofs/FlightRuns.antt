@@ -23,7 +23,7 @@ use Rattle.disk_model.specs.LaneStep.{EndOnWire, LaneStep}
 use Rattle.channel_model.specs.Seeing.{Seen, seen}
 use Rattle.disk_model.specs.ServerRule as server_rules
 use Rattle.disk_model.specs.ServerState.{ServerState, joined_server}
-use Rattle.lane_laws.proofs.ClientSteps.{client_sends}
+use Rattle.lane_laws.proofs.ClientHolding.{holds_up}
 use Rattle.lane_laws.proofs.FallsInTurn.{client_in_turn, server_in_turn}
 use Rattle.lane_laws.proofs.FlightClient.{ClientFlies, client_blocked_flies, client_sends_flies}
 use Rattle.lane_laws.proofs.FlightServer.{FewPieces, ServerFlies, server_blocked_flies, server_sends_flies, server_takes_flies}
@@ -36,7 +36,8 @@ use Rattle.lane_laws.proofs.RemainingLane.{closed_in}
 use Rattle.lane_laws.proofs.RemainingRuns.{steps_stand}
 use Rattle.lane_laws.proofs.RemainingServerTurns.{server_turns}
 use Rattle.lane_laws.proofs.Ruling.{client_may, server_may}
-use Rattle.lane_laws.proofs.ServerSteps.{server_sends}
+use Rattle.lane_laws.proofs.RemainingHandshake.{few_of}
+use Rattle.lane_laws.proofs.ServerSpeaking.{server_holds_up}
 use Rattle.lane_laws.proofs.ServerTaken.{server_took_what}
 use Rattle.lane_laws.proofs.RemainingTakes.{first_gone}
 use Rattle.lane_laws.specs.Counted.{infos_of, range_count}
@@ -122,7 +123,7 @@ client_took shape events s packet opens t known flight =
     let step = known.step in
     let knows : Knows s l = knows_at shape events s (OnWire (Took A packet opens)) t known in
     let may : ClientMay s.client (at_client s) (client_rules.Takes packet) = subst (ClientMay s.client (at_client s)) step.step.0 (client_may s.client (at_client s)) in
-    let hears : ClientHears s.client t.client = client_hears s.client (at_client s) packet t.client knows.all.transcripts.client.asking step.step.0
+    let hears : ClientHears s.client t.client = client_hears s.client (at_client s) packet t.client knows.rests.client.stands.link.of_role step.step.0
     (client_in_turn shape events s packet opens t known.sound known.run known.clean_s step) step.step.1 in
     let infos : infos_of t.client.session ≡ infos_of s.client.session =
     (knows_step s l (OnWire (Took A packet opens)) t knows step).1.counted.client.infos ∙ sym knows.counted.client.infos in
@@ -142,13 +143,13 @@ client_sent shape events s packet opens t known flight =
     let turns : List Turn = l.transcript.client in
     let step = known.step in
     let knows : Knows s l = knows_at shape events s (OnWire (Sent A packet opens)) t known in
-    let sound = knows.all.transcripts.client in
-    let put = client_sends s.client (at_client s) s.memory packet opens t.client t.memory sound step.step in
-    let flies : ClientFlies 1 s.client t.client = client_sends_flies s.client (at_client s) s.memory packet opens t.client t.memory turns step.step sound knows.utters.client
+    let sound = knows.all.sound in
+    let up = holds_up s.client (at_client s) (client_rules.client_rule s.client (at_client s)) step.step.held (client_may s.client (at_client s)) step.step.holds in
+    let flies : ClientFlies 1 s.client t.client = client_sends_flies s.client (at_client s) s.memory packet opens t.client t.memory turns step.step sound knows.rests.client knows.utters.client
     (closed_in s.client s.client.session refl (steps_stand shape events s known.run).opens) in
     flight_is (record s { wire = wire_moved s.wire (Sent A packet opens); client = t.client; memory = t.memory; near = s.near }) t (Said_ packet ∷ turns) step.is (record {
       few = client_puts_one s.wire.wire.end_a s.wire.wire.end_b (length s.wire.wire.to_a) (length s.wire.wire.to_b) (length (s.wire.wire.to_b ++ packet ∷ [])) s.wire.lossy (client_packets s.client)
-          (client_packets t.client) (server_packets s.server) (range_count 2 (heard turns)) (infos_of s.client.session) (infos_of t.client.session) put.up (one_longer s.wire.wire.to_b packet) flies flight.few;
+          (client_packets t.client) (server_packets s.server) (range_count 2 (heard turns)) (infos_of s.client.session) (infos_of t.client.session) up (one_longer s.wire.wire.to_b packet) flies flight.few;
       pieces = flight.pieces;
     })
 
@@ -156,17 +157,17 @@ pub client_wire : (shape : Shape) (events : List DiskEvent) (s : LaneState) (eve
     → InFlight s (log_at shape events).transcript.client → InFlight t (after (log_at shape events) (OnWire event)).transcript.client
 client_wire shape events s (Joined A lost) t known step flight =
     flight_is (record s { wire = wire_moved s.wire (Joined A lost); client = t.client; memory = t.memory; near = s.near }) t [] step.is
-    (client_anew s t.client (log_at shape events).transcript.client (knows_at shape events s (OnWire (Joined A lost)) t known).all.transcripts.client.role step.step.2 flight)
+    (client_anew s t.client (log_at shape events).transcript.client (knows_at shape events s (OnWire (Joined A lost)) t known).rests.client.stands.link.role_is step.step.2 flight)
 client_wire shape events s (Took A packet opens) t known step flight = client_took shape events s packet opens t known flight
 client_wire shape events s (Sent A packet opens) t known step flight = client_sent shape events s packet opens t known flight
 client_wire shape events s (Blocked A) t known step flight =
     let knows : Knows s (log_at shape events) = knows_at shape events s (OnWire (Blocked A)) t known in
     client_on s t (log_at shape events).transcript.client (ap (λ (x : LaneState). x.wire) step.is) (ap (λ (x : LaneState). x.server) step.is)
-    (client_blocked_flies s.client (at_client s) t.client (log_at shape events).transcript.client step.step.0 knows.all.transcripts.client knows.utters.client) flight
+    (client_blocked_flies s.client (at_client s) t.client (log_at shape events).transcript.client step.step.0 knows.all.sound knows.utters.client) flight
 client_wire shape events s (Idle A) t known step flight = flight_is s t (log_at shape events).transcript.client (client_same s t step) flight
 client_wire shape events s (Reset A cause packet lost) t known step flight =
     flight_is (record s { wire = wire_moved s.wire (Joined A 0); client = t.client; memory = t.memory; near = _ }) t [] step.is
-    (client_anew s t.client (log_at shape events).transcript.client (knows_at shape events s (OnWire (Reset A cause packet lost)) t known).all.transcripts.client.role step.step.2 flight)
+    (client_anew s t.client (log_at shape events).transcript.client (knows_at shape events s (OnWire (Reset A cause packet lost)) t known).rests.client.stands.link.role_is step.step.2 flight)
 client_wire shape events s (Joined B lost) t known step flight = absurd step.step
 client_wire shape events s (Took B packet opens) t known step flight = absurd step.step
 client_wire shape events s (Sent B packet opens) t known step flight = absurd step.step
@@ -189,7 +190,7 @@ server_took shape events s packet opens t known flight =
     let most = total_at s.wire.wire.end_a s.client in
     let turn : ServerTurn most s.server t.server = server_turns most s.server (at_server s) packet t.server opens step.1.step.1.0
     (server_in_turn shape events s packet opens t known.sound known.run known.clean_s step) step.1.step.1.1 in
-    let took = server_took_what s.server l.transcript.server packet t.server opens knows.all.transcripts.follows_b knows.rests.server.whole step.1.step.1.1 in
+    let took = server_took_what s.server l.transcript.server packet t.server opens knows.rests.server.stands.link.follows knows.rests.server.whole step.1.step.1.1 in
     let flies : ServerFlies 0 1 s.server t.server = server_takes_flies most s.server t.server l.transcript.server packet opens turn took in
     flight_is (record s { wire = wire_moved s.wire (Took B packet opens); server = t.server; memory = t.memory; near = s.near }) t l.transcript.client step.1.is (record {
       few = server_takes_one s.wire.wire.end_a s.wire.wire.end_b (length s.wire.wire.to_a) (length s.wire.wire.to_b) (length (drop 1 s.wire.wire.to_b)) s.wire.lossy (client_packets s.client)
@@ -202,12 +203,14 @@ server_sent : (shape : Shape) (events : List DiskEvent) (s : LaneState) (packet 
 server_sent shape events s packet opens t known flight =
     let l = log_at shape events in
     let step = known.step in
-    let sound = (knows_at shape events s (OnWire (Sent B packet opens)) t known).all.transcripts.server in
-    let put = server_sends s.server (at_server s) packet opens t.server sound step.1.step.1.0 in
-    let flies : ServerFlies 1 0 s.server t.server = server_sends_flies s.server (at_server s) packet opens t.server sound step.1.step.1.0 in
+    let knows = knows_at shape events s (OnWire (Sent B packet opens)) t known in
+    let few = few_of s.server l.transcript.server knows.rests.server.stands in
+    let sends = step.1.step.1.0 in
+    let up = server_holds_up s.server (at_server s) (server_rules.server_rule s.server (at_server s)) sends.held (server_may s.server (at_server s)) sends.holds in
+    let flies : ServerFlies 1 0 s.server t.server = server_sends_flies s.server (at_server s) packet opens t.server few sends in
     flight_is (record s { wire = wire_moved s.wire (Sent B packet opens); server = t.server; memory = t.memory; near = s.near }) t l.transcript.client step.1.is (record {
       few = server_puts_one s.wire.wire.end_a s.wire.wire.end_b (length s.wire.wire.to_a) (length (s.wire.wire.to_a ++ packet ∷ [])) (length s.wire.wire.to_b) s.wire.lossy (client_packets s.client)
-          (server_packets s.server) (server_packets t.server) (range_count 2 (heard l.transcript.client)) (infos_of s.client.session) put.up (one_longer s.wire.wire.to_a packet) flies.packets flight.few;
+          (server_packets s.server) (server_packets t.server) (range_count 2 (heard l.transcript.client)) (infos_of s.client.session) up (one_longer s.wire.wire.to_a packet) flies.packets flight.few;
       pieces = flies.pieces flight.pieces;
     })
 
@@ -218,7 +221,7 @@ pub server_wire : (shape : Shape) (events : List DiskEvent) (s : LaneState) (eve
     → InFlight s (log_at shape events).transcript.client → InFlight t (after (log_at shape events) (OnWire event)).transcript.client
 server_wire shape events s (Joined B lost) t known step flight =
     flight_is (record s { wire = wire_moved s.wire (Joined B lost); server = t.server; memory = t.memory; near = s.near }) t (log_at shape events).transcript.client step.1.is
-    (began s t.server (log_at shape events).transcript.client (knows_at shape events s (OnWire (Joined B lost)) t known).all.transcripts.server.role step.1.step.1.2 flight)
+    (began s t.server (log_at shape events).transcript.client (knows_at shape events s (OnWire (Joined B lost)) t known).rests.server.stands.link.role_is step.1.step.1.2 flight)
 server_wire shape events s (Took B packet opens) t known step flight = server_took shape events s packet opens t known flight
 server_wire shape events s (Sent B packet opens) t known step flight = server_sent shape events s packet opens t known flight
 server_wire shape events s (Blocked B) t known step flight =
@@ -228,7 +231,7 @@ server_wire shape events s (Blocked B) t known step flight =
 server_wire shape events s (Idle B) t known step flight = flight_is s t (log_at shape events).transcript.client (server_same s t step) flight
 server_wire shape events s (Reset B cause packet lost) t known step flight =
     flight_is (record s { wire = wire_moved s.wire (Joined B 0); server = t.server; memory = t.memory; near = _ }) t (log_at shape events).transcript.client step.1.is
-    (began s t.server (log_at shape events).transcript.client (knows_at shape events s (OnWire (Reset B cause packet lost)) t known).all.transcripts.server.role step.1.step.1.2 flight)
+    (began s t.server (log_at shape events).transcript.client (knows_at shape events s (OnWire (Reset B cause packet lost)) t known).rests.server.stands.link.role_is step.1.step.1.2 flight)
 server_wire shape events s (Joined A lost) t known step flight = absurd step.1.step.1
 server_wire shape events s (Took A packet opens) t known step flight = absurd step.1.step.1
 server_wire shape events s (Sent A packet opens) t known step flight = absurd step.1.step.1

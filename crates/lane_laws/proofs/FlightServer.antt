@@ -23,7 +23,6 @@ use Rattle.lane_laws.specs.LaneRests.{ServerUtters}
 use Rattle.lane_laws.specs.Remaining.{answers_held, later, pieces_left, server_packets, server_puts, serving_left}
 use Rattle.lane_laws.specs.RemainingSteps.{ServerTurn}
 use Rattle.lane_laws.specs.RuleFacts.{ServerMay}
-use Rattle.lane_laws.specs.Sound.{ServerSound}
 
 abbrev pub FewPieces : Option Work → Type 0
 FewPieces None = ⊤
@@ -78,7 +77,7 @@ server_blocked_flies s at held turns holds utters = record {
 }
 
 -- PUTTING a packet
-pub server_sends_flies : (s : ServerState) (at : Seen) (packet : List ℕ) (opens : Bool) (t : ServerState) → ServerSound s → ServerSends s at packet opens t → ServerFlies 1 0 s t
+pub server_sends_flies : (s : ServerState) (at : Seen) (packet : List ℕ) (opens : Bool) (t : ServerState) → s.handshake.offer.count ≤ 14 → ServerSends s at packet opens t → ServerFlies 1 0 s t
 server_sends_flies s at packet opens t sound sends =
     let lower : ServerLowers 2 s t = sends_lowers s at packet opens t sound sends in
     let held : SameWork s sends.held = held_work s (server_rule s at) sends.held sends.holds in

@@ -11,7 +11,7 @@ use Rattle.vio_handshake.specs.Rules.{handshake_take}
 use Rattle.channel_laws.proofs.EndStanding.{open_declines}
 use Rattle.channel_laws.proofs.HandshakeCases.{HandshakeTook, goes_took, opens_row, opens_took, row_apart}
 use Rattle.channel_laws.specs.EndStep.{IsOfSession}
-use Rattle.lane_laws.proofs.ClientTaken.{HandshakesTo}
+use Rattle.lane_laws.proofs.ClientAnswers.{HandshakesTo}
 use Rattle.lane_laws.proofs.RangesSaid.{IsNoData}
 
 took_of : (h : Handshake) (message : Message) (opens : Bool) (g : Handshake) → HandshakesTo h (handshake_take h message) opens g → HandshakeTook h message g opens

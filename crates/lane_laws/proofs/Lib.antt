@@ -1,5 +1,6 @@
 pub mod Agreeing
 pub mod CarriedRuns
+pub mod ClientAnswers
 pub mod ClientCounting
 pub mod ClientHearing
 pub mod ClientHolding
@@ -18,7 +19,6 @@ pub mod HeardAsSaid
 pub mod HeardFront
 pub mod IdleRuns
 pub mod LaneCounting
-pub mod LaneMoves
 pub mod LaneStepping
 pub mod MemoryStanding
 pub mod MemorySteps
@@ -72,15 +72,13 @@ pub mod RulesFree
 pub mod Ruling
 pub mod ServerCounting
 pub mod ServerEndCounting
-pub mod ServerHearing
 pub mod ServerInSession
 pub mod ServerPutCounting
+pub mod ServerAnswers
 pub mod ServerSpeaking
-pub mod ServerSteps
 pub mod ServerTaken
 pub mod HandshakesOpen
 pub mod Sharing
-pub mod Short
 pub mod ServerWorkCounting
 pub mod SlotBytes
 pub mod SlotsAlong
@@ -145,7 +143,6 @@ pub mod HeadlineRuns
 pub mod MessageResets
 pub mod EndResets
 pub mod LaneResets
-pub mod Lifting
 pub mod Counting
 pub mod WorkNumbers
 pub mod WorkResets
@@ -194,7 +191,6 @@ pub mod ServerMoves
 pub mod LaneCores
 pub mod LaneChannel
 pub mod Awake
-pub mod HeldLinks
 pub mod EndMoves
 pub mod Speaking
 pub mod RangesTold

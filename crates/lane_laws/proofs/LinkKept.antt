@@ -1,6 +1,6 @@
 -- What an end makes of a packet leaves its link as the packet left it, but for the message that was seen.
 use Rattle.std.proofs.Common.{◌≡◌, ℕ, Bool, true, false, Option, Some, None, List, refl, sym, ap, subst}
-use Rattle.std.specs.Prelude.{nat_le, nat_lt, ◌&&◌, ◌+◌, if◌then◌else◌, take, ⊤, Result, Ok, Err}
+use Rattle.std.specs.Prelude.{nat_le, nat_lt, ◌&&◌, ◌+◌, if◌then◌else◌, ⊤, Result, Ok, Err}
 use Rattle.ldc_link.specs.LinkState.{LinkState, cleared}
 use Rattle.ldc_link.specs.Taking.{Heard, LinkTake, TakesBytes, Unheard}
 use Rattle.ldc_packet.specs.declared.packet.Subtype.{Subtype}

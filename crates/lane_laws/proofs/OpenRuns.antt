@@ -22,11 +22,10 @@ use Rattle.disk_model.specs.LaneState.{IsShape, LaneState, Shape, fresh}
 use Rattle.disk_model.specs.LaneStep.{EndOnWire, LaneStep, ResetBy, RestStep, TurnStep, WireStep, WorkStep}
 use Rattle.channel_model.specs.Seeing.{Seen, seen}
 use Rattle.lane_laws.proofs.CarriedRuns.{AllStand, all_step, fresh_all}
-use Rattle.lane_laws.proofs.ClientHearing.{by_link}
+use Rattle.lane_laws.proofs.ClientHearing.{took_by}
 use Rattle.lane_laws.proofs.Ruling.{client_may}
 use Rattle.lane_laws.proofs.StandingRuns.{pending_is}
 use Rattle.lane_laws.specs.RuleFacts.{ClientMay}
-use Rattle.lane_laws.specs.Sound.{ClientSound}
 use Rattle.lane_laws.specs.Standing.{LaneInvariant}
 
 -- what a server does on the wire
@@ -91,33 +90,32 @@ sent_open s packet opens t new sends =
     ∙ ap (λ (b : Bool). b || is_some sends.held.session) (sym sends.opens_is) ∙ ap (λ (b : Bool). opens || b) held
 
 -- EACH EVENT ON THE WIRE
-took_open : (s : LaneState) (l : DiskLog) (packet : List ℕ) (opens : Bool) (t : LaneState) → ClientSound s.client → OpenStands s l → EndOnWire A s (Took A packet opens) t
+took_open : (s : LaneState) (l : DiskLog) (packet : List ℕ) (opens : Bool) (t : LaneState) → OpenStands s l → EndOnWire A s (Took A packet opens) t
     → OpenStands t (after l (OnWire (Took A packet opens)))
-took_open s l packet opens t sound open_now step =
-    let by = by_link s.client packet step.step.1.link t.client sound step.step.1.takes step.step.1.hears in
+took_open s l packet opens t open_now step =
     let log : is_some (after l (OnWire (Took A packet opens))).work.client ≡ (opens || is_some l.work.client) = heard_open opens _ _ _ l.work.client in
-    by.2.opened ∙ open_now ∙ sym (log ∙ ap (λ (b : Bool). b || is_some l.work.client) step.step.2)
+    (took_by s.client packet t.client step.step.1).opened ∙ open_now ∙ sym (log ∙ ap (λ (b : Bool). b || is_some l.work.client) step.step.2)
 
-client_open : (s : LaneState) (l : DiskLog) (event : WireEvent) (t : LaneState) → ClientSound s.client → OpenStands s l → EndOnWire A s event t → OpenStands t (after l (OnWire event))
-client_open s l (Joined A lost) t sound open_now step = ap (λ (c : ClientState). is_some c.session) step.step.2
-client_open s l (Took A packet opens) t sound open_now step = took_open s l packet opens t sound open_now step
-client_open s l (Sent A packet opens) t sound open_now step =
+client_open : (s : LaneState) (l : DiskLog) (event : WireEvent) (t : LaneState) → OpenStands s l → EndOnWire A s event t → OpenStands t (after l (OnWire event))
+client_open s l (Joined A lost) t open_now step = ap (λ (c : ClientState). is_some c.session) step.step.2
+client_open s l (Took A packet opens) t open_now step = took_open s l packet opens t open_now step
+client_open s l (Sent A packet opens) t open_now step =
     let log : is_some (after l (OnWire (Sent A packet opens))).work.client ≡ (opens || is_some l.work.client) = heard_open opens _ _ _ l.work.client in
     sent_open s packet opens t.client t.memory step.step ∙ ap (λ (b : Bool). opens || b) open_now ∙ sym log
-client_open s l (Blocked A) t sound open_now step =
+client_open s l (Blocked A) t open_now step =
     held_open s.client (at_client s) (client_rule s.client (at_client s)) t.client (client_may s.client (at_client s)) step.step.0 ∙ open_now
-client_open s l (Idle A) t sound open_now step = ap (λ (c : ClientState). is_some c.session) step.step.1 ∙ open_now
-client_open s l (Reset A cause packet lost) t sound open_now step = ap (λ (c : ClientState). is_some c.session) step.step.2
-client_open s l (Joined B lost) t sound open_now step = absurd step.step
-client_open s l (Took B packet opens) t sound open_now step = absurd step.step
-client_open s l (Sent B packet opens) t sound open_now step = absurd step.step
-client_open s l (Blocked B) t sound open_now step = absurd step.step
-client_open s l (Idle B) t sound open_now step = absurd step.step
-client_open s l (Reset B cause packet lost) t sound open_now step = absurd step.step
-client_open s l (Lost e packet) t sound open_now step = absurd step.step
-client_open s l (Injected e packet) t sound open_now step = absurd step.step
-client_open s l (Poked e at bytes) t sound open_now step = absurd step.step
-client_open s l (Declines d) t sound open_now step = absurd step.step
+client_open s l (Idle A) t open_now step = ap (λ (c : ClientState). is_some c.session) step.step.1 ∙ open_now
+client_open s l (Reset A cause packet lost) t open_now step = ap (λ (c : ClientState). is_some c.session) step.step.2
+client_open s l (Joined B lost) t open_now step = absurd step.step
+client_open s l (Took B packet opens) t open_now step = absurd step.step
+client_open s l (Sent B packet opens) t open_now step = absurd step.step
+client_open s l (Blocked B) t open_now step = absurd step.step
+client_open s l (Idle B) t open_now step = absurd step.step
+client_open s l (Reset B cause packet lost) t open_now step = absurd step.step
+client_open s l (Lost e packet) t open_now step = absurd step.step
+client_open s l (Injected e packet) t open_now step = absurd step.step
+client_open s l (Poked e at bytes) t open_now step = absurd step.step
+client_open s l (Declines d) t open_now step = absurd step.step
 
 -- the client as it was
 same_open : (s : LaneState) (l : DiskLog) (t : LaneState) (x : DiskLog) → OpenStands s l → t.client ≡ s.client → x.work.client ≡ l.work.client → OpenStands t x
@@ -150,38 +148,38 @@ server_servers s (Injected e packet) t step = absurd step.1.step.1
 server_servers s (Poked e at bytes) t step = absurd step.1.step.1
 server_servers s (Declines d) t step = absurd step.1.step.1
 
-end_open : (e : End) (s : LaneState) (l : DiskLog) (event : WireEvent) (t : LaneState) → ClientSound s.client → OpenStands s l → EndOnWire e s event t → OpenStands t (after l (OnWire event))
-end_open A s l event t sound open_now step = client_open s l event t sound open_now step
-end_open B s l event t sound open_now step =
+end_open : (e : End) (s : LaneState) (l : DiskLog) (event : WireEvent) (t : LaneState) → OpenStands s l → EndOnWire e s event t → OpenStands t (after l (OnWire event))
+end_open A s l event t open_now step = client_open s l event t open_now step
+end_open B s l event t open_now step =
     same_open s l t (after l (OnWire event)) open_now (ap (λ (x : LaneState). x.client) step.1.is) (server_client event l (server_servers s event t step))
 
-reset_open : (by : Giver) (e : End) (s : LaneState) (l : DiskLog) (cause : Cause) (packet : Option (List ℕ)) (lost : ℕ) (t : LaneState) → ClientSound s.client → OpenStands s l
+reset_open : (by : Giver) (e : End) (s : LaneState) (l : DiskLog) (cause : Cause) (packet : Option (List ℕ)) (lost : ℕ) (t : LaneState) → OpenStands s l
     → ResetBy by e s cause packet lost t → OpenStands t (after l (OnWire (Reset e cause packet lost)))
-reset_open ByStep e s l cause packet lost t sound open_now step = end_open e s l (Reset e cause packet lost) t sound open_now step
-reset_open ByScript A s l cause packet lost t sound open_now step = ap (λ (x : LaneState). is_some x.client.session) step.2
-reset_open ByScript B s l cause packet lost t sound open_now step =
+reset_open ByStep e s l cause packet lost t open_now step = end_open e s l (Reset e cause packet lost) t open_now step
+reset_open ByScript A s l cause packet lost t open_now step = ap (λ (x : LaneState). is_some x.client.session) step.2
+reset_open ByScript B s l cause packet lost t open_now step =
     same_open s l t (after l (OnWire (Reset B cause packet lost))) open_now (ap (λ (x : LaneState). x.client) step.1.2) refl
-reset_open ByRestart A s l cause packet lost t sound open_now step = absurd step
-reset_open ByRestart B s l cause packet lost t sound open_now step =
+reset_open ByRestart A s l cause packet lost t open_now step = absurd step
+reset_open ByRestart B s l cause packet lost t open_now step =
     same_open s l t (after l (OnWire (Reset B cause packet lost))) open_now (ap (λ (x : LaneState). x.client) step.1.2) refl
-reset_open ByTick A s l cause packet lost t sound open_now step = ap (λ (x : LaneState). is_some x.client.session) step.1.2
-reset_open ByTick B s l cause packet lost t sound open_now step = absurd step
+reset_open ByTick A s l cause packet lost t open_now step = ap (λ (x : LaneState). is_some x.client.session) step.1.2
+reset_open ByTick B s l cause packet lost t open_now step = absurd step
 
 poked_open : (e : End) (s : LaneState) (l : DiskLog) (at : ℕ) (bytes : List ℕ) (t : LaneState) → OpenStands s l → WireStep s (Poked e at bytes) t → OpenStands t (after l (OnWire (Poked e at bytes)))
 poked_open A s l at bytes t open_now step = same_open s l t (after l (OnWire (Poked A at bytes))) open_now (ap (λ (x : LaneState). x.client) step.1) refl
 poked_open B s l at bytes t open_now step = absurd step
 
-wire_open : (s : LaneState) (l : DiskLog) (event : WireEvent) (t : LaneState) → ClientSound s.client → OpenStands s l → WireStep s event t → OpenStands t (after l (OnWire event))
-wire_open s l (Joined e lost) t sound open_now step = end_open e s l (Joined e lost) t sound open_now step
-wire_open s l (Took e packet opens) t sound open_now step = end_open e s l (Took e packet opens) t sound open_now step
-wire_open s l (Sent e packet opens) t sound open_now step = end_open e s l (Sent e packet opens) t sound open_now step
-wire_open s l (Idle e) t sound open_now step = end_open e s l (Idle e) t sound open_now step
-wire_open s l (Blocked e) t sound open_now step = end_open e s l (Blocked e) t sound open_now step
-wire_open s l (Reset e cause packet lost) t sound open_now step = reset_open (giver cause) e s l cause packet lost t sound open_now step
-wire_open s l (Lost e packet) t sound open_now step = same_open s l t (after l (OnWire (Lost e packet))) open_now (ap (λ (x : LaneState). x.client) step.1) refl
-wire_open s l (Injected e packet) t sound open_now step = same_open s l t (after l (OnWire (Injected e packet))) open_now (ap (λ (x : LaneState). x.client) step.2) refl
-wire_open s l (Poked e at bytes) t sound open_now step = poked_open e s l at bytes t open_now step
-wire_open s l (Declines d) t sound open_now step = same_open s l t (after l (OnWire (Declines d))) open_now (ap (λ (x : LaneState). x.client) step.1) refl
+wire_open : (s : LaneState) (l : DiskLog) (event : WireEvent) (t : LaneState) → OpenStands s l → WireStep s event t → OpenStands t (after l (OnWire event))
+wire_open s l (Joined e lost) t open_now step = end_open e s l (Joined e lost) t open_now step
+wire_open s l (Took e packet opens) t open_now step = end_open e s l (Took e packet opens) t open_now step
+wire_open s l (Sent e packet opens) t open_now step = end_open e s l (Sent e packet opens) t open_now step
+wire_open s l (Idle e) t open_now step = end_open e s l (Idle e) t open_now step
+wire_open s l (Blocked e) t open_now step = end_open e s l (Blocked e) t open_now step
+wire_open s l (Reset e cause packet lost) t open_now step = reset_open (giver cause) e s l cause packet lost t open_now step
+wire_open s l (Lost e packet) t open_now step = same_open s l t (after l (OnWire (Lost e packet))) open_now (ap (λ (x : LaneState). x.client) step.1) refl
+wire_open s l (Injected e packet) t open_now step = same_open s l t (after l (OnWire (Injected e packet))) open_now (ap (λ (x : LaneState). x.client) step.2) refl
+wire_open s l (Poked e at bytes) t open_now step = poked_open e s l at bytes t open_now step
+wire_open s l (Declines d) t open_now step = same_open s l t (after l (OnWire (Declines d))) open_now (ap (λ (x : LaneState). x.client) step.1) refl
 
 -- THE WORK, requests and stops
 work_open : (s : LaneState) (l : DiskLog) (event : Worked) (t : LaneState) → OpenStands s l → WorkStep s event t → OpenStands t (after l (Works event))
@@ -217,12 +215,12 @@ rest_same s (CalmReset A) t step = absurd step
 rest_same s (CalmReset B) t step = step.1
 rest_same s CalmRestart t step = step.1
 
-open_step : (s : LaneState) (l : DiskLog) (event : DiskEvent) (t : LaneState) → ClientSound s.client → OpenStands s l → LaneStep s event t → OpenStands t (after l event)
-open_step s l (OnWire event) t sound open_now step = wire_open s l event t sound open_now step
-open_step s l (Asks event) t sound open_now step = asks_open s l event t open_now step.0
-open_step s l (Works event) t sound open_now step = work_open s l event t open_now step
-open_step s l (Switches event) t sound open_now step = turn_open s l event t open_now step
-open_step s l (Calms event) t sound open_now step = same_open s l t (after l (Calms event)) open_now (ap (λ (x : LaneState). x.client) (rest_same s event t step)) refl
+open_step : (s : LaneState) (l : DiskLog) (event : DiskEvent) (t : LaneState) → OpenStands s l → LaneStep s event t → OpenStands t (after l event)
+open_step s l (OnWire event) t open_now step = wire_open s l event t open_now step
+open_step s l (Asks event) t open_now step = asks_open s l event t open_now step.0
+open_step s l (Works event) t open_now step = work_open s l event t open_now step
+open_step s l (Switches event) t open_now step = turn_open s l event t open_now step
+open_step s l (Calms event) t open_now step = same_open s l t (after l (Calms event)) open_now (ap (λ (x : LaneState). x.client) (rest_same s event t step)) refl
 
 -- A TICK is calm exactly where the client's session is open and nothing is pending
 some_of : (o : Option ClientCounts) → o ≢ None → is_some o ≡ true
@@ -294,7 +292,7 @@ record OpenToo (s : LaneState) (l : DiskLog) : Type 0 where
 tick_step : (s : LaneState) (l : DiskLog) (event : DiskEvent) (t : LaneState) → OpenToo s l → LaneStep s event t → TickAt l event × OpenToo t (after l event)
 tick_step s l event t too step = (
   tick_at s l event t too.all.stands too.open_now step,
-  record { all = (all_step s l event t too.all step).1; open_now = open_step s l event t too.all.transcripts.client too.open_now step },
+  record { all = (all_step s l event t too.all step).1; open_now = open_step s l event t too.open_now step },
 )
 
 pub tick_lawful : (shape : Shape) (events : List DiskEvent) (s : LaneState) → IsShape shape → Run LaneStep (fresh shape) events s → Lawful TickAt after (nothing_yet shape) events

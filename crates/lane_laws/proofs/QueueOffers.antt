@@ -3,7 +3,6 @@ use Rattle.std.proofs.Common.{◌≡◌, ℕ, Bool, false, Some, List, [], ◌�
 use Rattle.std.specs.Prelude.{slice_get, ⊤}
 use Rattle.runs.specs.Lawful.{log_of, run_lawful}
 use Rattle.runs.specs.Run.{Run}
-use Rattle.ldc_link.specs.Following.{Follows}
 use Rattle.ldc_queue.specs.declared.end.ChannelState.{ChannelState}
 use Rattle.ldc_queue.specs.declared.end.ChannelState.TheVariants.{Down, Resetting, Up}
 use Rattle.ldc_queue.specs.declared.end.End.TheVariants.{A, B}
@@ -12,20 +11,15 @@ use Rattle.channel_model.specs.TranscriptLog.{nothing_said}
 use Rattle.channel_model.specs.WireEvent.{Blocked, Declines, Idle, Injected, Joined, Lost, Poked, Reset, Sent, Took, WireEvent}
 use Rattle.channel_model.specs.WireLog.{WireLog, wire_moved}
 use Rattle.lane_laws.specs.DiskLog.{DiskLog, after, nothing_yet}
-use Rattle.disk_model.specs.ClientRule as client_rules
 use Rattle.disk_model.specs.DiskEvent.{Asks, DiskEvent, Off, OnWire, Calms, Started, Stopped, Switches, Works}
 use Rattle.disk_model.specs.LaneState.{IsShape, LaneState, Shape, fresh}
 use Rattle.disk_model.specs.LaneStep.{LaneStep}
 use Rattle.channel_model.specs.Seeing.{seen}
 use Rattle.lane_laws.proofs.CarriedRuns.{fresh_all}
-use Rattle.lane_laws.proofs.ClientHolding.{client_held}
-use Rattle.lane_laws.proofs.HeldLinks.{held_link}
 use Rattle.lane_laws.proofs.LaneCounting.{Knows, fresh_counted, knows_step}
-use Rattle.lane_laws.proofs.Speaking.{fresh_rests}
-use Rattle.lane_laws.proofs.Speaking.{lane_utters}
+use Rattle.lane_laws.proofs.Speaking.{client_blocked_rests, fresh_rests, lane_utters}
 use Rattle.lane_laws.proofs.NoRefusal.{OffersOne, asking_offers}
-use Rattle.lane_laws.proofs.Ruling.{client_may}
-use Rattle.lane_laws.specs.Sound.{ClientSound}
+use Rattle.lane_laws.specs.LaneRests.{ClientRests}
 
 abbrev EachOffers : List (List ℕ) → Type 0
 EachOffers [] = ⊤
@@ -73,11 +67,9 @@ on_wire l (Declines d) says each clean = each clean
 client_says : (s : LaneState) (l : DiskLog) (packet : List ℕ) (opens : Bool) (t : LaneState) → Knows s l → LaneStep s (OnWire (Sent A packet opens)) t → OffersOne packet
 client_says s l packet opens t knows step =
     let at = seen A s.shape.entries s.wire.wire in
-    let rule = client_rules.client_rule s.client at in
     let sends = step.step in
-    let sound : ClientSound sends.held = (client_held s.client at rule sends.held (client_may s.client at) sends.holds knows.all.transcripts.client).sound in
-    let follows : Follows sends.held.link l.transcript.client = held_link s.client at rule sends.held l.transcript.client sends.holds knows.all.transcripts.follows_a in
-    asking_offers sends.held.link t.client.link packet sound.asking (omega (arith, follows.puts)) sends.packet
+    let rests : ClientRests sends.held l.transcript.client = client_blocked_rests s.client at sends.held l.transcript.client knows.all.sound sends.holds knows.rests.client in
+    asking_offers sends.held.link t.client.link packet rests.stands.link.of_role (omega (arith, rests.stands.link.follows.puts)) sends.packet
 
 says_of : (s : LaneState) (l : DiskLog) (event : WireEvent) (t : LaneState) → Knows s l → LaneStep s (OnWire event) t → SentOffers event
 says_of s l (Sent A packet opens) t knows step = client_says s l packet opens t knows step

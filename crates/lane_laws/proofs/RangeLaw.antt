@@ -44,7 +44,6 @@ use Rattle.lane_laws.proofs.ClientPutCounting.{OwnInfo, own_info}
 use Rattle.lane_laws.proofs.EndPutting.{PutSays, SaysLast, put_says}
 use Rattle.lane_laws.proofs.EndsFold.{BothAre, held_session, infos_are}
 use Rattle.lane_laws.proofs.HandshakesOpen.{no_data}
-use Rattle.lane_laws.proofs.HeldLinks.{held_server}
 use Rattle.lane_laws.proofs.LaneCounting.{Knows}
 use Rattle.lane_laws.proofs.RangeTurns.{range_turns}
 use Rattle.lane_laws.proofs.RangesSaid.{end_is, heard_no_range, owed_no_range, range_is, said_is, seq_is, start_is, state_is}
@@ -57,6 +56,7 @@ use Rattle.lane_laws.proofs.Sharing.{in_order}
 use Rattle.lane_laws.proofs.WorkNumbers.{in_client, in_server}
 use Rattle.lane_laws.specs.Counted.{ClientCounted, HoldsAnswer, HoldsOwed, InServerOrder, RangeStands, ServerCounted, ServerOrder}
 use Rattle.lane_laws.specs.HandshakeFits.{MayOwe, OwedFits}
+use Rattle.lane_laws.proofs.Speaking.{server_blocked_rests}
 use Rattle.lane_laws.specs.LaneRests.{ServerRests}
 use Rattle.lane_laws.specs.Sound.{ClientSound, InOrder}
 use Rattle.lane_laws.proofs.Counting.{OfClient, OfServer, of_client, of_server, slot_of_count}
@@ -286,7 +286,7 @@ said_ack s l packet opens t sound both sends =
     answers_by (server_kind sends.held) l packet sends.held sound (ap ranged (held_session s.server rule sends.held sends.holds) ∙ both.server.range)
     (server_holds_counting l.shape s.server rule sends.held l.transcript.server l.work.server knows.rests.server knows.utters.server (server_free s.server at) sends.holds knows.counted.server)
     (put_says (is_none sends.held.handshake.owed) sends.held.link t.link l.transcript.server packet
-    (held_server s.server rule sends.held l.transcript.server sends.holds knows.all.transcripts.follows_b) sends.packet)
+    (server_blocked_rests s.server at sends.held l.transcript.server sends.holds knows.rests.server).stands.link.follows sends.packet)
 
 -- what both handshakes are by the log
 pub record AreTold (s : LaneState) (l : DiskLog) : Type 0 where
@@ -298,14 +298,14 @@ took_ack : (s : LaneState) (l : DiskLog) (packet : List ℕ) (opens : Bool) (t :
 took_ack s l packet opens t both told step =
     let knows = both.knows in
     heard_ack l packet s.client t.client told.client knows.counted.client
-    (client_took_what s.client l.transcript.client packet t.client knows.all.transcripts.follows_a knows.rests.client.whole step.step.1)
+    (client_took_what s.client l.transcript.client packet t.client knows.rests.client.stands.link.follows knows.rests.client.whole step.step.1)
 
 took_info : (s : LaneState) (l : DiskLog) (packet : List ℕ) (opens : Bool) (t : LaneState) → IsShape l.shape → BothAre s l → AreTold s l → EndOnWire B s (Took B packet opens) t → HearsInfo l packet
 took_info s l packet opens t sound both told step =
     let knows = both.knows in
     let free : TakesFree s.server = subst (ServerFree s.server) step.1.step.1.0 (server_free s.server (seen B s.shape.entries s.wire.wire)) in
     heard_info l packet s.server t.server opens sound told.server knows.rests.server free knows.counted.server
-    (server_took_what s.server l.transcript.server packet t.server opens knows.all.transcripts.follows_b knows.rests.server.whole step.1.step.1.1)
+    (server_took_what s.server l.transcript.server packet t.server opens knows.rests.server.stands.link.follows knows.rests.server.whole step.1.step.1.1)
 
 wire_ranges : (s : LaneState) (l : DiskLog) (event : WireEvent) (t : LaneState) → IsShape l.shape → BothAre s l → AreTold s l → WireStep s event t → RangesAt l (OnWire event)
 wire_ranges s l (Sent A packet opens) t sound both told step = said_info s l packet opens t.client t.memory both.knows step.step

@@ -98,7 +98,7 @@ blocked_stays shape events s A t sound run step =
     let may = client_may s.client (at_client s) in
     stays_is s t (record s { client = t.client; memory = t.memory }) step.is
     (client_waits s.wire.wire s.wire.lossy s.client t.client s.server (holds_up s.client (at_client s) (client_rule s.client (at_client s)) t.client may step.step.0)
-    (client_lowers s.client (at_client s) (client_rule s.client (at_client s)) t.client l.transcript.client may step.step.0 knows.all.transcripts.client knows.utters.client))
+    (client_lowers s.client (at_client s) (client_rule s.client (at_client s)) t.client l.transcript.client may step.step.0 knows.all.sound knows.utters.client))
 blocked_stays shape events s B t sound run step =
     let l = log_of after (nothing_yet shape) events in
     let knows : Knows s l = run_knows shape events s sound run in

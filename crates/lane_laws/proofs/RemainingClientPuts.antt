@@ -17,7 +17,7 @@ use Rattle.disk_model.specs.ClientPutting.{announced, announcement, announcing, 
 use Rattle.disk_model.specs.ClientState.{ClientSession, ClientState, slot_in}
 use Rattle.channel_model.specs.EndPuts.{ComesUp, EndsOwn, EndsHandshake, Goes, PutKind, ending, kind_in, handshake_behind}
 use Rattle.channel_model.specs.Ranges.{wrapped}
-use Rattle.lane_laws.proofs.RemainingHandshake.{range_part, sent_left, up_left}
+use Rattle.lane_laws.proofs.RemainingHandshake.{MayPut, range_part, sent_left, up_left}
 use Rattle.lane_laws.proofs.RemainingSums.{held_empty, held_more, held_other, held_own, held_part, part_less, some_part}
 use Rattle.lane_laws.proofs.Sharing.{nothing, some_left}
 use Rattle.channel_laws.proofs.Short.{some_bytes}
@@ -117,9 +117,9 @@ opened_sum true few c asked closed =
     same ∙ ap (λ (o : Option ClientSession). client_sum few (length c.pending) o asked) (sym (closed refl))
 opened_sum false few c asked closed = refl
 
-ends_handshake : (c : ClientState) (asked : ℕ) → ClientSound c → (opens_by_put c.handshake.role c.handshake.phase ≡ true → c.session ≡ None) → is_announcing c.session ≡ false
+ends_handshake : (c : ClientState) (asked : ℕ) → MayPut c → (opens_by_put c.handshake.role c.handshake.phase ≡ true → c.session ≡ None) → is_announcing c.session ≡ false
     → 1 ≤ length c.link.to_send → length c.link.to_send ≤ 56 → FallsBy EndsHandshake c asked
-ends_handshake c asked sound closed other some short =
+ends_handshake c asked ready closed other some short =
     let none : left_of c ≡ [] = nothing (left_of c) (omega (arith, length-drop 56 c.link.to_send, short)) in
     let before : held_left (is_announcing c.session) c.link.to_send c.handshake.owed ≡ parts (length c.link.to_send) =
     ap (λ (b : Bool). held_left b c.link.to_send c.handshake.owed) other ∙ held_other c.link.to_send c.handshake.owed some in
@@ -129,17 +129,17 @@ ends_handshake c asked sound closed other some short =
     subst (λ (n : ℕ). n + 2 ≤ client_sum (later c.handshake.role c.handshake.phase + held_left (is_announcing c.session) c.link.to_send c.handshake.owed) (length c.pending) c.session asked)
     (sym (opened_sum (opens_by_put c.handshake.role c.handshake.phase) (later_by EndsHandshake c + packets_by EndsHandshake (left_of c) c) c asked closed))
     (packets_fall (later_by EndsHandshake c + packets_by EndsHandshake (left_of c) c) (later c.handshake.role c.handshake.phase + held_left (is_announcing c.session) c.link.to_send c.handshake.owed)
-    (length c.pending) c.session asked 1 (omega (arith, before, behind, one, sent_left c.handshake sound.short)))
+    (length c.pending) c.session asked 1 (omega (arith, before, behind, one, sent_left c.handshake ready.1)))
 
-ends_fall : (c : ClientState) (own : Bool) (asked : ℕ) → ClientSound c → (opens_by_put c.handshake.role c.handshake.phase ≡ true → c.session ≡ None) → is_announcing c.session ≡ own
+ends_fall : (c : ClientState) (own : Bool) (asked : ℕ) → ClientSound c → MayPut c → (opens_by_put c.handshake.role c.handshake.phase ≡ true → c.session ≡ None) → is_announcing c.session ≡ own
     → 1 ≤ length c.link.to_send → length c.link.to_send ≤ 56 → FallsBy (ending true own) c asked
-ends_fall c true asked sound closed is some short = ends_own c asked sound is some short
-ends_fall c false asked sound closed is some short = ends_handshake c asked sound closed is some short
+ends_fall c true asked sound ready closed is some short = ends_own c asked sound is some short
+ends_fall c false asked sound ready closed is some short = ends_handshake c asked ready closed is some short
 
-parts_fall : (c : ClientState) (last : Bool) (asked : ℕ) → ClientSound c → (opens_by_put c.handshake.role c.handshake.phase ≡ true → c.session ≡ None)
+parts_fall : (c : ClientState) (last : Bool) (asked : ℕ) → ClientSound c → MayPut c → (opens_by_put c.handshake.role c.handshake.phase ≡ true → c.session ≡ None)
     → nat_le (length c.link.to_send) 56 ≡ last → 1 ≤ length c.link.to_send → FallsBy (ending last (is_announcing c.session)) c asked
-parts_fall c true asked sound closed is some = ends_fall c (is_announcing c.session) asked sound closed refl some (leb-true (length c.link.to_send) 56 is)
-parts_fall c false asked sound closed is some = part_falls c asked (omega (arith, leb-false (length c.link.to_send) 56 is))
+parts_fall c true asked sound ready closed is some = ends_fall c (is_announcing c.session) asked sound ready closed refl some (leb-true (length c.link.to_send) 56 is)
+parts_fall c false asked sound ready closed is some = part_falls c asked (omega (arith, leb-false (length c.link.to_send) 56 is))
 
 -- a packet of the link's own handshake
 comes_up : (c : ClientState) (asked : ℕ) → Falls phase.OwesRdx c asked
@@ -147,22 +147,22 @@ comes_up c asked =
     packets_fall (later_by ComesUp c + packets_by ComesUp c.link.to_send c) (7 + held_left (is_announcing c.session) c.link.to_send c.handshake.owed) (length c.pending) c.session asked 1
     (omega (arith, up_left c.handshake, held_more (is_announcing c.session) c.link.to_send c.handshake.owed (handshake_up c.handshake).owed))
 
-falls_in : (ph : LinkPhase) (c : ClientState) (asked : ℕ) (one : Packet × LinkState) (m : LinkState) → ClientSound c
+falls_in : (ph : LinkPhase) (c : ClientState) (asked : ℕ) (one : Packet × LinkState) (m : LinkState) → ClientSound c → MayPut c
     → (opens_by_put c.handshake.role c.handshake.phase ≡ true → c.session ≡ None) → IsAsking ph → with_link (owed_in ph c.link) m ≡ Some one → Falls ph c asked
-falls_in phase.OwesVersInfo c asked one m sound closed asking is =
+falls_in phase.OwesVersInfo c asked one m sound ready closed asking is =
     packets_fall (8 + held_left (is_announcing c.session) c.link.to_send c.handshake.owed) (9 + held_left (is_announcing c.session) c.link.to_send c.handshake.owed) (length c.pending) c.session asked 1 (omega arith)
-falls_in phase.OwesRts c asked one m sound closed asking is =
+falls_in phase.OwesRts c asked one m sound ready closed asking is =
     packets_fall (7 + held_left (is_announcing c.session) c.link.to_send c.handshake.owed) (8 + held_left (is_announcing c.session) c.link.to_send c.handshake.owed) (length c.pending) c.session asked 1 (omega arith)
-falls_in phase.OwesRdx c asked one m sound closed asking is = comes_up c asked
-falls_in phase.Established c asked one m sound closed asking is =
-    parts_fall c (nat_le (length c.link.to_send) 56) asked sound closed refl (some_left c.link c.link.to_send one m is)
-falls_in phase.AwaitsVersAck c asked one m sound closed asking is = absurd (cc)
-falls_in phase.AwaitsRtr c asked one m sound closed asking is = absurd (cc)
-falls_in _ c asked one m sound closed asking is = absurd asking
+falls_in phase.OwesRdx c asked one m sound ready closed asking is = comes_up c asked
+falls_in phase.Established c asked one m sound ready closed asking is =
+    parts_fall c (nat_le (length c.link.to_send) 56) asked sound ready closed refl (some_left c.link c.link.to_send one m is)
+falls_in phase.AwaitsVersAck c asked one m sound ready closed asking is = absurd (cc)
+falls_in phase.AwaitsRtr c asked one m sound ready closed asking is = absurd (cc)
+falls_in _ c asked one m sound ready closed asking is = absurd asking
 
-pub client_put_lowers : (c : ClientState) (bytes : List ℕ) (m : LinkState) → ClientSound c → (opens_by_put c.handshake.role c.handshake.phase ≡ true → c.session ≡ None)
+pub client_put_lowers : (c : ClientState) (bytes : List ℕ) (m : LinkState) → ClientSound c → MayPut c → (opens_by_put c.handshake.role c.handshake.phase ≡ true → c.session ≡ None)
     → PutsPacket c.link bytes m → ClientLowers 2 c (client_put c)
-client_put_lowers c bytes m sound closed puts = record {
+client_put_lowers c bytes m sound ready closed puts = record {
   pending = omega arith;
-  lowers = λ asked. falls_in c.link.phase c asked (puts.packet, m) (behind_put c.link) sound closed sound.asking puts.next;
+  lowers = λ asked. falls_in c.link.phase c asked (puts.packet, m) (behind_put c.link) sound ready closed ready.0 puts.next;
 }

@@ -15,6 +15,7 @@ use Rattle.channel_model.specs.Seeing.{Seen}
 use Rattle.lane_laws.proofs.ClientHolding.{client_held, not_own}
 use Rattle.lane_laws.proofs.RemainingClientPuts.{ClientLowers, announces_lowers, client_put_lowers, says_lowers}
 use Rattle.lane_laws.proofs.RemainingSums.{quiet_put}
+use Rattle.lane_laws.proofs.RemainingHandshake.{MayPut}
 use Rattle.lane_laws.proofs.Ruling.{client_may}
 use Rattle.lane_laws.proofs.Sharing.{in_order}
 use Rattle.lane_laws.specs.Remaining.{client_puts, client_sum, held_left, later}
@@ -36,13 +37,13 @@ no_session : (s : ClientState) (session : ClientSession) (b : Bool) → s.sessio
 no_session s session b is closed opens = let none = closed opens in absurd (cc)
 
 rule_lowers : (s : ClientState) (at : Seen) (rule : ClientRule) (held : ClientState) (bytes : List ℕ) (m : LinkState) → ClientMay s at rule
-    → client_holds rule s ≡ Some held → ClientSound s → (opens_by_put s.handshake.role s.handshake.phase ≡ true → s.session ≡ None) → PutsPacket held.link bytes m
+    → client_holds rule s ≡ Some held → ClientSound s → MayPut s → (opens_by_put s.handshake.role s.handshake.phase ≡ true → s.session ≡ None) → PutsPacket held.link bytes m
     → ClientLowers 2 s (client_put held)
-rule_lowers s at Puts held bytes m may holds sound closed puts =
+rule_lowers s at Puts held bytes m may holds sound ready closed puts =
     let same : s ≡ held = held_is s held holds in
     subst (λ (x : ClientState). ClientLowers 2 s (client_put x)) same
-    (client_put_lowers s bytes m sound closed (subst (λ (x : ClientState). PutsPacket x.link bytes m) (sym same) puts))
-rule_lowers s at (Says message) held bytes m may holds sound closed puts =
+    (client_put_lowers s bytes m sound ready closed (subst (λ (x : ClientState). PutsPacket x.link bytes m) (sym same) puts))
+rule_lowers s at (Says message) held bytes m may holds sound ready closed puts =
     let same : holding message s ≡ held = held_is (holding message s) held holds in
     let put : PutsPacket (holding message s).link bytes m = subst (λ (x : ClientState). PutsPacket x.link bytes m) (sym same) puts in
     let empty : s.link.to_send ≡ [] = quiet_put s.link.phase s.link (canonical message) (put.packet, m) (behind_put (holding message s).link) may.1 put.next in
@@ -50,8 +51,8 @@ rule_lowers s at (Says message) held bytes m may holds sound closed puts =
     subst (λ (x : ClientState). ClientLowers 2 s (client_put x)) same
     (both_lower s (holding message s) (client_put (holding message s)) 2
     (says_lowers s message (not_own (is_announcing s.session) s.link.to_send sound.own empty) may.2 empty)
-    (client_put_lowers (holding message s) bytes m behind.sound closed put))
-rule_lowers s at (Announces session) held bytes m may holds sound closed puts =
+    (client_put_lowers (holding message s) bytes m behind ready closed put))
+rule_lowers s at (Announces session) held bytes m may holds sound ready closed puts =
     let next : ClientState = announcing session (holding (announcement s session) s) in
     let same : next ≡ held = held_is next held holds in
     let put : PutsPacket next.link bytes m = subst (λ (x : ClientState). PutsPacket x.link bytes m) (sym same) puts in
@@ -59,18 +60,18 @@ rule_lowers s at (Announces session) held bytes m may holds sound closed puts =
     let behind = client_held s at (Announces session) next may refl sound in
     subst (λ (x : ClientState). ClientLowers 2 s (client_put x)) same
     (both_lower s next (client_put next) 2 (announces_lowers s session may.2 may.3 empty)
-    (client_put_lowers next bytes m behind.sound (no_session s session (opens_by_put s.handshake.role s.handshake.phase) may.3 closed) put))
-rule_lowers s at Joins held bytes m may holds sound closed puts = absurd (cc)
-rule_lowers s at (Completes session) held bytes m may holds sound closed puts = absurd (cc)
-rule_lowers s at (Takes packet) held bytes m may holds sound closed puts = absurd (cc)
-rule_lowers s at (Publishes session request) held bytes m may holds sound closed puts = absurd (cc)
-rule_lowers s at Idles held bytes m may holds sound closed puts = absurd (cc)
+    (client_put_lowers next bytes m behind ready (no_session s session (opens_by_put s.handshake.role s.handshake.phase) may.3 closed) put))
+rule_lowers s at Joins held bytes m may holds sound ready closed puts = absurd (cc)
+rule_lowers s at (Completes session) held bytes m may holds sound ready closed puts = absurd (cc)
+rule_lowers s at (Takes packet) held bytes m may holds sound ready closed puts = absurd (cc)
+rule_lowers s at (Publishes session request) held bytes m may holds sound ready closed puts = absurd (cc)
+rule_lowers s at Idles held bytes m may holds sound ready closed puts = absurd (cc)
 
-pub sends_lowers : (s : ClientState) (at : Seen) (memory packet : List ℕ) (opens : Bool) (t : ClientState) (new : List ℕ) → ClientSound s
+pub sends_lowers : (s : ClientState) (at : Seen) (memory packet : List ℕ) (opens : Bool) (t : ClientState) (new : List ℕ) → ClientSound s → MayPut s
     → (opens_by_put s.handshake.role s.handshake.phase ≡ true → s.session ≡ None) → ClientSends s at memory packet opens t new → ClientLowers 2 s t
-sends_lowers s at memory packet opens t new sound closed sends =
+sends_lowers s at memory packet opens t new sound ready closed sends =
     subst (ClientLowers 2 s) (sym sends.is)
-    (rule_lowers s at (client_rule s at) sends.held packet t.link (client_may s at) sends.holds sound closed sends.packet)
+    (rule_lowers s at (client_rule s at) sends.held packet t.link (client_may s at) sends.holds sound ready closed sends.packet)
 
 -- PUBLISHING
 abbrev sum_with : ClientState → Option ClientSession → ℕ → ℕ

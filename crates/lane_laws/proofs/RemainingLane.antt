@@ -20,7 +20,7 @@ use Rattle.disk_model.specs.LaneStep.{ClientWorks, LaneStep, ServerWorks, WorkSt
 use Rattle.channel_model.specs.Seeing.{Seen, seen}
 use Rattle.disk_model.specs.ServerRule as server_rules
 use Rattle.disk_model.specs.ServerState.{ServerState, joined_server}
-use Rattle.lane_laws.proofs.ClientSteps.{client_sends}
+use Rattle.lane_laws.proofs.ClientHolding.{holds_up}
 use Rattle.lane_laws.proofs.RemainingClientPuts.{ClientLowers}
 use Rattle.lane_laws.proofs.RemainingClientSteps.{completes_lowers, publishes_lowers, sends_lowers}
 use Rattle.lane_laws.proofs.RemainingServerPuts.{ServerLowers}
@@ -28,11 +28,14 @@ use Rattle.lane_laws.proofs.RemainingServerPuts as server
 use Rattle.lane_laws.proofs.RemainingServerSteps.{fetches_lowers, finishes_lowers, moves_lowers, stores_lowers}
 use Rattle.lane_laws.proofs.RemainingSums.{second_less}
 use Rattle.lane_laws.proofs.Ruling.{client_may, server_may}
-use Rattle.lane_laws.proofs.ServerSteps.{server_sends}
+use Rattle.lane_laws.proofs.RemainingHandshake.{few_of, may_put}
+use Rattle.lane_laws.proofs.ServerSpeaking.{server_holds_up}
 use Rattle.lane_laws.specs.Remaining.{absent, asked_by, asked_in, client_left, client_puts, later, life, remaining, second_life, server_left, server_puts}
 use Rattle.lane_laws.specs.RemainingSteps.{IsPutOrJoined, IsWork, OpensLast, StepsStand, TakesNothing}
 use Rattle.lane_laws.specs.RuleFacts.{ClientMay, ServerMay}
-use Rattle.lane_laws.specs.Sound.{ClientSound, ServerSound}
+use Rattle.channel_model.specs.TranscriptLog.{TranscriptLog}
+use Rattle.lane_laws.specs.LaneRests.{LaneRests}
+use Rattle.lane_laws.specs.Sound.{ClientSound}
 
 -- by its parts
 abbrev pub left : Wire → Bool → ClientState → ServerState → ℕ
@@ -114,11 +117,11 @@ begun_server Initiator v is same = absurd (cc)
 joins_sum : (away there waits more joined was other second : ℕ) → away ≡ 1 → joined ≡ was → 0 + there + waits + more + joined + other + second + 1 ≤ away + there + waits + more + was + other + second
 joins_sum away there waits more joined was other second one same = omega (arith, one, same)
 
-joins_down : (w : Wire) (lossy : Bool) (c : ClientState) (v : ServerState) → ClientSound c → absent w.end_a ≡ 1
+joins_down : (w : Wire) (lossy : Bool) (c : ClientState) (v : ServerState) → c.link.role ≡ Initiator → absent w.end_a ≡ 1
     → client_left w.end_a (asked_by w.end_b v) c ≡ client_left Down (asked_by w.end_b v) c → left (record w { end_a = Up }) lossy (joined_client c) v + 1 ≤ left w lossy c v
 joins_down w lossy c v sound away counts =
     joins_sum (absent w.end_a) (absent w.end_b) (length w.to_a) (length w.to_b) (client_left Up (asked_by w.end_b v) (joined_client c)) (client_left w.end_a (asked_by w.end_b v) c)
-    (server_left w.end_b v) (second_life lossy (length c.pending)) away (begun_client c.link.role c (asked_by w.end_b v) sound.role refl ∙ sym counts)
+    (server_left w.end_b v) (second_life lossy (length c.pending)) away (begun_client c.link.role c (asked_by w.end_b v) sound refl ∙ sym counts)
 
 abbrev pub joined_a : ChannelState → Wire → Wire
 joined_a x w = record { end_a = Up; end_b = peer_behind x w.end_b; to_a = queue_behind x w.to_a; to_b = queue_behind x w.to_b }
@@ -126,7 +129,7 @@ joined_a x w = record { end_a = Up; end_b = peer_behind x w.end_b; to_a = queue_
 abbrev pub joined_b : ChannelState → Wire → Wire
 joined_b x w = record { end_a = peer_behind x w.end_a; end_b = Up; to_a = queue_behind x w.to_a; to_b = queue_behind x w.to_b }
 
-client_joins : (e : ChannelState) (w : Wire) (lossy : Bool) (c : ClientState) (v : ServerState) → ClientSound c → w.end_a ≡ e → w.end_a ≢ Up
+client_joins : (e : ChannelState) (w : Wire) (lossy : Bool) (c : ClientState) (v : ServerState) → c.link.role ≡ Initiator → w.end_a ≡ e → w.end_a ≢ Up
     → left (joined_a w.end_a w) (lossy_behind w.end_a lossy) (joined_client c) v + 1 ≤ left w lossy c v
 client_joins Up w lossy c v sound is down = absurd (down is)
 client_joins Down w lossy c v sound is down =
@@ -140,14 +143,14 @@ serves_sum : (there away waits more one other joined was second : ℕ) → away 
     → there + 0 + waits + more + one + joined + second + 1 ≤ there + away + waits + more + other + was + second
 serves_sum there away waits more one other joined was second present same counts = omega (arith, present, same, counts)
 
-serves_down : (w : Wire) (lossy : Bool) (c : ClientState) (v : ServerState) → ServerSound v → absent w.end_b ≡ 1 → asked_by w.end_b v ≡ 0 → server_left w.end_b v ≡ 16
+serves_down : (w : Wire) (lossy : Bool) (c : ClientState) (v : ServerState) → v.link.role ≡ Responder → absent w.end_b ≡ 1 → asked_by w.end_b v ≡ 0 → server_left w.end_b v ≡ 16
     → left (record w { end_b = Up }) lossy c (joined_server v) + 1 ≤ left w lossy c v
 serves_down w lossy c v sound away none counts =
     serves_sum (absent w.end_a) (absent w.end_b) (length w.to_a) (length w.to_b) (client_left w.end_a 0 c) (client_left w.end_a (asked_by w.end_b v) c)
     (server_left Up (joined_server v)) (server_left w.end_b v) (second_life lossy (length c.pending)) away (ap (λ (n : ℕ). client_left w.end_a n c) (sym none))
-    (begun_server v.link.role v sound.role refl ∙ sym counts)
+    (begun_server v.link.role v sound refl ∙ sym counts)
 
-server_joins : (e : ChannelState) (w : Wire) (lossy : Bool) (c : ClientState) (v : ServerState) → ServerSound v → w.end_b ≡ e → w.end_b ≢ Up
+server_joins : (e : ChannelState) (w : Wire) (lossy : Bool) (c : ClientState) (v : ServerState) → v.link.role ≡ Responder → w.end_b ≡ e → w.end_b ≢ Up
     → left (joined_b w.end_b w) (lossy_behind w.end_b lossy) c (joined_server v) + 1 ≤ left w lossy c v
 server_joins Up w lossy c v sound is down = absurd (down is)
 server_joins Down w lossy c v sound is down =
@@ -172,29 +175,30 @@ closed_in c (Some session) is opened opens = let never = opens_closed c.handshak
 pub falls_is : (s t u : LaneState) → t ≡ u → remaining u + 1 ≤ remaining s → remaining t + 1 ≤ remaining s
 falls_is s t u is falls = subst (λ (x : LaneState). remaining x + 1 ≤ remaining s) (sym is) falls
 
-on_wire : (s : LaneState) (event : WireEvent) (t : LaneState) → ClientSound s.client → ServerSound s.server → StepsStand s → LaneStep s (OnWire event) t
+on_wire : (s : LaneState) (event : WireEvent) (t : LaneState) (transcript : TranscriptLog) → ClientSound s.client → LaneRests s transcript → StepsStand s → LaneStep s (OnWire event) t
     → IsPutOrJoined event → remaining t + 1 ≤ remaining s
-on_wire s (Joined A lost) t client_sound server_sound stands step is =
+on_wire s (Joined A lost) t transcript sound rests stands step is =
     let may : ClientMay s.client (at_client s) client_rules.Joins = subst (ClientMay s.client (at_client s)) step.step.0 (client_may s.client (at_client s)) in
     falls_is s t (record s { wire = wire_moved s.wire (Joined A lost); client = t.client; memory = t.memory; near = s.near }) step.is
     (subst (λ (c : ClientState). left (configured A s.wire.wire) (lossy_behind s.wire.wire.end_a s.wire.lossy) c s.server + 1 ≤ remaining s) (sym step.step.2)
-    (client_joins s.wire.wire.end_a s.wire.wire s.wire.lossy s.client s.server client_sound refl may))
-on_wire s (Joined B lost) t client_sound server_sound stands step is =
+    (client_joins s.wire.wire.end_a s.wire.wire s.wire.lossy s.client s.server rests.client.stands.link.role_is refl may))
+on_wire s (Joined B lost) t transcript sound rests stands step is =
     let may : ServerMay s.server (at_server s) server_rules.Joins = subst (ServerMay s.server (at_server s)) step.1.step.1.0 (server_may s.server (at_server s)) in
     falls_is s t (record s { wire = wire_moved s.wire (Joined B lost); server = t.server; memory = t.memory; near = s.near }) step.1.is
     (subst (λ (v : ServerState). left (configured B s.wire.wire) (lossy_behind s.wire.wire.end_b s.wire.lossy) s.client v + 1 ≤ remaining s) (sym step.1.step.1.2)
-    (server_joins s.wire.wire.end_b s.wire.wire s.wire.lossy s.client s.server server_sound refl may))
-on_wire s (Sent A packet opens) t client_sound server_sound stands step is =
-    let put = client_sends s.client (at_client s) s.memory packet opens t.client t.memory client_sound step.step in
-    let lower = sends_lowers s.client (at_client s) s.memory packet opens t.client t.memory client_sound (closed_in s.client s.client.session refl stands.opens) step.step in
+    (server_joins s.wire.wire.end_b s.wire.wire s.wire.lossy s.client s.server rests.server.stands.link.role_is refl may))
+on_wire s (Sent A packet opens) t transcript sound rests stands step is =
+    let up = holds_up s.client (at_client s) (client_rules.client_rule s.client (at_client s)) step.step.held (client_may s.client (at_client s)) step.step.holds in
+    let lower = sends_lowers s.client (at_client s) s.memory packet opens t.client t.memory sound (may_put s.client transcript.client rests.client.stands) (closed_in s.client s.client.session refl stands.opens) step.step in
     falls_is s t (record s { wire = wire_moved s.wire (Sent A packet opens); client = t.client; memory = t.memory; near = s.near }) step.is
-    (client_puts_one s.wire.wire s.wire.lossy s.client t.client s.server packet put.up lower)
-on_wire s (Sent B packet opens) t client_sound server_sound stands step is =
-    let put = server_sends s.server (at_server s) packet opens t.server server_sound step.1.step.1.0 in
-    let lower = server.sends_lowers s.server (at_server s) packet opens t.server server_sound step.1.step.1.0 in
+    (client_puts_one s.wire.wire s.wire.lossy s.client t.client s.server packet up lower)
+on_wire s (Sent B packet opens) t transcript sound rests stands step is =
+    let sends = step.1.step.1.0 in
+    let up = server_holds_up s.server (at_server s) (server_rules.server_rule s.server (at_server s)) sends.held (server_may s.server (at_server s)) sends.holds in
+    let lower = server.sends_lowers s.server (at_server s) packet opens t.server (few_of s.server transcript.server rests.server.stands) sends in
     falls_is s t (record s { wire = wire_moved s.wire (Sent B packet opens); server = t.server; memory = t.memory; near = s.near }) step.1.is
-    (server_puts_one s.wire.wire s.wire.lossy s.client s.server t.server packet put.up lower)
-on_wire s _ t client_sound server_sound stands step is = absurd is
+    (server_puts_one s.wire.wire s.wire.lossy s.client s.server t.server packet up lower)
+on_wire s _ t transcript sound rests stands step is = absurd is
 
 client_works : (s : LaneState) (event : Worked) (t : LaneState) → s.wire.wire.end_a ≡ Up → ClientLowers 1 s.client t.client → ClientWorks s event t → remaining t + 1 ≤ remaining s
 client_works s event t up lower step =
@@ -233,8 +237,8 @@ works s (Finished slot status) t sound stands step is =
     server_works s step.0 (Finished slot status) t may.0 (finishes_lowers s.server (at_server s) _ slot status t.server t.memory stands.fit work) step.1
 works s Misplaced t sound stands step is = absurd step
 
-pub step_falls : (s : LaneState) (event : DiskEvent) (t : LaneState) → ClientSound s.client → ServerSound s.server → StepsStand s → LaneStep s event t → TakesNothing event
+pub step_falls : (s : LaneState) (event : DiskEvent) (t : LaneState) (transcript : TranscriptLog) → ClientSound s.client → LaneRests s transcript → StepsStand s → LaneStep s event t → TakesNothing event
     → remaining t + 1 ≤ remaining s
-step_falls s (OnWire event) t client_sound server_sound stands step is = on_wire s event t client_sound server_sound stands step is
-step_falls s (Works event) t client_sound server_sound stands step is = works s event t client_sound stands step is
-step_falls s _ t client_sound server_sound stands step is = absurd is
+step_falls s (OnWire event) t transcript sound rests stands step is = on_wire s event t transcript sound rests stands step is
+step_falls s (Works event) t transcript sound rests stands step is = works s event t sound stands step is
+step_falls s _ t transcript sound rests stands step is = absurd is

@@ -24,7 +24,9 @@ use Rattle.lane_laws.proofs.Ruling.{client_may}
 use Rattle.lane_laws.specs.Remaining.{remaining}
 use Rattle.lane_laws.specs.RemainingSteps.{CountsFit, OpensLast, StepsStand, TakesNothing}
 use Rattle.lane_laws.specs.RuleFacts.{ClientMay}
-use Rattle.lane_laws.proofs.LaneStepping.{run_transcripts}
+use Rattle.lane_laws.proofs.LaneStepping.{run_sound}
+use Rattle.lane_laws.proofs.Speaking.{run_rests}
+use Rattle.lane_laws.specs.LaneTranscripts.{transcript_behind}
 
 abbrev at_client : LaneState → Seen
 at_client s = seen A s.shape.entries s.wire.wire
@@ -155,15 +157,15 @@ less_by_one n m less = omega (arith, less)
 pub steps_fall : (shape : Shape) (events : List DiskEvent) (s : LaneState) (event : DiskEvent) (t : LaneState) → IsShape shape → Run LaneStep (fresh shape) events s
     → LaneStep s event t → TakesNothing event → remaining t < remaining s
 steps_fall shape events s event t sound run step is =
-    let transcripts = run_transcripts shape events s sound run in
-    less_by_one (remaining t) (remaining s) (step_falls s event t transcripts.client transcripts.server (steps_stand shape events s run) step is)
+    less_by_one (remaining t) (remaining s)
+    (step_falls s event t (transcript_behind events) (run_sound shape events s sound run) (run_rests shape events s sound run) (steps_stand shape events s run) step is)
 
 pub resets_remain : (shape : Shape) (events : List DiskEvent) (s : LaneState) (e : End) (cause : Cause) (packet : Option (List ℕ)) (lost : ℕ) (t : LaneState) → IsShape shape
     → Run LaneStep (fresh shape) events s → IsUp e s.wire.wire → LaneStep s (OnWire (Reset e cause packet lost)) t → remaining t ≡ 35 + 16 * length s.client.pending
 resets_remain shape events s e cause packet lost t sound run up step =
-    let transcripts = run_transcripts shape events s sound run in reset_remains s e cause packet lost t transcripts.client transcripts.server up step
+    let rests = run_rests shape events s sound run in reset_remains s e cause packet lost t rests.client.stands.link.role_is rests.server.stands.link.role_is up step
 
 pub resets_fall : (shape : Shape) (events : List DiskEvent) (s : LaneState) (e : End) (cause : Cause) (packet : Option (List ℕ)) (lost : ℕ) (t : LaneState) → IsShape shape
     → Run LaneStep (fresh shape) events s → IsUp e s.wire.wire → s.wire.lossy ≡ true → LaneStep s (OnWire (Reset e cause packet lost)) t → remaining t < remaining s
 resets_fall shape events s e cause packet lost t sound run up lossy step =
-    let transcripts = run_transcripts shape events s sound run in reset_falls s e cause packet lost t transcripts.client transcripts.server up lossy step
+    let rests = run_rests shape events s sound run in reset_falls s e cause packet lost t rests.client.stands.link.role_is rests.server.stands.link.role_is up lossy step

@@ -22,13 +22,12 @@ use Rattle.disk_model.specs.ServerStep.{ServerSends}
 use Rattle.lane_laws.proofs.RemainingHandshake.{answer_part, sent_left, up_left}
 use Rattle.lane_laws.proofs.RemainingSums.{answers_empty, answers_more, answers_own, answers_owed, answers_part, part_less, quiet_put, some_part}
 use Rattle.lane_laws.proofs.Ruling.{server_may}
-use Rattle.lane_laws.proofs.ServerSpeaking.{range_few, server_held}
+use Rattle.lane_laws.proofs.ServerSpeaking.{range_few}
 use Rattle.lane_laws.proofs.Sharing.{nothing, some_left}
 use Rattle.channel_laws.proofs.Short.{some_bytes}
 use Rattle.lane_laws.specs.Budget.{one_range, range_left}
 use Rattle.lane_laws.specs.Remaining.{answers_held, asked_in, later, parts, parts_owed, server_left, server_packets, server_puts, serving_left}
 use Rattle.lane_laws.specs.RuleFacts.{ServerMay, ServerSays}
-use Rattle.lane_laws.specs.Sound.{ServerSound}
 
 -- what remains at a server that is up falls by so much, and it was asked for what it was
 pub record ServerLowers (by : ℕ) (s t : ServerState) : Type 0 where
@@ -85,7 +84,7 @@ part_falls : (s : ServerState) → 57 ≤ length s.link.to_send → FallsBy Goes
 part_falls s long =
     omega (arith, answers_part (left_of s) s.link.to_send s.handshake.owed (range_left s.session) (omega (arith, length-drop 56 s.link.to_send, long)) (omega (arith, long)) (part_less s.link.to_send long))
 
-ends_fall : (s : ServerState) (owed : Option Message) → ServerSound s → s.handshake.owed ≡ owed → 1 ≤ length s.link.to_send → length s.link.to_send ≤ 56
+ends_fall : (s : ServerState) (owed : Option Message) → s.handshake.offer.count ≤ 14 → s.handshake.owed ≡ owed → 1 ≤ length s.link.to_send → length s.link.to_send ≤ 56
     → FallsBy (ending true (is_none owed)) s
 ends_fall s None sound is some short =
     let none : left_of s ≡ [] = nothing (left_of s) (omega (arith, length-drop 56 s.link.to_send, short)) in
@@ -99,9 +98,9 @@ ends_fall s (Some message) sound is some short =
     answers_owed s.link.to_send s.handshake.owed message (range_left s.session) some is in
     let behind : answers_held (left_of s) (handshake_sent s.handshake).owed (range_left s.session) ≡ parts_owed (handshake_sent s.handshake).owed + range_left s.session =
     answers_empty (left_of s) (handshake_sent s.handshake).owed (range_left s.session) none in
-    omega (arith, before, behind, sent_left s.handshake sound.short, some_part (length s.link.to_send) some)
+    omega (arith, before, behind, sent_left s.handshake sound, some_part (length s.link.to_send) some)
 
-parts_fall : (s : ServerState) (last : Bool) → ServerSound s → nat_le (length s.link.to_send) 56 ≡ last → 1 ≤ length s.link.to_send
+parts_fall : (s : ServerState) (last : Bool) → s.handshake.offer.count ≤ 14 → nat_le (length s.link.to_send) 56 ≡ last → 1 ≤ length s.link.to_send
     → FallsBy (ending last (is_none s.handshake.owed)) s
 parts_fall s true sound is some = ends_fall s s.handshake.owed sound refl some (leb-true (length s.link.to_send) 56 is)
 parts_fall s false sound is some = part_falls s (omega (arith, leb-false (length s.link.to_send) 56 is))
@@ -109,7 +108,7 @@ parts_fall s false sound is some = part_falls s (omega (arith, leb-false (length
 comes_up : (s : ServerState) → Falls phase.OwesRdx s
 comes_up s = omega (arith, up_left s.handshake, answers_more s.link.to_send s.handshake.owed (handshake_up s.handshake).owed (range_left s.session), range_few s.session)
 
-falls_in : (ph : LinkPhase) (s : ServerState) (one : Packet × LinkState) (m : LinkState) → ServerSound s → with_link (owed_in ph s.link) m ≡ Some one → Falls ph s
+falls_in : (ph : LinkPhase) (s : ServerState) (one : Packet × LinkState) (m : LinkState) → s.handshake.offer.count ≤ 14 → with_link (owed_in ph s.link) m ≡ Some one → Falls ph s
 falls_in phase.Established s one m sound is = parts_fall s (nat_le (length s.link.to_send) 56) sound refl (some_left s.link s.link.to_send one m is)
 falls_in phase.OwesRdx s one m sound is = comes_up s
 falls_in phase.OwesVersInfo s one m sound is = omega arith
@@ -138,7 +137,7 @@ answered_serving Goes work session = refl
 answered_serving ComesUp work session = refl
 answered_serving EndsHandshake work session = refl
 
-pub server_put_lowers : (s : ServerState) (bytes : List ℕ) (m : LinkState) → ServerSound s → PutsPacket s.link bytes m → ServerLowers 2 s (server_put s)
+pub server_put_lowers : (s : ServerState) (bytes : List ℕ) (m : LinkState) → s.handshake.offer.count ≤ 14 → PutsPacket s.link bytes m → ServerLowers 2 s (server_put s)
 server_put_lowers s bytes m sound puts =
     let kind : PutKind = kind_in s.link.phase s.link (is_none s.handshake.owed) in
     let fall : server_packets (server_put s) + 1 ≤ server_packets s = falls_in s.link.phase s (puts.packet, m) (behind_put s.link) sound puts.next in
@@ -156,23 +155,23 @@ held_is : (one other : ServerState) → Some one ≡ Some other → one ≡ othe
 held_is one other is = cc is
 
 rule_lowers : (s : ServerState) (at : Seen) (rule : ServerRule) (held : ServerState) (bytes : List ℕ) (m : LinkState) → ServerMay s at rule
-    → server_holds rule s ≡ Some held → ServerSound s → ServerSound held → PutsPacket held.link bytes m → ServerLowers 2 s (server_put held)
-rule_lowers s at Puts held bytes m may holds sound behind puts =
+    → server_holds rule s ≡ Some held → s.handshake.offer.count ≤ 14 → PutsPacket held.link bytes m → ServerLowers 2 s (server_put held)
+rule_lowers s at Puts held bytes m may holds sound puts =
     let same : s ≡ held = held_is s held holds in
-    subst (λ (x : ServerState). ServerLowers 2 x (server_put held)) (sym same) (server_put_lowers held bytes m behind puts)
-rule_lowers s at (Says message) held bytes m may holds sound behind puts =
+    subst (λ (x : ServerState). ServerLowers 2 x (server_put held)) (sym same)
+    (server_put_lowers held bytes m (subst (λ (x : ServerState). x.handshake.offer.count ≤ 14) same sound) puts)
+rule_lowers s at (Says message) held bytes m may holds sound puts =
     let same : holding message s ≡ held = held_is (holding message s) held holds in
     let put : PutsPacket (holding message s).link bytes m = subst (λ (x : ServerState). PutsPacket x.link bytes m) (sym same) puts in
     let empty : s.link.to_send ≡ [] = quiet_put s.link.phase s.link (canonical message) (put.packet, m) (behind_put (holding message s).link) may.1 put.next in
     let first : ServerLowers 0 s held = subst (ServerLowers 0 s) same (says_lowers s message may.2 empty) in
-    both_lower s held (server_put held) 2 first (server_put_lowers held bytes m behind puts)
-rule_lowers s at Joins held bytes m may holds sound behind puts = absurd (cc)
-rule_lowers s at (Fetches session) held bytes m may holds sound behind puts = absurd (cc)
-rule_lowers s at (Serves session work) held bytes m may holds sound behind puts = absurd (cc)
-rule_lowers s at (Takes packet) held bytes m may holds sound behind puts = absurd (cc)
-rule_lowers s at Idles held bytes m may holds sound behind puts = absurd (cc)
+    both_lower s held (server_put held) 2 first (server_put_lowers held bytes m (subst (λ (x : ServerState). x.handshake.offer.count ≤ 14) same sound) puts)
+rule_lowers s at Joins held bytes m may holds sound puts = absurd (cc)
+rule_lowers s at (Fetches session) held bytes m may holds sound puts = absurd (cc)
+rule_lowers s at (Serves session work) held bytes m may holds sound puts = absurd (cc)
+rule_lowers s at (Takes packet) held bytes m may holds sound puts = absurd (cc)
+rule_lowers s at Idles held bytes m may holds sound puts = absurd (cc)
 
-pub sends_lowers : (s : ServerState) (at : Seen) (packet : List ℕ) (opens : Bool) (t : ServerState) → ServerSound s → ServerSends s at packet opens t → ServerLowers 2 s t
+pub sends_lowers : (s : ServerState) (at : Seen) (packet : List ℕ) (opens : Bool) (t : ServerState) → s.handshake.offer.count ≤ 14 → ServerSends s at packet opens t → ServerLowers 2 s t
 sends_lowers s at packet opens t sound sends =
-    let held = server_held s at (server_rule s at) sends.held (server_may s at) sends.holds sound in
-    subst (ServerLowers 2 s) (sym sends.is) (rule_lowers s at (server_rule s at) sends.held packet t.link (server_may s at) sends.holds sound held.sound sends.packet)
+    subst (ServerLowers 2 s) (sym sends.is) (rule_lowers s at (server_rule s at) sends.held packet t.link (server_may s at) sends.holds sound sends.packet)

@@ -21,7 +21,8 @@ use Rattle.disk_model.specs.LaneState.{Shape}
 use Rattle.disk_model.specs.Offering.{server_offer}
 use Rattle.channel_model.specs.Ranges.{range_length, wrapped}
 use Rattle.disk_model.specs.ServerState.{ServerSession, ServerState, SlotRange, Work, joined_server, restarted_server}
-use Rattle.lane_laws.proofs.ClientTaken.{HearsMessage, HandshakesTo}
+use Rattle.lane_laws.proofs.ClientAnswers.{HandshakesTo}
+use Rattle.lane_laws.proofs.ClientTaken.{HearsMessage}
 use Rattle.lane_laws.proofs.Awake.{up_empty}
 use Rattle.lane_laws.proofs.Fitting.{TakesFit, joined_fits, take_fits, up_fits}
 use Rattle.lane_laws.proofs.RangeSums.{count_more, ready_more, sum_heard, sum_more}

@@ -33,7 +33,8 @@ use Rattle.lane_laws.proofs.RangesSaid.{heard_no_range, is_data, owed_no_range, 
 use Rattle.lane_laws.proofs.RulesFree.{AnswersFree, ServerFree, TakesFree, server_free}
 use Rattle.lane_laws.proofs.ServerCounting.{opens_new}
 use Rattle.lane_laws.proofs.ServerPutCounting.{put_as, some_owed, the_answer}
-use Rattle.lane_laws.proofs.ServerTaken.{ServerTook, opened_or}
+use Rattle.lane_laws.proofs.ServerAnswers.{opened_or}
+use Rattle.lane_laws.proofs.ServerTaken.{ServerTook}
 use Rattle.channel_laws.proofs.Short.{some_bytes}
 use Rattle.lane_laws.specs.Counted.{HoldsAnswer, HoldsOwed, ServerHolds}
 use Rattle.lane_laws.specs.HandshakeFits.{MayOwe, OwedFits}
