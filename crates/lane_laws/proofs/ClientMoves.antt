@@ -35,9 +35,9 @@ use Rattle.channel_laws.specs.EndCore.{holds}
 use Rattle.channel_laws.specs.EndStep.{DecodedFails, EndBegins, EndFails, EndHears, EndSays, EndStays, EndWaits, HandshakeTakes, HearsOwn, Holding, Holds, HoldsOn, HoldsOwed, HoldsOwn, IsOwn, KeepsOwn, LinkFails, MayTake, WholeFails}
 use Rattle.channel_laws.specs.EndStep as core
 use Rattle.lane_laws.proofs.ClientHolding.{client_held, not_own}
-use Rattle.lane_laws.proofs.Awake.{up_empty}
+use Rattle.channel_laws.proofs.EndStanding.{SameSending, heard_leaves, up_empty}
 use Rattle.lane_laws.proofs.OpenRuns.{behind_open}
-use Rattle.lane_laws.proofs.RemainingClientHears.{takes_calm}
+use Rattle.lane_laws.proofs.RulesFree.{takes_calm}
 use Rattle.lane_laws.proofs.Ruling.{client_may}
 use Rattle.lane_laws.proofs.Sharing.{in_order, infos_few}
 use Rattle.lane_laws.specs.Budget.{infos_left, one_if}
@@ -182,6 +182,16 @@ goes_link s t packet (Unheard cause) sound may takes hears = absurd (cc hears)
 pub client_hears : (s : ClientState) (at : Seen) (packet : List ℕ) (t : ClientState) → ClientSound t → client_rule s at ≡ Takes packet → ClientTakes s packet (GoesOn t)
     → EndHears Initiator (client_core s) packet false (client_core t)
 client_hears s at packet t sound rule takes = goes_link s t packet takes.link sound (client_may_take s at packet rule) takes.takes takes.hears
+
+-- its link keeps what it has to send
+pub client_sending : (s t : ClientState) (packet : List ℕ) → ClientTakes s packet (GoesOn t) → SameSending s.link t.link
+client_sending s t packet takes = of takes.link takes.takes takes.hears
+  where
+    of : (link : LinkTake) → TakesBytes s.link packet link → HearsLink s link (GoesOn t) → SameSending s.link t.link
+    of (Heard k) took hears =
+        let same = heard_leaves s.link k packet took in
+        subst (SameSending s.link) (sym (goes_whole s t k k.whole refl hears).0.link) (record { left = same.left; begun = same.begun; role = same.role })
+    of (Unheard cause) took hears = absurd (cc hears)
 
 -- IT RESETS ITSELF
 resets_decoded : (s : ClientState) (k : LinkState) (cause : Cause) (d : Result Message TagFault) → Resets cause ≡ reads (record s { link = k }) d

@@ -24,9 +24,9 @@ use Rattle.disk_model.specs.ClientState.{ClientSession, ClientState, slot_in}
 use Rattle.disk_model.specs.ClientTaking.{ClientTake, ClientTakes, GoesOn, HearsLink, HearsWhole, Resets, acknowledged, by_handshake, hears_message, in_session, reads, sid_first, takes_ack}
 use Rattle.channel_model.specs.Ranges.{is_other, range_length}
 use Rattle.channel_model.specs.Sayings.{heard}
-use Rattle.lane_laws.proofs.Awake.{was_up}
 use Rattle.channel_laws.proofs.EndStanding.{heard_leaves}
 use Rattle.channel_laws.proofs.EndCases.{HearsUp, asking_down, link_hears}
+use Rattle.channel_laws.proofs.HandshakeCases.{HandshakeTook, goes_took, opens_took}
 use Rattle.channel_laws.proofs.TurnCases.{with_whole}
 use Rattle.lane_laws.specs.LinkMoves.{IsAsking}
 
@@ -36,11 +36,6 @@ pub record HearsMessage (turns : List Turn) (packet : List ℕ) (message : Messa
   pub messages : heard (Heard_ packet ∷ turns) ≡ heard turns ++ bytes ∷ []
   pub form : IsWellFormed message
   pub spells : SpellsMessage bytes message
-
--- a handshake after a message, whether its session opens by it or not
-abbrev pub HandshakesTo : Handshake → HandshakeTake → Bool → Handshake → Type 0
-HandshakesTo h answer false g = answer ≡ Goes g
-HandshakesTo h answer true g = answer ≡ GoesOpen g
 
 pub record ClientHearsPart (s : ClientState) (turns : List Turn) (packet : List ℕ) (t : ClientState) : Type 0 where
   pub link : LinkState
@@ -59,7 +54,7 @@ pub record ClientHandshakes (s : ClientState) (turns : List Turn) (packet : List
   pub hears : HearsMessage turns packet message
   pub opens : Bool
   pub handshake : Handshake
-  pub takes : HandshakesTo s.handshake (handshake_take s.handshake message) opens handshake
+  pub took : HandshakeTook s.handshake message handshake opens
   pub is : t ≡ record s { link = link; handshake = handshake }
 
 pub record ClientAcked (s : ClientState) (turns : List Turn) (packet : List ℕ) (t : ClientState) : Type 0 where
@@ -102,9 +97,9 @@ record Now (s : ClientState) (turns : List Turn) (packet : List ℕ) (k : LinkSt
 by_handshake_take : (s : ClientState) (turns : List Turn) (packet : List ℕ) (k : LinkState) (message : Message) (answer : HandshakeTake) → Now s turns packet k message
     → handshake_take s.handshake message ≡ answer → TookOn s turns packet (by_handshake (record s { link = k }) answer)
 by_handshake_take s turns packet k message (Goes h) now is =
-    inr (inl (record { link = k; left = now.left; up = now.up; stays = now.stays; message = message; hears = now.hears; opens = false; handshake = h; takes = is; is = refl }))
+    inr (inl (record { link = k; left = now.left; up = now.up; stays = now.stays; message = message; hears = now.hears; opens = false; handshake = h; took = goes_took s.handshake h message is; is = refl }))
 by_handshake_take s turns packet k message (GoesOpen h) now is =
-    inr (inl (record { link = k; left = now.left; up = now.up; stays = now.stays; message = message; hears = now.hears; opens = true; handshake = h; takes = is; is = refl }))
+    inr (inl (record { link = k; left = now.left; up = now.up; stays = now.stays; message = message; hears = now.hears; opens = true; handshake = h; took = opens_took s.handshake h message is; is = refl }))
 by_handshake_take s turns packet k message (Faults cause) now is = tt
 
 pub is_the : (one other : ℕ) → is_other one other ≡ false → other ≡ one
@@ -186,6 +181,11 @@ by_bytes s turns packet k bytes (Ok message) left up stays messages decodes =
     by_message s turns packet k s.session message
     (record { left = left; up = up; stays = stays; hears = record { bytes = bytes; messages = messages; form = decodes.message.0; spells = decodes.message.1 } }) refl
 by_bytes s turns packet k bytes (Err fault) left up stays messages decodes = tt
+
+-- a message is whole where the link was up
+pub was_up : (up : Bool) (whole : Option (List ℕ)) (bytes : List ℕ) → (up ≡ false → whole ≡ None) → whole ≡ Some bytes → up ≡ true
+was_up true whole bytes quiet is = refl
+was_up false whole bytes quiet is = let never : None ≡ Some bytes = sym (quiet refl) ∙ is in absurd (cc never)
 
 by_whole : (s : ClientState) (k : LinkState) (turns : List Turn) (packet : List ℕ) (whole : Option (List ℕ)) (answer : ClientTake) → TakesBytes s.link packet (Heard k) → k.to_send ≡ s.link.to_send
     → HearsUp s.link k turns packet → k.whole ≡ whole → HearsWhole (record s { link = k }) whole answer → TookOn s turns packet answer

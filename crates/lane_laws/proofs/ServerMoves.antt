@@ -41,7 +41,7 @@ use Rattle.channel_laws.specs.EndCore.{holds}
 use Rattle.channel_laws.specs.EndStep.{DecodedFails, EndBegins, EndFails, EndHears, EndRenews, EndSays, EndStays, EndWaits, HandshakeTakes, HearsOwn, Holding, Holds, HoldsOn, HoldsOwed, HoldsOwn, IsOwn, KeepsOwn, LinkFails, MayTake, WholeFails}
 use Rattle.channel_laws.specs.EndStep as core
 use Rattle.lane_laws.proofs.ClientMoves.{cleared_is, holds_and, holds_none}
-use Rattle.lane_laws.proofs.Awake.{up_empty}
+use Rattle.channel_laws.proofs.EndStanding.{up_empty}
 use Rattle.lane_laws.proofs.Ruling.{server_may}
 use Rattle.lane_laws.proofs.RulesFree.{ServerFree, TakesFree, server_free}
 use Rattle.lane_laws.proofs.ServerSpeaking.{range_few}

@@ -24,10 +24,10 @@ use Rattle.channel_model.specs.Ranges.{is_other}
 use Rattle.disk_model.specs.ServerState.{ServerSession, ServerState, SlotRange, opened_server}
 use Rattle.disk_model.specs.ServerTaking.{GoesOn, HearsLink, HearsWhole, Resets, ServerTake, ServerTakes, asked, by_handshake, hears_message, in_session, place_of, reads, sid_first, takes_info}
 use Rattle.channel_model.specs.Sayings.{heard}
-use Rattle.lane_laws.proofs.Awake.{was_up}
-use Rattle.lane_laws.proofs.ClientTaken.{HearsMessage, HandshakesTo, is_the}
+use Rattle.lane_laws.proofs.ClientTaken.{HearsMessage, is_the, was_up}
 use Rattle.channel_laws.proofs.EndStanding.{heard_leaves}
 use Rattle.channel_laws.proofs.EndCases.{HearsUp, link_hears}
+use Rattle.channel_laws.proofs.HandshakeCases.{HandshakeTook, goes_took, opens_took}
 use Rattle.channel_laws.proofs.TurnCases.{with_whole}
 
 pub record ServerHearsPart (s : ServerState) (turns : List Turn) (packet : List ℕ) (t : ServerState) (opens : Bool) : Type 0 where
@@ -50,7 +50,7 @@ pub record ServerHandshakes (s : ServerState) (turns : List Turn) (packet : List
   pub message : Message
   pub hears : HearsMessage turns packet message
   pub handshake : Handshake
-  pub takes : HandshakesTo s.handshake (handshake_take s.handshake message) opens handshake
+  pub took : HandshakeTook s.handshake message handshake opens
   pub is : t ≡ record s { link = link; handshake = handshake; session = opened_or opens s.session }
 
 pub record ServerAsked (s : ServerState) (turns : List Turn) (packet : List ℕ) (t : ServerState) (opens : Bool) : Type 0 where
@@ -90,9 +90,9 @@ record Now (s : ServerState) (turns : List Turn) (packet : List ℕ) (k : LinkSt
 by_handshake_take : (s : ServerState) (turns : List Turn) (packet : List ℕ) (k : LinkState) (message : Message) (answer : HandshakeTake) → Now s turns packet k message
     → handshake_take s.handshake message ≡ answer → TookOn s turns packet (by_handshake (record s { link = k }) answer)
 by_handshake_take s turns packet k message (Goes h) now is =
-    inr (inl (record { link = k; left = now.left; up = now.up; stays = now.stays; message = message; hears = now.hears; handshake = h; takes = is; is = refl }))
+    inr (inl (record { link = k; left = now.left; up = now.up; stays = now.stays; message = message; hears = now.hears; handshake = h; took = goes_took s.handshake h message is; is = refl }))
 by_handshake_take s turns packet k message (GoesOpen h) now is =
-    inr (inl (record { link = k; left = now.left; up = now.up; stays = now.stays; message = message; hears = now.hears; handshake = h; takes = is; is = refl }))
+    inr (inl (record { link = k; left = now.left; up = now.up; stays = now.stays; message = message; hears = now.hears; handshake = h; took = opens_took s.handshake h message is; is = refl }))
 by_handshake_take s turns packet k message (Faults cause) now is = tt
 
 took_if : (s : ServerState) (turns : List Turn) (packet : List ℕ) (b : Bool) (x y : ServerTake) → (b ≡ true → TookOn s turns packet x) → (b ≡ false → TookOn s turns packet y)
