@@ -26,6 +26,7 @@ use Rattle.channel_model.specs.EndPuts.{ComesUp, EndsOwn, EndsHandshake, Goes as
 use Rattle.channel_model.specs.Sayings.{heard}
 use Rattle.channel_laws.proofs.HandshakeCases.{HandshakeTook, goes_took, never_opens, opens_took}
 use Rattle.channel_laws.proofs.LinkCases.{ControlGone, ControlHeard, ControlPut, ControlTaken, LinkHeard, LinkPut, ModeAgreed, ModeAnswered, ModeAsked, ModeOffered, PartGone, PartHeard, ReadyGone, ReadyHeard, VersionAgreed, VersionAnswered, VersionAsked, VersionOffered, VersionRefused, behind_part, behind_ready, canonical_is, link_heard, link_put, put_quiet, ready_loud}
+use Rattle.channel_laws.proofs.PutSayings.{control_kind}
 use Rattle.channel_laws.proofs.TurnCases.{EndsBy, HearsOn, SaysLast, SaysMore, SaysNothing, SaysPart, hears_on, says_last, says_more, says_nothing, says_part}
 use Rattle.channel_laws.specs.EndCore.{EndCore}
 use Rattle.channel_laws.specs.EndStep.{EndHears, EndSays, HandshakeTakes, HearsDecoded, HearsWhole, IsOwn, kind_of, opened_by, risen_at}
@@ -235,13 +236,6 @@ pub data PutWhat (role : Role) (held : EndCore) (turns : List Turn) (packet : Li
       → opens ≡ false → t.is_open ≡ held.is_open → PutWhat role held turns packet opens t
   PutHandshake : held.own ≡ false → held.link.phase ≡ phase.Established → t.link ≡ behind_part held.link → SaysLast held.link turns packet → t.handshake ≡ handshake_sent held.handshake
       → opens ≡ opens_by_put held.handshake.role held.handshake.phase → t.is_open ≡ (opens || held.is_open) → PutWhat role held turns packet opens t
-
-control_kind : (before : LinkPhase) (bytes : List ℕ) (next : LinkPhase) (k : LinkState) (own : Bool) → ControlPut before bytes next → kind_in before k own ≡ GoesOn
-control_kind before bytes next k own (VersionOffered at is goes) = ap (λ (p : LinkPhase). kind_in p k own) at
-control_kind before bytes next k own (VersionAnswered at is goes) = ap (λ (p : LinkPhase). kind_in p k own) at
-control_kind before bytes next k own (VersionRefused major at is goes) = ap (λ (p : LinkPhase). kind_in p k own) at
-control_kind before bytes next k own (ModeOffered at is goes) = ap (λ (p : LinkPhase). kind_in p k own) at
-control_kind before bytes next k own (ModeAnswered at is goes) = ap (λ (p : LinkPhase). kind_in p k own) at
 
 opened_not : (role : Role) (opens was : Bool) → opens ≡ false → opened_by role opens was ≡ was
 opened_not Initiator opens was not = ap (λ (b : Bool). b || was) not

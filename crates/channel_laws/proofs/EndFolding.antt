@@ -1,5 +1,5 @@
 -- Each move of an end leaves its link's phase and its handshake as its turns have them.
-use Rattle.std.proofs.Common.{◌≡◌, ℕ, ◌+◌, ◌≤◌, Bool, true, false, ◌||◌, inl, inr, Option, Some, None, List, [], ◌∷◌, ◌++◌, refl, sym, ap, ◌∙◌, subst, arith}
+use Rattle.std.proofs.Common.{◌≡◌, ℕ, ◌≤◌, Bool, true, false, ◌||◌, inl, inr, Option, Some, None, List, [], ◌∷◌, ◌++◌, refl, sym, ap, ◌∙◌, subst, arith}
 use Rattle.std.specs.Prelude.{◌==◌, Result, Ok}
 use Rattle.runs.specs.Run.{Run}
 use Rattle.ldc_link.specs.declared.phase.LinkPhase.{LinkPhase}
@@ -45,7 +45,7 @@ use Rattle.channel_laws.proofs.LinkCases.{ControlGone, ControlHeard, ControlPut,
 use Rattle.channel_laws.proofs.Sids.{loud_rdx, part_rdx, quiet_rdx, row_last, sent_last}
 use Rattle.channel_laws.proofs.TurnCases.{SaysLast, heard_none, heard_some, said_none, said_some}
 use Rattle.channel_laws.specs.Cuts.{Carries}
-use Rattle.channel_laws.specs.EndCore.{Begins, EndCore, EndMove, Fails, Hears, Renews, Says, Stays, Waits, fresh_end, holds}
+use Rattle.channel_laws.specs.EndCore.{Begins, EndCore, EndMove, Fails, Hears, Renews, Says, Stays, Waits, fresh_end}
 use Rattle.channel_laws.specs.EndFold.{EndFolds, behind_decoded, behind_heard, behind_said, decoded_of, down_with, handshake_of, is_of_session, moved_by, or_stays, phase_by, phase_heard, sent_unless, subtype_named, up_if, up_with}
 use Rattle.channel_laws.specs.EndStep.{EndBegins, EndHears, EndSays, EndStep, IsOfSession}
 use Rattle.channel_laws.specs.LaneCore.{CoreEvent, CoreFits, CoreStep, LaneCore, fresh_core, transcript_behind, turns_after}

@@ -194,6 +194,11 @@ heard_sending k m bytes (PartHeard at part may number is) =
 pub heard_leaves : (k m : LinkState) (bytes : List ℕ) → TakesBytes k bytes (Heard m) → SameSending k m
 heard_leaves k m bytes takes = heard_sending k m bytes (link_heard k m bytes takes)
 
+pub hears_sending : (role : Role) (c t : EndCore) (packet : List ℕ) (opens : Bool) → EndHears role c packet opens t → SameSending c.link t.link
+hears_sending role c t packet opens hears =
+    let same = heard_leaves c.link hears.heard packet hears.takes in
+    subst (SameSending c.link) (sym hears.link) (record { left = same.left; begun = same.begun; role = same.role })
+
 by_answer : (b c : Bool) → IsPhaseOf Responder (if b then phase.OwesVersAck else if c then phase.OwesVersNack 0 else phase.OwesVersNack 1)
 by_answer true c = tt
 by_answer false true = tt

@@ -2,6 +2,7 @@ pub mod LinkCases
 pub mod TurnCases
 pub mod HandshakeCases
 pub mod Short
+pub mod PutSayings
 pub mod EndCases
 pub mod EndStanding
 pub mod EndResting
@@ -10,6 +11,7 @@ pub mod PacketsLeft
 pub mod FewLost
 pub mod Conversations
 pub mod Lifting
+pub mod HandshakeFitting
 pub mod ConversingRuns
 pub mod EndUttering
 pub mod LinkPlaced
@@ -35,4 +37,5 @@ pub mod OpeningRows
 pub mod OpeningOrder
 pub mod ToyRuns
 pub mod WhoseTurn
+pub mod AtRest
 pub mod EndFolding

@@ -1,23 +1,26 @@
 -- How many packets an end has still to put: the number falls with each packet that it puts, and rises by one as its link holds a message of
--- its session.
-use Rattle.std.proofs.Common.{◌≡◌, ℕ, ◌+◌, ◌≤◌, Bool, true, false, Option, List, [], ◌∷◌, length, drop, refl, sym, ap, ◌∙◌, subst, arith, length-drop}
+-- its session. Where the messages that it may begin count too, it doesn't rise.
+use Rattle.std.proofs.Common.{◌≡◌, ℕ, ◌+◌, ◌≤◌, ◌⊎◌, inl, inr, Bool, true, false, Option, Some, None, List, [], ◌∷◌, length, drop, refl, sym, ap, ◌∙◌, subst, arith, length-drop}
 use Rattle.std.proofs.lemmas.Bool.{leb-false}
 use Rattle.ldc_link.specs.declared.phase.LinkPhase.{LinkPhase}
 use Rattle.ldc_link.specs.declared.phase.LinkPhase.TheVariants as phase
 use Rattle.ldc_link.specs.declared.phase.Role.{Role}
 use Rattle.ldc_link.specs.declared.phase.Role.TheVariants.{Initiator, Responder}
-use Rattle.ldc_link.specs.LinkState.{LinkState, is_established, offered}
+use Rattle.ldc_link.specs.LinkState.{LinkState, first_phase, is_established, offered}
+use Rattle.ldc_link.specs.Putting.{owes}
 use Rattle.ldc_queue.specs.Transcript.{Turn}
 use Rattle.vio_handshake.specs.declared.handshake.Handshake.{Handshake}
 use Rattle.vio_handshake.specs.declared.handshake.Phase.{Phase}
 use Rattle.vio_handshake.specs.declared.handshake.Phase.TheVariants.{Open, OwnReady, OwnRing, PeerReadyTaken, PeerRingTaken, Version}
 use Rattle.vio_handshake.specs.Messages.{info, own_ring}
-use Rattle.vio_handshake.specs.Rules.{handshake_sent}
-use Rattle.vio_handshake.specs.State.{begun, handshake_up, joined_handshake, next_sid}
+use Rattle.vio_handshake.specs.declared.session.Offer.{Offer}
+use Rattle.vio_handshake.specs.Rules.{handshake_sent, opens_by_put}
+use Rattle.vio_handshake.specs.State.{begun, fresh_handshake, handshake_up, joined_handshake, next_sid}
 use Rattle.vio_tag.proofs.Canonical.{length_canonical}
 use Rattle.vio_tag.specs.declared.message.Message.{Message}
 use Rattle.vio_tag.specs.declared.message.MsgBody.TheVariants.{Rdx, Ver}
 use Rattle.vio_tag.specs.Spelling.{canonical}
+use Rattle.channel_model.specs.EndPuts.{ComesUp, EndsHandshake, EndsOwn, Goes, PutKind, put_opens}
 use Rattle.channel_laws.proofs.EndCases.{PutControl, PutHandshake, PutMore, PutOwn, PutReady, PutWhat, end_put}
 use Rattle.channel_laws.proofs.EndStanding.{few_offered, held_stands, holds_some, last_none, open_up, owing_up, up_empty}
 use Rattle.channel_laws.proofs.HandshakeCases.{Opens, Owes, OwnReadyFollows, ReadyFollows, RingFollows, RowSent, row_sent}
@@ -25,9 +28,9 @@ use Rattle.channel_laws.proofs.LinkCases.{ControlPut, ModeAnswered, ModeOffered,
 use Rattle.channel_laws.proofs.Short.{short_within, some_bytes}
 use Rattle.channel_laws.proofs.TurnCases.{SaysLast}
 use Rattle.channel_laws.specs.EndCore.{EndCore, holds}
-use Rattle.channel_laws.specs.EndStep.{EndSays, EndWaits, Holding, Holds, HoldsOn, HoldsOwed, HoldsOwn}
-use Rattle.channel_laws.specs.PacketsLeft.{all_in, all_of, held_left, later, later_in, left_in, messages_in, own_in, packets_left, parts, parts_owed}
-use Rattle.channel_laws.specs.Standing.{EndStands}
+use Rattle.channel_laws.specs.EndStep.{EndAnew, EndSays, EndStays, EndWaits, Holding, Holds, HoldsOn, HoldsOwed, HoldsOwn, kind_of}
+use Rattle.channel_laws.specs.PacketsLeft.{all_in, all_of, first_packets, held_left, later, later_in, left_in, messages_in, own_in, packets_left, parts, parts_owed}
+use Rattle.channel_laws.specs.Standing.{EndStands, HandshakeStands, is_open_in}
 
 -- SUMS
 left_more : (ph : LinkPhase) (all n m more : ℕ) → n ≤ m + more → left_in ph all n ≤ left_in ph all m + more
@@ -136,7 +139,44 @@ sent_left role c turns t opens stands (Opens r at is yes_one) =
     subst (SentLeft c.handshake) (sym is) (omega (arith, opens_last both, later_at both c.handshake.role Initiator Open Open r refl))
 sent_left role c turns t opens stands (Owes follows is not) = subst (SentLeft c.handshake) (sym is) (omega arith)
 
--- IT HOLDS a message
+-- IT BEGINS
+first_same : (role : Role) (all n : ℕ) → left_in (first_phase role) all n ≡ left_in (first_phase role) all 0
+first_same Initiator all n = refl
+first_same Responder all n = refl
+
+pub anew_packets : (role : Role) (c t : EndCore) → HandshakeStands role c.offer c.handshake → EndAnew role c t → packets_left t ≡ first_packets c.offer.both_rings role
+anew_packets role c t stands begins =
+    ap (λ (k : LinkState). left_in k.phase (all_in t.handshake) (messages_in t)) begins.link ∙ ap (λ (n : ℕ). left_in (first_phase role) n (messages_in t)) (by_handshake begins.handshake)
+    ∙ first_same role (all_of c.offer.both_rings role) (messages_in t)
+  where
+    by_handshake : (t.handshake ≡ joined_handshake c.handshake) ⊎ (t.handshake ≡ fresh_handshake role c.offer) → all_in t.handshake ≡ all_of c.offer.both_rings role
+    by_handshake (inl joined) =
+        ap all_in joined ∙ ap (λ (r : Role). all_of c.handshake.offer.both_rings r) stands.role_is ∙ ap (λ (o : Offer). all_of o.both_rings role) stands.offer_is
+    by_handshake (inr fresh) = ap all_in fresh
+
+-- IT WORKS, or does nothing
+pub stays_packets : (c t : EndCore) → EndStays c t → packets_left t ≡ packets_left c
+stays_packets c t stays =
+    ap (λ (k : LinkState). left_in k.phase (all_in t.handshake) (later_in t.handshake + held_left t.own k.to_send t.handshake.owed)) stays.link
+    ∙ ap (λ (h : Handshake). left_in c.link.phase (all_in h) (later_in h + held_left t.own c.link.to_send h.owed)) stays.handshake
+    ∙ ap (λ (b : Bool). left_in c.link.phase (all_in c.handshake) (later_in c.handshake + held_left b c.link.to_send c.handshake.owed)) stays.own
+
+-- IT HOLDS a message: one of its session only where its link owed no packet and its handshake no message
+pub own_most : (what : Holding) → own_in what ≤ 1
+own_most HoldsOn = omega arith
+own_most (HoldsOwed message) = omega arith
+own_most (HoldsOwn message) = omega arith
+
+pub loud_none : (c held : EndCore) (what : Holding) → owes c.link ≡ true → Holds c what held → own_in what ≡ 0
+loud_none c held HoldsOn loud holds = refl
+loud_none c held (HoldsOwed message) loud holds = refl
+loud_none c held (HoldsOwn message) loud holds = let never : true ≡ false = sym loud ∙ holds.quiet in absurd (cc never)
+
+pub owing_none : (c held : EndCore) (message : Message) (what : Holding) → c.handshake.owed ≡ Some message → Holds c what held → own_in what ≡ 0
+owing_none c held message HoldsOn owed holds = refl
+owing_none c held message (HoldsOwed other) owed holds = refl
+owing_none c held message (HoldsOwn other) owed holds = let never : None ≡ Some message = sym holds.owed ∙ owed in absurd (cc never)
+
 offered_left : (c held : EndCore) (message : Message) (more : ℕ) → c.link.to_send ≡ [] → held.link ≡ offered (canonical message) c.link → held.handshake ≡ c.handshake
     → held_left held.own (canonical message) c.handshake.owed ≤ parts_owed c.handshake.owed + more → packets_left held ≤ packets_left c + more
 offered_left c held message more none link handshake less =
@@ -269,3 +309,34 @@ says_packets role c t turns packet opens stands says =
       held_packets role c says.held turns says.what stands says.holds,
       put_packets role says.held t turns packet opens holds_so says.own (end_put role c t turns packet opens says holds_so),
     )
+
+-- WITH THE MESSAGES that it may begin
+held_more : (role : Role) (c held : EndCore) (turns : List Turn) (what : Holding) → EndStands role c turns → Holds c what held → held.more + own_in what ≤ c.more
+held_more role c held turns HoldsOn stands is = omega (arith, ap (λ (x : EndCore). x.more) is)
+held_more role c held turns (HoldsOwed message) stands offers = omega (arith, offers.more)
+held_more role c held turns (HoldsOwn message) stands offers = offers.more (open_up role c turns stands offers.opened)
+
+pub waits_left : (role : Role) (c t : EndCore) (turns : List Turn) → EndStands role c turns → EndWaits c t → packets_left t + t.more ≤ packets_left c + c.more
+waits_left role c t turns stands waits =
+    omega (arith, held_packets role c t turns waits.what stands waits.holds, held_more role c t turns waits.what stands waits.holds)
+
+pub says_left : (role : Role) (c t : EndCore) (turns : List Turn) (packet : List ℕ) (opens : Bool) → EndStands role c turns → EndSays role c packet opens t → opens ≡ false
+    → packets_left t + t.more + 1 ≤ packets_left c + c.more
+says_left role c t turns packet opens stands says shut =
+    omega (arith, says_packets role c t turns packet opens stands says, held_more role c says.held turns says.what stands says.holds, says.more shut)
+
+-- A SESSION OPENS by a message that an initiator puts, and wasn't open before
+pub opening_shut : (role : Role) (at : Phase) → opens_by_put role at ≡ true → (role ≡ Initiator) × (is_open_in at ≡ false)
+opening_shut Initiator PeerReadyTaken opens = (refl, refl)
+opening_shut Responder at opens = absurd (cc opens)
+opening_shut Initiator at opens = absurd (cc opens)
+
+shut_in : (kind : PutKind) (h : Handshake) → h.role ≡ Responder → put_opens kind h ≡ false
+shut_in EndsHandshake h role_is = ap (λ (r : Role). opens_by_put r h.phase) role_is
+shut_in Goes h role_is = refl
+shut_in ComesUp h role_is = refl
+shut_in EndsOwn h role_is = refl
+
+pub answering_shut : (c t : EndCore) (turns : List Turn) (packet : List ℕ) (opens : Bool) → EndStands Responder c turns → EndSays Responder c packet opens t → opens ≡ false
+answering_shut c t turns packet opens stands says =
+    says.opens_is ∙ shut_in (kind_of says.held) says.held.handshake (held_stands Responder c says.held turns says.what stands says.holds).handshake.role_is

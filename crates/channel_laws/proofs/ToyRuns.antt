@@ -1,5 +1,5 @@
 -- The toy kind's row of the handshake and its equal sessions, by the laws of two ends.
-use Rattle.std.proofs.Common.{◌≡◌, ℕ, Bool, false, true, List, [], ◌∷◌, refl, ap, arith}
+use Rattle.std.proofs.Common.{◌≡◌, ℕ, false, true, List, [], ◌∷◌, refl, ap, arith}
 use Rattle.std.specs.Prelude.{is_some}
 use Rattle.runs.specs.Run.{Run}
 use Rattle.ldc_queue.specs.declared.end.End.{End}
@@ -14,7 +14,7 @@ use Rattle.channel_model.specs.TranscriptLog.{transcript_of}
 use Rattle.channel_model.specs.WireEvent as event
 use Rattle.channel_laws.proofs.OpeningOrder.{opens_hearing, opens_saying}
 use Rattle.channel_laws.proofs.Sessions.{open_sessions_one}
-use Rattle.channel_laws.specs.LaneCore.{CoreEvent, CoreFits, CoreStep, OfferFits, OnChannel, fresh_core, role_of, transcript_behind}
+use Rattle.channel_laws.specs.LaneCore.{CoreEvent, CoreFits, CoreStep, OfferFits, OnChannel, role_of, transcript_behind}
 use Rattle.channel_laws.specs.OneSession.{AreOneSession}
 use Rattle.channel_laws.specs.ToyKind.{ToyLane, ToyStep, fresh_toys, toy_lane, toy_offer}
 

@@ -5,6 +5,7 @@ pub mod Sides
 pub mod Cuts
 pub mod Standing
 pub mod Grounds
+pub mod HandshakeFits
 pub mod Utterances
 pub mod OneSession
 pub mod Budget

@@ -5,6 +5,7 @@ use Rattle.ldc_link.specs.declared.phase.LinkPhase.{LinkPhase}
 use Rattle.ldc_link.specs.declared.phase.LinkPhase.TheVariants as phase
 use Rattle.ldc_link.specs.declared.phase.Role.{Role}
 use Rattle.ldc_link.specs.declared.phase.Role.TheVariants.{Initiator, Responder}
+use Rattle.ldc_link.specs.LinkState.{first_phase}
 use Rattle.vio_handshake.specs.declared.handshake.Handshake.{Handshake}
 use Rattle.vio_handshake.specs.declared.handshake.Phase.{Phase}
 use Rattle.vio_handshake.specs.declared.handshake.Phase.TheVariants.{Attributes, OwnReady, OwnRing, PeerReady, PeerReadyTaken, PeerRing, PeerRingTaken, Version}
@@ -98,9 +99,12 @@ left_in phase.OwesRtr all messages = all + 1
 left_in phase.AwaitsRdx all messages = all
 left_in phase.Established all messages = messages
 
--- THE NUMBER
+-- THE NUMBER, and that of an end that begins
 abbrev pub packets_left : EndCore → ℕ
 packets_left c = left_in c.link.phase (all_in c.handshake) (messages_in c)
+
+abbrev pub first_packets : (both_rings : Bool) → Role → ℕ
+first_packets both_rings role = left_in (first_phase role) (all_of both_rings role) 0
 
 -- a message of the session comes with one more
 abbrev pub own_in : Holding → ℕ

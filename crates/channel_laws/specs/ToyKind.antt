@@ -1,6 +1,6 @@
 -- A toy kind of lane with rings both ways, which no program has: a kind gives what its ends offer, and how many messages of a session each
 -- may say, and nothing else.
-use Rattle.std.specs.Prelude.{◌≡◌, ℕ, ◌-◌, Bool, true, ◌&&◌, is_none, is_some, not, List, [], ◌∷◌, length, replicate, Option, Some, None}
+use Rattle.std.specs.Prelude.{ℕ, ◌-◌, true, ◌&&◌, is_none, is_some, not, ◌∷◌, replicate, Option, Some, None}
 use Rattle.ldc_link.specs.declared.phase.Role.TheVariants.{Initiator, Responder}
 use Rattle.ldc_link.specs.LinkState.{LinkState, fresh_link}
 use Rattle.ldc_queue.specs.Messages.{is_empty}

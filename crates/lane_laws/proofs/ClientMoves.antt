@@ -31,9 +31,9 @@ use Rattle.channel_laws.specs.EndCore.{holds}
 use Rattle.channel_laws.specs.EndStep.{EndBegins, EndFails, EndHears, EndSays, EndStays, EndWaits, HandshakeTakes, HearsWhole, Holding, Holds, HoldsOn, HoldsOwed, HoldsOwn, IsOfSession, KeepsOwn, LinkFails, MayTake, WholeFails}
 use Rattle.lane_laws.proofs.ClientAnswers.{Answers, HandshakesTo, comes_to, goes_by}
 use Rattle.lane_laws.proofs.ClientHolding.{client_held, not_own}
-use Rattle.lane_laws.proofs.Awake.{up_empty}
+use Rattle.channel_laws.proofs.EndStanding.{SameSending, heard_leaves, up_empty}
 use Rattle.lane_laws.proofs.OpenRuns.{behind_open}
-use Rattle.lane_laws.proofs.RemainingClientHears.{takes_calm}
+use Rattle.lane_laws.proofs.RulesFree.{takes_calm}
 use Rattle.lane_laws.proofs.Ruling.{client_may}
 use Rattle.lane_laws.proofs.Sharing.{in_order, infos_few}
 use Rattle.lane_laws.specs.Budget.{infos_left, one_if}
@@ -142,6 +142,16 @@ client_hears s at packet t sound rule takes =
       own = λ before behind. to.0.own;
       most = infos_most t sound;
     }
+
+-- its link keeps what it has to send
+pub client_sending : (s t : ClientState) (packet : List ℕ) → ClientTakes s packet (GoesOn t) → SameSending s.link t.link
+client_sending s t packet takes = of takes.link takes.takes takes.hears
+  where
+    of : (link : LinkTake) → TakesBytes s.link packet link → HearsLink s link (GoesOn t) → SameSending s.link t.link
+    of (Heard k) took hears =
+        let same = heard_leaves s.link k packet took in
+        subst (SameSending s.link) (sym (goes_whole s t k k.whole refl hears).0.link) (record { left = same.left; begun = same.begun; role = same.role })
+    of (Unheard cause) took hears = absurd (cc hears)
 
 -- IT RESETS ITSELF
 resets_link : (s : ClientState) (cause : Cause) (link : LinkTake) → HearsLink s link (Resets cause) → LinkFails Initiator (client_core s) link cause

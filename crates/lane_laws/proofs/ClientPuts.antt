@@ -11,7 +11,7 @@ use Rattle.disk_model.specs.LaneState.{LaneState}
 use Rattle.lane_laws.proofs.LaneCounting.{Knows}
 use Rattle.lane_laws.proofs.ClientHolding.{client_held}
 use Rattle.lane_laws.proofs.ClientWorkCounting.{client_holds_counting}
-use Rattle.lane_laws.proofs.EndPutting.{PutSays, put_says}
+use Rattle.channel_laws.proofs.PutSayings.{PutSays, put_says}
 use Rattle.lane_laws.proofs.Ruling.{client_may}
 use Rattle.lane_laws.proofs.Speaking.{client_blocked_rests}
 use Rattle.lane_laws.specs.Counted.{ClientCounted}

@@ -1,6 +1,6 @@
 -- What a client makes of a packet that it takes, where it doesn't reset itself: no message is whole by it, or one of the handshake is, or
 -- an acknowledgement of its ranges.
-use Rattle.std.proofs.Common.{◌≡◌, ℕ, ◌+◌, ◌<◌, ◌≤◌, Bool, true, false, Some, None, List, [], ◌∷◌, ◌++◌, refl, ap, ◌∙◌, Option, ◌⊎◌, inl, inr}
+use Rattle.std.proofs.Common.{◌≡◌, ℕ, ◌+◌, ◌<◌, ◌≤◌, Bool, true, false, Some, None, List, [], ◌∷◌, ◌++◌, refl, sym, ap, ◌∙◌, Option, ◌⊎◌, inl, inr}
 use Rattle.std.specs.Prelude.{⊤}
 use Rattle.ldc_link.specs.Following.{Follows}
 use Rattle.ldc_link.specs.LinkState.{LinkState, cleared, is_up}
@@ -16,10 +16,10 @@ use Rattle.disk_model.specs.ClientState.{ClientSession, ClientState, slot_in}
 use Rattle.disk_model.specs.ClientTaking.{ClientTake, ClientTakes, GoesOn, Resets, acknowledged}
 use Rattle.channel_model.specs.Ranges.{range_length}
 use Rattle.channel_model.specs.Sayings.{heard}
-use Rattle.lane_laws.proofs.Awake.{was_up}
 use Rattle.lane_laws.proofs.ClientAnswers.{Answers, GoesBy, HandshakesTo, comes_to, goes_by}
 use Rattle.channel_laws.proofs.EndStanding.{heard_leaves}
 use Rattle.channel_laws.proofs.EndCases.{HearsUp, asking_down, link_hears}
+use Rattle.channel_laws.proofs.HandshakeCases.{HandshakeTook, goes_took, opens_took}
 use Rattle.channel_laws.proofs.TurnCases.{with_whole}
 use Rattle.lane_laws.specs.LinkMoves.{IsAsking}
 
@@ -47,7 +47,7 @@ pub record ClientHandshakes (s : ClientState) (turns : List Turn) (packet : List
   pub hears : HearsMessage turns packet message
   pub opens : Bool
   pub handshake : Handshake
-  pub takes : HandshakesTo s.handshake (handshake_take s.handshake message) opens handshake
+  pub took : HandshakeTook s.handshake message handshake opens
   pub is : t ≡ record s { link = link; handshake = handshake }
 
 pub record ClientAcked (s : ClientState) (turns : List Turn) (packet : List ℕ) (t : ClientState) : Type 0 where
@@ -80,11 +80,21 @@ abbrev TookOn : ClientState → List Turn → List ℕ → ClientTake → Type 0
 TookOn s turns packet (GoesOn t) = ClientTook s turns packet t
 TookOn s turns packet (Resets cause) = ⊤
 
+-- what its handshake makes of it
+pub took_to : (h : Handshake) (message : Message) (opens : Bool) (g : Handshake) → HandshakesTo h (handshake_take h message) opens g → HandshakeTook h message g opens
+took_to h message false g is = goes_took h g message is
+took_to h message true g is = opens_took h g message is
+
+-- a message is whole where the link was up
+pub was_up : (up : Bool) (whole : Option (List ℕ)) (bytes : List ℕ) → (up ≡ false → whole ≡ None) → whole ≡ Some bytes → up ≡ true
+was_up true whole bytes quiet is = refl
+was_up false whole bytes quiet is = let never : None ≡ Some bytes = sym (quiet refl) ∙ is in absurd (cc never)
+
 answers : (s : ClientState) (turns : List Turn) (packet : List ℕ) (k : LinkState) (message : Message) → k.to_send ≡ s.link.to_send → is_up s.link ≡ true → is_up k ≡ true
     → HearsMessage turns packet message → Answers s k message (TookOn s turns packet)
 answers s turns packet k message left up stays hears = record {
   goes = λ opens h to.
-      inr (inl (record { link = k; left = left; up = up; stays = stays; message = message; hears = hears; opens = opens; handshake = h; takes = to; is = refl }));
+      inr (inl (record { link = k; left = left; up = up; stays = stays; message = message; hears = hears; opens = opens; handshake = h; took = took_to s.handshake message opens h to; is = refl }));
   faults = λ cause is. tt;
   acks = λ a. inr (inr (record {
     link = k;

@@ -39,13 +39,14 @@ use Rattle.lane_laws.proofs.ClientFolds.{ClientIs, client_admits_so, client_begi
 use Rattle.lane_laws.proofs.Speaking.{client_blocked_rests}
 use Rattle.lane_laws.proofs.ClientTaken.{client_took_what}
 use Rattle.lane_laws.proofs.Speaking.{client_blocked_utters}
-use Rattle.lane_laws.proofs.EndPutting.{put_says}
-use Rattle.lane_laws.proofs.Awake.{is_open_up}
+use Rattle.channel_laws.proofs.PutSayings.{put_says}
+use Rattle.channel_laws.proofs.EndStanding.{hears_sending, open_up}
 use Rattle.lane_laws.proofs.LaneCounting.{Knows, knows_step, run_knows}
-use Rattle.lane_laws.proofs.LinkKept.{client_sending, server_sending}
+use Rattle.lane_laws.proofs.ClientMoves.{client_sending}
+use Rattle.lane_laws.proofs.ServerMoves.{server_hears}
 use Rattle.lane_laws.proofs.ClientPuts.{putting}
 use Rattle.lane_laws.proofs.RangeSums.{count_heard}
-use Rattle.lane_laws.proofs.RemainingClientHears.{owes_nothing, takes_calm}
+use Rattle.lane_laws.proofs.RulesFree.{owes_nothing, takes_calm}
 use Rattle.lane_laws.proofs.RulesFree.{ServerFree, TakesFree, server_free}
 use Rattle.lane_laws.proofs.Ruling.{client_may}
 use Rattle.lane_laws.proofs.ServerFolds.{ServerIs, ranged, server_begins, server_blocks_so, server_fetches_so, server_finishes_so, server_moves_so, server_puts_so, server_restarts, server_stores_so, server_takes_so}
@@ -161,7 +162,8 @@ server_takes s l packet opens t both step =
     let at = seen B s.shape.entries s.wire.wire in
     let free : TakesFree s.server = subst (ServerFree s.server) step.1.step.1.0 (server_free s.server at) in
     server_takes_so s.server t.server l.transcript.server packet opens l.blocked.server (record {
-      same = server_sending s.server t.server opens packet step.1.step.1.1;
+      same = hears_sending Responder (server_core s.server) (server_core t.server) packet opens
+          (server_hears s.server at packet t.server opens step.1.step.1.0 step.1.step.1.1);
       free = free;
     }) knows.rests.server both.server
     (server_took_what s.server l.transcript.server packet t.server opens knows.rests.server.stands.link.follows knows.rests.server.whole step.1.step.1.1)
@@ -468,7 +470,7 @@ module _ (s : LaneState) (l : DiskLog) (both : BothAre s l) (cuts : Cuts s.serve
       up : (p : Option ServerSession) → s.server.session ≡ p → ranged p ≡ Some range → is_up s.server.link ≡ true
       up None open_one there = absurd (cc)
       up (Some session) open_one there =
-          is_open_up Responder (server_core s.server) l.transcript.server both.knows.rests.server (ap is_some open_one)
+          open_up Responder (server_core s.server) l.transcript.server both.knows.rests.server.stands (ap is_some open_one)
   answered_left o range (byte ∷ left) none is at left_is =
       let some : 1 ≤ length s.server.link.to_send = omega (arith, ap length left_is) in
       let a : HoldsAnswer s.server (half_said l.transcript.server ++ s.server.link.to_send) = answer_either s.server _ none (both.knows.counted.server.holds some) in

@@ -33,10 +33,10 @@ use Rattle.lane_laws.proofs.Speaking.{client_blocked_rests}
 use Rattle.lane_laws.proofs.ClientTaken.{client_took_what}
 use Rattle.lane_laws.proofs.Speaking.{client_blocked_utters}
 use Rattle.lane_laws.proofs.ClientWorkCounting.{client_admits_counting, client_completes_counting, client_holds_counting, client_publishes_counting, handshake_counting}
-use Rattle.lane_laws.proofs.EndPutting.{PutSays, put_says}
+use Rattle.channel_laws.proofs.PutSayings.{PutSays, put_says}
 use Rattle.lane_laws.proofs.Speaking.{fresh_rests, rests_step}
 use Rattle.lane_laws.proofs.Speaking.{lane_utters}
-use Rattle.lane_laws.proofs.RemainingClientHears.{owes_nothing}
+use Rattle.lane_laws.proofs.RulesFree.{owes_nothing}
 use Rattle.lane_laws.proofs.Requesting.{KeepsRequests, first_done, held_kept}
 use Rattle.lane_laws.proofs.RulesFree.{ServerFree, TakesFree, server_free}
 use Rattle.lane_laws.proofs.Ruling.{client_may}
@@ -320,7 +320,7 @@ pub fresh_counted : (shape : Shape) → LaneCounted (fresh shape) (nothing_yet s
 fresh_counted shape = record {
   client = record {
     slots = refl;
-    handshake = record { role_is = refl; offer_is = refl; owed = tt; ring = tt };
+    handshake = record { role_is = refl; offer_is = refl; owed = tt; ring = λ takes named. absurd (cc named) };
     holds = record { owed = λ quiet some. absurd (omega (arith, some)); own = λ session is on. absurd (cc) };
     announced = refl;
     infos = refl;
@@ -331,7 +331,7 @@ fresh_counted shape = record {
   server = record {
     slots = refl;
     blocks = refl;
-    handshake = record { role_is = refl; offer_is = refl; owed = tt; ring = tt };
+    handshake = record { role_is = refl; offer_is = refl; owed = tt; ring = λ takes named. absurd (cc named) };
     holds = λ some. absurd (omega (arith, some));
     order = record { asked = refl; answered = refl; infos = refl };
     unit = tt;

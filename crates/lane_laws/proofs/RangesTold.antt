@@ -49,7 +49,7 @@ use Rattle.lane_laws.proofs.AlongRuns.{reached_lawful}
 use Rattle.lane_laws.proofs.ClientMoves.{client_waits}
 use Rattle.lane_laws.proofs.ClientPutCounting.{OwnInfo, own_info}
 use Rattle.lane_laws.proofs.Counting.{slot_of_count}
-use Rattle.lane_laws.proofs.EndPutting.{PutSays, put_says}
+use Rattle.channel_laws.proofs.PutSayings.{PutSays, put_says}
 use Rattle.lane_laws.proofs.LaneChannel.{OnLane, answers_of, asks_of, lane_meets}
 use Rattle.lane_laws.proofs.LaneCores.{lane_steps, shape_of}
 use Rattle.lane_laws.proofs.LaneCounting.{Knows, run_knows}

@@ -22,7 +22,7 @@ use Rattle.disk_model.specs.ServerState.{Ends, Progress, ServerSession, ServerSt
 use Rattle.disk_model.specs.ServerStep.{ServerFetches, ServerFinishes, ServerSends}
 use Rattle.cookie_copy.specs.Reach.{Reach}
 use Rattle.disk_model.specs.ServerWork.{desc_of, first_progress}
-use Rattle.lane_laws.proofs.EndPutting.{PutSays, put_says}
+use Rattle.channel_laws.proofs.PutSayings.{PutSays, put_says}
 use Rattle.lane_laws.proofs.RulesFree.{ServerFree, server_free}
 use Rattle.lane_laws.proofs.ServerPutCounting.{answers_more, comes_counting, goes_counting, own_counting, put_as, server_holds_counting, handshake_counting}
 use Rattle.lane_laws.proofs.Speaking.{server_blocked_rests, server_blocked_utters}

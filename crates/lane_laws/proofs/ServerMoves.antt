@@ -37,7 +37,7 @@ use Rattle.channel_laws.specs.EndStep.{EndBegins, EndFails, EndHears, EndRenews,
 use Rattle.channel_laws.specs.EndStep as core
 use Rattle.lane_laws.proofs.ClientAnswers.{HandshakesTo}
 use Rattle.lane_laws.proofs.ClientMoves.{cleared_is, holds_and, holds_none}
-use Rattle.lane_laws.proofs.Awake.{up_empty}
+use Rattle.channel_laws.proofs.EndStanding.{up_empty}
 use Rattle.lane_laws.proofs.Ruling.{server_may}
 use Rattle.lane_laws.proofs.RulesFree.{ServerFree, TakesFree, server_free}
 use Rattle.lane_laws.proofs.ServerAnswers.{Answers, comes_to, goes_by, heard_on, opened_or}

@@ -15,12 +15,11 @@ use Rattle.channel_model.specs.EndPuts.{handshake_risen}
 use Rattle.disk_model.specs.ServerState.{ServerSession, ServerState, SlotRange}
 use Rattle.disk_model.specs.ServerTaking.{GoesOn, Resets, ServerTake, ServerTakes, asked, place_of}
 use Rattle.channel_model.specs.Sayings.{heard}
-use Rattle.lane_laws.proofs.Awake.{was_up}
-use Rattle.lane_laws.proofs.ClientAnswers.{HandshakesTo}
-use Rattle.lane_laws.proofs.ClientTaken.{HearsMessage}
+use Rattle.lane_laws.proofs.ClientTaken.{HearsMessage, took_to, was_up}
 use Rattle.lane_laws.proofs.ServerAnswers.{Answers, GoesBy, comes_to, goes_by, opened_or}
 use Rattle.channel_laws.proofs.EndStanding.{heard_leaves}
 use Rattle.channel_laws.proofs.EndCases.{HearsUp, link_hears}
+use Rattle.channel_laws.proofs.HandshakeCases.{HandshakeTook}
 use Rattle.channel_laws.proofs.TurnCases.{with_whole}
 
 pub record ServerHearsPart (s : ServerState) (turns : List Turn) (packet : List ℕ) (t : ServerState) (opens : Bool) : Type 0 where
@@ -39,7 +38,7 @@ pub record ServerHandshakes (s : ServerState) (turns : List Turn) (packet : List
   pub message : Message
   pub hears : HearsMessage turns packet message
   pub handshake : Handshake
-  pub takes : HandshakesTo s.handshake (handshake_take s.handshake message) opens handshake
+  pub took : HandshakeTook s.handshake message handshake opens
   pub is : t ≡ record s { link = link; handshake = handshake; session = opened_or opens s.session }
 
 pub record ServerAsked (s : ServerState) (turns : List Turn) (packet : List ℕ) (t : ServerState) (opens : Bool) : Type 0 where
@@ -73,7 +72,7 @@ TookOn s turns packet (Resets cause) = ⊤
 answers : (s : ServerState) (turns : List Turn) (packet : List ℕ) (k : LinkState) (message : Message) → k.to_send ≡ s.link.to_send → is_up s.link ≡ true → is_up k ≡ true
     → HearsMessage turns packet message → Answers (record s { link = k }) message (TookOn s turns packet)
 answers s turns packet k message left up stays hears = record {
-  goes = λ opens h to. inr (inl (record { link = k; left = left; up = up; stays = stays; message = message; hears = hears; handshake = h; takes = to; is = refl }));
+  goes = λ opens h to. inr (inl (record { link = k; left = left; up = up; stays = stays; message = message; hears = hears; handshake = h; took = took_to s.handshake message opens h to; is = refl }));
   faults = λ cause is. tt;
   asks = λ a. inr (inr (record {
     link = k;

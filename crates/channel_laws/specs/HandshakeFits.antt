@@ -1,6 +1,6 @@
--- What always holds of a handshake by itself, also where somebody forges packets: its offer stays, a responder knows a ring of as many slots
--- as it expects, and what it owes names no range of slots; it owes the agreement to the peer's RDX in one phase alone.
-use Rattle.std.specs.Prelude.{◌≡◌, Option, Some, None, ⊤}
+-- What always holds of a handshake by itself, also where somebody forges packets: its role and its offer stay, it owes no message of a session,
+-- and the agreement to the other's RDX in one phase alone; and where it has agreed to the other's ring, that has as many slots as it expects.
+use Rattle.std.specs.Prelude.{◌≡◌, Bool, true, Option, Some, None, ⊤}
 use Rattle.ldc_link.specs.declared.phase.Role.{Role}
 use Rattle.ldc_link.specs.declared.phase.Role.TheVariants.{Initiator, Responder}
 use Rattle.ldc_packet.specs.declared.packet.Subtype.{Subtype}
@@ -12,8 +12,7 @@ use Rattle.vio_handshake.specs.declared.handshake.Handshake.{Handshake}
 use Rattle.vio_handshake.specs.declared.handshake.Phase.{Phase}
 use Rattle.vio_handshake.specs.declared.handshake.Phase.TheVariants.{PeerReadyTaken}
 use Rattle.vio_handshake.specs.declared.session.Offer.{Offer}
-use Rattle.vio_handshake.specs.declared.session.Session.{Session}
-use Rattle.channel_laws.specs.Grounds.{When, has_named}
+use Rattle.channel_laws.specs.Grounds.{has_named}
 
 abbrev pub MayOwe : Phase → Subtype → MsgBody → Type 0
 MayOwe phase Nack body = ⊤
@@ -27,16 +26,13 @@ abbrev pub OwedFits : Phase → Option Message → Type 0
 OwedFits phase None = ⊤
 OwedFits phase (Some message) = MayOwe phase message.subtype message.body
 
-abbrev pub RingFits : Role → Phase → Session → Offer → Type 0
-RingFits Initiator phase draft offer = ⊤
-RingFits Responder phase draft offer = When (has_named Responder phase) (draft.peer_slots ≡ offer.peer_slots)
+-- an initiator takes a ring where both ends have one
+abbrev pub takes_ring : Role → (both_rings : Bool) → Bool
+takes_ring Initiator both_rings = both_rings
+takes_ring Responder both_rings = true
 
--- a handshake of this role and offer, where it is in this phase
-pub record FitsIn (role : Role) (phase : Phase) (offer : Offer) (h : Handshake) : Type 0 where
+pub record HandshakeFits (role : Role) (offer : Offer) (h : Handshake) : Type 0 where
   pub role_is : h.role ≡ role
   pub offer_is : h.offer ≡ offer
-  pub owed : OwedFits phase h.owed
-  pub ring : RingFits role phase h.draft offer
-
-abbrev pub Fits : Role → Offer → Handshake → Type 0
-Fits role offer h = FitsIn role h.phase offer h
+  pub owed : OwedFits h.phase h.owed
+  pub ring : takes_ring role offer.both_rings ≡ true → has_named role h.phase ≡ true → h.draft.peer_slots ≡ offer.peer_slots
