@@ -26,7 +26,7 @@ pub mod OfferedRing
 pub mod OpeningDeal
 pub mod OneSession
 pub mod OnTheWay
-pub mod OpenRuns
+pub mod TickLaw
 pub mod PartPut
 pub mod NoOwnReset
 pub mod NoRefusal

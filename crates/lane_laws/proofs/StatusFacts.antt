@@ -45,7 +45,7 @@ use Rattle.lane_laws.proofs.Speaking.{client_blocked_rests}
 use Rattle.lane_laws.proofs.HeardFront.{heard_messages}
 use Rattle.lane_laws.proofs.LaneCounting.{Knows, few_slots, run_knows}
 use Rattle.lane_laws.proofs.NoOwnReset.{run_known}
-use Rattle.lane_laws.proofs.OpenRuns.{held_open}
+use Rattle.lane_laws.proofs.ClientMoves.{held_open}
 use Rattle.lane_laws.proofs.RingRuns.{before}
 use Rattle.lane_laws.proofs.RingWork.{Known, ids_in, turn_in}
 use Rattle.lane_laws.proofs.Ruling.{client_may}
@@ -143,7 +143,7 @@ sends_new shape s l packet t now step =
     let sends = step.step in
     let held = sends.held in
     let rests : ClientRests held l.transcript.client = client_blocked_rests s.client at held l.transcript.client now.knows.all.sound sends.holds now.knows.rests.client in
-    let same : is_some held.session ≡ is_some s.client.session = held_open s.client at (client_rule s.client at) held (client_may s.client at) sends.holds in
+    let same : is_some held.session ≡ is_some s.client.session = held_open s.client at held now.knows.all.sound sends.holds in
     none_if s.client.session (λ open_one.
     let closed : put_opens (client_kind held) held.handshake ≡ false = kind_opens (client_kind held) held (rests.opened (same ∙ open_one)) in
     let never : true ≡ false = sends.opens_is ∙ closed in absurd (cc never))
