@@ -23,16 +23,15 @@ use Rattle.disk_model.specs.ClientState.{ClientSession, ClientState, joined_clie
 use Rattle.disk_model.specs.ClientStep.{ClientAdmits, ClientCompletes, ClientFails, ClientPublishes, ClientSends}
 use Rattle.disk_model.specs.ClientTaking.{ClientTake, ClientTakes, GoesOn, HearsLink, Resets, acknowledged}
 use Rattle.disk_model.specs.DiskEvent.{Accepted, Admitted, Full, Refused}
-use Rattle.channel_model.specs.EndPuts.{ending, kind_in, put_opens}
+use Rattle.channel_model.specs.EndPuts.{ComesUp, EndsHandshake, EndsOwn, Goes, PutKind, ending, kind_in, put_opens}
 use Rattle.disk_model.specs.Offering.{client_offer}
 use Rattle.channel_model.specs.Ranges.{range_length}
 use Rattle.channel_model.specs.Seeing.{Seen}
-use Rattle.channel_laws.specs.EndCore.{holds}
+use Rattle.channel_laws.specs.EndCore.{EndCore, holds}
 use Rattle.channel_laws.specs.EndStep.{EndBegins, EndFails, EndHears, EndSays, EndStays, EndWaits, HandshakeTakes, HearsWhole, Holding, Holds, HoldsOn, HoldsOwed, HoldsOwn, IsOfSession, KeepsOwn, LinkFails, MayTake, WholeFails}
 use Rattle.lane_laws.proofs.ClientAnswers.{Answers, HandshakesTo, comes_to, goes_by}
 use Rattle.lane_laws.proofs.ClientHolding.{client_held, not_own}
 use Rattle.channel_laws.proofs.EndStanding.{SameSending, heard_leaves, up_empty}
-use Rattle.lane_laws.proofs.OpenRuns.{behind_open}
 use Rattle.lane_laws.proofs.RulesFree.{takes_calm}
 use Rattle.lane_laws.proofs.Ruling.{client_may}
 use Rattle.lane_laws.proofs.Sharing.{in_order, infos_few}
@@ -145,13 +144,11 @@ client_hears s at packet t sound rule takes =
 
 -- its link keeps what it has to send
 pub client_sending : (s t : ClientState) (packet : List ℕ) → ClientTakes s packet (GoesOn t) → SameSending s.link t.link
-client_sending s t packet takes = of takes.link takes.takes takes.hears
-  where
-    of : (link : LinkTake) → TakesBytes s.link packet link → HearsLink s link (GoesOn t) → SameSending s.link t.link
-    of (Heard k) took hears =
-        let same = heard_leaves s.link k packet took in
-        subst (SameSending s.link) (sym (goes_whole s t k k.whole refl hears).0.link) (record { left = same.left; begun = same.begun; role = same.role })
-    of (Unheard cause) took hears = absurd (cc hears)
+client_sending s t packet takes =
+    let by = goes_by s packet t takes in
+    let to : Comes s by.link (GoesOn t) = client_comes s by.link (GoesOn t) by.hears in
+    let same = heard_leaves s.link by.link packet by.takes in
+    subst (SameSending s.link) (sym to.0.link) (record { left = same.left; begun = same.begun; role = same.role })
 
 -- IT RESETS ITSELF
 resets_link : (s : ClientState) (cause : Cause) (link : LinkTake) → HearsLink s link (Resets cause) → LinkFails Initiator (client_core s) link cause
@@ -247,6 +244,14 @@ holds_by s at _ held sound may is = absurd (cc is)
 pub client_waits : (s : ClientState) (at : Seen) (t : ClientState) → ClientSound s → client_holds (client_rule s at) s ≡ Some t → EndWaits (client_core s) (client_core t)
 client_waits s at t sound is = let to = holds_by s at (client_rule s at) t sound (client_may s at) is in record { what = to.what; holds = to.holds }
 
+pub held_open : (s : ClientState) (at : Seen) (held : ClientState) → ClientSound s → client_holds (client_rule s at) s ≡ Some held → is_some held.session ≡ is_some s.session
+held_open s at held sound is = let to = holds_by s at (client_rule s at) held sound (client_may s at) is in by_what to.what to.holds
+  where
+    by_what : (what : Holding) → Holds (client_core s) what (client_core held) → is_some held.session ≡ is_some s.session
+    by_what HoldsOn same = ap (λ (x : EndCore). x.is_open) same
+    by_what (HoldsOwed message) offers = offers.is_open
+    by_what (HoldsOwn message) offers = offers.is_open
+
 -- IT PUTS a packet: whose the link's message is stays, unless it is wholly put
 pub holds_none : (k : LinkState) (xs : List ℕ) (X : Type 0) → k.to_send ≡ xs → length xs ≤ 0 → holds k ≡ true → X
 holds_none k [] X is few up = absurd (cc (both (is_up k) up))
@@ -255,6 +260,21 @@ holds_none k [] X is few up = absurd (cc (both (is_up k) up))
     both true up = sym up ∙ ap (λ (bytes : List ℕ). not (is_empty bytes)) is
     both false up = sym up
 holds_none k (x ∷ xs) X is few up = absurd (omega (arith, few))
+
+-- its session after it
+announced_open : (o : Option ClientSession) → is_some (announced o) ≡ is_some o
+announced_open None = refl
+announced_open (Some s) = refl
+
+opened_if_open : (b : Bool) (c : ClientState) → is_some (opened_if b c) ≡ (b || is_some c.session)
+opened_if_open true c = refl
+opened_if_open false c = refl
+
+behind_open : (kind : PutKind) (c : ClientState) → is_some (session_behind kind c) ≡ (put_opens kind c.handshake || is_some c.session)
+behind_open EndsOwn c = announced_open c.session
+behind_open Goes c = refl
+behind_open ComesUp c = refl
+behind_open EndsHandshake c = opened_if_open (put_opens EndsHandshake c.handshake) c
 
 put_own_in : (ph : LinkPhase) (c : ClientState) (last : Bool) → c.link.phase ≡ ph → nat_le (length c.link.to_send) 56 ≡ last → is_up c.link ≡ true → holds (behind_put c.link) ≡ true
     → is_announcing (session_behind (kind_in ph c.link (is_announcing c.session)) c) ≡ is_announcing c.session

@@ -24,7 +24,7 @@ pub mod OfferedRing
 pub mod OpeningDeal
 pub mod OneSession
 pub mod OnTheWay
-pub mod OpenRuns
+pub mod TickLaw
 pub mod NoOwnReset
 pub mod RangeSums
 pub mod RangeTurns

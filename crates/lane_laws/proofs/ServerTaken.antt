@@ -9,7 +9,7 @@ use Rattle.ldc_queue.specs.Transcript.{Heard as Heard_, Turn}
 use Rattle.vio_tag.specs.declared.message.Message.{Message}
 use Rattle.vio_tag.specs.declared.message.MsgBody.TheVariants.{DringData}
 use Rattle.vio_handshake.specs.declared.handshake.Handshake.{Handshake}
-use Rattle.vio_handshake.specs.Rules.{handshake_take, sid_fault}
+use Rattle.vio_handshake.specs.Rules.{sid_fault}
 use Rattle.vio_handshake.specs.State.{handshake_up}
 use Rattle.channel_model.specs.EndPuts.{handshake_risen}
 use Rattle.disk_model.specs.ServerState.{ServerSession, ServerState, SlotRange}

@@ -25,7 +25,6 @@ use Rattle.lane_laws.specs.WorkLaws.{IfServer}
 use Rattle.channel_model.specs.Messages.{opening_sid}
 use Rattle.lane_laws.specs.WorkLog.{ClientCounts, ServerCounts}
 use Rattle.disk_model.specs.ClientPutting.{client_kind}
-use Rattle.disk_model.specs.ClientRule.{client_rule}
 use Rattle.disk_model.specs.ClientState.{ClientSession, ClientState}
 use Rattle.disk_model.specs.DiskEvent.{DiskEvent, OnWire}
 use Rattle.channel_model.specs.EndPuts.{ComesUp, EndsOwn, EndsHandshake, Goes, PutKind, put_opens}
@@ -45,10 +44,9 @@ use Rattle.lane_laws.proofs.Speaking.{client_blocked_rests}
 use Rattle.lane_laws.proofs.HeardFront.{heard_messages}
 use Rattle.lane_laws.proofs.LaneCounting.{Knows, few_slots, run_knows}
 use Rattle.lane_laws.proofs.NoOwnReset.{run_known}
-use Rattle.lane_laws.proofs.OpenRuns.{held_open}
+use Rattle.lane_laws.proofs.ClientMoves.{held_open}
 use Rattle.lane_laws.proofs.RingRuns.{before}
 use Rattle.lane_laws.proofs.RingWork.{Known, ids_in, turn_in}
-use Rattle.lane_laws.proofs.Ruling.{client_may}
 use Rattle.lane_laws.proofs.ServerCounting.{opens_new}
 use Rattle.lane_laws.proofs.ServerEndCounting.{server_puts_counting}
 use Rattle.lane_laws.proofs.ServerTaken.{server_took_what}
@@ -143,7 +141,7 @@ sends_new shape s l packet t now step =
     let sends = step.step in
     let held = sends.held in
     let rests : ClientRests held l.transcript.client = client_blocked_rests s.client at held l.transcript.client now.knows.all.sound sends.holds now.knows.rests.client in
-    let same : is_some held.session ≡ is_some s.client.session = held_open s.client at (client_rule s.client at) held (client_may s.client at) sends.holds in
+    let same : is_some held.session ≡ is_some s.client.session = held_open s.client at held now.knows.all.sound sends.holds in
     none_if s.client.session (λ open_one.
     let closed : put_opens (client_kind held) held.handshake ≡ false = kind_opens (client_kind held) held (rests.opened (same ∙ open_one)) in
     let never : true ≡ false = sends.opens_is ∙ closed in absurd (cc never))

@@ -21,7 +21,7 @@ use Rattle.lane_laws.proofs.RingPages.{same_pages}
 use Rattle.lane_laws.proofs.IdleLaw.{idle_at}
 use Rattle.lane_laws.proofs.PieceLaw.{Working, pieces_at}
 use Rattle.lane_laws.proofs.RangeLaw.{ranges_at}
-use Rattle.lane_laws.proofs.WorkKept.{work_step}
+use Rattle.lane_laws.proofs.WorkKept.{OfWork, pieces_keep, work_step}
 use Rattle.lane_laws.proofs.WorkNumbers.{Grounded, numbers_at}
 use Rattle.lane_laws.proofs.WorkResets.{own_resets_at}
 
@@ -59,7 +59,7 @@ idle_lawful = grounded_lawful IdleAt idle_at
 pub working_step : (s : LaneState) (l : DiskLog) (event : DiskEvent) (t : LaneState) → Working s l → LaneStep s event t → Working t (after l event)
 working_step s l event t working step = record {
   grounded = record { knows = (knows_step s l event t working.grounded.knows step).1; sound = working.grounded.sound };
-  work = work_step s event t working.work step;
+  work = work_step OfWork pieces_keep s event t working.work step;
   table = (same_pages s event t step).table ∙ working.table;
 }
 
