@@ -126,7 +126,7 @@ one_ring shape events s sound run clean up d is =
     let c_open : is_some s.client.session ≡ true =
     client_open s.client.session (ready_count said_c) client.ready (omega (arith, ready, front_ready heard_v said_c front_b)) in
     let k = counts_of s.client.session l.work.done l.work.client c_open client.agrees in
-    let order = in_order (length s.client.pending) s.client.session k.session k.session_is knows.all.transcripts.client.counts in
+    let order = in_order (length s.client.pending) s.client.session k.session k.session_is knows.all.sound.counts in
     let v_order = (order_of l.shape.slots s.server.session l.work.server d l.transcript is v_open server.order).1 in
     let announced : k.session.announced ≡ range_sum l.shape.slots 1 said_c = ap announced_of (sym k.session_is) ∙ client.announced in
     let acked : k.session.acked ≡ range_sum l.shape.slots 2 heard_c = ap acked_of (sym k.session_is) ∙ client.acked in
@@ -136,7 +136,7 @@ one_ring shape events s sound run clean up d is =
     let asked : d.asked ≤ k.counts.published = omega (arith, named, order.announced, k.agree.announced, k.agree.published) in
     let one : AreOneSession s.client.handshake s.server.handshake = one_session shape events s sound run clean c_open v_open in
     let offer = client.handshake.offer_is in
-    let few : l.shape.slots ≤ 256 = omega (arith, client.slots, knows.all.transcripts.client.slots) in
+    let few : l.shape.slots ≤ 256 = omega (arith, client.slots, knows.all.sound.slots) in
     let all : length s.client.pending + l.work.done ≡ length l.work.issued =
     omega (arith, ap length knows.all.stands.requests.pending, length-drop l.work.done l.work.issued, knows.all.stands.requests.done) in
     record {
@@ -238,12 +238,12 @@ asked_within shape events s session sound run clean up is =
     let same : Some k.counts ≡ Some ring.client = sym k.counts_are ∙ ring.open_is in
     let pair : k.counts ≡ ring.client = cc same in
     let one : k.counts.published ≡ ring.client.published = ap (λ (c : ClientCounts). c.published) pair in
-    let in_turn = in_order (length s.client.pending) s.client.session k.session k.session_is knows.all.transcripts.client.counts in
+    let in_turn = in_order (length s.client.pending) s.client.session k.session k.session_is knows.all.sound.counts in
     let whole : session.asked ≡ d.asked = omega (arith, counts.2, ring.small) in
     record {
       asked = whole ∙ order.asked;
       small = omega (arith, whole, ring.small);
       within = subst (λ (o : Option ClientSession). session.asked ≤ total (length s.client.pending) o) (sym k.session_is) (omega (arith, whole, ring.asked, one, k.agree.published, in_turn.published));
       up = server_alive shape events s sound run clean up d counts.1;
-      slots = omega (arith, ring.slots, knows.all.transcripts.client.slots);
+      slots = omega (arith, ring.slots, knows.all.sound.slots);
     }

@@ -17,7 +17,7 @@ use Rattle.lane_laws.proofs.RingAlong.{run_ring}
 use Rattle.lane_laws.proofs.RingRuns.{ring_agrees}
 use Rattle.lane_laws.proofs.NearAgreeing as near
 use Rattle.lane_laws.proofs.WorkNexts.{next_agrees}
-use Rattle.lane_laws.proofs.WorkRuns.{run_serves}
+use Rattle.lane_laws.proofs.WorkRuns.{run_working}
 use Rattle.lane_laws.proofs.LaneChannel.{client_stands, lane_folds, link_agrees, no_sids, run_sids, server_stands}
 use Rattle.lane_laws.specs.ChannelEnds.{client_core, server_core}
 
@@ -27,7 +27,7 @@ run_agrees shape events s sound run =
     let knows = run_knows shape events s sound run in
     let stands = knows.all.stands in
     let both = run_both shape events s sound run in
-    let working = (run_serves shape events s sound run).0 in
+    let working = run_working shape events s sound run in
     let first : s.server.first ≡ l.shape.first = run_first shape events s sound run ∙ ap (λ (x : Shape). x.first) (sym (log_shape (nothing_yet shape) events)) in
     let folds = lane_folds shape events s sound run in
     record {

@@ -41,7 +41,7 @@ wire_resets : (e : End) (s : LaneState) (l : DiskLog) (cause : Cause) (packet : 
 wire_resets e s l cause packet lost t before contents clean gone same peer step =
     let event : WireEvent = Reset e cause packet lost in
     let quiet = wire_quiet s l event t before.knows tt step in
-    let only = wire_only s event t before.known.sound step in
+    let only = wire_only s event t step in
     let work : work_while t.wire.wire.end_b t.server.work ≡ None =
     ap (λ (w : WireLog). work_while w.wire.end_b t.server.work) only.wire ∙ ap (work_while (wire_moved s.wire event).wire.end_b) quiet.work
     ∙ reset_drops e s l (work_on_wire event s.server.work) before gone same (wire_moved s.wire event).wire peer in
@@ -71,7 +71,7 @@ wire_opens : (s : LaneState) (l : DiskLog) (packet : List ℕ) (t : LaneState) �
     → Changed s (OnWire (Sent A packet true)) t
 wire_opens s l packet t before facts step =
     let opened = client_opened s.client (seen A s.shape.entries s.wire.wire) s.memory packet t.client t.memory step.step in
-    let only = wire_only s (Sent A packet true) t before.known.sound step in
+    let only = wire_only s (Sent A packet true) t step in
     let near : t.near ≡ s.near = ap (λ (x : LaneState). x.near) step.is in
     let memory = (sent_clears s packet true t.client t.memory step.step).is in
     let behind : drop (ring_end s.client.slots) t.memory ≡ drop (ring_end s.client.slots) s.memory =

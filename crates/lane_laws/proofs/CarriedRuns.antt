@@ -10,12 +10,13 @@ use Rattle.disk_model.specs.DiskEvent.{Asks, Calm, CalmReset, CalmRestart, CalmS
 use Rattle.disk_model.specs.LaneState.{IsShape, LaneState, Shape, fresh, pages_of}
 use Rattle.disk_model.specs.LaneStep.{LaneStep, RestStep, TurnStep, WorkStep}
 use Rattle.channel_model.specs.Seeing.{seen}
-use Rattle.lane_laws.proofs.LaneStepping.{LaneTranscripts, transcripts_step, fresh_transcripts}
+use Rattle.lane_laws.proofs.LaneStepping.{fresh_sound, sound_step}
 use Rattle.lane_laws.proofs.MemorySteps.{admits_memory, carried_long, done_memory, kept_memory, wire_long, work_step_long}
 use Rattle.lane_laws.proofs.Requesting.{completed_next, published_kept}
 use Rattle.lane_laws.proofs.StandingRuns.{fresh_stands, stands_step}
 use Rattle.lane_laws.proofs.StandingSteps.{OnlyWire, same_client, wire_only}
 use Rattle.lane_laws.specs.MemoryStands.{MemoryStands}
+use Rattle.lane_laws.specs.Sound.{ClientSound}
 use Rattle.lane_laws.specs.Standing.{LaneInvariant}
 
 -- the lane after an event of a server's work, and one that is the same in client and memory
@@ -52,14 +53,14 @@ rest_memory s (CalmReset A) t stands step = absurd step
 rest_memory s (CalmReset B) t stands step = equal_memory s t stands step.1
 rest_memory s CalmRestart t stands step = equal_memory s t stands step.1
 
-memory_step : (s : LaneState) (event : DiskEvent) (t : LaneState) (l : DiskLog) → LaneTranscripts s l.transcript → MemoryStands s → LaneStep s event t → MemoryStands t
-memory_step s (OnWire event) t l transcripts stands step =
-    let only : OnlyWire s event t = wire_only s event t transcripts.client step in
+memory_step : (s : LaneState) (event : DiskEvent) (t : LaneState) → MemoryStands s → LaneStep s event t → MemoryStands t
+memory_step s (OnWire event) t stands step =
+    let only : OnlyWire s event t = wire_only s event t step in
     kept_memory s t stands only.kept (wire_long s event t stands.long step)
-memory_step s (Asks event) t l transcripts stands step = admits_memory s event t stands step
-memory_step s (Works event) t l transcripts stands step = work_memory s event t stands step
-memory_step s (Switches event) t l transcripts stands step = turn_memory s event t stands step
-memory_step s (Calms event) t l transcripts stands step = rest_memory s event t stands step
+memory_step s (Asks event) t stands step = admits_memory s event t stands step
+memory_step s (Works event) t stands step = work_memory s event t stands step
+memory_step s (Switches event) t stands step = turn_memory s event t stands step
+memory_step s (Calms event) t stands step = rest_memory s event t stands step
 
 -- what an event may carry
 works_carry : (s : LaneState) (l : DiskLog) (event : Worked) (t : LaneState) → LaneInvariant s l → MemoryStands s → WorkStep s event t → CarriesAt l (Works event)
@@ -82,7 +83,7 @@ carries s l (Calms event) t stands memory step = tt
 
 -- ALONG EVERY RUN
 pub record AllStand (s : LaneState) (l : DiskLog) : Type 0 where
-  pub transcripts : LaneTranscripts s l.transcript
+  pub sound : ClientSound s.client
   pub stands : LaneInvariant s l
   pub memory : MemoryStands s
 
@@ -93,14 +94,14 @@ pub all_step : (s : LaneState) (l : DiskLog) (event : DiskEvent) (t : LaneState)
 all_step s l event t all step = (
   carries s l event t all.stands all.memory step,
   record {
-    transcripts = transcripts_step s event t l.transcript all.transcripts step;
-    stands = (stands_step s l event t all.transcripts all.stands step).stands;
-    memory = memory_step s event t l all.transcripts all.memory step;
+    sound = sound_step s event t all.sound step;
+    stands = (stands_step s l event t all.stands step).stands;
+    memory = memory_step s event t all.memory step;
   },
 )
 
 pub fresh_all : (shape : Shape) → IsShape shape → AllStand (fresh shape) (nothing_yet shape)
-fresh_all shape sound = record { transcripts = fresh_transcripts shape sound; stands = fresh_stands shape; memory = fresh_memory shape sound }
+fresh_all shape sound = record { sound = fresh_sound shape sound; stands = fresh_stands shape; memory = fresh_memory shape sound }
 
 pub carries_lawful : (shape : Shape) (events : List DiskEvent) (s : LaneState) → IsShape shape → Run LaneStep (fresh shape) events s → Lawful CarriesAt after (nothing_yet shape) events
 carries_lawful shape events s sound run =

@@ -1,5 +1,5 @@
 -- Each step of a client leaves its session counting what it said and heard.
-use Rattle.std.proofs.Common.{◌≡◌, ℕ, ◌+◌, ◌≤◌, inl, inr, Bool, true, false, Option, Some, None, List, [], ◌∷◌, ◌++◌, length, refl, sym, ap, ◌∙◌, subst, arith}
+use Rattle.std.proofs.Common.{◌≡◌, ℕ, ◌+◌, ◌≤◌, inl, inr, Option, Some, None, List, [], ◌∷◌, ◌++◌, length, refl, sym, ap, ◌∙◌, subst, arith}
 use Rattle.std.specs.Prelude.{is_some, ⊤}
 use Rattle.ldc_link.specs.declared.phase.Role.TheVariants.{Initiator}
 use Rattle.ldc_packet.specs.Spelling.{subtype_code}
@@ -8,7 +8,6 @@ use Rattle.vio_tag.specs.declared.message.Message.{Message}
 use Rattle.vio_tag.specs.Spelling.{canonical}
 use Rattle.vio_handshake.specs.declared.handshake.Handshake.{Handshake}
 use Rattle.vio_handshake.specs.declared.session.Session.{Session}
-use Rattle.vio_handshake.specs.Rules.{HandshakeTake, handshake_take}
 use Rattle.channel_model.specs.Sayings.{half_heard, half_said, heard}
 use Rattle.lane_laws.specs.Agreement.{ClientAgrees}
 use Rattle.channel_model.specs.Messages.{range_ended, range_in}
@@ -19,14 +18,13 @@ use Rattle.disk_model.specs.ClientTaking.{acknowledged}
 use Rattle.disk_model.specs.LaneState.{Shape}
 use Rattle.disk_model.specs.Offering.{client_offer}
 use Rattle.channel_model.specs.Ranges.{range_length}
-use Rattle.lane_laws.proofs.ClientTaken.{ClientAcked, ClientHearsPart, ClientHandshakes, ClientTook, HandshakesTo}
-use Rattle.lane_laws.proofs.Fitting.{TakesFit, joined_fits, take_fits}
+use Rattle.lane_laws.proofs.ClientTaken.{ClientAcked, ClientHearsPart, ClientHandshakes, ClientTook}
+use Rattle.channel_laws.proofs.EndStanding.{open_declines}
+use Rattle.channel_laws.proofs.HandshakeFitting.{joined_fits, row_fits}
 use Rattle.lane_laws.proofs.RangeSums.{sum_heard, sum_more}
-use Rattle.lane_laws.proofs.RangesSaid.{IsNoData, heard_no_range, heard_range}
-use Rattle.lane_laws.proofs.HandshakesOpen.{no_data, still_open}
+use Rattle.lane_laws.proofs.RangesSaid.{IsNoData, heard_no_range, heard_range, no_data}
 use Rattle.lane_laws.specs.Counted.{ClientCounted, HoldsOwed, acked_of, announced_of, infos_of, range_sum}
 use Rattle.lane_laws.specs.LaneRests.{ClientRests}
-use Rattle.lane_laws.specs.HandshakeFits.{Fits}
 
 -- IT BEGINS
 pub client_begins_counting : (shape : Shape) (c : ClientState) (turns : List Turn) (done : ℕ) (k : Option ClientCounts) → ClientCounted shape c turns done k
@@ -115,16 +113,11 @@ takes_part shape c t turns packet done k counted part =
 none_held : (c : ClientState) (bytes : List ℕ) (owed : Option Message) → c.handshake.owed ≡ None → HoldsOwed c.handshake.owed bytes → HoldsOwed owed bytes
 none_held c bytes owed none holds = let never : None ≡ Some holds.message = sym none ∙ holds.owed_is in absurd (cc)
 
-fits_to : (shape : Shape) (h g : Handshake) (answer : HandshakeTake) (opens : Bool) → HandshakesTo h answer opens g → TakesFit Initiator (client_offer shape.blocks shape.slots) answer
-    → Fits Initiator (client_offer shape.blocks shape.slots) g
-fits_to shape h g answer false is fits = subst (TakesFit Initiator (client_offer shape.blocks shape.slots)) is fits
-fits_to shape h g answer true is fits = subst (TakesFit Initiator (client_offer shape.blocks shape.slots)) is fits
-
 takes_handshake : (shape : Shape) (c t : ClientState) (turns : List Turn) (packet : List ℕ) (done : ℕ) (k : Option ClientCounts) → ClientRests c turns → c.handshake.owed ≡ None
     → ClientCounted shape c turns done k → ClientHandshakes c turns packet t → Behind shape turns packet done k t
 takes_handshake shape c t turns packet done k rests none counted handshakes =
     let bytes = handshakes.hears.bytes in
-    let apart : IsNoData handshakes.message.body = no_data c.handshake handshakes.message handshakes.opens handshakes.handshake handshakes.takes in
+    let apart : IsNoData handshakes.message.body = no_data c.handshake handshakes.handshake handshakes.message handshakes.opens handshakes.took in
     let acked : acked_of c.session ≡ range_sum shape.slots 2 (heard (Heard_ packet ∷ turns)) =
     omega (
       arith,
@@ -135,13 +128,14 @@ takes_handshake shape c t turns packet done k rests none counted handshakes =
     ) in
     subst (Behind shape turns packet done k) (sym handshakes.is) (record {
       slots = counted.slots;
-      handshake = fits_to shape c.handshake handshakes.handshake (handshake_take c.handshake handshakes.message) handshakes.opens handshakes.takes
-          (take_fits Initiator (client_offer shape.blocks shape.slots) c.handshake handshakes.message none counted.handshake);
+      handshake = row_fits Initiator (client_offer shape.blocks shape.slots) c.handshake handshakes.handshake handshakes.message handshakes.opens none counted.handshake
+          handshakes.took.row;
       holds = record {
         owed = λ quiet some. none_held c (half_said turns ++ handshakes.link.to_send) handshakes.handshake.owed none
             (same_left c turns handshakes.link.to_send handshakes.left some (counted.holds.owed quiet (omega (arith, some, ap length handshakes.left))));
         own = λ session is on.
-            let draft : handshakes.handshake.draft ≡ c.handshake.draft = still_open c.handshake handshakes.message handshakes.opens handshakes.handshake (rests.opened (ap is_some is)) handshakes.takes in
+            let draft : handshakes.handshake.draft ≡ c.handshake.draft = ap (λ (h : Handshake). h.draft)
+            (open_declines c.handshake handshakes.handshake handshakes.message handshakes.opens (rests.opened (ap is_some is)) handshakes.took.row).0 in
             ap (λ (xs : List ℕ). half_said turns ++ xs) handshakes.left ∙ counted.holds.own session is on
             ∙ ap (λ (d : Session). canonical (announcement (record c { handshake = record c.handshake { draft = d } }) session)) (sym draft);
       };

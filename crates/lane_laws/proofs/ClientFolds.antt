@@ -28,8 +28,8 @@ use Rattle.channel_model.specs.Seeing.{Seen}
 use Rattle.lane_laws.proofs.ClientHolding.{info_long}
 use Rattle.lane_laws.proofs.ClientPutCounting.{own_info, put_as}
 use Rattle.lane_laws.proofs.ClientTaken.{ClientTook}
-use Rattle.lane_laws.proofs.EndPutting.{PutSays}
-use Rattle.lane_laws.proofs.Awake.{is_awake, is_open_up}
+use Rattle.channel_laws.proofs.PutSayings.{PutSays}
+use Rattle.channel_laws.proofs.EndStanding.{open_up, owing_up}
 use Rattle.channel_laws.proofs.EndStanding.{SameSending}
 use Rattle.lane_laws.proofs.RulesFree.{puts_owe}
 use Rattle.lane_laws.proofs.Ruling.{client_may}
@@ -200,16 +200,16 @@ own_length c turns own holds =
       info_long c.handshake.draft.sid (wrapped (s.infos + 1)) c.handshake.draft.ident_own (slot_in c s.announced) (slot_in c (s.published - 1)) 1,
     )
 
-open_up : (c : ClientState) (turns : List Turn) (o : Option ClientSession) → c.session ≡ o → is_announcing o ≡ true → ClientRests c turns → is_up c.link ≡ true
-open_up c turns None is own rests = absurd (cc)
-open_up c turns (Some session) is own rests = is_open_up Initiator (client_core c) turns rests (ap is_some is)
+announcing_up : (c : ClientState) (turns : List Turn) (o : Option ClientSession) → c.session ≡ o → is_announcing o ≡ true → ClientRests c turns → is_up c.link ≡ true
+announcing_up c turns None is own rests = absurd (cc)
+announcing_up c turns (Some session) is own rests = open_up Initiator (client_core c) turns rests.stands (ap is_some is)
 
 -- it announces only as it ends its own message
 quiet_unless : (kind : PutKind) (c : ClientState) (turns : List Turn) (own : Bool) → is_announcing c.session ≡ own → client_kind c ≡ kind → ClientRests c turns → ClientHolds c turns
     → (kind ≡ EndsOwn → ⊥) → own ≡ false
 quiet_unless kind c turns false is at rests holds never = refl
 quiet_unless kind c turns true is at rests holds never =
-    absurd (never (sym at ∙ own_ends c.link (is_announcing c.session) is (open_up c turns c.session refl is rests) (own_length c turns is holds)))
+    absurd (never (sym at ∙ own_ends c.link (is_announcing c.session) is (announcing_up c turns c.session refl is rests) (own_length c turns is holds)))
 
 opened_quiet : (b : Bool) (c : ClientState) → is_announcing c.session ≡ false → is_announcing (opened_if b c) ≡ false
 opened_quiet true c quiet = refl
@@ -246,7 +246,7 @@ first_stuck : (c : ClientState) (turns : List Turn) (o : Option ClientSession) (
 first_stuck c turns None owed is owes_is rests holds owing quiet = refl
 first_stuck c turns (Some session) (Some message) is owes_is rests holds owing quiet = refl
 first_stuck c turns (Some session) None is owes_is rests holds owing quiet =
-    let up : is_up c.link ≡ true = is_open_up Initiator (client_core c) turns rests (ap is_some is) in
+    let up : is_up c.link ≡ true = open_up Initiator (client_core c) turns rests.stands (ap is_some is) in
     let some : HoldsOwed c.handshake.owed (half_said turns ++ c.link.to_send) = holds.owed quiet (sends_some c.link up owing) in
     let never : Some some.message ≡ None = sym some.owed_is ∙ owes_is in absurd (cc)
 
@@ -278,14 +278,14 @@ client_blocks_so s at Puts t turns b rule may holds known is =
     })
 client_blocks_so s at (Says message) t turns b rule may holds known is =
     let clear : b ≡ Clear = not_stuck s.link b is.link may.1 in
-    let up : is_up s.link ≡ true = is_awake (client_core s) turns message may.2 known.utters in
+    let up : is_up s.link ≡ true = owing_up Initiator (client_core s) turns message known.rests.stands may.2 in
     held_is (holding message s) t (stuck b) holds (record {
       link = link_stuck (offered (canonical message) s.link) b (says_owes s.link message up);
       announcing = owed_stuck s.session s.handshake message b clear may.2 is.announcing;
     })
 client_blocks_so s at (Announces session) t turns b rule may holds known is =
     let clear : b ≡ Clear = not_stuck s.link b is.link may.1 in
-    let up : is_up s.link ≡ true = is_open_up Initiator (client_core s) turns known.rests (ap is_some may.3) in
+    let up : is_up s.link ≡ true = open_up Initiator (client_core s) turns known.rests.stands (ap is_some may.3) in
     held_is (announcing session (holding (announcement s session) s)) t (stuck b) holds (record {
       link = link_stuck (offered (canonical (announcement s session)) s.link) b (says_owes s.link (announcement s session) up);
       announcing = own_stuck session s.handshake b clear may.2;

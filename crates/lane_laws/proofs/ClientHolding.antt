@@ -1,6 +1,5 @@
 -- A client whose link gets a message to put: what always holds of it holds.
-use Rattle.std.proofs.Common.{◌≡◌, ℕ, ◌+◌, ◌-◌, ◌≤◌, ◌<◌, Bool, true, false, Some, None, List, [], length, refl, ap, subst, arith}
-use Rattle.ldc_link.specs.Putting.{owes}
+use Rattle.std.proofs.Common.{◌≡◌, ℕ, ◌≤◌, ◌<◌, Bool, true, false, Some, List, [], length, refl, ap, subst, arith}
 use Rattle.ldc_queue.specs.declared.end.ChannelState.TheVariants.{Up}
 use Rattle.vio_tag.proofs.Canonical.{length_canonical}
 use Rattle.vio_tag.specs.declared.message.Message.{Message}
@@ -9,21 +8,12 @@ use Rattle.vio_tag.specs.Spelling.{canonical}
 use Rattle.vio_handshake.specs.Messages.{info}
 use Rattle.disk_model.specs.ClientPutting.{announcement, announcing, client_holds, holding}
 use Rattle.disk_model.specs.ClientRule.{Announces, ClientRule, Completes, Joins, Publishes, Puts, Idles, Says, Takes}
-use Rattle.disk_model.specs.ClientState.{ClientSession, ClientState, slot_in}
-use Rattle.channel_model.specs.Ranges.{wrapped}
+use Rattle.disk_model.specs.ClientState.{ClientSession, ClientState}
 use Rattle.channel_model.specs.Seeing.{Seen}
-use Rattle.channel_laws.proofs.Short.{short_within, some_bytes}
-use Rattle.lane_laws.proofs.Sharing.{in_order, owed_short, same_link}
-use Rattle.lane_laws.specs.LinkMoves.{SameTranscript}
+use Rattle.channel_laws.proofs.Short.{some_bytes}
+use Rattle.lane_laws.proofs.Sharing.{in_order}
 use Rattle.lane_laws.specs.RuleFacts.{ClientMay}
 use Rattle.lane_laws.specs.Sound.{ClientSound, InOrder}
-
-pub record Held (s held : ClientState) : Type 0 where
-  pub sound : ClientSound held
-  pub goes : SameTranscript held.link s.link
-
-stays_held : (s : ClientState) → ClientSound s → Held s s
-stays_held s sound = record { sound = sound; goes = same_link s.link }
 
 -- an INFO has 56 bytes
 pub info_long : (sid seq ident start end state : ℕ) → length (canonical (info sid (DringData seq ident start end state))) ≡ 56
@@ -34,48 +24,28 @@ pub not_own : (b : Bool) (xs : List ℕ) → (b ≡ true → 1 ≤ length xs) �
 not_own true xs own empty = absurd (omega (arith, own refl, ap length empty))
 not_own false xs own empty = refl
 
-says_held : (s : ClientState) (message : Message) → ClientSound s → owes s.link ≡ false → s.handshake.owed ≡ Some message → Held s (holding message s)
-says_held s message sound quiet owed = record {
-  sound = record {
-    role = sound.role;
-    asking = sound.asking;
-    short = sound.short;
-    held = short_within message (owed_short s.handshake.owed message owed sound.short.owed);
-    own = λ own. some_bytes message;
-    slots = sound.slots;
-    pending = sound.pending;
-    counts = sound.counts;
-  };
-  goes = record { phase = refl; put_next = refl; take_next = refl; half = refl };
-}
+says_held : (s : ClientState) (message : Message) → ClientSound s → ClientSound (holding message s)
+says_held s message sound = record { own = λ own. some_bytes message; slots = sound.slots; pending = sound.pending; counts = sound.counts }
 
-announces_held : (s : ClientState) (session : ClientSession) → ClientSound s → owes s.link ≡ false → s.handshake.owed ≡ None → s.session ≡ Some session
-    → session.announced < session.published → Held s (announcing session (holding (announcement s session) s))
-announces_held s session sound quiet none is more =
+announces_held : (s : ClientState) (session : ClientSession) → ClientSound s → s.session ≡ Some session → session.announced < session.published
+    → ClientSound (announcing session (holding (announcement s session) s))
+announces_held s session sound is more =
     let counts : InOrder (length s.pending) session = in_order (length s.pending) s.session session is sound.counts in
-    let long = info_long s.handshake.draft.sid (wrapped (session.infos + 1)) s.handshake.draft.ident_own (slot_in s session.announced) (slot_in s (session.published - 1)) 1 in
     record {
-      sound = record {
-        role = sound.role;
-        asking = sound.asking;
-        short = sound.short;
-        held = omega (arith, long);
-        own = λ own. some_bytes (announcement s session);
-        slots = sound.slots;
-        pending = sound.pending;
-        counts = record { completed = counts.completed; acked = counts.acked; announced = counts.announced; published = counts.published; own = λ own. more };
-      };
-      goes = record { phase = refl; put_next = refl; take_next = refl; half = refl };
+      own = λ own. some_bytes (announcement s session);
+      slots = sound.slots;
+      pending = sound.pending;
+      counts = record { completed = counts.completed; acked = counts.acked; announced = counts.announced; published = counts.published; own = λ own. more };
     }
 
-held_is : (s one other : ClientState) → Some one ≡ Some other → Held s one → Held s other
-held_is s one other is held = let same : one ≡ other = cc is in subst (λ (x : ClientState). Held s x) same held
+held_is : (one other : ClientState) → Some one ≡ Some other → ClientSound one → ClientSound other
+held_is one other is sound = let same : one ≡ other = cc is in subst ClientSound same sound
 
-pub client_held : (s : ClientState) (at : Seen) (rule : ClientRule) (held : ClientState) → ClientMay s at rule → client_holds rule s ≡ Some held → ClientSound s → Held s held
-client_held s at Puts held may is sound = held_is s s held is (stays_held s sound)
-client_held s at (Says message) held may is sound = held_is s (holding message s) held is (says_held s message sound may.1 may.2)
+pub client_held : (s : ClientState) (at : Seen) (rule : ClientRule) (held : ClientState) → ClientMay s at rule → client_holds rule s ≡ Some held → ClientSound s → ClientSound held
+client_held s at Puts held may is sound = held_is s held is sound
+client_held s at (Says message) held may is sound = held_is (holding message s) held is (says_held s message sound)
 client_held s at (Announces session) held may is sound =
-    held_is s (announcing session (holding (announcement s session) s)) held is (announces_held s session sound may.1 may.2 may.3 may.4)
+    held_is (announcing session (holding (announcement s session) s)) held is (announces_held s session sound may.3 may.4)
 client_held s at Joins held may is sound = absurd (cc)
 client_held s at (Completes session) held may is sound = absurd (cc)
 client_held s at (Takes packet) held may is sound = absurd (cc)

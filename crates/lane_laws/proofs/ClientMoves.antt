@@ -1,43 +1,38 @@
 -- Each step of a disk's client is a move of an end that begins.
-use Rattle.std.proofs.Common.{◌≡◌, ℕ, ◌+◌, ◌-◌, ◌≤◌, ◌<◌, ◌⊎◌, inl, inr, Bool, true, false, Option, Some, None, List, [], ◌∷◌, length, drop, refl, sym, ap, ◌∙◌, subst, arith, length-drop}
-use Rattle.std.specs.Prelude.{◌&&◌, ◌||◌, is_some, is_none, not, nat_le, nat_lt, if◌then◌else◌, Result, Ok, Err}
+use Rattle.std.proofs.Common.{◌≡◌, ℕ, ◌+◌, ◌-◌, ◌≤◌, ◌<◌, inl, inr, Bool, true, false, Option, Some, None, List, [], ◌∷◌, length, drop, refl, sym, ap, ◌∙◌, subst, arith, length-drop}
+use Rattle.std.specs.Prelude.{◌&&◌, ◌||◌, is_some, is_none, not, nat_le, Ok, Err}
 use Rattle.std.proofs.lemmas.Bool.{leb-true}
 use Rattle.ldc_link.specs.declared.phase.LinkPhase.{LinkPhase}
 use Rattle.ldc_link.specs.declared.phase.LinkPhase.TheVariants as phase
 use Rattle.ldc_link.specs.declared.phase.Role.TheVariants.{Initiator}
 use Rattle.ldc_link.specs.LinkState.{LinkState, cleared, is_established, is_up, offered}
 use Rattle.ldc_link.specs.Putting.{behind_put, left_behind_put, owes, owes_control}
-use Rattle.ldc_link.specs.Taking.{Heard, LinkTake, TakesBytes, Unheard}
-use Rattle.ldc_packet.specs.declared.packet.Subtype.{Subtype}
-use Rattle.ldc_packet.specs.declared.packet.Subtype.TheVariants.{Ack, Nack}
+use Rattle.ldc_link.specs.Taking.{Heard, LinkTake, Unheard}
 use Rattle.ldc_queue.specs.Messages.{is_empty}
 use Rattle.vio_tag.proofs.Canonical.{length_canonical}
 use Rattle.vio_tag.specs.declared.cause.Cause.{Cause}
 use Rattle.vio_tag.specs.declared.cause.Cause.TheVariants as the_cause
 use Rattle.vio_tag.specs.declared.message.Message.{Message}
-use Rattle.vio_tag.specs.declared.message.MsgBody.{MsgBody}
-use Rattle.vio_tag.specs.declared.message.MsgBody.TheVariants.{DringData}
-use Rattle.vio_tag.specs.declared.message.TagFault.{TagFault}
 use Rattle.vio_tag.specs.Decoding.{Decodes}
 use Rattle.vio_tag.specs.Spelling.{canonical}
-use Rattle.vio_handshake.specs.Rules.{Faults, Goes, GoesOpen, HandshakeTake, fault_or, handshake_hear, handshake_take, sid_fault}
+use Rattle.vio_handshake.specs.declared.handshake.Handshake.{Handshake}
+use Rattle.vio_handshake.specs.Rules.{HandshakeTake, handshake_take}
 use Rattle.disk_model.specs.ClientPutting.{announced, announcement, announcing, client_holds, client_kind, client_opens, client_put, holding, is_announcing, opened_if, session_behind}
 use Rattle.disk_model.specs.ClientRule.{Announces, ClientRule, Completes, Publishes, Puts, Says, Takes, client_rule}
-use Rattle.disk_model.specs.ClientState.{ClientSession, ClientState, joined_client, slot_in}
+use Rattle.disk_model.specs.ClientState.{ClientSession, ClientState, joined_client}
 use Rattle.disk_model.specs.ClientStep.{ClientAdmits, ClientCompletes, ClientFails, ClientPublishes, ClientSends}
-use Rattle.disk_model.specs.ClientTaking.{ClientTake, ClientTakes, GoesOn, HearsLink, HearsWhole, Resets, acknowledged, by_handshake, hears_message, in_session, reads, sid_first, takes_ack}
+use Rattle.disk_model.specs.ClientTaking.{ClientTake, ClientTakes, GoesOn, HearsLink, Resets, acknowledged}
 use Rattle.disk_model.specs.DiskEvent.{Accepted, Admitted, Full, Refused}
-use Rattle.channel_model.specs.EndPuts.{ending, kind_in, put_opens}
+use Rattle.channel_model.specs.EndPuts.{ComesUp, EndsHandshake, EndsOwn, Goes, PutKind, ending, kind_in, put_opens}
 use Rattle.disk_model.specs.Offering.{client_offer}
-use Rattle.channel_model.specs.Ranges.{is_other, range_length}
+use Rattle.channel_model.specs.Ranges.{range_length}
 use Rattle.channel_model.specs.Seeing.{Seen}
-use Rattle.channel_laws.specs.EndCore.{holds}
-use Rattle.channel_laws.specs.EndStep.{DecodedFails, EndBegins, EndFails, EndHears, EndSays, EndStays, EndWaits, HandshakeTakes, HearsOwn, Holding, Holds, HoldsOn, HoldsOwed, HoldsOwn, IsOwn, KeepsOwn, LinkFails, MayTake, WholeFails}
-use Rattle.channel_laws.specs.EndStep as core
+use Rattle.channel_laws.specs.EndCore.{EndCore, holds}
+use Rattle.channel_laws.specs.EndStep.{EndBegins, EndFails, EndHears, EndSays, EndStays, EndWaits, HandshakeTakes, HearsWhole, Holding, Holds, HoldsOn, HoldsOwed, HoldsOwn, IsOfSession, KeepsOwn, LinkFails, MayTake, WholeFails}
+use Rattle.lane_laws.proofs.ClientAnswers.{Answers, HandshakesTo, comes_to, goes_by}
 use Rattle.lane_laws.proofs.ClientHolding.{client_held, not_own}
-use Rattle.lane_laws.proofs.Awake.{up_empty}
-use Rattle.lane_laws.proofs.OpenRuns.{behind_open}
-use Rattle.lane_laws.proofs.RemainingClientHears.{takes_calm}
+use Rattle.channel_laws.proofs.EndStanding.{SameSending, heard_leaves, up_empty}
+use Rattle.lane_laws.proofs.RulesFree.{takes_calm}
 use Rattle.lane_laws.proofs.Ruling.{client_may}
 use Rattle.lane_laws.proofs.Sharing.{in_order, infos_few}
 use Rattle.lane_laws.specs.Budget.{infos_left, one_if}
@@ -74,128 +69,90 @@ client_may_take s at packet rule =
     let free = neither (owes_control s.link) (is_some s.handshake.owed) (is_none s.session) (owes s.link) (takes_calm s at packet rule) in
     record { owed = not_some s.handshake.owed free.0; quiet = λ closed. free.1 (none_is s.session closed) }
 
--- what it comes to by a message: it goes on with the link behind it, or resets itself
+-- what it comes to: it goes on with the link behind the packet, or resets itself
 record TookTo (s : ClientState) (k : LinkState) (t : ClientState) : Type 0 where
   link : t.link ≡ k
   blocks : t.blocks ≡ s.blocks
   slots : t.slots ≡ s.slots
   own : is_announcing t.session ≡ is_announcing s.session
 
-abbrev Hears : ClientState → Message → ClientState → Type 0
-Hears s message t =
-    HandshakeTakes Initiator (is_some s.session) (handshake_take s.handshake message) false (client_core t)
-    ⊎ HearsOwn s.handshake (is_some s.session) message false (client_core t)
+abbrev HearsAs : ClientState → Option (List ℕ) → ClientState → Type 0
+HearsAs s whole t = HearsWhole Initiator s.handshake (is_some s.session) whole false (client_core t)
 
-abbrev Fails : ClientState → Message → Cause → Type 0
-Fails s message cause = (handshake_take s.handshake message ≡ Faults cause) ⊎ IsOwn s.handshake (is_some s.session) message
+abbrev FailsAs : ClientState → Option (List ℕ) → Cause → Type 0
+FailsAs s whole cause = WholeFails s.handshake (is_some s.session) whole cause
 
-abbrev Comes : ClientState → LinkState → Message → ClientTake → Type 0
-Comes s k message (GoesOn t) = TookTo s k t × Hears s message t
-Comes s k message (Resets cause) = Fails s message cause
+abbrev Comes : ClientState → LinkState → ClientTake → Type 0
+Comes s k (GoesOn t) = TookTo s (cleared k) t × HearsAs s k.whole t
+Comes s k (Resets cause) = FailsAs s k.whole cause
 
-by_handshake_comes : (s : ClientState) (k : LinkState) (message : Message) (take : HandshakeTake) → handshake_take s.handshake message ≡ take
-    → Comes s k message (by_handshake (record s { link = k }) take)
-by_handshake_comes s k message (Goes h) is = (
-  record { link = refl; blocks = refl; slots = refl; own = refl },
-  inl (subst (λ (x : HandshakeTake). HandshakeTakes Initiator (is_some s.session) x false (client_core (record s { link = k; handshake = h }))) (sym is) (refl, refl, refl)),
-)
-by_handshake_comes s k message (GoesOpen h) is = (
-  record { link = refl; blocks = refl; slots = refl; own = refl },
-  inl (subst (λ (x : HandshakeTake). HandshakeTakes Initiator (is_some s.session) x false (client_core (record s { link = k; handshake = h }))) (sym is) (refl, refl, refl)),
-)
-by_handshake_comes s k message (Faults cause) is = inl is
+goes_to : (s : ClientState) (k : LinkState) (message : Message) (opens : Bool) (h : Handshake) → HandshakesTo s.handshake (handshake_take s.handshake message) opens h
+    → HandshakeTakes Initiator (is_some s.session) (handshake_take s.handshake message) false (client_core (record s { link = k; handshake = h }))
+goes_to s k message false h is =
+    subst (λ (x : HandshakeTake). HandshakeTakes Initiator (is_some s.session) x false (client_core (record s { link = k; handshake = h }))) (sym is) (refl, refl, refl)
+goes_to s k message true h is =
+    subst (λ (x : HandshakeTake). HandshakeTakes Initiator (is_some s.session) x false (client_core (record s { link = k; handshake = h }))) (sym is) (refl, refl, refl)
 
-if_comes : (s : ClientState) (k : LinkState) (message : Message) (b : Bool) (x y : ClientTake) → Comes s k message x → Comes s k message y
-    → Comes s k message (if b then x else y)
-if_comes s k message true x y one other = one
-if_comes s k message false x y one other = other
-
-by_ack_comes : (s : ClientState) (k : LinkState) (message : Message) (session : ClientSession) (ident start end : ℕ) → s.session ≡ Some session
-    → IsOwn s.handshake (is_some s.session) message → Comes s k message (takes_ack (record s { link = k }) session ident start end)
-by_ack_comes s k message session ident start end is own =
-    if_comes s k message (is_other s.handshake.draft.ident_own ident) (Resets (the_cause.Ident s.handshake.draft.ident_own ident)) _ (inr own)
-    (if_comes s k message (is_other (slot_in s session.acked) start) (Resets (the_cause.Slot (slot_in s session.acked) start)) _ (inr own)
-    (if_comes s k message (nat_lt end s.slots && nat_le (session.acked + range_length s.slots start end) session.announced)
-    (GoesOn (acknowledged (record s { link = k }) session (range_length s.slots start end))) (Resets (the_cause.RangeEnd end))
-    (record { link = refl; blocks = refl; slots = refl; own = ap is_announcing (sym is) }, inr (own, refl, refl, ap is_some (sym is)))
-    (inr own)))
-
-by_session_comes : (s : ClientState) (k : LinkState) (message : Message) (session : ClientSession) (subtype : Subtype) (body : MsgBody) → s.session ≡ Some session
-    → message.body ≡ body → sid_fault s.handshake.sid message.sid ≡ None → Comes s k message (in_session (record s { link = k }) session message subtype body)
-by_session_comes s k message session Ack (DringData seq ident start end state) is body sid =
-    by_ack_comes s k message session ident start end is (record { opened = ap is_some is; sid = sid; body = subst core.IsOfSession (sym body) tt })
-by_session_comes s k message session Nack (DringData seq ident start end state) is body sid =
-    inr (record { opened = ap is_some is; sid = sid; body = subst core.IsOfSession (sym body) tt })
-by_session_comes s k message session _ _ is body sid = by_handshake_comes s k message (handshake_take s.handshake message) refl
-
-by_sid_comes : (s : ClientState) (k : LinkState) (message : Message) (session : ClientSession) (fault : Option Cause) → s.session ≡ Some session
-    → sid_fault s.handshake.sid message.sid ≡ fault
-    → Comes s k message (sid_first fault (in_session (record s { link = k }) session message message.subtype message.body))
-by_sid_comes s k message session None is sid = by_session_comes s k message session message.subtype message.body is refl sid
-by_sid_comes s k message session (Some cause) is sid =
-    inl (ap (λ (f : Option Cause). fault_or f (handshake_hear s.handshake message.subtype message.sid message.body)) sid)
-
-by_message_comes : (s : ClientState) (k : LinkState) (message : Message) (open_one : Option ClientSession) → s.session ≡ open_one
-    → Comes s k message (hears_message (record s { link = k }) open_one message)
-by_message_comes s k message None is = by_handshake_comes s k message (handshake_take s.handshake message) refl
-by_message_comes s k message (Some session) is = by_sid_comes s k message session (sid_fault s.handshake.sid message.sid) is refl
-
--- it goes on
-abbrev HearsTo : ClientState → LinkState → Option (List ℕ) → ClientState → Type 0
-HearsTo s k whole t = TookTo s (cleared k) t × core.HearsWhole Initiator s.handshake (is_some s.session) whole false (client_core t)
+answers : (s : ClientState) (k : LinkState) (bytes : List ℕ) (message : Message) → k.whole ≡ Some bytes → Decodes bytes (Ok message) → Answers s (cleared k) message (Comes s k)
+answers s k bytes message whole decodes = record {
+  goes = λ opens h to. (
+    record { link = refl; blocks = refl; slots = refl; own = refl },
+    subst (λ (w : Option (List ℕ)). HearsAs s w (record s { link = cleared k; handshake = h })) (sym whole) (Ok message, decodes, inl (goes_to s (cleared k) message opens h to)),
+  );
+  faults = λ cause is. subst (λ (w : Option (List ℕ)). FailsAs s w cause) (sym whole) (Ok message, decodes, inl is);
+  acks = λ a. (
+    record { link = refl; blocks = refl; slots = refl; own = ap is_announcing (sym a.session_is) },
+    subst (λ (w : Option (List ℕ)). HearsAs s w (acknowledged (record s { link = cleared k }) a.session (range_length s.slots a.start a.end))) (sym whole)
+        (Ok message, decodes, inr (record { opened = ap is_some a.session_is; sid = a.sid_is; body = subst IsOfSession (sym a.body_is) tt }, refl, refl, ap is_some (sym a.session_is))),
+  );
+  refuses = λ cause refuses. subst (λ (w : Option (List ℕ)). FailsAs s w cause) (sym whole) (Ok message, decodes, inr refuses.own);
+}
 
 pub cleared_is : (k : LinkState) → k.whole ≡ None → k ≡ cleared k
 cleared_is k none = ap (λ (w : Option (List ℕ)). record k { whole = w }) none
 
-goes_decoded : (s t : ClientState) (k : LinkState) (bytes : List ℕ) (d : Result Message TagFault) → Decodes bytes d → GoesOn t ≡ reads (record s { link = cleared k }) d
-    → HearsTo s k (Some bytes) t
-goes_decoded s t k bytes (Ok message) decodes is =
-    let comes : Comes s (cleared k) message (GoesOn t) = subst (Comes s (cleared k) message) (sym is) (by_message_comes s (cleared k) message s.session refl) in
-    (comes.0, (Ok message, decodes, comes.1))
-goes_decoded s t k bytes (Err fault) decodes is = absurd (cc is)
+client_comes : (s : ClientState) (k : LinkState) (take : ClientTake) → HearsLink s (Heard k) take → Comes s k take
+client_comes s k take hears =
+    comes_to s k (Comes s k) take (record {
+      none = λ none. (
+        record { link = cleared_is k none; blocks = refl; slots = refl; own = refl },
+        subst (λ (w : Option (List ℕ)). HearsAs s w (record s { link = k })) (sym none) (refl, refl, refl),
+      );
+      some = λ bytes message whole decodes. answers s k bytes message whole decodes;
+      tags = λ bytes fault whole decodes. subst (λ (w : Option (List ℕ)). FailsAs s w (the_cause.Tag fault)) (sym whole) (Err fault, decodes, refl);
+    }) hears
 
-goes_whole : (s t : ClientState) (k : LinkState) (whole : Option (List ℕ)) → k.whole ≡ whole → HearsWhole (record s { link = k }) whole (GoesOn t) → HearsTo s k whole t
-goes_whole s t k None none is =
-    let same : t ≡ record s { link = k } = cc is in
-    subst (HearsTo s k None) (sym same) (record { link = cleared_is k none; blocks = refl; slots = refl; own = refl }, (refl, refl, refl))
-goes_whole s t k (Some bytes) some is = goes_decoded s t k bytes is.0 is.1 is.2
-
+-- it goes on
 offers_same : (s t : ClientState) → t.blocks ≡ s.blocks → t.slots ≡ s.slots → client_offer t.blocks t.slots ≡ client_offer s.blocks s.slots
 offers_same s t blocks slots = ap (λ (n : ℕ). client_offer n t.slots) blocks ∙ ap (λ (n : ℕ). client_offer s.blocks n) slots
 
-goes_link : (s t : ClientState) (packet : List ℕ) (link : LinkTake) → ClientSound t → MayTake (client_core s) → TakesBytes s.link packet link → HearsLink s link (GoesOn t)
+pub client_hears : (s : ClientState) (at : Seen) (packet : List ℕ) (t : ClientState) → ClientSound t → client_rule s at ≡ Takes packet → ClientTakes s packet (GoesOn t)
     → EndHears Initiator (client_core s) packet false (client_core t)
-goes_link s t packet (Heard k) sound may takes hears =
-    let to = goes_whole s t k k.whole refl hears in
+client_hears s at packet t sound rule takes =
+    let by = goes_by s packet t takes in
+    let to : Comes s by.link (GoesOn t) = client_comes s by.link (GoesOn t) by.hears in
     record {
-      may = may;
-      heard = k;
-      takes = takes;
+      may = client_may_take s at packet rule;
+      heard = by.link;
+      takes = by.takes;
       link = to.0.link;
       hears = to.1;
       offer = offers_same s t to.0.blocks to.0.slots;
       own = λ before behind. to.0.own;
       most = infos_most t sound;
     }
-goes_link s t packet (Unheard cause) sound may takes hears = absurd (cc hears)
 
-pub client_hears : (s : ClientState) (at : Seen) (packet : List ℕ) (t : ClientState) → ClientSound t → client_rule s at ≡ Takes packet → ClientTakes s packet (GoesOn t)
-    → EndHears Initiator (client_core s) packet false (client_core t)
-client_hears s at packet t sound rule takes = goes_link s t packet takes.link sound (client_may_take s at packet rule) takes.takes takes.hears
+-- its link keeps what it has to send
+pub client_sending : (s t : ClientState) (packet : List ℕ) → ClientTakes s packet (GoesOn t) → SameSending s.link t.link
+client_sending s t packet takes =
+    let by = goes_by s packet t takes in
+    let to : Comes s by.link (GoesOn t) = client_comes s by.link (GoesOn t) by.hears in
+    let same = heard_leaves s.link by.link packet by.takes in
+    subst (SameSending s.link) (sym to.0.link) (record { left = same.left; begun = same.begun; role = same.role })
 
 -- IT RESETS ITSELF
-resets_decoded : (s : ClientState) (k : LinkState) (cause : Cause) (d : Result Message TagFault) → Resets cause ≡ reads (record s { link = k }) d
-    → DecodedFails s.handshake (is_some s.session) d cause
-resets_decoded s k cause (Ok message) is = subst (Comes s k message) (sym is) (by_message_comes s k message s.session refl)
-resets_decoded s k cause (Err fault) is = cc is
-
-resets_whole : (s : ClientState) (k : LinkState) (cause : Cause) (whole : Option (List ℕ)) → HearsWhole (record s { link = k }) whole (Resets cause)
-    → WholeFails s.handshake (is_some s.session) whole cause
-resets_whole s k cause None is = absurd (cc is)
-resets_whole s k cause (Some bytes) is = (is.0, is.1, resets_decoded s (cleared k) cause is.0 is.2)
-
 resets_link : (s : ClientState) (cause : Cause) (link : LinkTake) → HearsLink s link (Resets cause) → LinkFails Initiator (client_core s) link cause
-resets_link s cause (Heard k) hears = resets_whole s k cause k.whole hears
+resets_link s cause (Heard k) hears = client_comes s k (Resets cause) hears
 resets_link s cause (Unheard why) hears = cc hears
 
 pub client_refuses : (s : ClientState) (at : Seen) (packet : List ℕ) (cause : Cause) → client_rule s at ≡ Takes packet → ClientTakes s packet (Resets cause)
@@ -287,6 +244,14 @@ holds_by s at _ held sound may is = absurd (cc is)
 pub client_waits : (s : ClientState) (at : Seen) (t : ClientState) → ClientSound s → client_holds (client_rule s at) s ≡ Some t → EndWaits (client_core s) (client_core t)
 client_waits s at t sound is = let to = holds_by s at (client_rule s at) t sound (client_may s at) is in record { what = to.what; holds = to.holds }
 
+pub held_open : (s : ClientState) (at : Seen) (held : ClientState) → ClientSound s → client_holds (client_rule s at) s ≡ Some held → is_some held.session ≡ is_some s.session
+held_open s at held sound is = let to = holds_by s at (client_rule s at) held sound (client_may s at) is in by_what to.what to.holds
+  where
+    by_what : (what : Holding) → Holds (client_core s) what (client_core held) → is_some held.session ≡ is_some s.session
+    by_what HoldsOn same = ap (λ (x : EndCore). x.is_open) same
+    by_what (HoldsOwed message) offers = offers.is_open
+    by_what (HoldsOwn message) offers = offers.is_open
+
 -- IT PUTS a packet: whose the link's message is stays, unless it is wholly put
 pub holds_none : (k : LinkState) (xs : List ℕ) (X : Type 0) → k.to_send ≡ xs → length xs ≤ 0 → holds k ≡ true → X
 holds_none k [] X is few up = absurd (cc (both (is_up k) up))
@@ -295,6 +260,21 @@ holds_none k [] X is few up = absurd (cc (both (is_up k) up))
     both true up = sym up ∙ ap (λ (bytes : List ℕ). not (is_empty bytes)) is
     both false up = sym up
 holds_none k (x ∷ xs) X is few up = absurd (omega (arith, few))
+
+-- its session after it
+announced_open : (o : Option ClientSession) → is_some (announced o) ≡ is_some o
+announced_open None = refl
+announced_open (Some s) = refl
+
+opened_if_open : (b : Bool) (c : ClientState) → is_some (opened_if b c) ≡ (b || is_some c.session)
+opened_if_open true c = refl
+opened_if_open false c = refl
+
+behind_open : (kind : PutKind) (c : ClientState) → is_some (session_behind kind c) ≡ (put_opens kind c.handshake || is_some c.session)
+behind_open EndsOwn c = announced_open c.session
+behind_open Goes c = refl
+behind_open ComesUp c = refl
+behind_open EndsHandshake c = opened_if_open (put_opens EndsHandshake c.handshake) c
 
 put_own_in : (ph : LinkPhase) (c : ClientState) (last : Bool) → c.link.phase ≡ ph → nat_le (length c.link.to_send) 56 ≡ last → is_up c.link ≡ true → holds (behind_put c.link) ≡ true
     → is_announcing (session_behind (kind_in ph c.link (is_announcing c.session)) c) ≡ is_announcing c.session
@@ -345,7 +325,7 @@ pub client_says : (s : ClientState) (at : Seen) (memory packet : List ℕ) (open
     → ClientSends s at memory packet opens t new → EndSays Initiator (client_core s) packet opens (client_core t)
 client_says s at memory packet opens t new sound behind sends =
     let to = holds_by s at (client_rule s at) sends.held sound (client_may s at) sends.holds in
-    let puts : PutsTo packet opens sends.held t = subst (PutsTo packet opens sends.held) (sym sends.is) (puts_to packet opens sends.held (client_held s at (client_rule s at) sends.held (client_may s at) sends.holds sound).sound sends.opens_is) in
+    let puts : PutsTo packet opens sends.held t = subst (PutsTo packet opens sends.held) (sym sends.is) (puts_to packet opens sends.held (client_held s at (client_rule s at) sends.held (client_may s at) sends.holds sound) sends.opens_is) in
     record {
       held = client_core sends.held;
       what = to.what;

@@ -19,9 +19,9 @@ use Rattle.channel_model.specs.EndPuts.{ComesUp, EndsOwn, Goes, PutKind, handsha
 use Rattle.disk_model.specs.LaneState.{Shape}
 use Rattle.disk_model.specs.Offering.{client_offer}
 use Rattle.channel_model.specs.Ranges.{range_length, wrapped}
-use Rattle.lane_laws.proofs.EndPutting.{SaysLast, SaysOn}
-use Rattle.lane_laws.proofs.Awake.{is_open_up}
-use Rattle.lane_laws.proofs.Fitting.{behind_fits}
+use Rattle.channel_laws.proofs.PutSayings.{SaysWhole, SaysOn}
+use Rattle.channel_laws.proofs.EndStanding.{open_up}
+use Rattle.channel_laws.proofs.HandshakeFitting.{up_fits}
 use Rattle.lane_laws.proofs.RangeSums.{count_more, count_said, sum_more, sum_said}
 use Rattle.lane_laws.proofs.RangeTurns.{range_turns}
 use Rattle.lane_laws.proofs.RangesSaid.{said_one, said_range}
@@ -114,11 +114,11 @@ comes_counting shape c turns packet sid done k rests utters down on counted =
     let infos : infos_of c.session ≡ range_count 1 (said (Said packet ∷ turns)) = counted.infos ∙ ap (range_count 1) (sym on.messages) in
     record {
       slots = counted.slots;
-      handshake = behind_fits Initiator (client_offer shape.blocks shape.slots) ComesUp c.handshake counted.handshake;
+      handshake = up_fits Initiator (client_offer shape.blocks shape.slots) c.handshake counted.handshake;
       holds = record {
         owed = λ quiet some. absurd (omega (arith, on.some some, ap length (utters.idle down)));
         own = λ session is now.
-            let up : is_up c.link ≡ true = is_open_up Initiator (client_core c) turns rests (ap is_some is) in
+            let up : is_up c.link ≡ true = open_up Initiator (client_core c) turns rests.stands (ap is_some is) in
             let never : false ≡ true = sym down ∙ up in absurd (cc);
       };
       announced = announced;
@@ -139,7 +139,7 @@ pub own_info : (c : ClientState) (turns : List Turn) (o : Option ClientSession) 
 own_info c turns None is own holds = absurd (cc)
 own_info c turns (Some session) is own holds = record { session = session; is = is; announcing = own; bytes_are = holds.own session is own }
 
-pub none_left : (c : ClientState) (turns : List Turn) (packet : List ℕ) (handshake : Handshake) (session : Option ClientSession) → SaysLast c.link turns packet
+pub none_left : (c : ClientState) (turns : List Turn) (packet : List ℕ) (handshake : Handshake) (session : Option ClientSession) → SaysWhole c.link turns packet
     → ((s : ClientSession) → session ≡ Some s → s.announcing ≡ true → ⊥)
     → ClientHolds (record c { link = behind_put c.link; handshake = handshake; session = session }) (Said packet ∷ turns)
 none_left c turns packet handshake session last never = record {
@@ -148,7 +148,7 @@ none_left c turns packet handshake session last never = record {
 }
 
 pub own_counting : (shape : Shape) (c : ClientState) (turns : List Turn) (packet : List ℕ) (sid done : ℕ) (k : Option ClientCounts) → ClientSound c → is_announcing c.session ≡ true
-    → SaysLast c.link turns packet → ClientCounted shape c turns done k
+    → SaysWhole c.link turns packet → ClientCounted shape c turns done k
     → ClientCounted shape (put_as EndsOwn c) (Said packet ∷ turns) done (counts_as shape false turns packet sid done k)
 own_counting shape c turns packet sid done k sound own last counted =
     let info = own_info c turns c.session refl own counted.holds in

@@ -10,11 +10,12 @@ use Rattle.channel_model.specs.Seeing.{seen}
 use Rattle.disk_model.specs.LaneState.{LaneState}
 use Rattle.lane_laws.proofs.LaneCounting.{Knows}
 use Rattle.lane_laws.proofs.ClientHolding.{client_held}
-use Rattle.lane_laws.proofs.HeldLinks.{held_link}
 use Rattle.lane_laws.proofs.ClientWorkCounting.{client_holds_counting}
-use Rattle.lane_laws.proofs.EndPutting.{PutSays, put_says}
+use Rattle.channel_laws.proofs.PutSayings.{PutSays, put_says}
 use Rattle.lane_laws.proofs.Ruling.{client_may}
+use Rattle.lane_laws.proofs.Speaking.{client_blocked_rests}
 use Rattle.lane_laws.specs.Counted.{ClientCounted}
+use Rattle.lane_laws.specs.LaneRests.{ClientRests}
 use Rattle.lane_laws.specs.Sound.{ClientSound}
 
 pub record Putting (s : LaneState) (l : DiskLog) (packet : List ℕ) (held : ClientState) : Type 0 where
@@ -27,9 +28,10 @@ pub putting : (s : LaneState) (l : DiskLog) (packet : List ℕ) (opens : Bool) (
 putting s l packet opens t new knows sends =
     let at = seen A s.shape.entries s.wire.wire in
     let rule = client_rules.client_rule s.client at in
+    let rests : ClientRests sends.held l.transcript.client = client_blocked_rests s.client at sends.held l.transcript.client knows.all.sound sends.holds knows.rests.client in
     record {
-      sound = (client_held s.client at rule sends.held (client_may s.client at) sends.holds knows.all.transcripts.client).sound;
-      counted = client_holds_counting l.shape s.client at rule sends.held l.transcript.client l.work.done l.work.client knows.all.transcripts.client knows.rests.client knows.utters.client
+      sound = client_held s.client at rule sends.held (client_may s.client at) sends.holds knows.all.sound;
+      counted = client_holds_counting l.shape s.client at rule sends.held l.transcript.client l.work.done l.work.client knows.all.sound knows.rests.client knows.utters.client
           (client_may s.client at) sends.holds knows.counted.client;
-      says = put_says (is_announcing sends.held.session) sends.held.link t.link l.transcript.client packet (held_link s.client at rule sends.held l.transcript.client sends.holds knows.all.transcripts.follows_a) sends.packet;
+      says = put_says (is_announcing sends.held.session) sends.held.link t.link l.transcript.client packet rests.stands.link.follows sends.packet;
     }

@@ -1,30 +1,14 @@
 -- A client that puts a packet: what always holds of it holds.
-use Rattle.std.proofs.Common.{◌≡◌, ℕ, ◌+◌, ◌*◌, ◌≤◌, Bool, true, false, Option, Some, None, List, [], length, drop, refl, ap, ◌∙◌, arith, length-drop}
+use Rattle.std.proofs.Common.{◌≡◌, ℕ, ◌≤◌, Bool, true, false, Option, Some, None, List, length, drop, refl, arith, length-drop}
 use Rattle.std.specs.Prelude.{nat_le}
-use Rattle.std.proofs.lemmas.Bool.{leb-true, leb-false}
+use Rattle.std.proofs.lemmas.Bool.{leb-false}
 use Rattle.ldc_link.specs.declared.phase.LinkPhase.{LinkPhase}
 use Rattle.ldc_link.specs.declared.phase.LinkPhase.TheVariants as phase
-use Rattle.ldc_link.specs.Calls.{Puts}
-use Rattle.ldc_link.specs.LinkState.{LinkState}
-use Rattle.ldc_link.specs.Putting.{behind_put, left_behind_put, owed_in, phase_behind_put, with_link}
-use Rattle.ldc_packet.specs.declared.packet.Packet.{Packet}
-use Rattle.vio_handshake.specs.Rules.{handshake_sent}
-use Rattle.vio_handshake.specs.State.{handshake_up}
+use Rattle.ldc_link.specs.Putting.{left_behind_put}
 use Rattle.disk_model.specs.ClientPutting.{announced, client_kind, client_put, is_announcing, opened_if, session_behind}
 use Rattle.disk_model.specs.ClientState.{ClientSession, ClientState}
-use Rattle.channel_model.specs.EndPuts.{ComesUp, EndsOwn, EndsHandshake, Goes, PutKind, ending, kind_in, put_opens, handshake_behind}
-use Rattle.lane_laws.proofs.Sharing.{behind_short, put_within}
-use Rattle.lane_laws.specs.LinkMoves.{IsAsking}
+use Rattle.channel_model.specs.EndPuts.{ComesUp, EndsOwn, EndsHandshake, Goes, PutKind, ending, kind_in, put_opens}
 use Rattle.lane_laws.specs.Sound.{ClientSound, CountsInOrder}
-
-put_asking : (ph : LinkPhase) → IsAsking ph → IsAsking (phase_behind_put ph)
-put_asking phase.OwesVersInfo asking = tt
-put_asking phase.AwaitsVersAck asking = tt
-put_asking phase.OwesRts asking = tt
-put_asking phase.AwaitsRtr asking = tt
-put_asking phase.OwesRdx asking = tt
-put_asking phase.Established asking = tt
-put_asking _ asking = absurd asking
 
 announced_counts : (pending : ℕ) (open_one : Option ClientSession) → CountsInOrder pending open_one → CountsInOrder pending (announced open_one)
 announced_counts pending None counts = tt
@@ -77,10 +61,6 @@ own_in _ c sound own = sound.own own
 
 pub client_put_sound : (c : ClientState) → ClientSound c → ClientSound (client_put c)
 client_put_sound c sound = record {
-  role = sound.role;
-  asking = put_asking c.link.phase sound.asking;
-  short = behind_short (client_kind c) c.handshake sound.short;
-  held = put_within c.link.phase c.link.to_send sound.held;
   own = own_in c.link.phase c sound;
   slots = sound.slots;
   pending = sound.pending;

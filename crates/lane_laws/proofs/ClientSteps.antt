@@ -1,70 +1,34 @@
--- What each step of a client is to what always holds of it, and to its link.
-use Rattle.std.proofs.Common.{◌≡◌, ℕ, ◌+◌, ◌-◌, ◌≤◌, ◌<◌, Bool, true, Option, Some, None, List, [], ◌∷◌, length, sym, ap, ◌∙◌, subst, arith, length-drop, length-append, ◌++◌, ◌*◌}
+-- What each step of a client is to what always holds of it.
+use Rattle.std.proofs.Common.{◌≡◌, ℕ, ◌+◌, ◌-◌, ◌≤◌, ◌<◌, Bool, Option, Some, None, List, [], ◌∷◌, length, sym, ap, ◌∙◌, subst, arith, length-drop, length-append, ◌++◌}
 use Rattle.std.specs.Prelude.{zero, suc, slice_get}
-use Rattle.ldc_link.specs.declared.phase.Role.{Role}
-use Rattle.ldc_link.specs.declared.phase.Role.TheVariants.{Initiator, Responder}
-use Rattle.ldc_link.specs.LinkState.{LinkState, first_phase, fresh_link}
-use Rattle.ldc_queue.specs.declared.end.ChannelState.TheVariants.{Up}
 use Rattle.vdisk_msg.specs.declared.request.Request.{Request}
-use Rattle.disk_model.specs.ClientPutting.{client_holds, client_put, is_announcing}
+use Rattle.disk_model.specs.ClientPutting.{client_holds, is_announcing}
 use Rattle.disk_model.specs.ClientRule.{Completes, Publishes, client_rule}
 use Rattle.disk_model.specs.ClientState.{ClientSession, ClientState, joined_client}
 use Rattle.disk_model.specs.ClientStep.{ClientAdmits, ClientCompletes, ClientPublishes, ClientSends}
 use Rattle.disk_model.specs.DiskEvent.{Accepted, Admitted, Full, Refused}
 use Rattle.channel_model.specs.Seeing.{Seen}
-use Rattle.lane_laws.proofs.ClientHolding.{Held, client_held, holds_up}
+use Rattle.lane_laws.proofs.ClientHolding.{client_held}
 use Rattle.lane_laws.proofs.ClientSending.{client_put_sound}
 use Rattle.lane_laws.proofs.Ruling.{client_may}
-use Rattle.lane_laws.proofs.Sharing.{in_order, same_link}
+use Rattle.lane_laws.proofs.Sharing.{in_order}
 use Rattle.lane_laws.specs.RuleFacts.{ClientMay}
 use Rattle.lane_laws.specs.Sound.{ClientSound, CountsInOrder, InOrder}
-use Rattle.lane_laws.specs.LinkMoves.{IsAsking, PutsOne, SameTranscript}
 
 -- it begins
 pub client_joined : (c : ClientState) → ClientSound c → ClientSound (joined_client c)
-client_joined c sound = record {
-  role = sound.role;
-  asking = subst (λ (k : LinkState). IsAsking k.phase) (sym (ap fresh_link sound.role)) tt;
-  short = record { offered = sound.short.offered; owed = tt };
-  held = omega arith;
-  own = λ own. absurd (cc);
-  slots = sound.slots;
-  pending = sound.pending;
-  counts = tt;
-}
+client_joined c sound = record { own = λ own. absurd (cc); slots = sound.slots; pending = sound.pending; counts = tt }
 
--- it puts a packet
-pub record ClientPut (s : ClientState) (packet : List ℕ) (at : Seen) (t : ClientState) : Type 0 where
-  pub up : at.state ≡ Up
-  pub room : at.room ≡ true
-  pub sound : ClientSound t
-  pub puts : PutsOne packet s.link t.link
-
-pub client_sends : (s : ClientState) (at : Seen) (memory packet : List ℕ) (opens : Bool) (t : ClientState) (new : List ℕ) → ClientSound s
-    → ClientSends s at memory packet opens t new → ClientPut s packet at t
-client_sends s at memory packet opens t new sound sends =
-    let may : ClientMay s at (client_rule s at) = client_may s at in
-    let held = client_held s at (client_rule s at) sends.held may sends.holds sound in
-    let behind : ClientSound (client_put sends.held) = client_put_sound sends.held held.sound in
-    record {
-      up = holds_up s at (client_rule s at) sends.held may sends.holds;
-      room = sends.room;
-      sound = subst ClientSound (sym sends.is) behind;
-      puts = record { held = sends.held.link; same = held.goes; puts = sends.packet };
-    }
-
--- its link holds a message, which isn't put
-pub client_blocked : (s : ClientState) (at : Seen) (t : ClientState) → ClientSound s → client_holds (client_rule s at) s ≡ Some t → Held s t
+-- its link holds a message, which isn't put, or of which a packet is
+pub client_blocked : (s : ClientState) (at : Seen) (t : ClientState) → ClientSound s → client_holds (client_rule s at) s ≡ Some t → ClientSound t
 client_blocked s at t sound holds = client_held s at (client_rule s at) t (client_may s at) holds sound
 
+pub client_sends : (s : ClientState) (at : Seen) (memory packet : List ℕ) (opens : Bool) (t : ClientState) (new : List ℕ) → ClientSound s
+    → ClientSends s at memory packet opens t new → ClientSound t
+client_sends s at memory packet opens t new sound sends =
+    subst ClientSound (sym sends.is) (client_put_sound sends.held (client_blocked s at sends.held sound sends.holds))
+
 -- it goes on without its link: requests, and the work on them
-pub record ClientWorked (s t : ClientState) : Type 0 where
-  pub sound : ClientSound t
-  pub goes : SameTranscript t.link s.link
-
-stays : (s : ClientState) → ClientSound s → ClientWorked s s
-stays s sound = record { sound = sound; goes = same_link s.link }
-
 more_pending : (pending more : ℕ) (open_one : Option ClientSession) → pending ≤ more → CountsInOrder pending open_one → CountsInOrder more open_one
 more_pending pending more None less counts = tt
 more_pending pending more (Some s) less counts = record {
@@ -80,22 +44,16 @@ accepted_sound : (s : ClientState) (request : Request) → length s.pending < s.
 accepted_sound s request room sound =
     let longer = length-append s.pending (request ∷ []) in
     record {
-      role = sound.role;
-      asking = sound.asking;
-      short = sound.short;
-      held = sound.held;
       own = sound.own;
       slots = sound.slots;
       pending = omega (arith, longer, room);
       counts = more_pending (length s.pending) (length (s.pending ++ request ∷ [])) s.session (omega (arith, longer)) sound.counts;
     }
 
-pub client_admits : (s : ClientState) (event : Admitted) (t : ClientState) → ClientSound s → ClientAdmits s event t → ClientWorked s t
-client_admits s (Refused why request) t sound admits = subst (λ (x : ClientState). ClientWorked s x) (sym admits.1) (stays s sound)
-client_admits s (Full request) t sound admits = subst (λ (x : ClientState). ClientWorked s x) (sym admits.2) (stays s sound)
-client_admits s (Accepted id request) t sound admits =
-    subst (λ (x : ClientState). ClientWorked s x) (sym admits.5)
-    (record { sound = accepted_sound s request admits.1 sound; goes = same_link s.link })
+pub client_admits : (s : ClientState) (event : Admitted) (t : ClientState) → ClientSound s → ClientAdmits s event t → ClientSound t
+client_admits s (Refused why request) t sound admits = subst ClientSound (sym admits.1) sound
+client_admits s (Full request) t sound admits = subst ClientSound (sym admits.2) sound
+client_admits s (Accepted id request) t sound admits = subst ClientSound (sym admits.5) (accepted_sound s request admits.1 sound)
 
 -- the request that is published is one that is pending
 is_pending : (pending : List Request) (n : ℕ) (request : Request) → slice_get pending n ≡ Some request → n < length pending
@@ -104,31 +62,24 @@ is_pending (one ∷ pending) zero request is = omega arith
 is_pending (one ∷ pending) (suc n) request is = omega (arith, is_pending pending n request is)
 
 pub client_publishes : (s : ClientState) (at : Seen) (memory : List ℕ) (id : ℕ) (t : ClientState) (new : List ℕ) → ClientSound s → ClientPublishes s at memory id t new
-    → ClientWorked s t
+    → ClientSound t
 client_publishes s at memory id t new sound step =
     let may : ClientMay s at (Publishes step.session step.request) = subst (ClientMay s at) step.rule (client_may s at) in
     let counts : InOrder (length s.pending) step.session = in_order (length s.pending) s.session step.session may.1 sound.counts in
     let some = is_pending s.pending (step.session.published - step.session.completed) step.request may.2 in
     let own : is_announcing (Some (record step.session { published = step.session.published + 1 })) ≡ is_announcing s.session = ap is_announcing (sym may.1) in
-    subst (λ (x : ClientState). ClientWorked s x) (sym step.is)
+    subst ClientSound (sym step.is)
     (record {
-      sound = record {
-        role = sound.role;
-        asking = sound.asking;
-        short = sound.short;
-        held = sound.held;
-        own = λ announcing. sound.own (sym own ∙ announcing);
-        slots = sound.slots;
-        pending = sound.pending;
-        counts = record {
-          completed = counts.completed;
-          acked = counts.acked;
-          announced = omega (arith, counts.announced);
-          published = omega (arith, counts.published, counts.completed, counts.acked, counts.announced, some);
-          own = λ announcing. omega (arith, counts.own announcing);
-        };
+      own = λ announcing. sound.own (sym own ∙ announcing);
+      slots = sound.slots;
+      pending = sound.pending;
+      counts = record {
+        completed = counts.completed;
+        acked = counts.acked;
+        announced = omega (arith, counts.announced);
+        published = omega (arith, counts.published, counts.completed, counts.acked, counts.announced, some);
+        own = λ announcing. omega (arith, counts.own announcing);
       };
-      goes = same_link s.link;
     })
 
 -- one that is done was pending
@@ -137,30 +88,23 @@ front_some [] request is = absurd (cc)
 front_some (one ∷ pending) request is = omega arith
 
 pub client_completes : (s : ClientState) (at : Seen) (memory : List ℕ) (id operation status : ℕ) (bytes : List ℕ) (t : ClientState) (new : List ℕ) → ClientSound s
-    → ClientCompletes s at memory id operation status bytes t new → ClientWorked s t
+    → ClientCompletes s at memory id operation status bytes t new → ClientSound t
 client_completes s at memory id operation status bytes t new sound step =
     let may : ClientMay s at (Completes step.session) = subst (ClientMay s at) step.rule (client_may s at) in
     let counts : InOrder (length s.pending) step.session = in_order (length s.pending) s.session step.session may.1 sound.counts in
     let some = front_some s.pending step.request step.front in
     let less = length-drop 1 s.pending in
     let own : is_announcing (Some (record step.session { completed = step.session.completed + 1 })) ≡ is_announcing s.session = ap is_announcing (sym may.1) in
-    subst (λ (x : ClientState). ClientWorked s x) (sym step.is)
+    subst ClientSound (sym step.is)
     (record {
-      sound = record {
-        role = sound.role;
-        asking = sound.asking;
-        short = sound.short;
-        held = sound.held;
-        own = λ announcing. sound.own (sym own ∙ announcing);
-        slots = sound.slots;
-        pending = omega (arith, less, sound.pending);
-        counts = record {
-          completed = omega (arith, may.2);
-          acked = counts.acked;
-          announced = counts.announced;
-          published = omega (arith, counts.published, less, some);
-          own = counts.own;
-        };
+      own = λ announcing. sound.own (sym own ∙ announcing);
+      slots = sound.slots;
+      pending = omega (arith, less, sound.pending);
+      counts = record {
+        completed = omega (arith, may.2);
+        acked = counts.acked;
+        announced = counts.announced;
+        published = omega (arith, counts.published, less, some);
+        own = counts.own;
       };
-      goes = same_link s.link;
     })

@@ -25,9 +25,9 @@ use Rattle.disk_model.specs.LaneState.{Shape}
 use Rattle.disk_model.specs.Offering.{client_offer}
 use Rattle.channel_model.specs.Seeing.{Seen}
 use Rattle.lane_laws.proofs.ClientPutCounting.{counts_as, none_left, put_as, same_said, says_agrees}
-use Rattle.lane_laws.proofs.EndPutting.{SaysLast}
-use Rattle.lane_laws.proofs.Awake.{is_awake, is_open_up, up_empty}
-use Rattle.lane_laws.proofs.Fitting.{sent_fits}
+use Rattle.channel_laws.proofs.PutSayings.{SaysWhole}
+use Rattle.channel_laws.proofs.EndStanding.{open_up, owing_up, up_empty}
+use Rattle.channel_laws.proofs.HandshakeFitting.{sent_fits}
 use Rattle.lane_laws.proofs.RangeSums.{count_more, ready_more, sum_more}
 use Rattle.lane_laws.proofs.RangesSaid.{canonical_ready, owed_no_range}
 use Rattle.lane_laws.proofs.RulesFree.{publishes_free}
@@ -35,7 +35,7 @@ use Rattle.lane_laws.proofs.Ruling.{client_may}
 use Rattle.lane_laws.specs.Counted.{ClientCounted, acked_of, announced_of, infos_of, is_ready, one_where, range_count, range_sum, ready_count}
 use Rattle.lane_laws.specs.LaneRests.{ClientRests, ClientUtters}
 use Rattle.lane_laws.specs.RuleFacts.{ClientMay}
-use Rattle.lane_laws.specs.HandshakeFits.{MayOwe, OwedFits}
+use Rattle.channel_laws.specs.HandshakeFits.{MayOwe, OwedFits}
 use Rattle.lane_laws.specs.Sound.{ClientSound}
 use Rattle.lane_laws.specs.ChannelEnds.{client_core}
 use Rattle.channel_model.specs.EndPuts.{EndsHandshake, put_opens}
@@ -57,7 +57,7 @@ record PutsOwed (c : ClientState) (bytes : List ℕ) : Type 0 where
   may : MayOwe c.handshake.phase message.subtype message.body
   none : range_in 1 (Some bytes) ≡ None
 
-puts_owed : (shape : Shape) (c : ClientState) (turns : List Turn) (packet : List ℕ) (done : ℕ) (k : Option ClientCounts) → is_announcing c.session ≡ false → SaysLast c.link turns packet
+puts_owed : (shape : Shape) (c : ClientState) (turns : List Turn) (packet : List ℕ) (done : ℕ) (k : Option ClientCounts) → is_announcing c.session ≡ false → SaysWhole c.link turns packet
     → ClientCounted shape c turns done k → PutsOwed c (half_said turns ++ c.link.to_send)
 puts_owed shape c turns packet done k own last counted =
     let holds = counted.holds.owed own last.some in
@@ -73,7 +73,7 @@ record SumsSame (shape : Shape) (turns : List Turn) (packet : List ℕ) : Type 0
   ranges : range_sum shape.slots 1 (said (Said packet ∷ turns)) ≡ range_sum shape.slots 1 (said turns)
   infos : range_count 1 (said (Said packet ∷ turns)) ≡ range_count 1 (said turns)
 
-sums_same : (shape : Shape) (c : ClientState) (turns : List Turn) (packet : List ℕ) → SaysLast c.link turns packet → PutsOwed c (half_said turns ++ c.link.to_send) → SumsSame shape turns packet
+sums_same : (shape : Shape) (c : ClientState) (turns : List Turn) (packet : List ℕ) → SaysWhole c.link turns packet → PutsOwed c (half_said turns ++ c.link.to_send) → SumsSame shape turns packet
 sums_same shape c turns packet last owed =
     let bytes = half_said turns ++ c.link.to_send in
     record {
@@ -86,7 +86,7 @@ not_ready true bytes is never = absurd (never is)
 not_ready false bytes is never = ap one_where is
 
 handshake_as : (opens : Bool) (shape : Shape) (c : ClientState) (turns : List Turn) (packet : List ℕ) (sid done : ℕ) (k : Option ClientCounts) → opens_by_put c.handshake.role c.handshake.phase ≡ opens
-    → ClientRests c turns → first_id c ≡ done → is_announcing c.session ≡ false → SaysLast c.link turns packet → ClientCounted shape c turns done k
+    → ClientRests c turns → first_id c ≡ done → is_announcing c.session ≡ false → SaysWhole c.link turns packet → ClientCounted shape c turns done k
     → ClientCounted shape (record c { link = behind_put c.link; handshake = handshake_sent c.handshake; session = opened_if opens c }) (Said packet ∷ turns) done (counts_as shape opens turns packet sid done k)
 handshake_as true shape c turns packet sid done k is rests first own last counted =
     let none : c.session ≡ None = closed c.session c.handshake.phase rests.opened (opens_phase c.handshake.role c.handshake.phase is) in
@@ -126,7 +126,7 @@ handshake_as false shape c turns packet sid done k is rests first own last count
     }
 
 pub handshake_counting : (shape : Shape) (c : ClientState) (turns : List Turn) (packet : List ℕ) (sid done : ℕ) (k : Option ClientCounts) → ClientRests c turns → first_id c ≡ done
-    → is_announcing c.session ≡ false → SaysLast c.link turns packet → ClientCounted shape c turns done k
+    → is_announcing c.session ≡ false → SaysWhole c.link turns packet → ClientCounted shape c turns done k
     → ClientCounted shape (put_as EndsHandshake c) (Said packet ∷ turns) done (counts_as shape (put_opens EndsHandshake c.handshake) turns packet sid done k)
 handshake_counting shape c turns packet sid done k rests first own last counted =
     handshake_as (opens_by_put c.handshake.role c.handshake.phase) shape c turns packet sid done k refl rests first own last counted
@@ -147,7 +147,7 @@ no_own c session sound empty is announces = absurd (omega (arith, sound.own (ap 
 says_counting : (shape : Shape) (c : ClientState) (turns : List Turn) (message : Message) (done : ℕ) (k : Option ClientCounts) → Known c turns → owes c.link ≡ false → c.handshake.owed ≡ Some message
     → ClientCounted shape c turns done k → ClientCounted shape (holding message c) turns done k
 says_counting shape c turns message done k known free owed counted =
-    let empty : c.link.to_send ≡ [] = up_empty c.link (is_awake (client_core c) turns message owed known.utters) free in
+    let empty : c.link.to_send ≡ [] = up_empty c.link (owing_up Initiator (client_core c) turns message known.rests.stands owed) free in
     let half = free_half c turns known.utters empty in
     record {
       slots = counted.slots;
@@ -175,7 +175,7 @@ announcing_agrees (Some s) session done (Some c) is agrees =
 announces_counting : (shape : Shape) (c : ClientState) (turns : List Turn) (session : ClientSession) (done : ℕ) (k : Option ClientCounts) → Known c turns → owes c.link ≡ false
     → c.session ≡ Some session → ClientCounted shape c turns done k → ClientCounted shape (announcing session (holding (announcement c session) c)) turns done k
 announces_counting shape c turns session done k known free is counted =
-    let empty : c.link.to_send ≡ [] = up_empty c.link (is_open_up Initiator (client_core c) turns known.rests (ap is_some is)) free in
+    let empty : c.link.to_send ≡ [] = up_empty c.link (open_up Initiator (client_core c) turns known.rests.stands (ap is_some is)) free in
     let half = free_half c turns known.utters empty in
     record {
       slots = counted.slots;
@@ -227,7 +227,7 @@ pub client_publishes_counting : (shape : Shape) (c : ClientState) (at : Seen) (m
     → ClientCounted shape t turns done (change_client (λ (x : ClientCounts). record x { published = x.published + 1 }) k)
 client_publishes_counting shape c at memory id t new turns done k sound rests step counted =
     let may : ClientMay c at (Publishes step.session step.request) = subst (ClientMay c at) step.rule (client_may c at) in
-    let up : is_up c.link ≡ true = is_open_up Initiator (client_core c) turns rests (ap is_some may.1) in
+    let up : is_up c.link ≡ true = open_up Initiator (client_core c) turns rests.stands (ap is_some may.1) in
     let empty : c.link.to_send ≡ [] = up_empty c.link up (publishes_free c at step.session step.request step.rule) in
     subst (λ (x : ClientState). ClientCounted shape x turns done (change_client (λ (y : ClientCounts). record y { published = y.published + 1 }) k)) (sym step.is) (record {
       slots = counted.slots;

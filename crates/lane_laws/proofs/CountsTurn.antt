@@ -40,5 +40,5 @@ counts_in_turn shape events s k d sound run clean client server =
       finished = work_first s.server.session s.server.work l.work.server d server counted.server.agrees;
       fetched = one.descs;
       asked = omega (arith, announced, one.announced);
-      announced = announced_in (length s.client.pending) s.client.session l.work.done l.work.client k client counted.client.agrees knows.all.transcripts.client.counts;
+      announced = announced_in (length s.client.pending) s.client.session l.work.done l.work.client k client counted.client.agrees knows.all.sound.counts;
     }

@@ -1,6 +1,6 @@
 -- A packet for which an end resets itself says why, and a reset without one has a cause that lies in no packet.
-use Rattle.std.proofs.Common.{◌≡◌, ℕ, Option, Some, None, List, refl, sym, subst, inl, inr}
-use Rattle.std.specs.Prelude.{⊤}
+use Rattle.std.proofs.Common.{◌≡◌, ℕ, Option, Some, None, List, sym, subst, inl, inr}
+use Rattle.std.specs.Prelude.{Ok, ⊤}
 use Rattle.dring.specs.declared.peer.RingFault.{RingFault}
 use Rattle.dring.specs.declared.peer.RingFault.TheVariants as refused
 use Rattle.ldc_link.specs.Following.{Follows}
@@ -10,13 +10,15 @@ use Rattle.ldc_packet.specs.Fault.{first_fault}
 use Rattle.ldc_queue.specs.Transcript.{Turn}
 use Rattle.vio_tag.specs.declared.cause.Cause.{Cause}
 use Rattle.vio_tag.specs.declared.cause.Cause.TheVariants as the_cause
-use Rattle.channel_model.specs.ResetSays.{MessageSays, ResetSays}
+use Rattle.vio_tag.specs.declared.message.Message.{Message}
+use Rattle.vio_tag.specs.Decoding.{Decodes}
+use Rattle.vio_tag.proofs.NoFault.{spelled_no_fault}
+use Rattle.channel_model.specs.ResetSays.{ResetSays}
 use Rattle.channel_model.specs.WireAt.{GapOf}
 use Rattle.disk_model.specs.ClientRule as client_rule
 use Rattle.disk_model.specs.ClientState.{ClientState}
 use Rattle.disk_model.specs.ClientStep.{ClientFails}
 use Rattle.disk_model.specs.ClientTaking as client
-use Rattle.channel_model.specs.EndPuts.{handshake_risen}
 use Rattle.disk_model.specs.ServerRule as server_rule
 use Rattle.disk_model.specs.ServerState.{Ends, Progress, ServerSession, ServerState, Work}
 use Rattle.disk_model.specs.ServerStep.{ServerFails, WorkFails}
@@ -24,7 +26,10 @@ use Rattle.disk_model.specs.ServerTaking as server
 use Rattle.cookie_copy.specs.Reach.{Reach}
 use Rattle.disk_model.specs.ServerWork.{EndFails, FetchFails, cause_of, slot_at}
 use Rattle.channel_laws.proofs.Numbering.{heard_so}
-use Rattle.lane_laws.proofs.MessageResets.{client_reads, server_reads}
+use Rattle.lane_laws.proofs.ClientAnswers as client_answers
+use Rattle.lane_laws.proofs.MessageResets.{client_says_why, server_says_why}
+use Rattle.lane_laws.proofs.ServerAnswers as server_answers
+use Rattle.channel_laws.proofs.HandshakeResets.{HandshakeWhy, Spelled, handshake_why}
 use Rattle.channel_laws.specs.Resetting.{LiesInPacket, SaysWhy}
 use Rattle.channel_laws.proofs.TurnCases.{EndsBy, EndsWhole, hears_on}
 use Rattle.channel_laws.proofs.Resets.{by_message}
@@ -36,26 +41,33 @@ ends_when : (turns : List Turn) (bytes : List ℕ) (k m : LinkState) (message : 
     → EndsBy turns bytes message
 ends_when turns bytes k m message follows none takes is = subst (EndsWhole turns bytes) is (hears_on k m turns bytes none follows (link_heard k m bytes takes)).ends
 
--- THE CLIENT
-client_whole : (turns : List Turn) (bytes : List ℕ) (s : ClientState) (whole : Option (List ℕ)) (cause : Cause) → first_fault bytes ≡ None
-    → ((message : List ℕ) → whole ≡ Some message → EndsBy turns bytes message) → client.HearsWhole s whole (client.Resets cause) → SaysWhy turns bytes cause
-client_whole turns bytes s None cause sound ends hears = absurd (cc)
-client_whole turns bytes s (Some message) cause sound ends hears =
-    by_message turns bytes message cause sound (ends message refl)
-    (says (client.reads (record s { link = cleared s.link }) hears.0) (client_reads message (record s { link = cleared s.link }) hears.0 hears.1) hears.2)
-  where
-    told : client.ClientTake → Type 0
-    told (client.GoesOn t) = ⊤
-    told (client.Resets why) = MessageSays message why
+spelled_by : (bytes : List ℕ) (message : Message) → Decodes bytes (Ok message) → Spelled bytes message
+spelled_by bytes message decodes = record { sound = spelled_no_fault bytes message decodes.message.0 decodes.message.1; spells = decodes.message.1 }
 
-    says : (take : client.ClientTake) → told take → client.Resets cause ≡ take → MessageSays message cause
-    says take why is = subst told (sym is) why
+-- THE CLIENT
+abbrev ClientWhy : List Turn → List ℕ → client.ClientTake → Type 0
+ClientWhy turns packet (client.GoesOn t) = ⊤
+ClientWhy turns packet (client.Resets cause) = SaysWhy turns packet cause
+
+client_why : (turns : List Turn) (packet : List ℕ) (s : ClientState) (k : LinkState) → first_fault packet ≡ None → ((bytes : List ℕ) → k.whole ≡ Some bytes → EndsBy turns packet bytes)
+    → client_answers.Hearings s k (ClientWhy turns packet)
+client_why turns packet s k sound ends = record {
+  none = λ none. tt;
+  some = λ bytes message whole decodes. record {
+    goes = λ opens h to. tt;
+    faults = λ cause is. by_message turns packet bytes cause sound (ends bytes whole)
+        (subst (HandshakeWhy bytes) is (handshake_why bytes s.handshake message (spelled_by bytes message decodes)));
+    acks = λ a. tt;
+    refuses = λ cause refuses. by_message turns packet bytes cause sound (ends bytes whole) (client_says_why bytes message s cause (spelled_by bytes message decodes) refuses);
+  };
+  tags = λ bytes fault whole decodes. by_message turns packet bytes (the_cause.Tag fault) sound (ends bytes whole) decodes.fault;
+}
 
 client_link : (turns : List Turn) (bytes : List ℕ) (s : ClientState) (link : LinkTake) (cause : Cause) → Follows s.link turns → s.link.whole ≡ None → TakesBytes s.link bytes link
     → client.HearsLink s link (client.Resets cause) → SaysWhy turns bytes cause
 client_link turns bytes s (Heard k) cause follows none takes hears =
-    client_whole turns bytes (record s { link = k }) k.whole cause (heard_so s.link turns bytes k follows takes).sound
-    (λ message is. ends_when turns bytes s.link k message follows none takes is) hears
+    client_answers.comes_to s k (ClientWhy turns bytes) (client.Resets cause) (client_why turns bytes s k (heard_so s.link turns bytes k follows takes).sound
+    (λ message is. ends_when turns bytes s.link k message follows none takes is)) hears
 client_link turns bytes s (Unheard other) cause follows none takes hears =
     let same : cause ≡ other = cc in link_why turns bytes s.link cause follows (subst (λ (c : Cause). TakesBytes s.link bytes (Unheard c)) (sym same) takes)
 
@@ -79,25 +91,31 @@ client_fails turns (client_rule.Completes session) s memory cause packet follows
 client_fails turns _ s memory cause packet follows none fails = absurd fails
 
 -- THE SERVER
-server_whole : (turns : List Turn) (bytes : List ℕ) (s : ServerState) (whole : Option (List ℕ)) (cause : Cause) → first_fault bytes ≡ None
-    → ((message : List ℕ) → whole ≡ Some message → EndsBy turns bytes message) → server.HearsWhole s whole (server.Resets cause) → SaysWhy turns bytes cause
-server_whole turns bytes s None cause sound ends hears = absurd (cc)
-server_whole turns bytes s (Some message) cause sound ends hears =
-    by_message turns bytes message cause sound (ends message refl)
-    (says (server.reads (record s { link = cleared s.link }) hears.0) (server_reads message (record s { link = cleared s.link }) hears.0 hears.1) hears.2)
-  where
-    told : server.ServerTake → Type 0
-    told (server.GoesOn t opens) = ⊤
-    told (server.Resets why) = MessageSays message why
+abbrev ServerWhy : List Turn → List ℕ → server.ServerTake → Type 0
+ServerWhy turns packet (server.GoesOn t opens) = ⊤
+ServerWhy turns packet (server.Resets cause) = SaysWhy turns packet cause
 
-    says : (take : server.ServerTake) → told take → server.Resets cause ≡ take → MessageSays message cause
-    says take why is = subst told (sym is) why
+server_why : (turns : List Turn) (packet : List ℕ) (s : ServerState) (k : LinkState) → first_fault packet ≡ None → ((bytes : List ℕ) → k.whole ≡ Some bytes → EndsBy turns packet bytes)
+    → server_answers.Hearings s k (ServerWhy turns packet)
+server_why turns packet s k sound ends =
+    let x : ServerState = server_answers.heard_on s k (cleared k) in
+    record {
+      none = λ none. tt;
+      some = λ bytes message whole decodes. record {
+        goes = λ opens h to. tt;
+        faults = λ cause is. by_message turns packet bytes cause sound (ends bytes whole)
+            (subst (HandshakeWhy bytes) is (handshake_why bytes x.handshake message (spelled_by bytes message decodes)));
+        asks = λ a. tt;
+        refuses = λ cause refuses. by_message turns packet bytes cause sound (ends bytes whole) (server_says_why bytes message x cause (spelled_by bytes message decodes) refuses);
+      };
+      tags = λ bytes fault whole decodes. by_message turns packet bytes (the_cause.Tag fault) sound (ends bytes whole) decodes.fault;
+    }
 
 server_link : (turns : List Turn) (bytes : List ℕ) (s : ServerState) (link : LinkTake) (cause : Cause) → Follows s.link turns → s.link.whole ≡ None → TakesBytes s.link bytes link
     → server.HearsLink s link (server.Resets cause) → SaysWhy turns bytes cause
 server_link turns bytes s (Heard k) cause follows none takes hears =
-    server_whole turns bytes (record s { link = k; handshake = handshake_risen s.link k s.handshake }) k.whole cause (heard_so s.link turns bytes k follows takes).sound
-    (λ message is. ends_when turns bytes s.link k message follows none takes is) hears
+    server_answers.comes_to s k (ServerWhy turns bytes) (server.Resets cause) (server_why turns bytes s k (heard_so s.link turns bytes k follows takes).sound
+    (λ message is. ends_when turns bytes s.link k message follows none takes is)) hears
 server_link turns bytes s (Unheard other) cause follows none takes hears =
     let same : cause ≡ other = cc in link_why turns bytes s.link cause follows (subst (λ (c : Cause). TakesBytes s.link bytes (Unheard c)) (sym same) takes)
 

@@ -15,7 +15,7 @@ use Rattle.vio_tag.specs.declared.message.Message.{Message}
 use Rattle.vio_tag.specs.Spelling.{canonical}
 use Rattle.lane_laws.specs.Agreement.{ClientEndAgrees, RangeAgrees, ServerEndAgrees}
 use Rattle.lane_laws.specs.BlockLog.{Blockage, Clear, is_stuck}
-use Rattle.disk_model.specs.ClientPutting.{announcement, announcing, client_kind, is_announcing}
+use Rattle.disk_model.specs.ClientPutting.{announcement, client_kind, is_announcing}
 use Rattle.disk_model.specs.ClientRule as client_rules
 use Rattle.disk_model.specs.ClientState.{ClientSession, ClientState, joined_client}
 use Rattle.disk_model.specs.ClientStep.{ClientSends}
@@ -39,20 +39,20 @@ use Rattle.lane_laws.proofs.ClientFolds.{ClientIs, client_admits_so, client_begi
 use Rattle.lane_laws.proofs.Speaking.{client_blocked_rests}
 use Rattle.lane_laws.proofs.ClientTaken.{client_took_what}
 use Rattle.lane_laws.proofs.Speaking.{client_blocked_utters}
-use Rattle.lane_laws.proofs.EndPutting.{put_says}
-use Rattle.lane_laws.proofs.Awake.{is_open_up}
+use Rattle.channel_laws.proofs.PutSayings.{put_says}
+use Rattle.channel_laws.proofs.EndStanding.{hears_sending, open_up}
 use Rattle.lane_laws.proofs.LaneCounting.{Knows, knows_step, run_knows}
-use Rattle.lane_laws.proofs.LinkKept.{client_sending, server_sending}
+use Rattle.lane_laws.proofs.ClientMoves.{client_sending}
+use Rattle.lane_laws.proofs.ServerMoves.{server_hears}
 use Rattle.lane_laws.proofs.ClientPuts.{putting}
 use Rattle.lane_laws.proofs.RangeSums.{count_heard}
-use Rattle.lane_laws.proofs.RemainingClientHears.{owes_nothing, takes_calm}
+use Rattle.lane_laws.proofs.RulesFree.{owes_nothing, takes_calm}
 use Rattle.lane_laws.proofs.RulesFree.{ServerFree, TakesFree, server_free}
 use Rattle.lane_laws.proofs.Ruling.{client_may}
 use Rattle.lane_laws.proofs.ServerFolds.{ServerIs, ranged, server_begins, server_blocks_so, server_fetches_so, server_finishes_so, server_moves_so, server_puts_so, server_restarts, server_stores_so, server_takes_so}
 use Rattle.lane_laws.proofs.ServerPutCounting.{server_holds_counting}
 use Rattle.lane_laws.proofs.ServerTaken.{server_took_what}
-use Rattle.lane_laws.proofs.Speaking.{server_blocked_utters}
-use Rattle.lane_laws.proofs.HeldLinks.{held_server}
+use Rattle.lane_laws.proofs.Speaking.{server_blocked_rests, server_blocked_utters}
 use Rattle.lane_laws.specs.Counted.{HoldsAnswer, HoldsEither, HoldsOwed, ServerOrder, range_count}
 use Rattle.lane_laws.specs.ChannelEnds.{client_core, server_core}
 use Rattle.channel_laws.proofs.EndFolding.{FoldsSo}
@@ -113,7 +113,7 @@ client_takes s l packet opens t both step =
       calm = first_false (owes_control s.client.link) (is_some s.client.handshake.owed) (is_none s.client.session && owes s.client.link) (takes_calm s.client at packet step.step.0);
       owed = owes_nothing s.client at packet step.step.0;
     }) both.client
-    (client_took_what s.client l.transcript.client packet t.client knows.all.transcripts.follows_a knows.rests.client.whole step.step.1)
+    (client_took_what s.client l.transcript.client packet t.client knows.rests.client.stands.link.follows knows.rests.client.whole step.step.1)
 
 client_puts : (s : LaneState) (l : DiskLog) (packet : List ℕ) (opens : Bool) (t : LaneState) → BothAre s l → EndOnWire A s (Sent A packet opens) t → ClientStands t (after l (OnWire (Sent A packet opens)))
 client_puts s l packet opens t both step =
@@ -125,8 +125,8 @@ client_puts s l packet opens t both step =
     let put = putting s l packet opens t.client t.memory knows sends in
     subst (λ (x : ClientState). ClientIs x Clear) (sym sends.is)
     (client_puts_so l.transcript.client packet (client_kind held) held refl (record {
-      rests = client_blocked_rests s.client at held l.transcript.client knows.all.transcripts.client sends.holds knows.rests.client;
-      utters = client_blocked_utters s.client at held l.transcript.client knows.all.transcripts.client sends.holds knows.rests.client;
+      rests = client_blocked_rests s.client at held l.transcript.client knows.all.sound sends.holds knows.rests.client;
+      utters = client_blocked_utters s.client at held l.transcript.client knows.all.sound sends.holds knows.rests.client;
       holds = put.counted.holds;
     }) put.says)
 
@@ -162,10 +162,11 @@ server_takes s l packet opens t both step =
     let at = seen B s.shape.entries s.wire.wire in
     let free : TakesFree s.server = subst (ServerFree s.server) step.1.step.1.0 (server_free s.server at) in
     server_takes_so s.server t.server l.transcript.server packet opens l.blocked.server (record {
-      same = server_sending s.server t.server opens packet step.1.step.1.1;
+      same = hears_sending Responder (server_core s.server) (server_core t.server) packet opens
+          (server_hears s.server at packet t.server opens step.1.step.1.0 step.1.step.1.1);
       free = free;
     }) knows.rests.server both.server
-    (server_took_what s.server l.transcript.server packet t.server opens knows.all.transcripts.follows_b knows.rests.server.whole step.1.step.1.1)
+    (server_took_what s.server l.transcript.server packet t.server opens knows.rests.server.stands.link.follows knows.rests.server.whole step.1.step.1.1)
 
 server_puts_packet : (s : LaneState) (l : DiskLog) (packet : List ℕ) (opens : Bool) (t : LaneState) → BothAre s l → EndOnWire B s (Sent B packet opens) t → ServerStands t (after l (OnWire (Sent B packet opens)))
 server_puts_packet s l packet opens t both step =
@@ -175,7 +176,7 @@ server_puts_packet s l packet opens t both step =
     let sends : ServerSends s.server at packet opens t.server = step.1.step.1.0 in
     let held = sends.held in
     let counted = server_holds_counting l.shape s.server rule held l.transcript.server l.work.server knows.rests.server knows.utters.server (server_free s.server at) sends.holds knows.counted.server in
-    let follows = held_server s.server rule held l.transcript.server sends.holds knows.all.transcripts.follows_b in
+    let follows = (server_blocked_rests s.server at held l.transcript.server sends.holds knows.rests.server).stands.link.follows in
     subst (λ (x : ServerState). ServerIs x (Said packet ∷ l.transcript.server) Clear) (sym sends.is)
     (server_puts_so l.transcript.server packet (server_kind held) held (record {
       range = ap ranged (held_session s.server rule held sends.holds) ∙ both.server.range;
@@ -402,7 +403,7 @@ client_left_is s l (Some session) both cuts is = by session.announcing refl
         ∙ sym (ap (λ (b : Bool). announced_or_owed b s.client session (half_said l.transcript.client) l.blocked.client) own)
     by true own =
         held_left s.client.link (half_said l.transcript.client) (canonical (announcement s.client session)) l.blocked.client (of_client s l both cuts)
-        (both.knows.counted.client.holds.own session is own) (both.knows.all.transcripts.client.own (ap is_announcing is ∙ own))
+        (both.knows.counted.client.holds.own session is own) (both.knows.all.sound.own (ap is_announcing is ∙ own))
         ∙ sym (ap (λ (b : Bool). announced_or_owed b s.client session (half_said l.transcript.client) l.blocked.client) own)
 
 -- the handshake of each end is what its transcript folds to
@@ -429,7 +430,7 @@ pub client_end : (s : LaneState) (l : DiskLog) → BothAre s l → FoldsSo Initi
 client_end s l both so sids = record {
   blocks = both.knows.all.stands.blocks ∙ ap (λ (n : Shape). n.blocks) both.knows.all.stands.shape;
   slots = both.knows.counted.client.slots;
-  role = both.knows.all.transcripts.client.role;
+  role = both.knows.rests.client.stands.link.role_is;
   phase = so.folds.phase;
   handshake = client_told s l both so sids;
   announcing = both.client.announcing;
@@ -469,7 +470,7 @@ module _ (s : LaneState) (l : DiskLog) (both : BothAre s l) (cuts : Cuts s.serve
       up : (p : Option ServerSession) → s.server.session ≡ p → ranged p ≡ Some range → is_up s.server.link ≡ true
       up None open_one there = absurd (cc)
       up (Some session) open_one there =
-          is_open_up Responder (server_core s.server) l.transcript.server both.knows.rests.server (ap is_some open_one)
+          open_up Responder (server_core s.server) l.transcript.server both.knows.rests.server.stands (ap is_some open_one)
   answered_left o range (byte ∷ left) none is at left_is =
       let some : 1 ≤ length s.server.link.to_send = omega (arith, ap length left_is) in
       let a : HoldsAnswer s.server (half_said l.transcript.server ++ s.server.link.to_send) = answer_either s.server _ none (both.knows.counted.server.holds some) in
@@ -496,7 +497,7 @@ server_end s l both so sids first =
       first = first;
       blocks = counted.blocks;
       slots = counted.slots;
-      role = both.knows.all.transcripts.server.role;
+      role = both.knows.rests.server.stands.link.role_is;
       phase = so.folds.phase;
       handshake = server_told s l both so sids;
       range = range_agrees l.shape.slots s.server.session l.work.server turns counted.order both.server.range;

@@ -15,7 +15,7 @@ use Rattle.lane_laws.proofs.CarriedRuns.{carries_lawful}
 use Rattle.lane_laws.proofs.EndsWorking.{works_lawful}
 use Rattle.lane_laws.proofs.FramesLost.{lost_lawful}
 use Rattle.lane_laws.proofs.LaneChannel.{heard_lawful, said_lawful}
-use Rattle.lane_laws.proofs.OpenRuns.{tick_lawful}
+use Rattle.lane_laws.proofs.TickLaw.{tick_lawful}
 use Rattle.lane_laws.proofs.StandingRuns.{admission_lawful, once_lawful, turns_lawful}
 use Rattle.lane_laws.proofs.TableRuns.{answers_lawful, table_lawful}
 use Rattle.lane_laws.specs.HeardStands.{HeardAt}

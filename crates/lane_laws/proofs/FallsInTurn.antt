@@ -1,74 +1,86 @@
 -- A packet that an end takes lowers what remains, after every run of a lane that nobody forged.
-use Rattle.std.proofs.Common.{◌≡◌, ℕ, ◌+◌, ◌-◌, ◌%◌, ◌^◌, ◌<◌, ◌≤◌, inl, inr, Bool, true, false, Option, Some, None, List, [], ◌∷◌, ◌++◌, length, refl, sym, ap, ◌∙◌, subst, arith}
-use Rattle.ldc_queue.specs.declared.end.End.{End}
+use Rattle.std.proofs.Common.{◌≡◌, ℕ, ◌+◌, ◌-◌, ◌%◌, ◌^◌, ◌<◌, ◌≤◌, inl, inr, Bool, false, Option, Some, None, List, [], ◌∷◌, ◌++◌, length, map, refl, sym, ap, ◌∙◌, subst, arith}
 use Rattle.std.proofs.lemmas.Nat.{mod_below}
-use Rattle.ldc_queue.specs.declared.end.ChannelState.{ChannelState}
-use Rattle.channel_model.specs.Sayings.{heard}
-use Rattle.channel_model.specs.WireAt.{IsUp}
-use Rattle.lane_laws.specs.Agreement.{ServerAgrees}
-use Rattle.lane_laws.specs.WorkLog.{ServerCounts}
-use Rattle.disk_model.specs.ClientState.{ClientState}
-use Rattle.channel_model.specs.Ranges.{range_length, wrapped}
-use Rattle.disk_model.specs.ServerRule as server_rules
-use Rattle.disk_model.specs.ServerState.{ServerSession, ServerState, SlotRange, Work}
-use Rattle.lane_laws.proofs.Agreeing.{AskedWithin, asked_within}
-use Rattle.lane_laws.proofs.NoRefusal.{takes_fine}
-use Rattle.lane_laws.proofs.QueueOffers.{waits_offering}
-use Rattle.lane_laws.proofs.RangeSums.{sum_front}
-use Rattle.lane_laws.proofs.RemainingRuns.{steps_stand, steps_fall}
-use Rattle.lane_laws.proofs.RulesFree.{ServerFree, TakesFree, server_free}
-use Rattle.lane_laws.proofs.ServerCounting.{opens_new}
-use Rattle.lane_laws.proofs.ServerTaken.{ServerAsked, ServerTook, opened_or, server_took_what}
-use Rattle.lane_laws.specs.Budget.{one_range, range_left}
-use Rattle.lane_laws.specs.Counted.{range_sum}
-use Rattle.lane_laws.specs.Remaining.{asked_in, total}
-use Rattle.lane_laws.specs.RemainingSteps.{total_at, AllDo, DoesSomething}
-use Rattle.ldc_queue.specs.Transcript.{Heard as Heard_, Turn}
-use Rattle.lane_laws.proofs.PlaceOwed.{end_owed}
-use Rattle.lane_laws.proofs.LaneChannel.{lane_meets_next}
-use Rattle.lane_laws.specs.ChannelEnds.{client_core, server_core}
-use Rattle.ldc_link.specs.declared.phase.Role.TheVariants.{Initiator, Responder}
-use Rattle.lane_laws.proofs.RemainingTakes.{client_took_falls, server_took_falls}
-use Rattle.lane_laws.proofs.Ruling.{client_may, server_may}
-use Rattle.lane_laws.specs.RemainingTurn.{ClientInTurn, ServerInTurn}
-use Rattle.lane_laws.specs.RuleFacts.{ClientMay, ServerMay}
-use Rattle.ldc_queue.specs.declared.end.End.TheVariants.{A, B}
 use Rattle.runs.specs.Lawful.{log_append, log_of}
 use Rattle.runs.specs.Run.{Run, run_push}
+use Rattle.ldc_queue.specs.declared.end.ChannelState.{ChannelState}
 use Rattle.ldc_queue.specs.declared.end.ChannelState.TheVariants.{Up}
-use Rattle.channel_model.specs.WireEvent.{Took, Joined, Sent, WireEvent}
-use Rattle.channel_model.specs.WireLog.{wire_moved}
-use Rattle.lane_laws.specs.DiskLog.{DiskLog, after, nothing_yet}
-use Rattle.disk_model.specs.ClientRule as client_rules
-use Rattle.disk_model.specs.DiskEvent.{DiskEvent, OnWire, Desc, Done, Finished, Misplaced, Moved, Published, Stored, Works}
-use Rattle.disk_model.specs.LaneState.{IsShape, LaneState, Shape, fresh}
-use Rattle.disk_model.specs.LaneStep.{LaneStep, EndOnWire}
-use Rattle.vio_handshake.specs.declared.session.Offer.{Offer}
+use Rattle.ldc_queue.specs.declared.end.End.{End}
+use Rattle.ldc_queue.specs.declared.end.End.TheVariants.{A, B}
+use Rattle.ldc_queue.specs.Transcript.{Heard as Heard_, Turn}
+use Rattle.channel_model.specs.Ranges.{range_length, wrapped}
+use Rattle.channel_model.specs.Sayings.{heard}
 use Rattle.channel_model.specs.Seeing.{seen}
+use Rattle.channel_model.specs.WireAt.{IsUp}
+use Rattle.channel_model.specs.WireEvent.{Joined, Sent, Took, WireEvent}
+use Rattle.channel_model.specs.WireLog.{wire_moved}
+use Rattle.disk_model.specs.ClientState.{ClientState}
+use Rattle.disk_model.specs.ClientTaking.{acknowledged}
+use Rattle.disk_model.specs.DiskEvent.{Desc, DiskEvent, Done, Finished, Misplaced, Moved, OnWire, Published, Stored, Works}
+use Rattle.disk_model.specs.LaneState.{IsShape, LaneState, Shape, fresh}
+use Rattle.disk_model.specs.LaneStep.{EndOnWire, LaneStep}
+use Rattle.disk_model.specs.ServerRule as server_rules
+use Rattle.disk_model.specs.ServerState.{ServerSession, ServerState, Work}
+use Rattle.channel_laws.proofs.PacketsTaken.{unforged_took}
+use Rattle.channel_laws.specs.LaneCore.{end_of}
+use Rattle.channel_laws.specs.PacketsLeft.{packets_left}
+use Rattle.lane_laws.proofs.Agreeing.{AskedWithin, asked_within}
+use Rattle.lane_laws.proofs.ClientTaken.{ClientTook, client_took_what}
+use Rattle.lane_laws.proofs.LaneChannel.{answers_of, asks_of, lane_matches}
+use Rattle.lane_laws.proofs.LaneCores.{lane_cores, lane_fits, lane_steps}
 use Rattle.lane_laws.proofs.LaneCounting.{Knows, run_knows}
-use Rattle.lane_laws.specs.Remaining.{remaining}
+use Rattle.lane_laws.proofs.OfferedRing.{four_cookies}
+use Rattle.lane_laws.proofs.RangeSums.{sum_front}
+use Rattle.lane_laws.proofs.RemainingClientPuts.{ClientFalls, ClientSpends, falls_lower, same_spends, session_spends}
+use Rattle.lane_laws.proofs.RemainingRuns.{steps_fall}
+use Rattle.lane_laws.proofs.RemainingServerTakes.{behind_ask, server_turns}
+use Rattle.lane_laws.proofs.RemainingTakes.{client_took_falls, server_took_falls}
+use Rattle.lane_laws.proofs.RulesFree.{ServerFree, TakesFree, server_free}
+use Rattle.lane_laws.proofs.Ruling.{server_may}
+use Rattle.lane_laws.proofs.ServerCounting.{opens_new}
+use Rattle.lane_laws.proofs.ServerTaken.{ServerAsked, ServerTook, server_took_what}
+use Rattle.lane_laws.specs.Agreement.{ServerAgrees}
+use Rattle.lane_laws.specs.ChannelEnds.{core_event, core_of}
+use Rattle.lane_laws.specs.Counted.{range_sum}
+use Rattle.lane_laws.specs.DiskLog.{DiskLog, after, nothing_yet}
+use Rattle.lane_laws.specs.Remaining.{asked_in, remaining, total}
+use Rattle.lane_laws.specs.RemainingSteps.{AllDo, DoesSomething, ServerTurn, total_at}
+use Rattle.lane_laws.specs.RuleFacts.{ServerMay}
+use Rattle.lane_laws.specs.WorkLog.{ServerCounts}
 
-pub client_in_turn : (shape : Shape) (events : List DiskEvent) (s : LaneState) (packet : List ℕ) (opens : Bool) (t : LaneState) → IsShape shape → Run LaneStep (fresh shape) events s → s.wire.forged ≡ false
-    → LaneStep s (OnWire (Took A packet opens)) t → ClientInTurn s.client t.client
-client_in_turn shape events s packet opens t sound run clean step =
-    let l = log_of after (nothing_yet shape) events in
-    let at = seen A s.shape.entries s.wire.wire in
-    let knows : Knows s l = run_knows shape events s sound run in
-    let may : ClientMay s.client at (client_rules.Takes packet) = subst (ClientMay s.client at) step.step.0 (client_may s.client at) in
-    let on = lane_meets_next shape events s (OnWire (Took A packet opens)) t sound run step (ap (λ (x : LaneState). x.wire.forged) step.is ∙ clean) in
-    let up : t.wire.wire.end_a ≡ Up = ap (λ (x : LaneState). x.wire.wire.end_a) step.is ∙ may.0 in
+-- WHAT ITS END HAS STILL TO PUT doesn't grow
+took_packets : (shape : Shape) (events : List DiskEvent) (s : LaneState) (e : End) (packet : List ℕ) (opens : Bool) (t : LaneState) → IsShape shape → Run LaneStep (fresh shape) events s → s.wire.forged ≡ false
+    → LaneStep s (OnWire (Took e packet opens)) t → packets_left (end_of e (core_of t)) ≤ packets_left (end_of e (core_of s))
+took_packets shape events s e packet opens t sound run clean step =
+    unforged_took shape.entries (asks_of shape) (answers_of shape) (map core_event events) (core_of s) e packet opens (core_of t) (lane_fits shape sound)
+    (lane_matches shape sound).matched (omega (arith, four_cookies shape.slots sound.most_slots)) (omega arith) (lane_cores shape events s sound run) clean
+    (lane_steps shape events s (OnWire (Took e packet opens)) t sound run step)
+
+-- THE CLIENT
+took_spends : (s t : ClientState) (turns : List Turn) (packet : List ℕ) → ClientTook s turns packet t → ClientSpends 0 0 s t
+took_spends s t turns packet (inl part) = same_spends s t (ap (λ (c : ClientState). c.pending) part.is) (ap (λ (c : ClientState). c.session) part.is)
+took_spends s t turns packet (inr (inl handshakes)) =
+    same_spends s t (ap (λ (c : ClientState). c.pending) handshakes.is) (ap (λ (c : ClientState). c.session) handshakes.is)
+took_spends s t turns packet (inr (inr acks)) =
+    let next : ClientState = acknowledged (record s { link = acks.link }) acks.session (range_length s.slots acks.start acks.end) in
+    subst (ClientSpends 0 0 s) (sym acks.is) (session_spends 0 0 s next (Some acks.session) acks.session_is (omega arith) (omega arith) (λ asked. omega arith))
+
+pub client_takes : (shape : Shape) (events : List DiskEvent) (s : LaneState) (packet : List ℕ) (opens : Bool) (t : LaneState) → IsShape shape → Run LaneStep (fresh shape) events s → s.wire.forged ≡ false
+    → LaneStep s (OnWire (Took A packet opens)) t → ClientFalls 0 0 s.client t.client
+client_takes shape events s packet opens t sound run clean step =
+    let turns : List Turn = (log_of after (nothing_yet shape) events).transcript.client in
+    let knows = run_knows shape events s sound run in
     record {
-      one_ring = ap (λ (o : Offer). o.both_rings) knows.counted.client.handshake.offer_is;
-      whole = knows.rests.client.whole;
-      owed = end_owed shape on.meets.handshakes.sid Initiator (client_core t.client) (Heard_ packet ∷ l.transcript.client) sound on.meets.handshakes.small on.stand.mine (on.meets.handshakes.mine up);
+      own = 0;
+      packets = omega (arith, took_packets shape events s A packet opens t sound run clean step);
+      spends = took_spends s.client t.client turns packet
+          (client_took_what s.client turns packet t.client knows.rests.client.stands.link.follows knows.rests.client.whole step.step.1);
     }
 
-pub client_falls : (shape : Shape) (events : List DiskEvent) (s : LaneState) (packet : List ℕ) (opens : Bool) (t : LaneState) → IsShape shape → Run LaneStep (fresh shape) events s → s.wire.forged ≡ false
+client_falls : (shape : Shape) (events : List DiskEvent) (s : LaneState) (packet : List ℕ) (opens : Bool) (t : LaneState) → IsShape shape → Run LaneStep (fresh shape) events s → s.wire.forged ≡ false
     → LaneStep s (OnWire (Took A packet opens)) t → remaining t < remaining s
 client_falls shape events s packet opens t sound run clean step =
-    let knows : Knows s (log_of after (nothing_yet shape) events) = run_knows shape events s sound run in
-    let falls = client_took_falls s packet opens t knows.all.transcripts.client.asking (client_in_turn shape events s packet opens t sound run clean step) step in
-    omega (arith, falls)
+    omega (arith, client_took_falls s packet opens t (falls_lower 0 0 s.client t.client (client_takes shape events s packet opens t sound run clean step)) step)
 
 -- THE SERVER
 none_work : (o : Option ServerSession) (w : Option Work) (q : Option ServerCounts) → o ≡ None → ServerAgrees o w q → w ≡ None
@@ -76,33 +88,18 @@ none_work None w None is agrees = agrees
 none_work None w (Some c) is agrees = absurd agrees
 none_work (Some s) w q is agrees = absurd (cc is)
 
-no_range : (o : Option ServerSession) → ((session : ServerSession) → o ≡ Some session → session.range ≡ None) → range_left o ≡ 0
-no_range None none = refl
-no_range (Some session) none = ap one_range (none session refl)
-
-opened_range : (b : Bool) (o : Option ServerSession) → range_left o ≡ 0 → range_left (opened_or b o) ≡ 0
-opened_range true o none = refl
-opened_range false o none = none
-
 -- it is asked for more
 more_asked : (slots before behind start end : ℕ) → before < 2 ^ 64 → before ≤ behind → behind ≡ wrapped (before + range_length slots start end) → 1 ≤ slots → slots ≤ 256 → before < behind
 more_asked slots before behind start end small less is some few = omega (arith, small, less, is, few, mod_below (end + slots - start % slots) slots some)
 
 abbrev AsksMore : LaneState → LaneState → Type 0
-AsksMore s t = range_left t.server.session ≡ 1 → (asked_in s.server.session < asked_in t.server.session) × (asked_in t.server.session ≤ total_at s.wire.wire.end_a s.client)
-
-never_asks : (s t : LaneState) → range_left t.server.session ≡ 0 → AsksMore s t
-never_asks s t none one = absurd (omega (arith, none, one))
-
-abbrev behind_ask : ServerState → ServerSession → SlotRange → ServerSession
-behind_ask v session range =
-    record session { asked = wrapped (session.asked + range_length v.handshake.draft.peer_slots range.start range.end); seq = wrapped (session.seq + 1); range = Some range }
+AsksMore s t = (asked_in s.server.session < asked_in t.server.session) × (asked_in t.server.session ≤ total_at s.wire.wire.end_a s.client)
 
 asks_more : (s t : LaneState) (l next : DiskLog) (turns : List Turn) (packet : List ℕ) (opens : Bool) → (asks : ServerAsked s.server turns packet t.server opens) → l.transcript.server ≡ turns → next.transcript.server ≡ Heard_ packet ∷ turns
     → next.shape.slots ≡ l.shape.slots → t.client ≡ s.client → t.wire.wire.end_a ≡ s.wire.wire.end_a → AskedWithin s l asks.session
     → AskedWithin t next (behind_ask s.server asks.session asks.range)
     → AsksMore s t
-asks_more s t l next turns packet opens asks transcript then_transcript shape client wire was now one =
+asks_more s t l next turns packet opens asks transcript then_transcript shape client wire was now =
     let slots = s.server.handshake.draft.peer_slots in
     let behind : ServerSession = behind_ask s.server asks.session asks.range in
     let session_is : t.server.session ≡ Some behind = ap (λ (v : ServerState). v.session) asks.is in
@@ -118,13 +115,9 @@ asks_more s t l next turns packet opens asks transcript then_transcript shape cl
       subst (λ (o : Option ServerSession). asked_in o ≤ total_at s.wire.wire.end_a s.client) (sym session_is) (omega (arith, now.within, most, same)),
     )
 
-by_took : (shape : Shape) (events : List DiskEvent) (s : LaneState) (packet : List ℕ) (opens : Bool) (t : LaneState) → IsShape shape → Run LaneStep (fresh shape) events s → s.wire.forged ≡ false → IsUp B s.wire.wire
-    → LaneStep s (OnWire (Took B packet opens)) t → TakesFree s.server → ServerTook s.server (log_of after (nothing_yet shape) events).transcript.server packet t.server opens → AsksMore s t
-by_took shape events s packet opens t sound run clean up step free (inl part) =
-    never_asks s t (ap (λ (v : ServerState). range_left v.session) part.is ∙ no_range s.server.session free.range)
-by_took shape events s packet opens t sound run clean up step free (inr (inl handshakes)) =
-    never_asks s t (ap (λ (v : ServerState). range_left v.session) handshakes.is ∙ opened_range opens s.server.session (no_range s.server.session free.range))
-by_took shape events s packet opens t sound run clean up step free (inr (inr asks)) =
+by_asked : (shape : Shape) (events : List DiskEvent) (s : LaneState) (packet : List ℕ) (opens : Bool) (t : LaneState) → IsShape shape → Run LaneStep (fresh shape) events s → s.wire.forged ≡ false → IsUp B s.wire.wire
+    → LaneStep s (OnWire (Took B packet opens)) t → ServerAsked s.server (log_of after (nothing_yet shape) events).transcript.server packet t.server opens → AsksMore s t
+by_asked shape events s packet opens t sound run clean up step asks =
     let l = log_of after (nothing_yet shape) events in
     let event = OnWire (Took B packet opens) in
     let more : List DiskEvent = events ++ event ∷ [] in
@@ -136,35 +129,25 @@ by_took shape events s packet opens t sound run clean up step free (inr (inr ask
     asks_more s t l (after l event) l.transcript.server packet opens asks refl refl refl (ap (λ (x : LaneState). x.client) step.1.is) (ap (λ (x : LaneState). x.wire.wire.end_a) step.1.is)
     (asked_within shape events s asks.session sound run clean up asks.session_is) (subst (λ (x : DiskLog). AskedWithin t x (behind_ask s.server asks.session asks.range)) behind now)
 
-pub server_in_turn : (shape : Shape) (events : List DiskEvent) (s : LaneState) (packet : List ℕ) (opens : Bool) (t : LaneState) → IsShape shape → Run LaneStep (fresh shape) events s → s.wire.forged ≡ false
-    → LaneStep s (OnWire (Took B packet opens)) t → ServerInTurn (total_at s.wire.wire.end_a s.client) opens packet s.server t.server
-server_in_turn shape events s packet opens t sound run clean step =
+pub server_takes : (shape : Shape) (events : List DiskEvent) (s : LaneState) (packet : List ℕ) (opens : Bool) (t : LaneState) → IsShape shape → Run LaneStep (fresh shape) events s → s.wire.forged ≡ false
+    → LaneStep s (OnWire (Took B packet opens)) t → ServerTurn (total_at s.wire.wire.end_a s.client) s.server t.server
+server_takes shape events s packet opens t sound run clean step =
     let l = log_of after (nothing_yet shape) events in
     let at = seen B s.shape.entries s.wire.wire in
     let knows : Knows s l = run_knows shape events s sound run in
     let may : ServerMay s.server at (server_rules.Takes packet) = subst (ServerMay s.server at) step.1.step.1.0 (server_may s.server at) in
     let free : TakesFree s.server = subst (ServerFree s.server) step.1.step.1.0 (server_free s.server at) in
-    let on = lane_meets_next shape events s (OnWire (Took B packet opens)) t sound run step (ap (λ (x : LaneState). x.wire.forged) step.1.is ∙ clean) in
-    let took = server_took_what s.server l.transcript.server packet t.server opens knows.all.transcripts.follows_b knows.rests.server.whole step.1.step.1.1 in
-    let up : t.wire.wire.end_b ≡ Up = ap (λ (x : LaneState). x.wire.wire.end_b) step.1.is ∙ may.0 in
-    record {
-      role = knows.counted.server.handshake.role_is;
-      one_ring = ap (λ (o : Offer). o.both_rings) knows.counted.server.handshake.offer_is;
-      whole = knows.rests.server.whole;
-      fits = (steps_stand shape events s run).fit;
-      owed = end_owed shape on.meets.handshakes.sid Responder (server_core t.server) (Heard_ packet ∷ l.transcript.server) sound on.meets.handshakes.small on.stand.theirs (on.meets.handshakes.theirs up);
-      link = λ m takes. takes_fine s.server.link m packet (waits_offering shape events s packet sound run clean may.1) takes;
-      opened = λ is.
-          let none = opens_new s.server t.server l.transcript.server packet knows.rests.server (subst (λ (b : Bool). ServerTook s.server l.transcript.server packet t.server b) is took) in
-          (none, none_work s.server.session s.server.work l.work.server none knows.counted.server.agrees);
-      asks = by_took shape events s packet opens t sound run clean may.0 step free took;
-    }
+    let took = server_took_what s.server l.transcript.server packet t.server opens knows.rests.server.stands.link.follows knows.rests.server.whole step.1.step.1.1 in
+    server_turns (total_at s.wire.wire.end_a s.client) s.server t.server l.transcript.server packet opens free (took_packets shape events s B packet opens t sound run clean step)
+    (λ is.
+    let none = opens_new s.server t.server l.transcript.server packet knows.rests.server (subst (λ (b : Bool). ServerTook s.server l.transcript.server packet t.server b) is took) in
+    (none, none_work s.server.session s.server.work l.work.server none knows.counted.server.agrees))
+    (by_asked shape events s packet opens t sound run clean may.0 step) took
 
-pub server_falls : (shape : Shape) (events : List DiskEvent) (s : LaneState) (packet : List ℕ) (opens : Bool) (t : LaneState) → IsShape shape → Run LaneStep (fresh shape) events s → s.wire.forged ≡ false
+server_falls : (shape : Shape) (events : List DiskEvent) (s : LaneState) (packet : List ℕ) (opens : Bool) (t : LaneState) → IsShape shape → Run LaneStep (fresh shape) events s → s.wire.forged ≡ false
     → LaneStep s (OnWire (Took B packet opens)) t → remaining t < remaining s
 server_falls shape events s packet opens t sound run clean step =
-    let falls = server_took_falls s packet opens t (server_in_turn shape events s packet opens t sound run clean step) step in
-    omega (arith, falls)
+    omega (arith, server_took_falls s packet opens t (server_takes shape events s packet opens t sound run clean step) step)
 
 -- EACH STEP by which an end does something
 does_falls : (shape : Shape) (events : List DiskEvent) (s : LaneState) (event : DiskEvent) (t : LaneState) → IsShape shape → Run LaneStep (fresh shape) events s → s.wire.forged ≡ false → LaneStep s event t

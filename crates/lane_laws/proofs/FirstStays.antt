@@ -44,7 +44,7 @@ took_first s turns packet t opens (inr (inr asks)) = ap (λ (x : ServerState). x
 server_first : (s : LaneState) (l : DiskLog) (event : WireEvent) (t : LaneState) → Knows s l → EndOnWire B s event t → t.server.first ≡ s.server.first
 server_first s l (Joined B lost) t knows step = ap (λ (x : ServerState). x.first) step.1.step.1.2
 server_first s l (Took B packet opens) t knows step =
-    took_first s.server l.transcript.server packet t.server opens (server_took_what s.server l.transcript.server packet t.server opens knows.all.transcripts.follows_b knows.rests.server.whole step.1.step.1.1)
+    took_first s.server l.transcript.server packet t.server opens (server_took_what s.server l.transcript.server packet t.server opens knows.rests.server.stands.link.follows knows.rests.server.whole step.1.step.1.1)
 server_first s l (Sent B packet opens) t knows step =
     let sends = step.1.step.1.0 in
     ap (λ (x : ServerState). x.first) sends.is ∙ held_first s.server (server.server_rule s.server (seen B s.shape.entries s.wire.wire)) sends.held sends.holds

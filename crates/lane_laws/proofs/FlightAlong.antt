@@ -16,22 +16,25 @@ use Rattle.disk_model.specs.DiskEvent.{Asks, Calm, CalmReset, CalmRestart, CalmS
 use Rattle.disk_model.specs.LaneState.{IsShape, LaneState, Shape, fresh}
 use Rattle.disk_model.specs.LaneStep.{CallsReset, LaneStep, ResetBy, RestStep, TurnStep, WireStep, WorkStep}
 use Rattle.disk_model.specs.ServerState.{ServerState, joined_server, restarted_server}
-use Rattle.lane_laws.proofs.FlightClient.{client_admits_flies, client_completes_flies, client_publishes_flies}
+use Rattle.lane_laws.proofs.FlightClient.{client_admits_flies, falls_fly}
 use Rattle.lane_laws.proofs.FlightRuns.{InFlight, StepKnown, at_client, at_server, began, client_anew, client_on, client_wire, end_wire, flight_is, knows_at, log_at, server_anew, server_on, server_wire}
 use Rattle.lane_laws.proofs.FlightServer.{server_fetches_flies, server_finishes_flies, server_moves_flies, server_stores_flies}
 use Rattle.lane_laws.proofs.FlightSums.{Flight, client_loses, server_closes, server_loses}
 use Rattle.lane_laws.proofs.LaneCounting.{run_knows}
+use Rattle.lane_laws.proofs.RemainingClientPuts.{completes_falls, publishes_falls}
 use Rattle.lane_laws.proofs.RingRuns.{before}
 use Rattle.lane_laws.proofs.RemainingTakes.{first_gone}
-use Rattle.lane_laws.specs.Counted.{infos_of, range_count}
+use Rattle.lane_laws.specs.Budget.{infos_begun}
+use Rattle.lane_laws.specs.Counted.{range_count}
 use Rattle.lane_laws.specs.Remaining.{client_packets, server_packets}
+use Rattle.lane_laws.specs.Sound.{ClientSound}
 
 -- RESETS that no step gave
 client_called : (shape : Shape) (events : List DiskEvent) (s : LaneState) (cause : Cause) (packet : Option (List ℕ)) (lost : ℕ) (t : LaneState) → StepKnown shape events s (OnWire (Reset A cause packet lost)) t
     → CallsReset s (record s { client = joined_client s.client }) cause A packet lost t → InFlight s (log_at shape events).transcript.client → InFlight t []
 client_called shape events s cause packet lost t known calls flight =
     flight_is (record s { client = joined_client s.client; wire = wire_moved s.wire (Reset A cause packet lost); near = _ }) t [] calls.2
-    (client_anew s (joined_client s.client) (log_at shape events).transcript.client (knows_at shape events s (OnWire (Reset A cause packet lost)) t known).all.transcripts.client.role refl flight)
+    (client_anew s (joined_client s.client) (log_at shape events).transcript.client (knows_at shape events s (OnWire (Reset A cause packet lost)) t known).rests.client.stands refl flight)
 
 server_called : (s : LaneState) (v : ServerState) (cause : Cause) (packet : Option (List ℕ)) (lost : ℕ) (t : LaneState) (turns : List Turn) → Flight (wire_moved s.wire (Joined B 0)) s.client v turns
     → CallsReset s (record s { server = v }) cause B packet lost t → InFlight t turns
@@ -45,7 +48,8 @@ reset_by ByStep B shape events s cause packet lost t known step flight = server_
 reset_by ByScript A shape events s cause packet lost t known step flight = client_called shape events s cause packet lost t known step flight
 reset_by ByScript B shape events s cause packet lost t known step flight =
     server_called s (joined_server s.server) cause packet lost t (log_at shape events).transcript.client
-    (began s (joined_server s.server) (log_at shape events).transcript.client (knows_at shape events s (OnWire (Reset B cause packet lost)) t known).all.transcripts.server.role refl flight) step.1
+    (began s (joined_server s.server) (log_at shape events).transcript.client (log_at shape events).transcript.server
+    (knows_at shape events s (OnWire (Reset B cause packet lost)) t known).rests.server.stands refl flight) step.1
 reset_by ByRestart A shape events s cause packet lost t known step flight = absurd step
 reset_by ByRestart B shape events s cause packet lost t known step flight =
     server_called s (restarted_server s.server) cause packet lost t (log_at shape events).transcript.client (server_anew s (restarted_server s.server) (log_at shape events).transcript.client refl refl flight) step.1
@@ -57,13 +61,13 @@ lost_by : (e : End) (s : LaneState) (packet : List ℕ) (t : LaneState) (turns :
 lost_by A s packet t turns step flight =
     flight_is (record s { wire = wire_moved s.wire (Lost A packet) }) t turns step.1 (record {
       few = client_loses s.wire.wire.end_a s.wire.wire.end_b (length s.wire.wire.to_a) (length (drop 1 s.wire.wire.to_a)) (length s.wire.wire.to_b) s.wire.lossy (client_packets s.client)
-          (server_packets s.server) (range_count 2 (heard turns)) (infos_of s.client.session) (first_gone packet s.wire.wire.to_a step.0) flight.few;
+          (server_packets s.server) (range_count 2 (heard turns)) (infos_begun s.client.session) (first_gone packet s.wire.wire.to_a step.0) flight.few;
       pieces = flight.pieces;
     })
 lost_by B s packet t turns step flight =
     flight_is (record s { wire = wire_moved s.wire (Lost B packet) }) t turns step.1 (record {
       few = server_loses s.wire.wire.end_a s.wire.wire.end_b (length s.wire.wire.to_a) (length s.wire.wire.to_b) (length (drop 1 s.wire.wire.to_b)) s.wire.lossy (client_packets s.client)
-          (server_packets s.server) (range_count 2 (heard turns)) (infos_of s.client.session) (first_gone packet s.wire.wire.to_b step.0) flight.few;
+          (server_packets s.server) (range_count 2 (heard turns)) (infos_begun s.client.session) (first_gone packet s.wire.wire.to_b step.0) flight.few;
       pieces = flight.pieces;
     })
 
@@ -90,32 +94,32 @@ on_wire shape events s (Poked e at bytes) t known step flight = poked_by e s at 
 on_wire shape events s (Declines d) t known step flight = flight_is s t (log_at shape events).transcript.client step.1 flight
 
 -- THE WORK
-works : (s : LaneState) (event : Worked) (t : LaneState) (turns : List Turn) → WorkStep s event t → InFlight s turns → InFlight t turns
-works s (Published id) t turns step flight =
+works : (s : LaneState) (event : Worked) (t : LaneState) (turns : List Turn) → ClientSound s.client → WorkStep s event t → InFlight s turns → InFlight t turns
+works s (Published id) t turns sound step flight =
     client_on s t turns (ap (λ (x : LaneState). x.wire) step.is) (ap (λ (x : LaneState). x.server) step.is)
-    (client_publishes_flies s.client (at_client s) s.memory id t.client t.memory step.step) flight
-works s (Done id operation status bytes) t turns step flight =
+    (falls_fly 0 1 s.client t.client (publishes_falls s.client (at_client s) s.memory id t.client t.memory sound step.step)) flight
+works s (Done id operation status bytes) t turns sound step flight =
     client_on s t turns (ap (λ (x : LaneState). x.wire) step.is) (ap (λ (x : LaneState). x.server) step.is)
-    (client_completes_flies s.client (at_client s) s.memory id operation status bytes t.client t.memory step.step) flight
-works s (Desc slot bytes) t turns step flight =
+    (falls_fly 0 1 s.client t.client (completes_falls s.client (at_client s) s.memory id operation status bytes t.client t.memory step.step)) flight
+works s (Desc slot bytes) t turns sound step flight =
     server_on s t turns (ap (λ (x : LaneState). x.wire) step.1.is) (ap (λ (x : LaneState). x.client) step.1.is)
     (server_fetches_flies s.server (at_server s) _ slot bytes t.server t.memory step.1.step.1.0) flight
-works s (Moved unit fault) t turns step flight =
+works s (Moved unit fault) t turns sound step flight =
     server_on s t turns (ap (λ (x : LaneState). x.wire) step.1.is) (ap (λ (x : LaneState). x.client) step.1.is)
     (server_moves_flies s.server (at_server s) _ unit fault t.server t.memory step.1.step.1.0) flight
-works s (Stored operation block count failed) t turns step flight =
+works s (Stored operation block count failed) t turns sound step flight =
     server_on s t turns (ap (λ (x : LaneState). x.wire) step.1.is) (ap (λ (x : LaneState). x.client) step.1.is)
     (server_stores_flies s.server (at_server s) operation block count failed step.0 t.server step.1.step.1.0) flight
-works s (Finished slot status) t turns step flight =
+works s (Finished slot status) t turns sound step flight =
     server_on s t turns (ap (λ (x : LaneState). x.wire) step.1.is) (ap (λ (x : LaneState). x.client) step.1.is)
     (server_finishes_flies s.server (at_server s) _ slot status t.server t.memory step.1.step.1.0) flight
-works s Misplaced t turns step flight = absurd step
+works s Misplaced t turns sound step flight = absurd step
 
 -- STOPS, and what changes nothing
 turns_fly : (s : LaneState) (event : Switched) (t : LaneState) (turns : List Turn) → TurnStep s event t → InFlight s turns → InFlight t turns
 turns_fly s Stopped t turns step flight =
     flight_is (record s { wire = server_closed s.wire; server = restarted_server s.server; stopped = true; near = _ }) t turns step.1 (record {
-      few = server_closes s.wire.wire.end_a (client_packets s.client) (server_packets (restarted_server s.server)) (range_count 2 (heard turns)) (infos_of s.client.session);
+      few = server_closes s.wire.wire.end_a (client_packets s.client) (server_packets (restarted_server s.server)) (range_count 2 (heard turns)) (infos_begun s.client.session);
       pieces = tt;
     })
 turns_fly s Started t turns step flight = flight_is (record s { stopped = false }) t turns step.1 flight
@@ -134,7 +138,8 @@ flight_step : (shape : Shape) (events : List DiskEvent) (s : LaneState) (event :
 flight_step shape events s (OnWire event) t known step flight = on_wire shape events s event t known step flight
 flight_step shape events s (Asks event) t known step flight =
     client_on s t (log_at shape events).transcript.client (ap (λ (x : LaneState). x.wire) step.1) (ap (λ (x : LaneState). x.server) step.1) (client_admits_flies s.client event t.client step.0) flight
-flight_step shape events s (Works event) t known step flight = works s event t (log_at shape events).transcript.client step flight
+flight_step shape events s (Works event) t known step flight =
+    works s event t (log_at shape events).transcript.client (knows_at shape events s (Works event) t known).all.sound step flight
 flight_step shape events s (Switches Stopped) t known step flight = turns_fly s Stopped t (log_at shape events).transcript.client step flight
 flight_step shape events s (Switches Started) t known step flight = turns_fly s Started t (log_at shape events).transcript.client step flight
 flight_step shape events s (Switches Off) t known step flight = turns_fly s Off t (log_at shape events).transcript.client step flight

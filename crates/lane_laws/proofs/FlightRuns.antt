@@ -1,14 +1,11 @@
 -- A step of an end on the wire of a lane that nobody forged leaves few packets that wait and are still to be put, against those that were answered.
-use Rattle.std.proofs.Common.{◌≡◌, ℕ, ◌+◌, ◌≤◌, Bool, false, Option, Some, None, List, [], ◌∷◌, ◌++◌, drop, length, refl, sym, ap, ◌∙◌, subst, arith}
+use Rattle.std.proofs.Common.{◌≡◌, ℕ, ◌+◌, ◌≤◌, Bool, false, Option, Some, None, List, [], ◌∷◌, ◌++◌, drop, length, sym, ap, ◌∙◌, subst, arith}
 use Rattle.runs.specs.Lawful.{log_of}
 use Rattle.runs.specs.Run.{Run}
-use Rattle.ldc_link.specs.declared.phase.Role.{Role}
 use Rattle.ldc_link.specs.declared.phase.Role.TheVariants.{Initiator, Responder}
-use Rattle.ldc_link.specs.LinkState.{first_phase}
 use Rattle.ldc_queue.specs.declared.end.End.{End}
 use Rattle.ldc_queue.specs.declared.end.End.TheVariants.{A, B}
 use Rattle.ldc_queue.specs.Transcript.{Heard as Heard_, Said as Said_, Turn}
-use Rattle.vio_handshake.specs.declared.handshake.Phase.TheVariants as hand
 use Rattle.channel_model.specs.Sayings.{half_heard, heard}
 use Rattle.channel_model.specs.WireEvent.{Blocked, Declines, Idle, Injected, Joined, Lost, Poked, Reset, Sent, Took, WireEvent}
 use Rattle.channel_model.specs.WireLog.{WireLog, wire_moved}
@@ -23,25 +20,28 @@ use Rattle.disk_model.specs.LaneStep.{EndOnWire, LaneStep}
 use Rattle.channel_model.specs.Seeing.{Seen, seen}
 use Rattle.disk_model.specs.ServerRule as server_rules
 use Rattle.disk_model.specs.ServerState.{ServerState, joined_server}
-use Rattle.lane_laws.proofs.ClientSteps.{client_sends}
-use Rattle.lane_laws.proofs.FallsInTurn.{client_in_turn, server_in_turn}
-use Rattle.lane_laws.proofs.FlightClient.{ClientFlies, client_blocked_flies, client_sends_flies}
-use Rattle.lane_laws.proofs.FlightServer.{FewPieces, ServerFlies, server_blocked_flies, server_sends_flies, server_takes_flies}
+use Rattle.channel_laws.specs.Standing.{EndStands}
+use Rattle.lane_laws.proofs.ClientHolding.{holds_up}
+use Rattle.lane_laws.proofs.FallsInTurn.{client_takes, server_takes}
+use Rattle.lane_laws.proofs.FlightClient.{ClientFlies, falls_fly}
+use Rattle.lane_laws.proofs.FlightServer.{FewPieces, ServerFlies, server_takes_flies}
+use Rattle.lane_laws.proofs.FlightServer as server_flies
 use Rattle.lane_laws.proofs.FlightSums.{Flight, client_begins, client_goes, client_puts_one, client_takes_one, one_longer, server_begins, server_goes, server_puts_one, server_takes_one}
 use Rattle.lane_laws.proofs.IdleRuns.{client_same, server_same}
-use Rattle.lane_laws.proofs.LaneCounting.{Knows, knows_step, run_knows}
+use Rattle.lane_laws.proofs.LaneCounting.{Knows, run_knows}
 use Rattle.lane_laws.proofs.RangeSums.{count_heard}
-use Rattle.lane_laws.proofs.RemainingClientHears.{client_hears}
-use Rattle.lane_laws.proofs.RemainingLane.{closed_in}
-use Rattle.lane_laws.proofs.RemainingRuns.{steps_stand}
-use Rattle.lane_laws.proofs.RemainingServerTurns.{server_turns}
+use Rattle.lane_laws.proofs.RemainingClientPuts.{blocked_falls, sends_falls}
+use Rattle.lane_laws.proofs.RemainingLane.{begun_answers, begun_packets}
+use Rattle.lane_laws.proofs.RemainingServerPuts as server
 use Rattle.lane_laws.proofs.Ruling.{client_may, server_may}
-use Rattle.lane_laws.proofs.ServerSteps.{server_sends}
+use Rattle.lane_laws.proofs.ServerSpeaking.{server_holds_up}
 use Rattle.lane_laws.proofs.ServerTaken.{server_took_what}
 use Rattle.lane_laws.proofs.RemainingTakes.{first_gone}
-use Rattle.lane_laws.specs.Counted.{infos_of, range_count}
-use Rattle.lane_laws.specs.Remaining.{client_packets, client_puts, later, server_packets, server_puts}
-use Rattle.lane_laws.specs.RemainingSteps.{ClientHears, ServerTurn, total_at}
+use Rattle.lane_laws.specs.Budget.{infos_begun}
+use Rattle.lane_laws.specs.ChannelEnds.{client_core, server_core}
+use Rattle.lane_laws.specs.Counted.{range_count}
+use Rattle.lane_laws.specs.Remaining.{client_packets, server_packets}
+use Rattle.lane_laws.specs.RemainingSteps.{ServerTurn, total_at}
 use Rattle.lane_laws.specs.RuleFacts.{ClientMay, ServerMay}
 
 -- a lane and what its client said and heard
@@ -72,23 +72,17 @@ abbrev pub at_server : LaneState → Seen
 at_server s = seen B s.shape.entries s.wire.wire
 
 -- AN END that begins
-begun_client : (c : ClientState) → c.link.role ≡ Initiator → client_packets (joined_client c) ≡ 9
-begun_client c role = omega (arith, ap (λ (r : Role). client_puts (first_phase r) (later c.handshake.role hand.Down)) role)
-
-begun_server : (v : ServerState) → v.link.role ≡ Responder → server_packets (joined_server v) ≡ 8
-begun_server v role = omega (arith, ap (λ (r : Role). server_puts (first_phase r) (later v.handshake.role hand.Down)) role)
-
-pub client_anew : (s : LaneState) (c : ClientState) (turns : List Turn) → s.client.link.role ≡ Initiator → c ≡ joined_client s.client → InFlight s turns → Flight (wire_moved s.wire (Joined A 0)) c s.server []
-client_anew s c turns role is flight = subst (λ (x : ClientState). Flight (wire_moved s.wire (Joined A 0)) x s.server []) (sym is) (record {
+pub client_anew : (s : LaneState) (c : ClientState) (turns : List Turn) → EndStands Initiator (client_core s.client) turns → c ≡ joined_client s.client → InFlight s turns → Flight (wire_moved s.wire (Joined A 0)) c s.server []
+client_anew s c turns stands is flight = subst (λ (x : ClientState). Flight (wire_moved s.wire (Joined A 0)) x s.server []) (sym is) (record {
   few = client_begins s.wire.wire.end_a s.wire.wire.end_b s.wire.wire.to_a s.wire.wire.to_b s.wire.lossy (client_packets s.client) (client_packets (joined_client s.client)) (server_packets s.server)
-      (range_count 2 (heard turns)) (infos_of s.client.session) (begun_client s.client role) flight.few;
+      (range_count 2 (heard turns)) (infos_begun s.client.session) (begun_packets s.client turns stands) flight.few;
   pieces = flight.pieces;
 })
 
 pub server_anew : (s : LaneState) (v : ServerState) (turns : List Turn) → server_packets v ≡ 8 → v.work ≡ None → InFlight s turns → Flight (wire_moved s.wire (Joined B 0)) s.client v turns
 server_anew s v turns eight none flight = record {
   few = server_begins s.wire.wire.end_a s.wire.wire.end_b s.wire.wire.to_a s.wire.wire.to_b s.wire.lossy (client_packets s.client) (server_packets s.server) (server_packets v)
-      (range_count 2 (heard turns)) (infos_of s.client.session) eight flight.few;
+      (range_count 2 (heard turns)) (infos_begun s.client.session) eight flight.few;
   pieces = subst FewPieces (sym none) tt;
 }
 
@@ -97,7 +91,7 @@ pub client_on : (s t : LaneState) (turns : List Turn) → t.wire ≡ s.wire → 
 client_on s t turns wire server flies flight =
     subst (λ (w : WireLog). Flight w t.client t.server turns) (sym wire) (subst (λ (v : ServerState). Flight s.wire t.client v turns) (sym server) (record {
       few = client_goes s.wire.wire.end_a s.wire.wire.end_b (length s.wire.wire.to_a) (length s.wire.wire.to_b) s.wire.lossy (client_packets s.client) (client_packets t.client) (server_packets s.server)
-          (range_count 2 (heard turns)) (infos_of s.client.session) (infos_of t.client.session) flies flight.few;
+          (range_count 2 (heard turns)) (infos_begun s.client.session) (infos_begun t.client.session) flies flight.few;
       pieces = flight.pieces;
     }))
 
@@ -105,7 +99,7 @@ pub server_on : (s t : LaneState) (turns : List Turn) → t.wire ≡ s.wire → 
 server_on s t turns wire client flies flight =
     subst (λ (w : WireLog). Flight w t.client t.server turns) (sym wire) (subst (λ (c : ClientState). Flight s.wire c t.server turns) (sym client) (record {
       few = server_goes s.wire.wire.end_a s.wire.wire.end_b (length s.wire.wire.to_a) (length s.wire.wire.to_b) s.wire.lossy (client_packets s.client) (server_packets s.server) (server_packets t.server)
-          (range_count 2 (heard turns)) (infos_of s.client.session) flies.packets flight.few;
+          (range_count 2 (heard turns)) (infos_begun s.client.session) flies.packets flight.few;
       pieces = flies.pieces flight.pieces;
     }))
 
@@ -120,17 +114,13 @@ client_took shape events s packet opens t known flight =
     let l = log_at shape events in
     let turns : List Turn = l.transcript.client in
     let step = known.step in
-    let knows : Knows s l = knows_at shape events s (OnWire (Took A packet opens)) t known in
     let may : ClientMay s.client (at_client s) (client_rules.Takes packet) = subst (ClientMay s.client (at_client s)) step.step.0 (client_may s.client (at_client s)) in
-    let hears : ClientHears s.client t.client = client_hears s.client (at_client s) packet t.client knows.all.transcripts.client.asking step.step.0
-    (client_in_turn shape events s packet opens t known.sound known.run known.clean_s step) step.step.1 in
-    let infos : infos_of t.client.session ≡ infos_of s.client.session =
-    (knows_step s l (OnWire (Took A packet opens)) t knows step).1.counted.client.infos ∙ sym knows.counted.client.infos in
+    let falls = client_takes shape events s packet opens t known.sound known.run known.clean_s step in
     let answers : range_count 2 (heard (Heard_ packet ∷ turns)) ≤ range_count 2 (heard turns) + 1 = omega (arith, count_heard 2 packet turns, one_most (range_ended 2 (half_heard turns) packet)) in
     flight_is (record s { wire = wire_moved s.wire (Took A packet opens); client = t.client; memory = t.memory; near = s.near }) t (Heard_ packet ∷ turns) step.is (record {
       few = client_takes_one s.wire.wire.end_a s.wire.wire.end_b (length s.wire.wire.to_a) (length (drop 1 s.wire.wire.to_a)) (length s.wire.wire.to_b) s.wire.lossy (client_packets s.client)
-          (client_packets t.client) (server_packets s.server) (range_count 2 (heard turns)) (range_count 2 (heard (Heard_ packet ∷ turns))) (infos_of s.client.session) (infos_of t.client.session)
-          may.0 (first_gone packet s.wire.wire.to_a may.1) hears.packets answers infos flight.few;
+          (client_packets t.client) (server_packets s.server) (range_count 2 (heard turns)) (range_count 2 (heard (Heard_ packet ∷ turns))) (infos_begun s.client.session) (infos_begun t.client.session)
+          may.0 (first_gone packet s.wire.wire.to_a may.1) (falls_fly 0 0 s.client t.client falls) answers flight.few;
       pieces = flight.pieces;
     })
 
@@ -142,13 +132,11 @@ client_sent shape events s packet opens t known flight =
     let turns : List Turn = l.transcript.client in
     let step = known.step in
     let knows : Knows s l = knows_at shape events s (OnWire (Sent A packet opens)) t known in
-    let sound = knows.all.transcripts.client in
-    let put = client_sends s.client (at_client s) s.memory packet opens t.client t.memory sound step.step in
-    let flies : ClientFlies 1 s.client t.client = client_sends_flies s.client (at_client s) s.memory packet opens t.client t.memory turns step.step sound knows.utters.client
-    (closed_in s.client s.client.session refl (steps_stand shape events s known.run).opens) in
+    let up = holds_up s.client (at_client s) (client_rules.client_rule s.client (at_client s)) step.step.held (client_may s.client (at_client s)) step.step.holds in
+    let falls = sends_falls s.client (at_client s) s.memory packet opens t.client t.memory turns step.step knows.all.sound knows.rests.client.stands in
     flight_is (record s { wire = wire_moved s.wire (Sent A packet opens); client = t.client; memory = t.memory; near = s.near }) t (Said_ packet ∷ turns) step.is (record {
       few = client_puts_one s.wire.wire.end_a s.wire.wire.end_b (length s.wire.wire.to_a) (length s.wire.wire.to_b) (length (s.wire.wire.to_b ++ packet ∷ [])) s.wire.lossy (client_packets s.client)
-          (client_packets t.client) (server_packets s.server) (range_count 2 (heard turns)) (infos_of s.client.session) (infos_of t.client.session) put.up (one_longer s.wire.wire.to_b packet) flies flight.few;
+          (client_packets t.client) (server_packets s.server) (range_count 2 (heard turns)) (infos_begun s.client.session) (infos_begun t.client.session) up (one_longer s.wire.wire.to_b packet) (falls_fly 1 0 s.client t.client falls) flight.few;
       pieces = flight.pieces;
     })
 
@@ -156,17 +144,18 @@ pub client_wire : (shape : Shape) (events : List DiskEvent) (s : LaneState) (eve
     → InFlight s (log_at shape events).transcript.client → InFlight t (after (log_at shape events) (OnWire event)).transcript.client
 client_wire shape events s (Joined A lost) t known step flight =
     flight_is (record s { wire = wire_moved s.wire (Joined A lost); client = t.client; memory = t.memory; near = s.near }) t [] step.is
-    (client_anew s t.client (log_at shape events).transcript.client (knows_at shape events s (OnWire (Joined A lost)) t known).all.transcripts.client.role step.step.2 flight)
+    (client_anew s t.client (log_at shape events).transcript.client (knows_at shape events s (OnWire (Joined A lost)) t known).rests.client.stands step.step.2 flight)
 client_wire shape events s (Took A packet opens) t known step flight = client_took shape events s packet opens t known flight
 client_wire shape events s (Sent A packet opens) t known step flight = client_sent shape events s packet opens t known flight
 client_wire shape events s (Blocked A) t known step flight =
     let knows : Knows s (log_at shape events) = knows_at shape events s (OnWire (Blocked A)) t known in
     client_on s t (log_at shape events).transcript.client (ap (λ (x : LaneState). x.wire) step.is) (ap (λ (x : LaneState). x.server) step.is)
-    (client_blocked_flies s.client (at_client s) t.client (log_at shape events).transcript.client step.step.0 knows.all.transcripts.client knows.utters.client) flight
+    (falls_fly 0 0 s.client t.client
+    (blocked_falls s.client (at_client s) t.client (log_at shape events).transcript.client step.step.0 knows.all.sound knows.rests.client.stands)) flight
 client_wire shape events s (Idle A) t known step flight = flight_is s t (log_at shape events).transcript.client (client_same s t step) flight
 client_wire shape events s (Reset A cause packet lost) t known step flight =
     flight_is (record s { wire = wire_moved s.wire (Joined A 0); client = t.client; memory = t.memory; near = _ }) t [] step.is
-    (client_anew s t.client (log_at shape events).transcript.client (knows_at shape events s (OnWire (Reset A cause packet lost)) t known).all.transcripts.client.role step.step.2 flight)
+    (client_anew s t.client (log_at shape events).transcript.client (knows_at shape events s (OnWire (Reset A cause packet lost)) t known).rests.client.stands step.step.2 flight)
 client_wire shape events s (Joined B lost) t known step flight = absurd step.step
 client_wire shape events s (Took B packet opens) t known step flight = absurd step.step
 client_wire shape events s (Sent B packet opens) t known step flight = absurd step.step
@@ -187,13 +176,12 @@ server_took shape events s packet opens t known flight =
     let knows : Knows s l = knows_at shape events s (OnWire (Took B packet opens)) t known in
     let may : ServerMay s.server (at_server s) (server_rules.Takes packet) = subst (ServerMay s.server (at_server s)) step.1.step.1.0 (server_may s.server (at_server s)) in
     let most = total_at s.wire.wire.end_a s.client in
-    let turn : ServerTurn most s.server t.server = server_turns most s.server (at_server s) packet t.server opens step.1.step.1.0
-    (server_in_turn shape events s packet opens t known.sound known.run known.clean_s step) step.1.step.1.1 in
-    let took = server_took_what s.server l.transcript.server packet t.server opens knows.all.transcripts.follows_b knows.rests.server.whole step.1.step.1.1 in
+    let turn : ServerTurn most s.server t.server = server_takes shape events s packet opens t known.sound known.run known.clean_s step in
+    let took = server_took_what s.server l.transcript.server packet t.server opens knows.rests.server.stands.link.follows knows.rests.server.whole step.1.step.1.1 in
     let flies : ServerFlies 0 1 s.server t.server = server_takes_flies most s.server t.server l.transcript.server packet opens turn took in
     flight_is (record s { wire = wire_moved s.wire (Took B packet opens); server = t.server; memory = t.memory; near = s.near }) t l.transcript.client step.1.is (record {
       few = server_takes_one s.wire.wire.end_a s.wire.wire.end_b (length s.wire.wire.to_a) (length s.wire.wire.to_b) (length (drop 1 s.wire.wire.to_b)) s.wire.lossy (client_packets s.client)
-          (server_packets s.server) (server_packets t.server) (range_count 2 (heard l.transcript.client)) (infos_of s.client.session) may.0 (first_gone packet s.wire.wire.to_b may.1) flies.packets flight.few;
+          (server_packets s.server) (server_packets t.server) (range_count 2 (heard l.transcript.client)) (infos_begun s.client.session) may.0 (first_gone packet s.wire.wire.to_b may.1) flies.packets flight.few;
       pieces = flies.pieces flight.pieces;
     })
 
@@ -202,33 +190,38 @@ server_sent : (shape : Shape) (events : List DiskEvent) (s : LaneState) (packet 
 server_sent shape events s packet opens t known flight =
     let l = log_at shape events in
     let step = known.step in
-    let sound = (knows_at shape events s (OnWire (Sent B packet opens)) t known).all.transcripts.server in
-    let put = server_sends s.server (at_server s) packet opens t.server sound step.1.step.1.0 in
-    let flies : ServerFlies 1 0 s.server t.server = server_sends_flies s.server (at_server s) packet opens t.server sound step.1.step.1.0 in
+    let sends = step.1.step.1.0 in
+    let up = server_holds_up s.server (at_server s) (server_rules.server_rule s.server (at_server s)) sends.held (server_may s.server (at_server s)) sends.holds in
+    let flies : ServerFlies 1 0 s.server t.server = server_flies.falls_fly 1 s.server t.server
+    (server.sends_falls s.server (at_server s) packet opens t.server l.transcript.server sends (knows_at shape events s (OnWire (Sent B packet opens)) t known).rests.server.stands) in
     flight_is (record s { wire = wire_moved s.wire (Sent B packet opens); server = t.server; memory = t.memory; near = s.near }) t l.transcript.client step.1.is (record {
       few = server_puts_one s.wire.wire.end_a s.wire.wire.end_b (length s.wire.wire.to_a) (length (s.wire.wire.to_a ++ packet ∷ [])) (length s.wire.wire.to_b) s.wire.lossy (client_packets s.client)
-          (server_packets s.server) (server_packets t.server) (range_count 2 (heard l.transcript.client)) (infos_of s.client.session) put.up (one_longer s.wire.wire.to_a packet) flies.packets flight.few;
+          (server_packets s.server) (server_packets t.server) (range_count 2 (heard l.transcript.client)) (infos_begun s.client.session) up (one_longer s.wire.wire.to_a packet) flies.packets flight.few;
       pieces = flies.pieces flight.pieces;
     })
 
-pub began : (s : LaneState) (v : ServerState) (turns : List Turn) → s.server.link.role ≡ Responder → v ≡ joined_server s.server → InFlight s turns → Flight (wire_moved s.wire (Joined B 0)) s.client v turns
-began s v turns role is flight = server_anew s v turns (ap server_packets is ∙ begun_server s.server role) (ap (λ (x : ServerState). x.work) is) flight
+pub began : (s : LaneState) (v : ServerState) (turns said : List Turn) → EndStands Responder (server_core s.server) said → v ≡ joined_server s.server → InFlight s turns
+    → Flight (wire_moved s.wire (Joined B 0)) s.client v turns
+began s v turns said stands is flight = server_anew s v turns (ap server_packets is ∙ begun_answers s.server said stands) (ap (λ (x : ServerState). x.work) is) flight
 
 pub server_wire : (shape : Shape) (events : List DiskEvent) (s : LaneState) (event : WireEvent) (t : LaneState) → StepKnown shape events s (OnWire event) t → EndOnWire B s event t
     → InFlight s (log_at shape events).transcript.client → InFlight t (after (log_at shape events) (OnWire event)).transcript.client
 server_wire shape events s (Joined B lost) t known step flight =
     flight_is (record s { wire = wire_moved s.wire (Joined B lost); server = t.server; memory = t.memory; near = s.near }) t (log_at shape events).transcript.client step.1.is
-    (began s t.server (log_at shape events).transcript.client (knows_at shape events s (OnWire (Joined B lost)) t known).all.transcripts.server.role step.1.step.1.2 flight)
+    (began s t.server (log_at shape events).transcript.client (log_at shape events).transcript.server (knows_at shape events s (OnWire (Joined B lost)) t known).rests.server.stands
+    step.1.step.1.2 flight)
 server_wire shape events s (Took B packet opens) t known step flight = server_took shape events s packet opens t known flight
 server_wire shape events s (Sent B packet opens) t known step flight = server_sent shape events s packet opens t known flight
 server_wire shape events s (Blocked B) t known step flight =
     let knows : Knows s (log_at shape events) = knows_at shape events s (OnWire (Blocked B)) t known in
     server_on s t (log_at shape events).transcript.client (ap (λ (x : LaneState). x.wire) step.1.is) (ap (λ (x : LaneState). x.client) step.1.is)
-    (server_blocked_flies s.server (at_server s) t.server (log_at shape events).transcript.server step.1.step.1.0 knows.utters.server) flight
+    (server_flies.falls_fly 0 s.server t.server
+    (server.blocked_falls s.server (at_server s) t.server (log_at shape events).transcript.server step.1.step.1.0 knows.rests.server.stands)) flight
 server_wire shape events s (Idle B) t known step flight = flight_is s t (log_at shape events).transcript.client (server_same s t step) flight
 server_wire shape events s (Reset B cause packet lost) t known step flight =
     flight_is (record s { wire = wire_moved s.wire (Joined B 0); server = t.server; memory = t.memory; near = _ }) t (log_at shape events).transcript.client step.1.is
-    (began s t.server (log_at shape events).transcript.client (knows_at shape events s (OnWire (Reset B cause packet lost)) t known).all.transcripts.server.role step.1.step.1.2 flight)
+    (began s t.server (log_at shape events).transcript.client (log_at shape events).transcript.server (knows_at shape events s (OnWire (Reset B cause packet lost)) t known).rests.server.stands
+    step.1.step.1.2 flight)
 server_wire shape events s (Joined A lost) t known step flight = absurd step.1.step.1
 server_wire shape events s (Took A packet opens) t known step flight = absurd step.1.step.1
 server_wire shape events s (Sent A packet opens) t known step flight = absurd step.1.step.1

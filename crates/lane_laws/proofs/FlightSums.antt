@@ -10,7 +10,8 @@ use Rattle.channel_model.specs.WireLog.{WireLog, lossy_behind}
 use Rattle.disk_model.specs.ClientState.{ClientState}
 use Rattle.disk_model.specs.ServerState.{ServerState}
 use Rattle.lane_laws.proofs.FlightServer.{FewPieces}
-use Rattle.lane_laws.specs.Counted.{infos_of, one_where, range_count}
+use Rattle.lane_laws.specs.Budget.{infos_begun}
+use Rattle.lane_laws.specs.Counted.{one_where, range_count}
 use Rattle.lane_laws.specs.Remaining.{client_packets, server_packets}
 
 -- an end that isn't up counts as one that begins
@@ -20,13 +21,13 @@ live_count Down first now = first
 live_count Resetting first now = first
 
 -- the ends' states, how many packets wait for each, whether one was lost, how many each has still to put, and how many answers to ranges the
--- client heard and how many INFO it put
+-- client heard and how many INFO it began
 abbrev pub FewFly : ChannelState → ChannelState → ℕ → ℕ → Bool → ℕ → ℕ → ℕ → ℕ → Type 0
 FewFly x y to_a to_b lossy client server answers infos =
     to_a + to_b + live_count x 9 client + live_count y 8 server + live_count x 0 answers + one_where lossy ≤ 17 + live_count x 0 infos
 
 pub record Flight (w : WireLog) (c : ClientState) (v : ServerState) (turns : List Turn) : Type 0 where
-  pub few : FewFly w.wire.end_a w.wire.end_b (length w.wire.to_a) (length w.wire.to_b) w.lossy (client_packets c) (server_packets v) (range_count 2 (heard turns)) (infos_of c.session)
+  pub few : FewFly w.wire.end_a w.wire.end_b (length w.wire.to_a) (length w.wire.to_b) w.lossy (client_packets c) (server_packets v) (range_count 2 (heard turns)) (infos_begun c.session)
   pub pieces : FewPieces v.work
 
 -- THE CLIENT puts a packet, takes one, and goes on
@@ -35,11 +36,11 @@ client_puts_one Up y a b more lossy c t v q i j up one flies few = omega (arith,
 client_puts_one Down y a b more lossy c t v q i j up one flies few = absurd (cc up)
 client_puts_one Resetting y a b more lossy c t v q i j up one flies few = absurd (cc up)
 
-pub client_takes_one : (x y : ChannelState) (a less b : ℕ) (lossy : Bool) (c t v q p i j : ℕ) → x ≡ Up → less + 1 ≡ a → t ≤ c → p ≤ q + 1 → j ≡ i → FewFly x y a b lossy c v q i
+pub client_takes_one : (x y : ChannelState) (a less b : ℕ) (lossy : Bool) (c t v q p i j : ℕ) → x ≡ Up → less + 1 ≡ a → t + 0 + i ≤ c + j → p ≤ q + 1 → FewFly x y a b lossy c v q i
     → FewFly x y less b lossy t v p j
-client_takes_one Up y a less b lossy c t v q p i j up one flies answers same few = omega (arith, one, flies, answers, same, few)
-client_takes_one Down y a less b lossy c t v q p i j up one flies answers same few = absurd (cc up)
-client_takes_one Resetting y a less b lossy c t v q p i j up one flies answers same few = absurd (cc up)
+client_takes_one Up y a less b lossy c t v q p i j up one flies answers few = omega (arith, one, flies, answers, few)
+client_takes_one Down y a less b lossy c t v q p i j up one flies answers few = absurd (cc up)
+client_takes_one Resetting y a less b lossy c t v q p i j up one flies answers few = absurd (cc up)
 
 pub client_goes : (x y : ChannelState) (a b : ℕ) (lossy : Bool) (c t v q i j : ℕ) → t + 0 + i ≤ c + j → FewFly x y a b lossy c v q i → FewFly x y a b lossy t v q j
 client_goes Up y a b lossy c t v q i j flies few = omega (arith, flies, few)

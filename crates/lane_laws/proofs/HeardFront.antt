@@ -1,5 +1,5 @@
 -- What an end heard is a front of what the other said, on a lane that nobody forged.
-use Rattle.std.proofs.Common.{◌≡◌, Bool, false, List, [], map, refl, subst}
+use Rattle.std.proofs.Common.{◌≡◌, false, List, [], map, subst}
 use Rattle.runs.specs.Run.{Run}
 use Rattle.ldc_link.specs.declared.phase.Role.TheVariants.{Initiator, Responder}
 use Rattle.ldc_queue.specs.declared.end.ChannelState.TheVariants.{Up}

@@ -57,7 +57,7 @@ idle_client s l grounded idles =
     let both : Some of.counts ≡ Some c = sym of.is ∙ has in
     let same : of.counts ≡ c = cc in
     let order : InOrder (length s.client.pending) session =
-    in_order (length s.client.pending) s.client.session session is grounded.knows.all.transcripts.client.counts in
+    in_order (length s.client.pending) s.client.session session is grounded.knows.all.sound.counts in
     let stand = grounded.knows.all.stands.requests in
     let acked = not_below session.completed session.acked (idles.completed session is) in
     let has_done = idles.rests.rests.session session is in

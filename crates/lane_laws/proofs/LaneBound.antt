@@ -19,7 +19,8 @@ use Rattle.lane_laws.proofs.FlightRuns.{InFlight}
 use Rattle.lane_laws.proofs.FlightSums.{FewFly}
 use Rattle.lane_laws.proofs.Speaking.{client_open_rests, server_open_rests}
 use Rattle.lane_laws.proofs.LifeBound.{RequestsLeft, by_sessions}
-use Rattle.lane_laws.specs.Counted.{infos_of, one_where, range_count}
+use Rattle.lane_laws.specs.Budget.{infos_begun}
+use Rattle.lane_laws.specs.Counted.{one_where, range_count}
 use Rattle.lane_laws.specs.LaneTranscripts.{transcript_behind}
 use Rattle.lane_laws.specs.Remaining.{absent, asked_by, asked_in, client_left, client_packets, life, remaining, requests_left, second_life, server_left, server_packets, serving_left, total}
 use Rattle.lane_laws.proofs.HeardFront.{unheard_client, unheard_server}
@@ -51,7 +52,7 @@ server_closed shape events s sound run clean up alone =
 
 -- THE SUMS, by who is up
 record Facts (x y : ChannelState) (a b : ℕ) (lossy : Bool) (c : ClientState) (v : ServerState) (answers : ℕ) : Type 0 where
-  few : FewFly x y a b lossy (client_packets c) (server_packets v) answers (infos_of c.session)
+  few : FewFly x y a b lossy (client_packets c) (server_packets v) answers (infos_begun c.session)
   client : x ≡ Up → (y ≡ Up → ⊥) → c.session ≡ None
   server : y ≡ Up → (x ≡ Up → ⊥) → v.session ≡ None
   both : x ≡ Up → y ≡ Up → RequestsLeft c.session v.session v.work (length c.pending) answers
@@ -65,7 +66,7 @@ Most x y a b lossy c v = absent x + absent y + a + b + client_left x (asked_by y
 
 both_up : (a b : ℕ) (lossy : Bool) (c : ClientState) (v : ServerState) (answers : ℕ) → Facts Up Up a b lossy c v answers → Most Up Up a b lossy c v
 both_up a b lossy c v answers facts =
-    sums a b (client_packets c) (server_packets v) answers (one_where lossy) (infos_of c.session) (requests_left (length c.pending) c.session) (total (length c.pending) c.session - asked_in v.session)
+    sums a b (client_packets c) (server_packets v) answers (one_where lossy) (infos_begun c.session) (requests_left (length c.pending) c.session) (total (length c.pending) c.session - asked_in v.session)
     (serving_left v.work v.session) (length c.pending) facts.few (facts.both refl refl) (one_at_most lossy)
   where
     sums : (a b p q answers lost infos requests rest serving pending : ℕ) → a + b + p + q + answers + lost ≤ 17 + infos
@@ -73,11 +74,11 @@ both_up a b lossy c v answers facts =
         → 0 + 0 + a + b + (2 * p + requests + 12 * rest) + (2 * q + serving) + 3 * lost ≤ 36 + 16 * pending
     sums a b p q answers lost infos requests rest serving pending few left one = omega (arith, few, left, one)
 
-client_up : (a b : ℕ) (lossy : Bool) (c : ClientState) (answers : ℕ) → c.session ≡ None → a + b + client_packets c + 8 + answers + one_where lossy ≤ 17 + infos_of c.session
+client_up : (a b : ℕ) (lossy : Bool) (c : ClientState) (answers : ℕ) → c.session ≡ None → a + b + client_packets c + 8 + answers + one_where lossy ≤ 17 + infos_begun c.session
     → 0 + 1 + a + b + client_left Up 0 c + 16 + 3 * one_where lossy ≤ 36 + 16 * length c.pending
 client_up a b lossy c answers none few =
-    sums a b (client_packets c) answers (one_where lossy) (infos_of c.session) (requests_left (length c.pending) c.session) (total (length c.pending) c.session) (length c.pending) few (one_at_most lossy)
-    (ap infos_of none) (ap (requests_left (length c.pending)) none) (ap (total (length c.pending)) none)
+    sums a b (client_packets c) answers (one_where lossy) (infos_begun c.session) (requests_left (length c.pending) c.session) (total (length c.pending) c.session) (length c.pending) few (one_at_most lossy)
+    (ap infos_begun none) (ap (requests_left (length c.pending)) none) (ap (total (length c.pending)) none)
   where
     sums : (a b p answers lost infos requests all pending : ℕ) → a + b + p + 8 + answers + lost ≤ 17 + infos → lost ≤ 1 → infos ≡ 0 → requests ≡ 4 * pending → all ≡ pending
         → 0 + 1 + a + b + (2 * p + requests + 12 * (all - 0)) + 16 + 3 * lost ≤ 36 + 16 * pending

@@ -2,7 +2,6 @@
 use Rattle.std.proofs.Common.{◌≡◌, List, [], ◌∷◌, refl, sym, ap, ◌∙◌, subst, arith, map}
 use Rattle.runs.specs.Lawful.{log_of, run_lawful}
 use Rattle.runs.specs.Run.{Run}
-use Rattle.ldc_queue.specs.declared.end.End.TheVariants.{A}
 use Rattle.channel_model.specs.TranscriptLog.{TranscriptLog, nothing_said}
 use Rattle.channel_model.specs.WireLog.{WireLog}
 use Rattle.disk_model.specs.DiskEvent.{DiskEvent}
@@ -32,7 +31,7 @@ lane_core_step s l event t stands step =
         stands = subst (λ (x : Shape). CoreStands x.entries s.wire (core_event event)) (sym before.shape)
             (subst (λ (w : WireLog). CoreStands l.shape.entries w (core_event event)) (sym before.wire) at_log);
         wire = behind.wire ∙ ap (λ (w : WireLog). after_wire w event) (sym before.wire) ∙ wire_same s.wire event;
-        a = step_a s event t (record { before = stands.all.transcripts.client; behind = more.1.all.transcripts.client }) step;
+        a = step_a s event t (record { before = stands.all.sound; behind = more.1.all.sound }) step;
         b = step_b s event t step;
       },
       more.1,

@@ -32,12 +32,11 @@ use Rattle.lane_laws.proofs.ClientPutCounting.{comes_counting, counts_as, goes_c
 use Rattle.lane_laws.proofs.Speaking.{client_blocked_rests}
 use Rattle.lane_laws.proofs.ClientTaken.{client_took_what}
 use Rattle.lane_laws.proofs.Speaking.{client_blocked_utters}
-use Rattle.lane_laws.proofs.HeldLinks.{held_link}
 use Rattle.lane_laws.proofs.ClientWorkCounting.{client_admits_counting, client_completes_counting, client_holds_counting, client_publishes_counting, handshake_counting}
-use Rattle.lane_laws.proofs.EndPutting.{PutSays, put_says}
+use Rattle.channel_laws.proofs.PutSayings.{PutSays, put_says}
 use Rattle.lane_laws.proofs.Speaking.{fresh_rests, rests_step}
 use Rattle.lane_laws.proofs.Speaking.{lane_utters}
-use Rattle.lane_laws.proofs.RemainingClientHears.{owes_nothing}
+use Rattle.lane_laws.proofs.RulesFree.{owes_nothing}
 use Rattle.lane_laws.proofs.Requesting.{KeepsRequests, first_done, held_kept}
 use Rattle.lane_laws.proofs.RulesFree.{ServerFree, TakesFree, server_free}
 use Rattle.lane_laws.proofs.Ruling.{client_may}
@@ -65,7 +64,7 @@ same_client : (s t : LaneState) (l : DiskLog) → Knows s l → t.client ≡ s.c
 same_client s t l knows same = subst (λ (c : ClientState). ClientCounted l.shape c l.transcript.client l.work.done l.work.client) (sym same) knows.counted.client
 
 pub few_slots : (s : LaneState) (l : DiskLog) → Knows s l → l.shape.slots ≤ 256
-few_slots s l knows = omega (arith, knows.counted.client.slots, knows.all.transcripts.client.slots)
+few_slots s l knows = omega (arith, knows.counted.client.slots, knows.all.sound.slots)
 
 begun_client : (s : LaneState) (l : DiskLog) (c : ClientState) → Knows s l → c ≡ joined_client s.client → ClientCounted l.shape c [] l.work.done None
 begun_client s l c knows is =
@@ -96,15 +95,15 @@ client_puts s l packet opens t new sid knows sends =
     let at = seen A s.shape.entries s.wire.wire in
     let rule = client_rules.client_rule s.client at in
     let held = sends.held in
-    let sound : ClientSound held = (client_held s.client at rule held (client_may s.client at) sends.holds knows.all.transcripts.client).sound in
-    let rests : ClientRests held l.transcript.client = client_blocked_rests s.client at held l.transcript.client knows.all.transcripts.client sends.holds knows.rests.client in
-    let utters : ClientUtters held l.transcript.client = client_blocked_utters s.client at held l.transcript.client knows.all.transcripts.client sends.holds knows.rests.client in
+    let sound : ClientSound held = client_held s.client at rule held (client_may s.client at) sends.holds knows.all.sound in
+    let rests : ClientRests held l.transcript.client = client_blocked_rests s.client at held l.transcript.client knows.all.sound sends.holds knows.rests.client in
+    let utters : ClientUtters held l.transcript.client = client_blocked_utters s.client at held l.transcript.client knows.all.sound sends.holds knows.rests.client in
     let kept : KeepsRequests s.client held = held_kept s.client at rule held (client_may s.client at) sends.holds in
     let first : first_id held ≡ l.work.done =
     ap (λ (n : ℕ). n - length held.pending) kept.next ∙ ap (λ (xs : List Request). s.client.next_id - length xs) kept.pending ∙ sym (first_done s.client l.work knows.all.stands.requests) in
-    let counted = client_holds_counting l.shape s.client at rule held l.transcript.client l.work.done l.work.client knows.all.transcripts.client knows.rests.client knows.utters.client
+    let counted = client_holds_counting l.shape s.client at rule held l.transcript.client l.work.done l.work.client knows.all.sound knows.rests.client knows.utters.client
     (client_may s.client at) sends.holds knows.counted.client in
-    let says = put_says (is_announcing held.session) held.link t.link l.transcript.client packet (held_link s.client at rule held l.transcript.client sends.holds knows.all.transcripts.follows_a) sends.packet in
+    let says = put_says (is_announcing held.session) held.link t.link l.transcript.client packet rests.stands.link.follows sends.packet in
     subst (λ (b : Bool). ClientCounted l.shape t (Said packet ∷ l.transcript.client) l.work.done (counts_as l.shape b l.transcript.client packet sid l.work.done l.work.client)) (sym sends.opens_is)
     (subst (λ (x : ClientState). ClientCounted l.shape x (Said packet ∷ l.transcript.client) l.work.done (counts_as l.shape (client_opens held) l.transcript.client packet sid l.work.done l.work.client)) (sym sends.is)
     (put_counting (client_kind held) l.shape held l.transcript.client packet sid l.work.done l.work.client sound rests utters first says counted))
@@ -115,7 +114,7 @@ client_wire s (Joined A lost) t l knows step =
     record { client = begun_client s l t.client knows step.step.2; server = same_server s t l knows (ap (λ (x : LaneState). x.server) step.is) }
 client_wire s (Took A packet opens) t l knows step =
     let at = seen A s.shape.entries s.wire.wire in
-    let took = client_took_what s.client l.transcript.client packet t.client knows.all.transcripts.follows_a knows.rests.client.whole step.step.1 in
+    let took = client_took_what s.client l.transcript.client packet t.client knows.rests.client.stands.link.follows knows.rests.client.whole step.step.1 in
     let counted = client_takes_counting l.shape s.client t.client l.transcript.client packet l.work.done l.work.client knows.rests.client (owes_nothing s.client at packet step.step.0)
     knows.counted.client took in
     record {
@@ -131,7 +130,7 @@ client_wire s (Sent A packet opens) t l knows step =
 client_wire s (Blocked A) t l knows step =
     let at = seen A s.shape.entries s.wire.wire in
     record {
-      client = client_holds_counting l.shape s.client at (client_rules.client_rule s.client at) t.client l.transcript.client l.work.done l.work.client knows.all.transcripts.client knows.rests.client
+      client = client_holds_counting l.shape s.client at (client_rules.client_rule s.client at) t.client l.transcript.client l.work.done l.work.client knows.all.sound knows.rests.client
           knows.utters.client (client_may s.client at) step.step.0 knows.counted.client;
       server = same_server s t l knows (ap (λ (x : LaneState). x.server) step.is);
     }
@@ -156,7 +155,7 @@ server_wire s (Joined B lost) t l knows step =
     record { client = same_client s t l knows (ap (λ (x : LaneState). x.client) step.1.is); server = begun_server s l t.server knows step.1.step.1.2 }
 server_wire s (Took B packet opens) t l knows step =
     let at = seen B s.shape.entries s.wire.wire in
-    let took = server_took_what s.server l.transcript.server packet t.server opens knows.all.transcripts.follows_b knows.rests.server.whole step.1.step.1.1 in
+    let took = server_took_what s.server l.transcript.server packet t.server opens knows.rests.server.stands.link.follows knows.rests.server.whole step.1.step.1.1 in
     let free : TakesFree s.server = subst (ServerFree s.server) step.1.step.1.0 (server_free s.server at) in
     record {
       client = same_client s t l knows (ap (λ (x : LaneState). x.client) step.1.is);
@@ -164,7 +163,7 @@ server_wire s (Took B packet opens) t l knows step =
           knows.counted.server took;
     }
 server_wire s (Sent B packet opens) t l knows step =
-    let both = server_puts_counting l.shape s.server (seen B s.shape.entries s.wire.wire) packet opens t.server l.transcript.server l.work.server (few_slots s l knows) knows.all.transcripts.follows_b
+    let both = server_puts_counting l.shape s.server (seen B s.shape.entries s.wire.wire) packet opens t.server l.transcript.server l.work.server (few_slots s l knows)
     step.1.step.1.0 knows.rests.server knows.utters.server knows.counted.server in
     record {
       client = same_client s t l knows (ap (λ (x : LaneState). x.client) step.1.is);
@@ -241,7 +240,7 @@ on_wire s (Declines d) t l knows step =
 -- THE WORK
 works : (s : LaneState) (event : Worked) (t : LaneState) (l : DiskLog) → Knows s l → WorkStep s event t → LaneCounted t (after l (Works event))
 works s (Published id) t l knows step = record {
-  client = client_publishes_counting l.shape s.client (seen A s.shape.entries s.wire.wire) s.memory id t.client t.memory l.transcript.client l.work.done l.work.client knows.all.transcripts.client
+  client = client_publishes_counting l.shape s.client (seen A s.shape.entries s.wire.wire) s.memory id t.client t.memory l.transcript.client l.work.done l.work.client knows.all.sound
       knows.rests.client step.step knows.counted.client;
   server = same_server s t l knows (ap (λ (x : LaneState). x.server) step.is);
 }
@@ -311,8 +310,8 @@ knows_step s l event t knows step = (
   tt,
   record {
     all = (all_step s l event t knows.all step).1;
-    rests = rests_step s event t l.transcript knows.all.transcripts knows.rests step;
-    utters = lane_utters t (after l event).transcript (rests_step s event t l.transcript knows.all.transcripts knows.rests step);
+    rests = rests_step s event t l.transcript knows.all.sound knows.rests step;
+    utters = lane_utters t (after l event).transcript (rests_step s event t l.transcript knows.all.sound knows.rests step);
     counted = counted_step s event t l knows step;
   },
 )
@@ -321,7 +320,7 @@ pub fresh_counted : (shape : Shape) → LaneCounted (fresh shape) (nothing_yet s
 fresh_counted shape = record {
   client = record {
     slots = refl;
-    handshake = record { role_is = refl; offer_is = refl; owed = tt; ring = tt };
+    handshake = record { role_is = refl; offer_is = refl; owed = tt; ring = λ takes named. absurd (cc named) };
     holds = record { owed = λ quiet some. absurd (omega (arith, some)); own = λ session is on. absurd (cc) };
     announced = refl;
     infos = refl;
@@ -332,7 +331,7 @@ fresh_counted shape = record {
   server = record {
     slots = refl;
     blocks = refl;
-    handshake = record { role_is = refl; offer_is = refl; owed = tt; ring = tt };
+    handshake = record { role_is = refl; offer_is = refl; owed = tt; ring = λ takes named. absurd (cc named) };
     holds = λ some. absurd (omega (arith, some));
     order = record { asked = refl; answered = refl; infos = refl };
     unit = tt;

@@ -19,13 +19,14 @@ use Rattle.disk_model.specs.LaneStep.{EndOnWire, LaneStep, WireStep, reach}
 use Rattle.channel_model.specs.Seeing.{seen}
 use Rattle.disk_model.specs.ServerRule.{server_rule}
 use Rattle.lane_laws.proofs.Speaking.{fresh_rests, rests_step}
-use Rattle.lane_laws.proofs.LaneStepping.{LaneTranscripts, transcripts_step, fresh_transcripts}
+use Rattle.lane_laws.proofs.LaneStepping.{fresh_sound, sound_step}
 use Rattle.lane_laws.specs.LaneRests.{LaneRests}
 use Rattle.lane_laws.proofs.EndResets.{WhyReset, client_fails, server_fails}
 use Rattle.lane_laws.specs.Laws.{GapAt, ResetAt}
+use Rattle.lane_laws.specs.Sound.{ClientSound}
 
 abbrev pub Stands : LaneState → TranscriptLog → Type 0
-Stands s transcript = LaneTranscripts s transcript × LaneRests s transcript
+Stands s transcript = ClientSound s.client × LaneRests s transcript
 
 -- a reset that no step gave
 asked_why : (turns : List Turn) (cause : Cause) (packet : Option (List ℕ)) → packet ≡ None → WhyReset turns None cause → WhyReset turns packet cause
@@ -34,10 +35,10 @@ asked_why turns cause packet is why = subst (λ (p : Option (List ℕ)). WhyRese
 end_why : (e : End) (s : LaneState) (transcript : TranscriptLog) (cause : Cause) (packet : Option (List ℕ)) (lost : ℕ) (t : LaneState) → Stands s transcript → EndOnWire e s (Reset e cause packet lost) t
     → WhyReset (transcript_of e transcript) packet cause
 end_why A s transcript cause packet lost t stands step =
-    client_fails transcript.client (client_rule s.client (seen A s.shape.entries s.wire.wire)) s.client s.memory cause packet stands.0.follows_a stands.1.client.whole step.step.0
+    client_fails transcript.client (client_rule s.client (seen A s.shape.entries s.wire.wire)) s.client s.memory cause packet stands.1.client.stands.link.follows stands.1.client.whole step.step.0
 end_why B s transcript cause packet lost t stands step =
     server_fails transcript.server (server_rule s.server (seen B s.shape.entries s.wire.wire)) s.server (reach s (seen B s.shape.entries s.wire.wire).both) cause packet t.memory
-    stands.0.follows_b stands.1.server.whole step.1.step.1.0
+    stands.1.server.stands.link.follows stands.1.server.whole step.1.step.1.0
 
 -- the causes of those who give a reset
 pub by_giver : (e : End) (s : LaneState) (transcript : TranscriptLog) (cause : Cause) (packet : Option (List ℕ)) (lost : ℕ) (t : LaneState) → Stands s transcript → WireStep s (Reset e cause packet lost) t
@@ -93,14 +94,14 @@ says_at s l (Switches event) t stands step = (tt, tt)
 says_at s l (Calms event) t stands step = (tt, tt)
 
 stands_step : (s : LaneState) (transcript : TranscriptLog) (event : DiskEvent) (t : LaneState) → Stands s transcript → LaneStep s event t → Stands t (after_transcript transcript event)
-stands_step s transcript event t (transcripts, rests) step = (transcripts_step s event t transcript transcripts step, rests_step s event t transcript transcripts rests step)
+stands_step s transcript event t (sound, rests) step = (sound_step s event t sound step, rests_step s event t transcript sound rests step)
 
 all_lawful : (shape : Shape) (events : List DiskEvent) (s : LaneState) → IsShape shape → Run LaneStep (fresh shape) events s
     → Lawful (λ (l : DiskLog) (e : DiskEvent). ResetAt l e × GapAt l e) after (nothing_yet shape) events
 all_lawful shape events s sound run =
     (run_lawful LaneStep (λ (l : DiskLog) (e : DiskEvent). ResetAt l e × GapAt l e) after (λ (x : LaneState) (l : DiskLog). Stands x l.transcript)
     (λ (x : LaneState) (l : DiskLog) (e : DiskEvent) (y : LaneState) stands step. (says_at x l e y stands step, stands_step x l.transcript e y stands step))
-    (fresh shape) s (nothing_yet shape) events (fresh_transcripts shape sound, fresh_rests shape sound) run).0
+    (fresh shape) s (nothing_yet shape) events (fresh_sound shape sound, fresh_rests shape sound) run).0
 
 -- a law that stronger ones give
 lawful_of : (P Q : DiskLog → DiskEvent → Type 0) → ((l : DiskLog) (e : DiskEvent) → P l e → Q l e) → (l : DiskLog) (events : List DiskEvent) → Lawful P after l events → Lawful Q after l events

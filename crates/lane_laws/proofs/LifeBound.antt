@@ -1,5 +1,5 @@
 -- What remains on a lane that nobody forged is at most 36, and 16 for each pending request; where a packet was lost, at most 69 and 32.
-use Rattle.std.proofs.Common.{◌≡◌, ◌≢◌, ℕ, ◌+◌, ◌-◌, ◌*◌, ◌%◌, ◌≤◌, ◌<◌, true, false, Option, Some, None, List, length, refl, sym, ap, ◌∙◌, subst, arith}
+use Rattle.std.proofs.Common.{◌≡◌, ◌≢◌, ℕ, ◌+◌, ◌-◌, ◌*◌, ◌%◌, ◌≤◌, ◌<◌, Bool, true, false, Option, Some, None, List, length, refl, sym, ap, ◌∙◌, subst, arith}
 use Rattle.std.specs.Prelude.{is_some}
 use Rattle.runs.specs.Lawful.{log_of}
 use Rattle.runs.specs.Run.{Run}
@@ -24,7 +24,7 @@ use Rattle.lane_laws.proofs.HeardFront.{heard_messages}
 use Rattle.lane_laws.proofs.LaneCounting.{Knows, run_knows}
 use Rattle.lane_laws.proofs.RangeSums.{counts_fewer, counts_front}
 use Rattle.lane_laws.proofs.Sharing.{in_order}
-use Rattle.lane_laws.specs.Budget.{one_range}
+use Rattle.lane_laws.specs.Budget.{infos_begun, one_if, one_range}
 use Rattle.lane_laws.specs.Counted.{InServerOrder, NothingAsked, RangeStands, ServerOrder, acked_of, announced_of, infos_of, range_count, range_sum}
 use Rattle.lane_laws.specs.LaneTranscripts.{transcript_behind}
 use Rattle.lane_laws.specs.Remaining.{asked_in, requests_left, serving_left, total, unfinished, work_left}
@@ -32,11 +32,16 @@ use Rattle.lane_laws.specs.Sound.{InOrder}
 
 -- THE REQUESTS of two ends that are up: what remains of them, and two packets for each INFO that isn't answered, are at most 16 for each
 -- that is pending
-all_requests : (pending completed acked announced published infos answers asked finished serving : ℕ) → completed ≤ acked → acked ≤ finished → finished ≤ asked → asked ≤ announced → announced ≤ published
+all_requests : (pending completed acked announced own published infos answers asked finished serving : ℕ) → completed ≤ acked → acked ≤ finished → finished ≤ asked → asked ≤ announced → announced + own ≤ published
     → published ≤ completed + pending → infos + acked ≤ announced + answers → serving + 10 * finished ≤ 10 * asked
-    → ((pending + completed) - published) + 2 * ((pending + completed) - announced) + pending + 12 * ((pending + completed) - asked) + serving + 2 * infos ≤ 16 * pending + 2 * answers
-all_requests pending completed acked announced published infos answers asked finished serving done answered fetched told named most outstanding served =
+    → ((pending + completed) - published) + 2 * ((pending + completed) - (announced + own)) + pending + 12 * ((pending + completed) - asked) + serving + 2 * (infos + own) ≤ 16 * pending + 2 * answers
+all_requests pending completed acked announced own published infos answers asked finished serving done answered fetched told named most outstanding served =
     omega (arith, done, answered, fetched, told, named, most, outstanding, served)
+
+-- the one that the link holds announces some more
+own_within : (own : Bool) (announced published : ℕ) → announced ≤ published → (own ≡ true → announced < published) → announced + one_if own ≤ published
+own_within true announced published most more = omega (arith, more refl)
+own_within false announced published most more = omega (arith, most)
 
 front_counts : (slots subtype : ℕ) (xs ys : List (List ℕ)) → IsFront xs ys → range_count subtype ys + range_sum slots subtype xs ≤ range_sum slots subtype ys + range_count subtype xs
 front_counts slots subtype xs ys front =
@@ -52,7 +57,7 @@ serves_most (Some work) n few some = omega (arith, few, some (λ none. cc none))
 
 abbrev pub RequestsLeft : Option ClientSession → Option ServerSession → Option Work → ℕ → ℕ → Type 0
 RequestsLeft o p work pending answers =
-    requests_left pending o + 12 * (total pending o - asked_in p) + serving_left work p + 2 * infos_of o ≤ 16 * pending + 2 * answers
+    requests_left pending o + 12 * (total pending o - asked_in p) + serving_left work p + 2 * infos_begun o ≤ 16 * pending + 2 * answers
 
 -- the counts of a server's session
 record Serving (s : LaneState) (l : DiskLog) (session : ServerSession) : Type 0 where
@@ -108,7 +113,7 @@ both_open shape events s c v sound run clean up_a up_b is_c is_v pieces =
     let transcript : l.transcript ≡ transcript_behind events = transcript_is (nothing_yet shape) events in
     let front_b : IsFront (heard l.transcript.server) (said l.transcript.client) = subst (λ (t : TranscriptLog). IsFront (heard t.server) (said t.client)) (sym transcript) (heard_messages shape events s B sound run clean up_b) in
     let front_a : IsFront (heard l.transcript.client) (said l.transcript.server) = subst (λ (t : TranscriptLog). IsFront (heard t.client) (said t.server)) (sym transcript) (heard_messages shape events s A sound run clean up_a) in
-    let order : InOrder (length s.client.pending) c = in_order (length s.client.pending) s.client.session c is_c knows.all.transcripts.client.counts in
+    let order : InOrder (length s.client.pending) c = in_order (length s.client.pending) s.client.session c is_c knows.all.sound.counts in
     let announced : c.announced ≡ range_sum slots 1 (said l.transcript.client) = sym (ap announced_of is_c) ∙ knows.counted.client.announced in
     let acked : c.acked ≡ range_sum slots 2 (heard l.transcript.client) = sym (ap acked_of is_c) ∙ knows.counted.client.acked in
     let infos : c.infos ≡ range_count 1 (said l.transcript.client) = sym (ap infos_of is_c) ∙ knows.counted.client.infos in
@@ -127,9 +132,9 @@ both_open shape events s c v sound run clean up_a up_b is_c is_v pieces =
     (range_sum slots 1 (heard l.transcript.server)) (range_count 2 (said l.transcript.server)) (range_sum slots 2 (said l.transcript.server)) (range_sum slots 2 (heard l.transcript.client)) (one_range v.range) infos acked
     announced (front_counts slots 1 (heard l.transcript.server) (said l.transcript.client) front_b) (front_counts slots 2 (heard l.transcript.client) (said l.transcript.server) front_a) serves.order.replies
     (omega (arith, range_more slots v.range d serves.order.range, serves.order.asked, serves.order.answered)) in
-    all_requests (length s.client.pending) c.completed c.acked c.announced c.published c.infos (range_count 2 (heard l.transcript.client)) v.asked v.finished (work_left (unfinished v) s.server.work) order.completed
+    all_requests (length s.client.pending) c.completed c.acked c.announced (one_if c.announcing) c.published c.infos (range_count 2 (heard l.transcript.client)) v.asked v.finished (work_left (unfinished v) s.server.work) order.completed
     (omega (arith, acked, front_sum slots 2 (heard l.transcript.client) (said l.transcript.server) front_a, serves.order.answered, serves.order.finished, finished)) fetched
-    (omega (arith, announced, front_sum slots 1 (heard l.transcript.server) (said l.transcript.client) front_b, within.asked)) order.announced order.published outstanding (omega (arith, serving, left))
+    (omega (arith, announced, front_sum slots 1 (heard l.transcript.server) (said l.transcript.client) front_b, within.asked)) (own_within c.announcing c.announced c.published order.announced order.own) order.published outstanding (omega (arith, serving, left))
 
 -- where the client's alone is open
 client_alone : (shape : Shape) (events : List DiskEvent) (s : LaneState) (c : ClientSession) → IsShape shape → Run LaneStep (fresh shape) events s → s.wire.forged ≡ false
@@ -141,14 +146,14 @@ client_alone shape events s c sound run clean up_a is_c is_v =
     let knows : Knows s l = run_knows shape events s sound run in
     let transcript : l.transcript ≡ transcript_behind events = transcript_is (nothing_yet shape) events in
     let front_a : IsFront (heard l.transcript.client) (said l.transcript.server) = subst (λ (t : TranscriptLog). IsFront (heard t.client) (said t.server)) (sym transcript) (heard_messages shape events s A sound run clean up_a) in
-    let order : InOrder (length s.client.pending) c = in_order (length s.client.pending) s.client.session c is_c knows.all.transcripts.client.counts in
+    let order : InOrder (length s.client.pending) c = in_order (length s.client.pending) s.client.session c is_c knows.all.sound.counts in
     let announced : c.announced ≡ range_sum slots 1 (said l.transcript.client) = sym (ap announced_of is_c) ∙ knows.counted.client.announced in
     let acked : c.acked ≡ range_sum slots 2 (heard l.transcript.client) = sym (ap acked_of is_c) ∙ knows.counted.client.acked in
     let infos : c.infos ≡ range_count 1 (said l.transcript.client) = sym (ap infos_of is_c) ∙ knows.counted.client.infos in
     let nothing : NothingAsked slots l.transcript.server = subst (λ (p : Option ServerSession). ServerOrder slots p l.work.server l.transcript.server) is_v knows.counted.server.order in
     let none : c.acked ≡ 0 = omega (arith, acked, front_sum slots 2 (heard l.transcript.client) (said l.transcript.server) front_a, nothing.answered) in
-    all_requests (length s.client.pending) c.completed c.acked c.announced c.published c.infos (range_count 2 (heard l.transcript.client)) 0 0 0 order.completed (omega (arith, none)) (omega arith) (omega arith)
-    order.announced order.published (omega (arith, none, infos, announced, counts_fewer slots 1 (said l.transcript.client))) (omega arith)
+    all_requests (length s.client.pending) c.completed c.acked c.announced (one_if c.announcing) c.published c.infos (range_count 2 (heard l.transcript.client)) 0 0 0 order.completed (omega (arith, none)) (omega arith) (omega arith)
+    (own_within c.announcing c.announced c.published order.announced order.own) order.published (omega (arith, none, infos, announced, counts_fewer slots 1 (said l.transcript.client))) (omega arith)
 
 -- BOTH ENDS ARE UP
 pub by_sessions : (o : Option ClientSession) (p : Option ServerSession) (shape : Shape) (events : List DiskEvent) (s : LaneState) → IsShape shape → Run LaneStep (fresh shape) events s → s.wire.forged ≡ false

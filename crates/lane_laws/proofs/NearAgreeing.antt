@@ -76,7 +76,7 @@ wire_stays : (s : LaneState) (l : DiskLog) (event : WireEvent) (t : LaneState) �
     → (after l (OnWire event)).near ≡ l.near → (after l (OnWire event)).work.done ≡ l.work.done → WireStep s event t → NearSame s l → NearSame t (after l (OnWire event))
 wire_stays s l event t before facts not calm log done step same =
     let quiet = wire_quiet s l event t before.knows not step in
-    let only = wire_only s event t before.known.sound step in
+    let only = wire_only s event t step in
     let near : t.near ≡ s.near = quiet.near ∙ near_quiet s event calm in
     let work : work_while t.wire.wire.end_b t.server.work ≡ work_while s.wire.wire.end_b s.server.work =
     ap (λ (w : WireLog). work_while w.wire.end_b t.server.work) only.wire ∙ ap (work_while (wire_moved s.wire event).wire.end_b) quiet.work ∙ work_quiet s l event t before facts calm in
@@ -96,7 +96,7 @@ wire_disturbs : (e : End) (s : LaneState) (l : DiskLog) (cause : Cause) (packet 
 wire_disturbs e s l cause packet lost t before gone kept peer done step same =
     let event : WireEvent = Reset e cause packet lost in
     let quiet = wire_quiet s l event t before.knows tt step in
-    let only = wire_only s event t before.known.sound step in
+    let only = wire_only s event t step in
     let work : work_while t.wire.wire.end_b t.server.work ≡ None =
     ap (λ (w : WireLog). work_while w.wire.end_b t.server.work) only.wire ∙ ap (work_while (wire_moved s.wire event).wire.end_b) quiet.work
     ∙ reset_drops e s l (work_on_wire event s.server.work) before gone kept (wire_moved s.wire event).wire peer in

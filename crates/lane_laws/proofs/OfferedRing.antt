@@ -35,7 +35,7 @@ filled_front zero (cookie ∷ cookies) few = absurd (omega (arith, few))
 filled_front (suc n) (cookie ∷ cookies) few = ap (λ (xs : List Cookie). cookie ∷ xs) (filled_front n cookies (omega (arith, few)))
 
 -- THE COOKIES of a ring
-pub pages_long : (page n : ℕ) → length (page_cookies page n) ≡ n
+pages_long : (page n : ℕ) → length (page_cookies page n) ≡ n
 pages_long page zero = refl
 pages_long page (suc n) = omega (arith, pages_long (page + 1) n)
 
@@ -43,7 +43,7 @@ pages_are : (page n : ℕ) → page + n ≤ 1000000 → AllByRecursion IsCookie 
 pages_are page zero few = tt
 pages_are page (suc n) few = (record { address = omega (arith, few); size = omega arith }, pages_are (page + 1) n (omega (arith, few)))
 
-few_if : (b : Bool) (slots : ℕ) → slots ≤ 256 → length (if b then page_cookies 0 (ring_pages slots) else record { address = 0; size = 128 * slots } ∷ []) ≤ 14
+few_if : (b : Bool) (slots : ℕ) → slots ≤ 256 → length (if b then page_cookies 0 (ring_pages slots) else record { address = 0; size = 128 * slots } ∷ []) ≤ 4
 few_if true slots few = omega (arith, pages_long 0 (ring_pages slots), few)
 few_if false slots few = omega arith
 
@@ -51,8 +51,11 @@ are_if : (b : Bool) (slots : ℕ) → slots ≤ 256 → AllByRecursion IsCookie 
 are_if true slots few = pages_are 0 (ring_pages slots) (omega (arith, few))
 are_if false slots few = (record { address = omega arith; size = omega (arith, few) }, tt)
 
+pub four_cookies : (slots : ℕ) → slots ≤ 256 → length (own_cookies slots) ≤ 4
+four_cookies slots few = few_if (nat_le 64 slots) slots few
+
 pub few_cookies : (slots : ℕ) → slots ≤ 256 → length (own_cookies slots) ≤ 14
-few_cookies slots few = few_if (nat_le 64 slots) slots few
+few_cookies slots few = omega (arith, four_cookies slots few)
 
 -- THE REGISTRATION
 pub offered_form : (blocks slots : ℕ) → slots ≤ 256 → AreCookies (client_offer blocks slots).count (client_offer blocks slots).cookies

@@ -1,5 +1,5 @@
 -- The open sessions of both ends of a lane that nobody forged are one.
-use Rattle.std.proofs.Common.{◌≡◌, Bool, false, true, List, map, sym, ◌∙◌}
+use Rattle.std.proofs.Common.{◌≡◌, false, true, List, map, sym, ◌∙◌}
 use Rattle.std.specs.Prelude.{is_some}
 use Rattle.runs.specs.Run.{Run}
 use Rattle.disk_model.specs.DiskEvent.{DiskEvent}

@@ -3,8 +3,8 @@ use Rattle.std.proofs.Common.{◌≡◌, true, false, Option, Some, None, List, 
 use Rattle.std.specs.Prelude.{is_some}
 use Rattle.runs.specs.Lawful.{log_of}
 use Rattle.runs.specs.Run.{Run}
-use Rattle.ldc_link.specs.declared.phase.Role.TheVariants.{Initiator, Responder}
 use Rattle.channel_model.specs.Sayings.{heard, said}
+use Rattle.channel_model.specs.TranscriptLog.{TranscriptLog}
 use Rattle.lane_laws.specs.DiskLog.{DiskLog, after, nothing_yet}
 use Rattle.lane_laws.specs.QuietLaws.{ClientIsIdle, IsAtRest, ServerIsIdle}
 use Rattle.lane_laws.specs.WorkLaws.{IfClient, IfServer}
@@ -14,18 +14,17 @@ use Rattle.disk_model.specs.DiskEvent.{DiskEvent}
 use Rattle.disk_model.specs.LaneState.{IsShape, LaneState, Shape, fresh}
 use Rattle.disk_model.specs.LaneStep.{LaneStep}
 use Rattle.disk_model.specs.ServerRule as server_rules
-use Rattle.lane_laws.proofs.LaneCounting.{Knows}
 use Rattle.lane_laws.proofs.Ruling.{client_may, server_may}
 use Rattle.lane_laws.specs.Counted.{acked_of, announced_of, range_sum}
 use Rattle.lane_laws.specs.RuleFacts.{ClientMay, ServerMay}
 use Rattle.lane_laws.proofs.Counting.{OfClient, OfServer, of_client, of_server}
-use Rattle.lane_laws.proofs.HeardAll.{BothQuiet, HeardAll, heard_all}
 use Rattle.lane_laws.proofs.IdleLaw.{idle_client, idle_server, none_waits}
 use Rattle.lane_laws.proofs.IdleRules.{ClientIdles, ServerIdles, client_idles, server_idles}
 use Rattle.lane_laws.proofs.LaneChannel.{answers_of, asks_of, lane_meets}
-use Rattle.lane_laws.specs.ChannelEnds.{client_core, server_core}
-use Rattle.channel_laws.proofs.HandshakePlaces.{deal, place_open}
-use Rattle.channel_laws.proofs.WhoseTurn.{both_done}
+use Rattle.channel_laws.proofs.AtRest as core
+use Rattle.channel_laws.proofs.AtRest.{HeardAll, heard_all, rests_open}
+use Rattle.channel_laws.specs.Sides.{sides_of}
+use Rattle.lane_laws.specs.ChannelEnds.{core_of}
 use Rattle.lane_laws.proofs.WorkNumbers.{Grounded, at_client, at_server, order_of}
 
 -- TWO ENDS AT REST: resting is the next step of each
@@ -33,18 +32,20 @@ pub record BothRest (s : LaneState) : Type 0 where
   pub client : client_rules.client_rule s.client (at_client s) ≡ client_rules.Idles
   pub server : server_rules.server_rule s.server (at_server s) ≡ server_rules.Idles
 
-both_quiet : (s : LaneState) → BothRest s → s.wire.lossy ≡ false → BothQuiet s
-both_quiet s rest whole =
+both_quiet : (s : LaneState) (transcript : TranscriptLog) → BothRest s → s.wire.lossy ≡ false → core.BothRest (sides_of (core_of s) transcript)
+both_quiet s transcript rest whole =
     let client : ClientIdles s.client (at_client s) = client_idles s.client (at_client s) rest.client in
     let server : ServerIdles s.server (at_server s) = server_idles s.server (at_server s) rest.server in
     record {
-      up_a = subst (ClientMay s.client (at_client s)) rest.client (client_may s.client (at_client s));
-      up_b = subst (ServerMay s.server (at_server s)) rest.server (server_may s.server (at_server s));
       whole = whole;
-      to_a = none_waits s.wire.wire.to_a client.rests.first;
-      to_b = none_waits s.wire.wire.to_b server.first;
-      client = client.rests.rests.free;
-      server = server.free;
+      up = subst (ClientMay s.client (at_client s)) rest.client (client_may s.client (at_client s));
+      peer_up = subst (ServerMay s.server (at_server s)) rest.server (server_may s.server (at_server s));
+      waits = none_waits s.wire.wire.to_a client.rests.first;
+      peer_waits = none_waits s.wire.wire.to_b server.first;
+      quiet = client.rests.rests.free;
+      peer_quiet = server.free;
+      owed = client.rests.rests.owed;
+      peer_owed = server.owed;
     }
 
 -- an open session is one
@@ -53,7 +54,7 @@ some_is {X} None now = absurd (cc now)
 some_is {X} (Some x) now = (x, refl)
 
 -- THE COUNTS of both sessions are one
-finished_all : (s : LaneState) (l : DiskLog) → Grounded s l → BothRest s → HeardAll s l.transcript → is_some s.client.session ≡ true → is_some s.server.session ≡ true → IsAtRest l
+finished_all : (s : LaneState) (l : DiskLog) → Grounded s l → BothRest s → HeardAll (sides_of (core_of s) l.transcript) → is_some s.client.session ≡ true → is_some s.server.session ≡ true → IsAtRest l
 finished_all s l grounded rest all client_open server_open =
     let c = some_is s.client.session client_open in
     let v = some_is s.server.session server_open in
@@ -66,8 +67,8 @@ finished_all s l grounded rest all client_open server_open =
     let idle_v : ServerIsIdle d.counts = subst (λ (o : Option ServerCounts). IfServer o ServerIsIdle) d.is (idle_server s l grounded (server_idles s.server (at_server s) rest.server)) in
     let announced : c.0.announced ≡ range_sum l.shape.slots 1 (said l.transcript.client) = sym (ap announced_of c.1) ∙ client.announced in
     let acked : c.0.acked ≡ range_sum l.shape.slots 2 (heard l.transcript.client) = sym (ap acked_of c.1) ∙ client.acked in
-    let asked : d.counts.asked ≡ c.0.announced = order.asked ∙ ap (range_sum l.shape.slots 1) (sym all.to_server) ∙ sym announced in
-    let answered : d.counts.answered ≡ c.0.acked = order.answered ∙ ap (range_sum l.shape.slots 2) all.to_client ∙ sym acked in
+    let asked : d.counts.asked ≡ c.0.announced = order.asked ∙ ap (range_sum l.shape.slots 1) (sym all.to_theirs) ∙ sym announced in
+    let answered : d.counts.answered ≡ c.0.acked = order.answered ∙ ap (range_sum l.shape.slots 2) all.to_mine ∙ sym acked in
     record {
       finished = omega (arith, idle_c.completed, idle_c.published, idle_c.announced, idle_v.fetched, idle_v.answered, asked, answered, k.agree.announced, k.agree.acked);
       client_open = λ none. let never : None ≡ Some k.counts = sym none ∙ k.is in absurd (cc never);
@@ -84,15 +85,12 @@ pub quiet_ends : (shape : Shape) (events : List DiskEvent) (s : LaneState) → I
     → Grounded s (log_of after (nothing_yet shape) events) → BothRest s → Finished s (log_of after (nothing_yet shape) events)
 quiet_ends shape events s sound run clean whole grounded rest =
     let l = log_of after (nothing_yet shape) events in
-    let quiet : BothQuiet s = both_quiet s rest whole in
-    let knows : Knows s l = grounded.knows in
+    let quiet = both_quiet s l.transcript rest whole in
     let on = lane_meets shape events s sound run clean in
-    let all : HeardAll s l.transcript = heard_all s l.transcript quiet on.meets.converse on.meets.links in
-    let d = deal (asks_of shape) (answers_of shape) on.meets.handshakes.sid in
-    let at = on.meets.handshakes.mine quiet.up_a all.client_up in
-    let there = on.meets.handshakes.theirs quiet.up_b all.server_up in
-    let places = both_done false d s.client.handshake s.server.handshake l.transcript.client l.transcript.server at there
-    (client_idles s.client (at_client s) rest.client).rests.rests.owed (server_idles s.server (at_server s) rest.server).owed all.to_server all.to_client in
-    let client_open : is_some s.client.session ≡ true = place_open false d Initiator (client_core s.client) l.transcript.client on.stand.mine at places.0 in
-    let server_open : is_some s.server.session ≡ true = place_open false d Responder (server_core s.server) l.transcript.server on.stand.theirs there places.1 in
-    record { at_rest = finished_all s l grounded rest all client_open server_open; client = client_open; server = server_open }
+    let sides = sides_of (core_of s) l.transcript in
+    let opened = rests_open (asks_of shape) (answers_of shape) sides on.stand on.meets quiet in
+    record {
+      at_rest = finished_all s l grounded rest (heard_all sides quiet on.meets.converse on.meets.links) opened.0 opened.1;
+      client = opened.0;
+      server = opened.1;
+    }

@@ -45,7 +45,7 @@ of_server s gave event t step work = record { client = leaves_same s.client t.cl
 client_quiet : (s : LaneState) (l : DiskLog) (event : WireEvent) (t : LaneState) → Knows s l → OpensNot event → EndOnWire A s event t → QuietWire s event t
 client_quiet s l (Joined A lost) t knows not step = of_client s (Joined A lost) t step (joined_leaves s.client t.client step.step.2) refl
 client_quiet s l (Took A packet opens) t knows not step =
-    of_client s (Took A packet opens) t step (client_took s.client l.transcript.client packet t.client knows.all.transcripts.follows_a knows.rests.client.whole step.step.1) refl
+    of_client s (Took A packet opens) t step (client_took s.client l.transcript.client packet t.client knows.rests.client.stands.link.follows knows.rests.client.whole step.step.1) refl
 client_quiet s l (Sent A packet false) t knows not step =
     of_client s (Sent A packet false) t step (client_sent s.client (seen A s.shape.entries s.wire.wire) s.memory packet t.client t.memory step.step) refl
 client_quiet s l (Sent A packet true) t knows not step = absurd (cc not)
@@ -69,7 +69,7 @@ client_quiet s l (Declines d) t knows not step = absurd step.step
 server_quiet : (s : LaneState) (l : DiskLog) (event : WireEvent) (t : LaneState) → Knows s l → EndOnWire B s event t → QuietWire s event t
 server_quiet s l (Joined B lost) t knows step = of_server s step.0 (Joined B lost) t step.1 (ap (λ (x : ServerState). x.work) step.1.step.1.2)
 server_quiet s l (Took B packet opens) t knows step =
-    of_server s step.0 (Took B packet opens) t step.1 (server_took s.server l.transcript.server packet t.server opens knows.all.transcripts.follows_b knows.rests.server.whole step.1.step.1.1)
+    of_server s step.0 (Took B packet opens) t step.1 (server_took s.server l.transcript.server packet t.server opens knows.rests.server.stands.link.follows knows.rests.server.whole step.1.step.1.1)
 server_quiet s l (Sent B packet opens) t knows step =
     of_server s step.0 (Sent B packet opens) t step.1 (server_sent s.server (seen B s.shape.entries s.wire.wire) packet opens t.server step.1.step.1.0)
 server_quiet s l (Blocked B) t knows step =

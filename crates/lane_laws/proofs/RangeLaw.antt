@@ -41,13 +41,11 @@ use Rattle.channel_laws.proofs.TurnCases.{heard_none, heard_some, said_none, sai
 use Rattle.lane_laws.proofs.ClientPuts.{putting}
 use Rattle.lane_laws.proofs.ClientTaken.{ClientAcked, ClientTook, client_took_what}
 use Rattle.lane_laws.proofs.ClientPutCounting.{OwnInfo, own_info}
-use Rattle.lane_laws.proofs.EndPutting.{PutSays, SaysLast, put_says}
+use Rattle.channel_laws.proofs.PutSayings.{PutSays, SaysWhole, put_says}
 use Rattle.lane_laws.proofs.EndsFold.{BothAre, held_session, infos_are}
-use Rattle.lane_laws.proofs.HandshakesOpen.{no_data}
-use Rattle.lane_laws.proofs.HeldLinks.{held_server}
 use Rattle.lane_laws.proofs.LaneCounting.{Knows}
 use Rattle.lane_laws.proofs.RangeTurns.{range_turns}
-use Rattle.lane_laws.proofs.RangesSaid.{end_is, heard_no_range, owed_no_range, range_is, said_is, seq_is, start_is, state_is}
+use Rattle.lane_laws.proofs.RangesSaid.{end_is, heard_no_range, no_data, owed_no_range, range_is, said_is, seq_is, start_is, state_is}
 use Rattle.lane_laws.proofs.RulesFree.{ServerFree, TakesFree, server_free}
 use Rattle.lane_laws.proofs.ServerCounting.{own_slots}
 use Rattle.lane_laws.proofs.ServerFolds.{ranged}
@@ -56,7 +54,8 @@ use Rattle.lane_laws.proofs.ServerTaken.{ServerAsked, ServerTook, server_took_wh
 use Rattle.lane_laws.proofs.Sharing.{in_order}
 use Rattle.lane_laws.proofs.WorkNumbers.{in_client, in_server}
 use Rattle.lane_laws.specs.Counted.{ClientCounted, HoldsAnswer, HoldsOwed, InServerOrder, RangeStands, ServerCounted, ServerOrder}
-use Rattle.lane_laws.specs.HandshakeFits.{MayOwe, OwedFits}
+use Rattle.channel_laws.specs.HandshakeFits.{MayOwe, OwedFits}
+use Rattle.lane_laws.proofs.Speaking.{server_blocked_rests}
 use Rattle.lane_laws.specs.LaneRests.{ServerRests}
 use Rattle.lane_laws.specs.Sound.{ClientSound, InOrder}
 use Rattle.lane_laws.proofs.Counting.{OfClient, OfServer, of_client, of_server, slot_of_count}
@@ -77,7 +76,7 @@ goes_none : (k : ℕ) (turns : List Turn) (packet : List ℕ) → said (turn.Sai
 goes_none k turns packet same = ap (range_in k) (said_none turns packet same)
 
 owed_none : (k : ℕ) (phase : Phase) (owed : Option Message) (link : LinkState) (turns : List Turn) (packet : List ℕ) → (k ≡ 1) ⊎ (k ≡ 2) → OwedFits phase owed
-    → HoldsOwed owed (half_said turns ++ link.to_send) → SaysLast link turns packet → range_ended k (half_said turns) packet ≡ None
+    → HoldsOwed owed (half_said turns ++ link.to_send) → SaysWhole link turns packet → range_ended k (half_said turns) packet ≡ None
 owed_none k phase owed link turns packet kind fits holds last =
     let bytes = half_said turns ++ link.to_send in
     let may : MayOwe phase holds.message.subtype holds.message.body = subst (OwedFits phase) holds.owed_is fits in
@@ -92,7 +91,7 @@ record SaysRange (k : ℕ) (turns : List Turn) (packet bytes : List ℕ) (seq st
   states : state_of bytes ≡ state % 256
 
 says_range : (k n : ℕ) (s : Subtype) (seq ident start end state : ℕ) (link : LinkState) (turns : List Turn) (packet : List ℕ) → subtype_code s ≡ k → seq < 2 ^ 64 → start < 2 ^ 32 → end < 2 ^ 32
-    → half_said turns ++ link.to_send ≡ canonical (record { subtype = s; sid = n; body = DringData seq ident start end state }) → SaysLast link turns packet
+    → half_said turns ++ link.to_send ≡ canonical (record { subtype = s; sid = n; body = DringData seq ident start end state }) → SaysWhole link turns packet
     → SaysRange k turns packet (half_said turns ++ link.to_send) seq start end state
 says_range k n s seq ident start end state link turns packet kind small_seq small_start small_end is last = record {
   range = ap (range_in k) (said_some turns packet (half_said turns ++ link.to_send) last.messages) ∙ ap (λ (xs : List ℕ). range_in k (Some xs)) is ∙ said_is k n s seq ident start end state kind
@@ -108,7 +107,7 @@ abbrev SaysInfo : DiskLog → List ℕ → Type 0
 SaysInfo l packet = OfClientRange l (range_ended 1 (half_said l.transcript.client) packet) (Announces l.shape.slots)
 
 announces : (l : DiskLog) (packet : List ℕ) (held : ClientState) (info : OwnInfo held (half_said l.transcript.client ++ held.link.to_send)) → ClientSound held
-    → ClientCounted l.shape held l.transcript.client l.work.done l.work.client → SaysLast held.link l.transcript.client packet → SaysInfo l packet
+    → ClientCounted l.shape held l.transcript.client l.work.done l.work.client → SaysWhole held.link l.transcript.client packet → SaysInfo l packet
 announces l packet held info sound counted last =
     let session = info.session in
     let of : OfClient session l.work.done l.work.client = of_client held.session session l.work.done l.work.client info.is counted.agrees in
@@ -191,7 +190,7 @@ heard_ack : (l : DiskLog) (packet : List ℕ) (s t : ClientState) → s.handshak
 heard_ack l packet s t shaken counted (inl part) = if_none _ _ (ap (range_in 2) (heard_none l.transcript.client packet part.messages))
 heard_ack l packet s t shaken counted (inr (inl took)) =
     if_none _ _ (ap (range_in 2) (heard_some l.transcript.client packet took.hears.bytes took.hears.messages)
-    ∙ heard_no_range 2 took.hears.bytes took.message took.hears.spells took.hears.form (no_data s.handshake took.message took.opens took.handshake took.takes))
+    ∙ heard_no_range 2 took.hears.bytes took.message took.hears.spells took.hears.form (no_data s.handshake took.handshake took.message took.opens took.took))
 heard_ack l packet s t shaken counted (inr (inr acked)) = acknowledges l packet s t shaken counted acked
 
 -- AN INFO THAT IS HEARD
@@ -229,7 +228,7 @@ heard_info : (l : DiskLog) (packet : List ℕ) (s t : ServerState) (opens : Bool
 heard_info l packet s t opens sound shaken rests free counted (inl part) = if_none _ _ (ap (range_in 1) (heard_none l.transcript.server packet part.messages))
 heard_info l packet s t opens sound shaken rests free counted (inr (inl took)) =
     if_none _ _ (ap (range_in 1) (heard_some l.transcript.server packet took.hears.bytes took.hears.messages)
-    ∙ heard_no_range 1 took.hears.bytes took.message took.hears.spells took.hears.form (no_data s.handshake took.message opens took.handshake took.takes))
+    ∙ heard_no_range 1 took.hears.bytes took.message took.hears.spells took.hears.form (no_data s.handshake took.handshake took.message opens took.took))
 heard_info l packet s t opens sound shaken rests free counted (inr (inr asks)) = asks_for l packet s t opens sound shaken rests free counted asks
 
 -- AN ACK THAT IS SAID answers the whole range in work
@@ -238,7 +237,7 @@ SaysAck l packet = OfServerRange l (range_ended 2 (half_said l.transcript.server
 
 answers : (l : DiskLog) (packet : List ℕ) (held : ServerState) → IsShape l.shape → ranged held.session ≡ range_in_work l.transcript.server
     → HoldsAnswer held (half_said l.transcript.server ++ held.link.to_send) → ServerCounted l.shape held l.transcript.server l.work.server
-    → SaysLast held.link l.transcript.server packet → SaysAck l packet
+    → SaysWhole held.link l.transcript.server packet → SaysAck l packet
 answers l packet held sound in_work a counted last =
     let turns = l.transcript.server in
     let slots = l.shape.slots in
@@ -286,7 +285,7 @@ said_ack s l packet opens t sound both sends =
     answers_by (server_kind sends.held) l packet sends.held sound (ap ranged (held_session s.server rule sends.held sends.holds) ∙ both.server.range)
     (server_holds_counting l.shape s.server rule sends.held l.transcript.server l.work.server knows.rests.server knows.utters.server (server_free s.server at) sends.holds knows.counted.server)
     (put_says (is_none sends.held.handshake.owed) sends.held.link t.link l.transcript.server packet
-    (held_server s.server rule sends.held l.transcript.server sends.holds knows.all.transcripts.follows_b) sends.packet)
+    (server_blocked_rests s.server at sends.held l.transcript.server sends.holds knows.rests.server).stands.link.follows sends.packet)
 
 -- what both handshakes are by the log
 pub record AreTold (s : LaneState) (l : DiskLog) : Type 0 where
@@ -298,14 +297,14 @@ took_ack : (s : LaneState) (l : DiskLog) (packet : List ℕ) (opens : Bool) (t :
 took_ack s l packet opens t both told step =
     let knows = both.knows in
     heard_ack l packet s.client t.client told.client knows.counted.client
-    (client_took_what s.client l.transcript.client packet t.client knows.all.transcripts.follows_a knows.rests.client.whole step.step.1)
+    (client_took_what s.client l.transcript.client packet t.client knows.rests.client.stands.link.follows knows.rests.client.whole step.step.1)
 
 took_info : (s : LaneState) (l : DiskLog) (packet : List ℕ) (opens : Bool) (t : LaneState) → IsShape l.shape → BothAre s l → AreTold s l → EndOnWire B s (Took B packet opens) t → HearsInfo l packet
 took_info s l packet opens t sound both told step =
     let knows = both.knows in
     let free : TakesFree s.server = subst (ServerFree s.server) step.1.step.1.0 (server_free s.server (seen B s.shape.entries s.wire.wire)) in
     heard_info l packet s.server t.server opens sound told.server knows.rests.server free knows.counted.server
-    (server_took_what s.server l.transcript.server packet t.server opens knows.all.transcripts.follows_b knows.rests.server.whole step.1.step.1.1)
+    (server_took_what s.server l.transcript.server packet t.server opens knows.rests.server.stands.link.follows knows.rests.server.whole step.1.step.1.1)
 
 wire_ranges : (s : LaneState) (l : DiskLog) (event : WireEvent) (t : LaneState) → IsShape l.shape → BothAre s l → AreTold s l → WireStep s event t → RangesAt l (OnWire event)
 wire_ranges s l (Sent A packet opens) t sound both told step = said_info s l packet opens t.client t.memory both.knows step.step

@@ -19,7 +19,10 @@ use Rattle.lane_laws.specs.EndLog.{state_of}
 use Rattle.lane_laws.specs.WorkLog.{length_in, one_in}
 use Rattle.channel_model.specs.Ranges.{range_length}
 use Rattle.lane_laws.specs.Counted.{is_ready}
-use Rattle.lane_laws.specs.HandshakeFits.{MayOwe}
+use Rattle.vio_handshake.specs.declared.handshake.Handshake.{Handshake}
+use Rattle.channel_laws.proofs.HandshakeCases.{HandshakeTook, row_apart}
+use Rattle.channel_laws.specs.EndStep.{IsOfSession}
+use Rattle.channel_laws.specs.HandshakeFits.{MayOwe}
 
 -- THE ENVELOPE AND THE SUBTYPE of canonical bytes
 abbrev pub IsNoPlain : MsgBody → Type 0
@@ -102,6 +105,13 @@ other_subtype k bytes not = no_range k bytes (and_false (envelope_at bytes == 0x
 pub heard_no_range : (k : ℕ) (bytes : List ℕ) (m : Message) → SpellsMessage bytes m → IsWellFormed m → IsNoData m.body → range_in k (Some bytes) ≡ None
 heard_no_range k bytes m spells form not =
     other_envelope k bytes (λ (is : envelope_at bytes ≡ 0x0042). formed_code m.body not form (sym spells.envelope ∙ is))
+
+apart_data : (body : MsgBody) → (IsOfSession body → ⊥) → IsNoData body
+apart_data (DringData seq ident start end state) apart = apart tt
+apart_data _ apart = tt
+
+pub no_data : (h g : Handshake) (message : Message) (opens : Bool) → HandshakeTook h message g opens → IsNoData message.body
+no_data h g message opens took = apart_data message.body (row_apart h g message opens took.row)
 
 -- what a handshake owes
 owed_in : (phase : Phase) (k n : ℕ) (s : Subtype) (b : MsgBody) → (k ≡ 1) ⊎ (k ≡ 2) → MayOwe phase s b → range_in k (Some (canonical (record { subtype = s; sid = n; body = b }))) ≡ None

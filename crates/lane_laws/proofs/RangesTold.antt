@@ -49,8 +49,7 @@ use Rattle.lane_laws.proofs.AlongRuns.{reached_lawful}
 use Rattle.lane_laws.proofs.ClientMoves.{client_waits}
 use Rattle.lane_laws.proofs.ClientPutCounting.{OwnInfo, own_info}
 use Rattle.lane_laws.proofs.Counting.{slot_of_count}
-use Rattle.lane_laws.proofs.EndPutting.{PutSays, put_says}
-use Rattle.lane_laws.proofs.HeldLinks.{held_server}
+use Rattle.channel_laws.proofs.PutSayings.{PutSays, put_says}
 use Rattle.lane_laws.proofs.LaneChannel.{OnLane, answers_of, asks_of, lane_meets}
 use Rattle.lane_laws.proofs.LaneCores.{lane_steps, shape_of}
 use Rattle.lane_laws.proofs.LaneCounting.{Knows, run_knows}
@@ -59,6 +58,7 @@ use Rattle.lane_laws.proofs.ClientPuts.{Putting, putting}
 use Rattle.lane_laws.proofs.RangesSaid.{IsNoPlain, envelope_reads}
 use Rattle.lane_laws.proofs.RingRuns.{before}
 use Rattle.lane_laws.proofs.RulesFree.{server_free}
+use Rattle.lane_laws.proofs.Speaking.{server_blocked_rests}
 use Rattle.lane_laws.proofs.ServerMoves.{server_waits}
 use Rattle.lane_laws.proofs.ServerPutCounting.{server_holds_counting, some_owed, the_answer}
 use Rattle.lane_laws.specs.ChannelEnds.{client_core, server_core}
@@ -308,7 +308,7 @@ wire_tells shape events s (Sent A packet opens) t sound run step clean =
     let there = on.meets.handshakes in
     let up = (lane_steps shape events s (OnWire (Sent A packet opens)) t sound run step).stands.0 in
     let shaped : IsShape l.shape = subst IsShape (sym (shape_of (nothing_yet shape) events)) sound in
-    let waits = client_waits s.client (seen A s.shape.entries s.wire.wire) sends.held knows.all.transcripts.client sends.holds in
+    let waits = client_waits s.client (seen A s.shape.entries s.wire.wire) sends.held knows.all.sound sends.holds in
     client_tells (client_kind sends.held) l (deal (asks_of shape) (answers_of shape) there.sid) sends.held packet (omega (arith, shaped.some_slots)) there.small
     (held_at Initiator (deal (asks_of shape) (answers_of shape) there.sid) (client_core s.client) (client_core sends.held) l.transcript.client on.stand.mine waits (there.mine up)) put.counted put.says
 wire_tells shape events s (Sent B packet opens) t sound run step clean =
@@ -327,7 +327,7 @@ wire_tells shape events s (Sent B packet opens) t sound run step clean =
     (there.theirs up))
     (server_holds_counting l.shape s.server rule held l.transcript.server l.work.server knows.rests.server knows.utters.server (server_free s.server at) sends.holds knows.counted.server)
     (put_says (is_none held.handshake.owed) held.link t.server.link l.transcript.server packet
-    (held_server s.server rule held l.transcript.server sends.holds knows.all.transcripts.follows_b) sends.packet)
+    (server_blocked_rests s.server at held l.transcript.server sends.holds knows.rests.server).stands.link.follows sends.packet)
 wire_tells shape events s _ t sound run step clean = tt
 
 tells_at : (shape : Shape) (events : List DiskEvent) (s : LaneState) (event : DiskEvent) (t : LaneState) → IsShape shape → Run LaneStep (fresh shape) events s → LaneStep s event t

@@ -12,19 +12,20 @@ use Rattle.lane_laws.proofs.CarriedRuns.{AllStand, all_step, fresh_all}
 use Rattle.lane_laws.specs.LaneTranscripts.{transcript_behind}
 use Rattle.lane_laws.specs.MemoryStands.{memory_long}
 use Rattle.lane_laws.specs.Sound.{CountsInOrder}
-use Rattle.lane_laws.proofs.LaneStepping.{run_transcripts}
+use Rattle.lane_laws.proofs.LaneStepping.{run_sound}
+use Rattle.lane_laws.proofs.Speaking.{run_rests}
 
 pub client_follows : (shape : Shape) (events : List DiskEvent) (s : LaneState) → IsShape shape → Run LaneStep (fresh shape) events s → Follows s.client.link (transcript_behind events).client
-client_follows shape events s sound run = (run_transcripts shape events s sound run).follows_a
+client_follows shape events s sound run = (run_rests shape events s sound run).client.stands.link.follows
 
 pub server_follows : (shape : Shape) (events : List DiskEvent) (s : LaneState) → IsShape shape → Run LaneStep (fresh shape) events s → Follows s.server.link (transcript_behind events).server
-server_follows shape events s sound run = (run_transcripts shape events s sound run).follows_b
+server_follows shape events s sound run = (run_rests shape events s sound run).server.stands.link.follows
 
 pub counts_stand : (shape : Shape) (events : List DiskEvent) (s : LaneState) → IsShape shape → Run LaneStep (fresh shape) events s → CountsInOrder (length s.client.pending) s.client.session
-counts_stand shape events s sound run = (run_transcripts shape events s sound run).client.counts
+counts_stand shape events s sound run = (run_sound shape events s sound run).counts
 
 pub pending_fits : (shape : Shape) (events : List DiskEvent) (s : LaneState) → IsShape shape → Run LaneStep (fresh shape) events s → length s.client.pending ≤ s.client.slots
-pending_fits shape events s sound run = (run_transcripts shape events s sound run).client.pending
+pending_fits shape events s sound run = (run_sound shape events s sound run).pending
 
 pub all_behind : (shape : Shape) (events : List DiskEvent) (s : LaneState) → IsShape shape → Run LaneStep (fresh shape) events s → AllStand s (log_of after (nothing_yet shape) events)
 all_behind shape events s sound run =

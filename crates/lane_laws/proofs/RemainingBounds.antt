@@ -4,7 +4,11 @@ use Rattle.ldc_queue.specs.declared.end.ChannelState.{ChannelState}
 use Rattle.ldc_queue.specs.declared.end.ChannelState.TheVariants.{Down, Up, Resetting}
 use Rattle.ldc_queue.specs.declared.end.End.{End}
 use Rattle.ldc_queue.specs.declared.end.End.TheVariants.{A, B}
+use Rattle.ldc_queue.specs.Transcript.{Turn}
 use Rattle.ldc_queue.specs.Wire.{Wire, upset}
+use Rattle.ldc_link.specs.declared.phase.Role.TheVariants.{Initiator, Responder}
+use Rattle.channel_model.specs.TranscriptLog.{TranscriptLog}
+use Rattle.channel_laws.specs.Standing.{EndStands}
 use Rattle.vio_tag.specs.declared.cause.Cause.{Cause}
 use Rattle.channel_model.specs.WireAt.{IsUp}
 use Rattle.channel_model.specs.WireEvent.{ByRestart, ByScript, ByStep, ByTick, Giver, Reset, giver}
@@ -16,7 +20,12 @@ use Rattle.disk_model.specs.LaneStep.{CallsReset, EndOnWire, LaneStep, ResetBy}
 use Rattle.disk_model.specs.ServerState.{ServerState, joined_server, restarted_server}
 use Rattle.lane_laws.proofs.RemainingLane.{begun_client, begun_server, joined_a, joined_b, left}
 use Rattle.lane_laws.specs.Remaining.{absent, asked_by, asked_in, client_left, life, remaining, second_life, server_left}
-use Rattle.lane_laws.specs.Sound.{ClientSound, ServerSound}
+use Rattle.lane_laws.specs.ChannelEnds.{client_core, server_core}
+
+-- both ends stand by their roles
+pub record EndsStand (s : LaneState) (transcript : TranscriptLog) : Type 0 where
+  pub client : EndStands Initiator (client_core s.client) transcript.client
+  pub server : EndStands Responder (server_core s.server) transcript.server
 
 pub fresh_remains : (shape : Shape) → remaining (fresh shape) ≡ 36
 fresh_remains shape = omega arith
@@ -43,13 +52,13 @@ away_client Down asked c = refl
 away_client Resetting asked c = refl
 
 -- THE CLIENT is reset, which was up
-begins_a : (w : Wire) (lossy : Bool) (c : ClientState) (v : ServerState) → ClientSound c → w.end_a ≡ Up
+begins_a : (w : Wire) (lossy : Bool) (c : ClientState) (v : ServerState) (turns : List Turn) → EndStands Initiator (client_core c) turns → w.end_a ≡ Up
     → left (joined_a w.end_a w) (lossy_behind w.end_a lossy) (joined_client c) v ≡ 35 + 16 * length c.pending
-begins_a w lossy c v sound up =
+begins_a w lossy c v turns stands up =
     subst (λ (x : ChannelState). left (joined_a x w) (lossy_behind x lossy) (joined_client c) v ≡ 35 + 16 * length c.pending) (sym up)
     (begins_sum (absent (upset w.end_b)) (client_left Up (asked_by (upset w.end_b) v) (joined_client c)) (server_left (upset w.end_b) v) (length c.pending)
     (away w.end_b)
-    (ap (λ (n : ℕ). client_left Up n (joined_client c)) (away_asked w.end_b v) ∙ begun_client c.link.role c 0 sound.role refl)
+    (ap (λ (n : ℕ). client_left Up n (joined_client c)) (away_asked w.end_b v) ∙ begun_client c turns 0 stands)
     (away_server w.end_b v))
   where
     begins_sum : (there one other pending : ℕ) → there ≡ 1 → one ≡ 18 + 4 * pending + 12 * (pending - 0) → other ≡ 16 → 0 + there + 0 + 0 + one + other + 0 ≡ 35 + 16 * pending
@@ -70,22 +79,22 @@ begins_b w lossy c u begun none up =
 begins_is : (s t u : LaneState) (pending : ℕ) → t ≡ u → remaining u ≡ 35 + 16 * pending → remaining t ≡ 35 + 16 * pending
 begins_is s t u pending is remains = ap remaining is ∙ remains
 
-by_step : (e : End) (s : LaneState) (cause : Cause) (packet : Option (List ℕ)) (lost : ℕ) (t : LaneState) → ClientSound s.client → ServerSound s.server → IsUp e s.wire.wire
+by_step : (e : End) (s : LaneState) (cause : Cause) (packet : Option (List ℕ)) (lost : ℕ) (t : LaneState) (transcript : TranscriptLog) → EndsStand s transcript → IsUp e s.wire.wire
     → EndOnWire e s (Reset e cause packet lost) t → remaining t ≡ 35 + 16 * length s.client.pending
-by_step A s cause packet lost t client server up step =
+by_step A s cause packet lost t transcript stand up step =
     begins_is s t (record s { wire = wire_moved s.wire (Reset A cause packet lost); client = t.client; memory = t.memory; near = near_disturbed s.client }) (length s.client.pending) step.is
     (subst (λ (c : ClientState). left (joined_a s.wire.wire.end_a s.wire.wire) (lossy_behind s.wire.wire.end_a s.wire.lossy) c s.server ≡ 35 + 16 * length s.client.pending) (sym step.step.2)
-    (begins_a s.wire.wire s.wire.lossy s.client s.server client up))
-by_step B s cause packet lost t client server up step =
+    (begins_a s.wire.wire s.wire.lossy s.client s.server transcript.client stand.client up))
+by_step B s cause packet lost t transcript stand up step =
     begins_is s t (record s { wire = wire_moved s.wire (Reset B cause packet lost); server = t.server; memory = t.memory; near = near_disturbed s.client }) (length s.client.pending) step.1.is
     (subst (λ (v : ServerState). left (joined_b s.wire.wire.end_b s.wire.wire) (lossy_behind s.wire.wire.end_b s.wire.lossy) s.client v ≡ 35 + 16 * length s.client.pending) (sym step.1.step.1.2)
-    (begins_b s.wire.wire s.wire.lossy s.client (joined_server s.server) (begun_server s.server.link.role s.server server.role refl) refl up))
+    (begins_b s.wire.wire s.wire.lossy s.client (joined_server s.server) (begun_server s.server transcript.server stand.server) refl up))
 
-client_called : (s : LaneState) (cause : Cause) (packet : Option (List ℕ)) (lost : ℕ) (t : LaneState) → ClientSound s.client → s.wire.wire.end_a ≡ Up
+client_called : (s : LaneState) (cause : Cause) (packet : Option (List ℕ)) (lost : ℕ) (t : LaneState) (transcript : TranscriptLog) → EndsStand s transcript → s.wire.wire.end_a ≡ Up
     → CallsReset s (record s { client = joined_client s.client }) cause A packet lost t → remaining t ≡ 35 + 16 * length s.client.pending
-client_called s cause packet lost t client up calls =
+client_called s cause packet lost t transcript stand up calls =
     begins_is s t (record s { client = joined_client s.client; wire = wire_moved s.wire (Reset A cause packet lost); near = near_disturbed s.client }) (length s.client.pending) calls.2
-    (begins_a s.wire.wire s.wire.lossy s.client s.server client up)
+    (begins_a s.wire.wire s.wire.lossy s.client s.server transcript.client stand.client up)
 
 server_called : (s : LaneState) (u : ServerState) (cause : Cause) (packet : Option (List ℕ)) (lost : ℕ) (t : LaneState) → server_left Up u ≡ 16 → asked_in u.session ≡ 0
     → s.wire.wire.end_b ≡ Up → CallsReset s (record s { server = u }) cause B packet lost t → remaining t ≡ 35 + 16 * length s.client.pending
@@ -93,29 +102,29 @@ server_called s u cause packet lost t begun none up calls =
     begins_is s t (record s { server = u; wire = wire_moved s.wire (Reset B cause packet lost); near = near_disturbed s.client }) (length s.client.pending) calls.2
     (begins_b s.wire.wire s.wire.lossy s.client u begun none up)
 
-reset_by : (by : Giver) (e : End) (s : LaneState) (cause : Cause) (packet : Option (List ℕ)) (lost : ℕ) (t : LaneState) → ClientSound s.client → ServerSound s.server
+reset_by : (by : Giver) (e : End) (s : LaneState) (cause : Cause) (packet : Option (List ℕ)) (lost : ℕ) (t : LaneState) (transcript : TranscriptLog) → EndsStand s transcript
     → IsUp e s.wire.wire → ResetBy by e s cause packet lost t → remaining t ≡ 35 + 16 * length s.client.pending
-reset_by ByStep e s cause packet lost t client server up step = by_step e s cause packet lost t client server up step
-reset_by ByScript A s cause packet lost t client server up step = client_called s cause packet lost t client up step
-reset_by ByScript B s cause packet lost t client server up step =
-    server_called s (joined_server s.server) cause packet lost t (begun_server s.server.link.role s.server server.role refl) refl up step.1
-reset_by ByRestart A s cause packet lost t client server up step = absurd step
-reset_by ByRestart B s cause packet lost t client server up step = server_called s (restarted_server s.server) cause packet lost t refl refl up step.1
-reset_by ByTick A s cause packet lost t client server up step = client_called s cause packet lost t client up step.1
-reset_by ByTick B s cause packet lost t client server up step = absurd step
+reset_by ByStep e s cause packet lost t transcript stand up step = by_step e s cause packet lost t transcript stand up step
+reset_by ByScript A s cause packet lost t transcript stand up step = client_called s cause packet lost t transcript stand up step
+reset_by ByScript B s cause packet lost t transcript stand up step =
+    server_called s (joined_server s.server) cause packet lost t (begun_server s.server transcript.server stand.server) refl up step.1
+reset_by ByRestart A s cause packet lost t transcript stand up step = absurd step
+reset_by ByRestart B s cause packet lost t transcript stand up step = server_called s (restarted_server s.server) cause packet lost t refl refl up step.1
+reset_by ByTick A s cause packet lost t transcript stand up step = client_called s cause packet lost t transcript stand up step.1
+reset_by ByTick B s cause packet lost t transcript stand up step = absurd step
 
-pub reset_remains : (s : LaneState) (e : End) (cause : Cause) (packet : Option (List ℕ)) (lost : ℕ) (t : LaneState) → ClientSound s.client → ServerSound s.server → IsUp e s.wire.wire
+pub reset_remains : (s : LaneState) (e : End) (cause : Cause) (packet : Option (List ℕ)) (lost : ℕ) (t : LaneState) (transcript : TranscriptLog) → EndsStand s transcript → IsUp e s.wire.wire
     → LaneStep s (OnWire (Reset e cause packet lost)) t → remaining t ≡ 35 + 16 * length s.client.pending
-reset_remains s e cause packet lost t client server up step = reset_by (giver cause) e s cause packet lost t client server up step
+reset_remains s e cause packet lost t transcript stand up step = reset_by (giver cause) e s cause packet lost t transcript stand up step
 
 -- where a packet was lost, that is less than remained
 above : (n m k : ℕ) → m ≡ k → k ≤ n + m
 above n m k is = omega (arith, is)
 
-pub reset_falls : (s : LaneState) (e : End) (cause : Cause) (packet : Option (List ℕ)) (lost : ℕ) (t : LaneState) → ClientSound s.client → ServerSound s.server → IsUp e s.wire.wire
+pub reset_falls : (s : LaneState) (e : End) (cause : Cause) (packet : Option (List ℕ)) (lost : ℕ) (t : LaneState) (transcript : TranscriptLog) → EndsStand s transcript → IsUp e s.wire.wire
     → s.wire.lossy ≡ true → LaneStep s (OnWire (Reset e cause packet lost)) t → remaining t < remaining s
-reset_falls s e cause packet lost t client server up lossy step =
-    let begins = reset_remains s e cause packet lost t client server up step in
+reset_falls s e cause packet lost t transcript stand up lossy step =
+    let begins = reset_remains s e cause packet lost t transcript stand up step in
     let second : second_life s.wire.lossy (length s.client.pending) ≡ 36 + 16 * length s.client.pending = ap (λ (b : Bool). second_life b (length s.client.pending)) lossy in
     let most : 36 + 16 * length s.client.pending ≤ remaining s =
     above (life s.wire.wire s.client s.server) (second_life s.wire.lossy (length s.client.pending)) (36 + 16 * length s.client.pending) second in

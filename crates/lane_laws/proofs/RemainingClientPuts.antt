@@ -1,168 +1,283 @@
--- A client that puts a packet: what remains falls.
-use Rattle.std.proofs.Common.{◌≡◌, ℕ, ◌+◌, ◌-◌, ◌*◌, ◌≤◌, Bool, true, false, Option, Some, None, List, [], length, drop, refl, sym, ap, ◌∙◌, subst, arith, length-drop}
-use Rattle.std.specs.Prelude.{nat_le}
-use Rattle.std.proofs.lemmas.Bool.{leb-true, leb-false}
+-- What a client has left of its session as it holds a message, puts a packet, publishes or completes a request: with the packets that its end has
+-- still to put, what remains falls.
+use Rattle.std.proofs.Common.{◌≡◌, ℕ, ◌+◌, ◌-◌, ◌*◌, ◌≤◌, ◌<◌, Bool, true, false, Option, Some, None, List, [], ◌∷◌, length, drop, refl, sym, ap, ◌∙◌, subst, arith, length-drop}
+use Rattle.std.specs.Prelude.{zero, suc, is_some, max, nat_le, slice_get}
 use Rattle.ldc_link.specs.declared.phase.LinkPhase.{LinkPhase}
 use Rattle.ldc_link.specs.declared.phase.LinkPhase.TheVariants as phase
-use Rattle.ldc_link.specs.Calls.{Puts as PutsPacket}
+use Rattle.ldc_link.specs.declared.phase.Role.TheVariants.{Initiator}
 use Rattle.ldc_link.specs.LinkState.{LinkState}
-use Rattle.ldc_link.specs.Putting.{behind_put, left_behind_put, owed_in, phase_behind_put, with_link}
-use Rattle.ldc_packet.specs.declared.packet.Packet.{Packet}
 use Rattle.ldc_queue.specs.declared.end.ChannelState.TheVariants.{Up}
-use Rattle.vio_tag.specs.declared.message.Message.{Message}
-use Rattle.vio_tag.specs.Spelling.{canonical}
-use Rattle.vio_handshake.specs.Rules.{opens_by_put, handshake_sent}
-use Rattle.vio_handshake.specs.State.{handshake_up}
-use Rattle.disk_model.specs.ClientPutting.{announced, announcement, announcing, client_put, holding, is_announcing, opened_if, session_behind}
-use Rattle.disk_model.specs.ClientState.{ClientSession, ClientState, slot_in}
-use Rattle.channel_model.specs.EndPuts.{ComesUp, EndsOwn, EndsHandshake, Goes, PutKind, ending, kind_in, handshake_behind}
-use Rattle.channel_model.specs.Ranges.{wrapped}
-use Rattle.lane_laws.proofs.RemainingHandshake.{range_part, sent_left, up_left}
-use Rattle.lane_laws.proofs.RemainingSums.{held_empty, held_more, held_other, held_own, held_part, part_less, some_part}
-use Rattle.lane_laws.proofs.Sharing.{nothing, some_left}
-use Rattle.channel_laws.proofs.Short.{some_bytes}
-use Rattle.lane_laws.specs.LinkMoves.{IsAsking}
-use Rattle.lane_laws.specs.Remaining.{client_left, client_packets, client_puts, client_sum, held_left, later, parts, parts_owed}
-use Rattle.lane_laws.specs.Sound.{ClientSound, CountsInOrder}
+use Rattle.ldc_queue.specs.Transcript.{Turn}
+use Rattle.vdisk_msg.specs.declared.request.Request.{Request}
+use Rattle.vio_handshake.specs.Rules.{opens_by_put}
+use Rattle.disk_model.specs.ClientPutting.{announced, announcement, announcing, client_holds, client_kind, client_put, holding, is_announcing, opened_if, session_behind}
+use Rattle.disk_model.specs.ClientRule.{Announces, ClientRule, Completes, Joins, Publishes, Puts, Idles, Says, Takes, client_rule}
+use Rattle.disk_model.specs.ClientState.{ClientSession, ClientState}
+use Rattle.disk_model.specs.ClientStep.{ClientCompletes, ClientPublishes, ClientSends}
+use Rattle.channel_model.specs.EndPuts.{ComesUp, EndsOwn, EndsHandshake, Goes, PutKind, ending, kind_in}
+use Rattle.channel_model.specs.Seeing.{Seen}
+use Rattle.channel_laws.proofs.EndStanding.{held_stands, open_up, up_empty}
+use Rattle.channel_laws.proofs.PacketsLeft.{loud_none, opening_shut, owing_none, own_most, says_packets, stays_packets, waits_packets}
+use Rattle.channel_laws.specs.EndCore.{EndCore}
+use Rattle.channel_laws.specs.EndStep.{Holding, Holds}
+use Rattle.channel_laws.specs.PacketsLeft.{own_in}
+use Rattle.channel_laws.specs.Standing.{EndStands}
+use Rattle.lane_laws.proofs.ClientHolding.{client_held, not_own}
+use Rattle.lane_laws.proofs.ClientMoves.{client_completed, client_published, client_says, client_waits}
+use Rattle.lane_laws.proofs.ClientSteps.{client_sends}
+use Rattle.lane_laws.proofs.RulesFree.{puts_owe}
+use Rattle.lane_laws.proofs.Ruling.{client_may}
+use Rattle.lane_laws.proofs.Sharing.{in_order}
+use Rattle.lane_laws.specs.Budget.{infos_begun, one_if}
+use Rattle.lane_laws.specs.ChannelEnds.{client_core}
+use Rattle.lane_laws.specs.Remaining.{client_left, client_packets, requests_left, total}
+use Rattle.lane_laws.specs.RuleFacts.{ClientMay}
+use Rattle.lane_laws.specs.Sound.{ClientSound, CountsInOrder, InOrder}
 
--- what remains at a client that is up falls by so much, whatever the server was asked for
+-- WHAT ITS SESSION HAS LEFT, where the server was asked for so many requests
+abbrev pub session_left : ℕ → Option ClientSession → ℕ → ℕ
+session_left pending session asked = requests_left pending session + 12 * (total pending session - asked)
+
+-- it begins so many INFO, and what is left falls by two for each, and by so much more
+pub record ClientSpends (own by : ℕ) (s t : ClientState) : Type 0 where
+  pub pending : length t.pending ≤ length s.pending
+  pub infos : infos_begun t.session ≡ infos_begun s.session + own
+  pub left : (asked : ℕ) → session_left (length t.pending) t.session asked + (2 * own + by) ≤ session_left (length s.pending) s.session asked
+
+-- with its end, which put so many packets
+pub record ClientFalls (put by : ℕ) (s t : ClientState) : Type 0 where
+  pub own : ℕ
+  pub packets : client_packets t + put ≤ client_packets s + own
+  pub spends : ClientSpends own by s t
+
+-- what remains at a client that is up falls by so much
 pub record ClientLowers (by : ℕ) (s t : ClientState) : Type 0 where
   pub pending : length t.pending ≤ length s.pending
   pub lowers : (asked : ℕ) → client_left Up asked t + by ≤ client_left Up asked s
 
--- fewer packets are a smaller sum
-pub packets_fall : (few many pending : ℕ) (session : Option ClientSession) (asked by : ℕ) → few + by ≤ many
-    → client_sum few pending session asked + 2 * by ≤ client_sum many pending session asked
-packets_fall few many pending session asked by less = omega (arith, less)
-
--- HOLDING a message
-pub says_lowers : (s : ClientState) (message : Message) → is_announcing s.session ≡ false → s.handshake.owed ≡ Some message → s.link.to_send ≡ []
-    → ClientLowers 0 s (holding message s)
-says_lowers s message own owed empty =
-    let before : held_left (is_announcing s.session) s.link.to_send s.handshake.owed ≡ parts (length (canonical message)) =
-    held_empty (is_announcing s.session) s.link.to_send s.handshake.owed empty ∙ ap parts_owed owed in
-    let behind : held_left (is_announcing s.session) (canonical message) s.handshake.owed ≡ parts (length (canonical message)) =
-    ap (λ (b : Bool). held_left b (canonical message) s.handshake.owed) own ∙ held_other (canonical message) s.handshake.owed (some_bytes message) in
-    record {
-      pending = omega arith;
-      lowers = λ asked. packets_fall (client_packets (holding message s)) (client_packets s) (length s.pending) s.session asked 0 (omega (arith, before, behind));
-    }
-
-pub announces_lowers : (s : ClientState) (session : ClientSession) → s.handshake.owed ≡ None → s.session ≡ Some session → s.link.to_send ≡ []
-    → ClientLowers 0 s (announcing session (holding (announcement s session) s))
-announces_lowers s session none is empty =
-    let before : held_left (is_announcing s.session) s.link.to_send s.handshake.owed ≡ 0 =
-    held_empty (is_announcing s.session) s.link.to_send s.handshake.owed empty ∙ ap parts_owed none in
-    let one : parts (length (canonical (announcement s session))) ≡ 1 =
-    range_part s.handshake.draft.sid (wrapped (session.infos + 1)) s.handshake.draft.ident_own (slot_in s session.announced) (slot_in s (session.published - 1)) 1 in
-    let behind : held_left true (canonical (announcement s session)) s.handshake.owed ≡ (parts (length (canonical (announcement s session))) - 1) + parts_owed s.handshake.owed =
-    held_own (canonical (announcement s session)) s.handshake.owed (some_bytes (announcement s session)) in
-    record {
-      pending = omega arith;
-      lowers = λ asked. subst (λ (n : ℕ). client_left Up asked (announcing session (holding (announcement s session) s)) + 0 ≤ n)
-          (ap (λ (o : Option ClientSession). client_sum (client_packets s) (length s.pending) o asked) (sym is))
-          (packets_fall (client_packets (announcing session (holding (announcement s session) s))) (client_packets s) (length s.pending) (Some session) asked 0
-          (omega (arith, before, behind, one, ap parts_owed none)));
-    }
-
--- PUTTING a packet
-abbrev packets_by : PutKind → List ℕ → ClientState → ℕ
-packets_by kind left c = held_left (is_announcing (session_behind kind c)) left (handshake_behind kind c.handshake).owed
-
-abbrev later_by : PutKind → ClientState → ℕ
-later_by kind c = later (handshake_behind kind c.handshake).role (handshake_behind kind c.handshake).phase
-
-abbrev left_of : ClientState → List ℕ
-left_of c = drop 56 c.link.to_send
-
-abbrev Falls : LinkPhase → ClientState → ℕ → Type 0
-Falls ph c asked =
-    client_sum (client_puts (phase_behind_put ph) (later_by (kind_in ph c.link (is_announcing c.session)) c) + packets_by (kind_in ph c.link (is_announcing c.session)) (left_behind_put ph c.link.to_send) c)
-    (length c.pending) (session_behind (kind_in ph c.link (is_announcing c.session)) c) asked + 2
-    ≤ client_sum (client_puts ph (later c.handshake.role c.handshake.phase) + held_left (is_announcing c.session) c.link.to_send c.handshake.owed) (length c.pending) c.session asked
-
-abbrev FallsBy : PutKind → ClientState → ℕ → Type 0
-FallsBy kind c asked =
-    client_sum (later_by kind c + packets_by kind (left_of c) c) (length c.pending) (session_behind kind c) asked + 2
-    ≤ client_sum (later c.handshake.role c.handshake.phase + held_left (is_announcing c.session) c.link.to_send c.handshake.owed) (length c.pending) c.session asked
-
--- a part that isn't the last
-part_falls : (c : ClientState) (asked : ℕ) → 57 ≤ length c.link.to_send → FallsBy Goes c asked
-part_falls c asked long =
-    let fewer = held_part (is_announcing c.session) (left_of c) c.link.to_send c.handshake.owed (omega (arith, length-drop 56 c.link.to_send, long)) (omega (arith, long)) (part_less c.link.to_send long) in
-    packets_fall (later_by Goes c + packets_by Goes (left_of c) c) (later c.handshake.role c.handshake.phase + held_left (is_announcing c.session) c.link.to_send c.handshake.owed)
-    (length c.pending) c.session asked 1 (omega (arith, fewer))
-
--- the last of its own INFO: all that is published is announced
-own_falls : (few many pending asked : ℕ) (session : Option ClientSession) → is_announcing session ≡ true → CountsInOrder pending session → few ≤ many
-    → client_sum few pending (announced session) asked + 2 ≤ client_sum many pending session asked
-own_falls few many pending asked None own counts less = absurd (cc)
-own_falls few many pending asked (Some s) own counts less = omega (arith, less, counts.own own, counts.published)
-
-ends_own : (c : ClientState) (asked : ℕ) → ClientSound c → is_announcing c.session ≡ true → 1 ≤ length c.link.to_send → length c.link.to_send ≤ 56 → FallsBy EndsOwn c asked
-ends_own c asked sound own some short =
-    let none : left_of c ≡ [] = nothing (left_of c) (omega (arith, length-drop 56 c.link.to_send, short)) in
-    let before : held_left (is_announcing c.session) c.link.to_send c.handshake.owed ≡ (parts (length c.link.to_send) - 1) + parts_owed c.handshake.owed =
-    ap (λ (b : Bool). held_left b c.link.to_send c.handshake.owed) own ∙ held_own c.link.to_send c.handshake.owed some in
-    let behind : held_left (is_announcing (announced c.session)) (left_of c) c.handshake.owed ≡ parts_owed c.handshake.owed =
-    held_empty (is_announcing (announced c.session)) (left_of c) c.handshake.owed none in
-    own_falls (later_by EndsOwn c + packets_by EndsOwn (left_of c) c) (later c.handshake.role c.handshake.phase + held_left (is_announcing c.session) c.link.to_send c.handshake.owed)
-    (length c.pending) asked c.session own sound.counts (omega (arith, before, behind))
-
--- the last of a message of the handshake: the session may open by it
-opened_sum : (b : Bool) (few : ℕ) (c : ClientState) (asked : ℕ) → (b ≡ true → c.session ≡ None)
-    → client_sum few (length c.pending) (opened_if b c) asked ≡ client_sum few (length c.pending) c.session asked
-opened_sum true few c asked closed =
-    let same : client_sum few (length c.pending) (opened_if true c) asked ≡ client_sum few (length c.pending) None asked = omega arith in
-    same ∙ ap (λ (o : Option ClientSession). client_sum few (length c.pending) o asked) (sym (closed refl))
-opened_sum false few c asked closed = refl
-
-ends_handshake : (c : ClientState) (asked : ℕ) → ClientSound c → (opens_by_put c.handshake.role c.handshake.phase ≡ true → c.session ≡ None) → is_announcing c.session ≡ false
-    → 1 ≤ length c.link.to_send → length c.link.to_send ≤ 56 → FallsBy EndsHandshake c asked
-ends_handshake c asked sound closed other some short =
-    let none : left_of c ≡ [] = nothing (left_of c) (omega (arith, length-drop 56 c.link.to_send, short)) in
-    let before : held_left (is_announcing c.session) c.link.to_send c.handshake.owed ≡ parts (length c.link.to_send) =
-    ap (λ (b : Bool). held_left b c.link.to_send c.handshake.owed) other ∙ held_other c.link.to_send c.handshake.owed some in
-    let behind : held_left (is_announcing (session_behind EndsHandshake c)) (left_of c) (handshake_sent c.handshake).owed ≡ parts_owed (handshake_sent c.handshake).owed =
-    held_empty (is_announcing (session_behind EndsHandshake c)) (left_of c) (handshake_sent c.handshake).owed none in
-    let one = some_part (length c.link.to_send) some in
-    subst (λ (n : ℕ). n + 2 ≤ client_sum (later c.handshake.role c.handshake.phase + held_left (is_announcing c.session) c.link.to_send c.handshake.owed) (length c.pending) c.session asked)
-    (sym (opened_sum (opens_by_put c.handshake.role c.handshake.phase) (later_by EndsHandshake c + packets_by EndsHandshake (left_of c) c) c asked closed))
-    (packets_fall (later_by EndsHandshake c + packets_by EndsHandshake (left_of c) c) (later c.handshake.role c.handshake.phase + held_left (is_announcing c.session) c.link.to_send c.handshake.owed)
-    (length c.pending) c.session asked 1 (omega (arith, before, behind, one, sent_left c.handshake sound.short)))
-
-ends_fall : (c : ClientState) (own : Bool) (asked : ℕ) → ClientSound c → (opens_by_put c.handshake.role c.handshake.phase ≡ true → c.session ≡ None) → is_announcing c.session ≡ own
-    → 1 ≤ length c.link.to_send → length c.link.to_send ≤ 56 → FallsBy (ending true own) c asked
-ends_fall c true asked sound closed is some short = ends_own c asked sound is some short
-ends_fall c false asked sound closed is some short = ends_handshake c asked sound closed is some short
-
-parts_fall : (c : ClientState) (last : Bool) (asked : ℕ) → ClientSound c → (opens_by_put c.handshake.role c.handshake.phase ≡ true → c.session ≡ None)
-    → nat_le (length c.link.to_send) 56 ≡ last → 1 ≤ length c.link.to_send → FallsBy (ending last (is_announcing c.session)) c asked
-parts_fall c true asked sound closed is some = ends_fall c (is_announcing c.session) asked sound closed refl some (leb-true (length c.link.to_send) 56 is)
-parts_fall c false asked sound closed is some = part_falls c asked (omega (arith, leb-false (length c.link.to_send) 56 is))
-
--- a packet of the link's own handshake
-comes_up : (c : ClientState) (asked : ℕ) → Falls phase.OwesRdx c asked
-comes_up c asked =
-    packets_fall (later_by ComesUp c + packets_by ComesUp c.link.to_send c) (7 + held_left (is_announcing c.session) c.link.to_send c.handshake.owed) (length c.pending) c.session asked 1
-    (omega (arith, up_left c.handshake, held_more (is_announcing c.session) c.link.to_send c.handshake.owed (handshake_up c.handshake).owed))
-
-falls_in : (ph : LinkPhase) (c : ClientState) (asked : ℕ) (one : Packet × LinkState) (m : LinkState) → ClientSound c
-    → (opens_by_put c.handshake.role c.handshake.phase ≡ true → c.session ≡ None) → IsAsking ph → with_link (owed_in ph c.link) m ≡ Some one → Falls ph c asked
-falls_in phase.OwesVersInfo c asked one m sound closed asking is =
-    packets_fall (8 + held_left (is_announcing c.session) c.link.to_send c.handshake.owed) (9 + held_left (is_announcing c.session) c.link.to_send c.handshake.owed) (length c.pending) c.session asked 1 (omega arith)
-falls_in phase.OwesRts c asked one m sound closed asking is =
-    packets_fall (7 + held_left (is_announcing c.session) c.link.to_send c.handshake.owed) (8 + held_left (is_announcing c.session) c.link.to_send c.handshake.owed) (length c.pending) c.session asked 1 (omega arith)
-falls_in phase.OwesRdx c asked one m sound closed asking is = comes_up c asked
-falls_in phase.Established c asked one m sound closed asking is =
-    parts_fall c (nat_le (length c.link.to_send) 56) asked sound closed refl (some_left c.link c.link.to_send one m is)
-falls_in phase.AwaitsVersAck c asked one m sound closed asking is = absurd (cc)
-falls_in phase.AwaitsRtr c asked one m sound closed asking is = absurd (cc)
-falls_in _ c asked one m sound closed asking is = absurd asking
-
-pub client_put_lowers : (c : ClientState) (bytes : List ℕ) (m : LinkState) → ClientSound c → (opens_by_put c.handshake.role c.handshake.phase ≡ true → c.session ≡ None)
-    → PutsPacket c.link bytes m → ClientLowers 2 c (client_put c)
-client_put_lowers c bytes m sound closed puts = record {
-  pending = omega arith;
-  lowers = λ asked. falls_in c.link.phase c asked (puts.packet, m) (behind_put c.link) sound closed sound.asking puts.next;
+pub falls_lower : (put by : ℕ) (s t : ClientState) → ClientFalls put by s t → ClientLowers (2 * put + by) s t
+falls_lower put by s t falls = record {
+  pending = falls.spends.pending;
+  lowers = λ asked. sums (client_packets t) (client_packets s) put falls.own by (requests_left (length t.pending) t.session) (requests_left (length s.pending) s.session)
+      (12 * (total (length t.pending) t.session - asked)) (12 * (total (length s.pending) s.session - asked)) falls.packets (falls.spends.left asked);
 }
+  where
+    sums : (few many put own by less more rest_less rest_more : ℕ) → few + put ≤ many + own → less + rest_less + (2 * own + by) ≤ more + rest_more
+        → 2 * few + less + rest_less + (2 * put + by) ≤ 2 * many + more + rest_more
+    sums few many put own by less more rest_less rest_more packets left = omega (arith, packets, left)
+
+pub session_spends : (own by : ℕ) (s t : ClientState) (open_one : Option ClientSession) → s.session ≡ open_one → length t.pending ≤ length s.pending
+    → infos_begun t.session ≡ infos_begun open_one + own
+    → ((asked : ℕ) → session_left (length t.pending) t.session asked + (2 * own + by) ≤ session_left (length s.pending) open_one asked) → ClientSpends own by s t
+session_spends own by s t open_one is pending infos left = record {
+  pending = pending;
+  infos = infos ∙ ap (λ (o : Option ClientSession). infos_begun o + own) (sym is);
+  left = λ asked. subst (λ (o : Option ClientSession). session_left (length t.pending) t.session asked + (2 * own + by) ≤ session_left (length s.pending) o asked) (sym is) (left asked);
+}
+
+pub same_spends : (s t : ClientState) → t.pending ≡ s.pending → t.session ≡ s.session → ClientSpends 0 0 s t
+same_spends s t pending session =
+    session_spends 0 0 s t t.session (sym session) (omega (arith, ap length pending)) (none_more (infos_begun t.session))
+    (λ asked. subst (λ (xs : List Request). session_left (length xs) t.session asked + (2 * 0 + 0) ≤ session_left (length s.pending) t.session asked) (sym pending) (omega arith))
+  where
+    none_more : (n : ℕ) → n ≡ n + 0
+    none_more n = omega arith
+
+then_spends : (own : ℕ) (s h t : ClientState) → ClientSpends own 0 s h → ClientSpends 0 0 h t → ClientSpends own 0 s t
+then_spends own s h t first next = record {
+  pending = omega (arith, first.pending, next.pending);
+  infos = both (infos_begun t.session) (infos_begun h.session) (infos_begun s.session) own first.infos next.infos;
+  left = λ asked. sums (session_left (length t.pending) t.session asked) (session_left (length h.pending) h.session asked) (session_left (length s.pending) s.session asked) own
+      (first.left asked) (next.left asked);
+}
+  where
+    both : (a b c own : ℕ) → b ≡ c + own → a ≡ b + 0 → a ≡ c + own
+    both a b c own one two = omega (arith, one, two)
+
+    sums : (a b c own : ℕ) → b + (2 * own + 0) ≤ c → a + (2 * 0 + 0) ≤ b → a + (2 * own + 0) ≤ c
+    sums a b c own one two = omega (arith, one, two)
+
+-- IT HOLDS a message: an INFO where it announces
+abbrev begun_by : ClientRule → ℕ
+begun_by (Announces session) = 1
+begun_by _ = 0
+
+announced_less : (pending completed published few many rest : ℕ) → few + 1 ≤ many → many ≤ pending + completed
+    → ((pending + completed) - published) + 2 * ((pending + completed) - many) + pending + rest + (2 * 1 + 0)
+    ≤ ((pending + completed) - published) + 2 * ((pending + completed) - few) + pending + rest
+announced_less pending completed published few many rest more most = omega (arith, more, most)
+
+announces_spends : (s : ClientState) (session : ClientSession) → s.session ≡ Some session → session.announcing ≡ false → session.announced < session.published
+    → CountsInOrder (length s.pending) s.session → ClientSpends 1 0 s (announcing session (holding (announcement s session) s))
+announces_spends s session is quiet more counts =
+    let order : InOrder (length s.pending) session = in_order (length s.pending) s.session session is counts in
+    let one : one_if session.announcing ≡ 0 = ap one_if quiet in
+    session_spends 1 0 s (announcing session (holding (announcement s session) s)) (Some session) is (omega arith) (omega (arith, one))
+    (λ asked. announced_less (length s.pending) session.completed session.published (session.announced + one_if session.announcing) (session.announced + 1)
+    (12 * ((length s.pending + session.completed) - asked)) (omega (arith, one)) (omega (arith, more, order.published)))
+
+to_the : (own : ℕ) (s one other : ClientState) → Some one ≡ Some other → ClientSpends own 0 s one → ClientSpends own 0 s other
+to_the own s one other is spends = let same : one ≡ other = cc is in subst (ClientSpends own 0 s) same spends
+
+holds_spend : (s : ClientState) (at : Seen) (rule : ClientRule) (held : ClientState) (turns : List Turn) → ClientMay s at rule → client_holds rule s ≡ Some held → ClientSound s
+    → EndStands Initiator (client_core s) turns → ClientSpends (begun_by rule) 0 s held
+holds_spend s at Puts held turns may holds sound stands = to_the 0 s s held holds (same_spends s s refl refl)
+holds_spend s at (Says message) held turns may holds sound stands = to_the 0 s (holding message s) held holds (same_spends s (holding message s) refl refl)
+holds_spend s at (Announces session) held turns may holds sound stands =
+    let empty : s.link.to_send ≡ [] = up_empty s.link (open_up Initiator (client_core s) turns stands (ap is_some may.3)) may.1 in
+    let quiet : session.announcing ≡ false = ap is_announcing (sym may.3) ∙ not_own (is_announcing s.session) s.link.to_send sound.own empty in
+    to_the 1 s (announcing session (holding (announcement s session) s)) held holds (announces_spends s session may.3 quiet may.4 sound.counts)
+holds_spend s at Joins held turns may holds sound stands = absurd (cc holds)
+holds_spend s at (Completes session) held turns may holds sound stands = absurd (cc holds)
+holds_spend s at (Takes packet) held turns may holds sound stands = absurd (cc holds)
+holds_spend s at (Publishes session request) held turns may holds sound stands = absurd (cc holds)
+holds_spend s at Idles held turns may holds sound stands = absurd (cc holds)
+
+own_begun : (s : ClientState) (at : Seen) (rule : ClientRule) (held : ClientState) (core : EndCore) (what : Holding) → client_rule s at ≡ rule → ClientMay s at rule
+    → client_holds rule s ≡ Some held → Holds (client_core s) what core → own_in what ≤ begun_by rule
+own_begun s at Puts held core what rule may holds is = omega (arith, loud_none (client_core s) core what (puts_owe s at rule) is)
+own_begun s at (Says message) held core what rule may holds is = omega (arith, owing_none (client_core s) core message what may.2 is)
+own_begun s at (Announces session) held core what rule may holds is = own_most what
+own_begun s at Joins held core what rule may holds is = absurd (cc holds)
+own_begun s at (Completes session) held core what rule may holds is = absurd (cc holds)
+own_begun s at (Takes packet) held core what rule may holds is = absurd (cc holds)
+own_begun s at (Publishes session request) held core what rule may holds is = absurd (cc holds)
+own_begun s at Idles held core what rule may holds is = absurd (cc holds)
+
+-- IT PUTS a packet: all that is published is announced by the last of its INFO, and its session may open by one of its handshake
+ends_own : (b own : Bool) → ending b own ≡ EndsOwn → own ≡ true
+ends_own true true is = refl
+ends_own true false is = absurd (cc is)
+ends_own false own is = absurd (cc is)
+
+own_in_kind : (ph : LinkPhase) (k : LinkState) (own : Bool) → kind_in ph k own ≡ EndsOwn → own ≡ true
+own_in_kind phase.Established k own is = ends_own (nat_le (length k.to_send) 56) own is
+own_in_kind phase.OwesRdx k own is = absurd (cc is)
+own_in_kind _ k own is = absurd (cc is)
+
+abbrev behind : ClientState → Option ClientSession → ClientState
+behind c session = record (client_put c) { session = session }
+
+fewer_left : (pending completed published few rest : ℕ) → few ≤ published
+    → ((pending + completed) - published) + 2 * ((pending + completed) - (published + 0)) + pending + rest + (2 * 0 + 0)
+    ≤ ((pending + completed) - published) + 2 * ((pending + completed) - few) + pending + rest
+fewer_left pending completed published few rest less = omega (arith, less)
+
+announced_spends : (c : ClientState) (open_one : Option ClientSession) → c.session ≡ open_one → is_announcing open_one ≡ true → CountsInOrder (length c.pending) open_one
+    → ClientSpends 0 0 c (behind c (announced open_one))
+announced_spends c None is own counts = absurd (cc own)
+announced_spends c (Some s) is own counts =
+    let one : one_if s.announcing ≡ 1 = ap one_if own in
+    session_spends 0 0 c (behind c (announced (Some s))) (Some s) is (omega arith) (omega (arith, one))
+    (λ asked. fewer_left (length c.pending) s.completed s.published (s.announced + one_if s.announcing) (12 * ((length c.pending + s.completed) - asked)) (omega (arith, one, counts.own own)))
+
+opened_spends : (b : Bool) (c : ClientState) → (b ≡ true → c.session ≡ None) → ClientSpends 0 0 c (behind c (opened_if b c))
+opened_spends true c closed = session_spends 0 0 c (behind c (opened_if true c)) None (closed refl) (omega arith) refl (λ asked. omega arith)
+opened_spends false c closed = same_spends c (behind c (opened_if false c)) refl refl
+
+kind_spends : (kind : PutKind) (c : ClientState) → (kind ≡ EndsOwn → is_announcing c.session ≡ true) → (opens_by_put c.handshake.role c.handshake.phase ≡ true → c.session ≡ None)
+    → CountsInOrder (length c.pending) c.session → ClientSpends 0 0 c (behind c (session_behind kind c))
+kind_spends EndsOwn c own closed counts = announced_spends c c.session refl (own refl) counts
+kind_spends EndsHandshake c own closed counts = opened_spends (opens_by_put c.handshake.role c.handshake.phase) c closed
+kind_spends Goes c own closed counts = same_spends c (behind c c.session) refl refl
+kind_spends ComesUp c own closed counts = same_spends c (behind c c.session) refl refl
+
+shut_none : (open_one : Option ClientSession) → is_some open_one ≡ false → open_one ≡ None
+shut_none None shut = refl
+shut_none (Some session) shut = absurd (cc shut)
+
+put_spends : (c : ClientState) (turns : List Turn) → ClientSound c → EndStands Initiator (client_core c) turns → ClientSpends 0 0 c (client_put c)
+put_spends c turns sound stands =
+    kind_spends (client_kind c) c (own_in_kind c.link.phase c.link (is_announcing c.session))
+    (λ opens. shut_none c.session (stands.opened ∙ (opening_shut c.handshake.role c.handshake.phase opens).1)) sound.counts
+
+pub blocked_falls : (s : ClientState) (at : Seen) (held : ClientState) (turns : List Turn) → client_holds (client_rule s at) s ≡ Some held → ClientSound s
+    → EndStands Initiator (client_core s) turns → ClientFalls 0 0 s held
+blocked_falls s at held turns holds sound stands =
+    let may = client_may s at in
+    let waits = client_waits s at held sound holds in
+    record {
+      own = begun_by (client_rule s at);
+      packets = omega (
+        arith,
+        waits_packets Initiator (client_core s) (client_core held) turns stands waits,
+        own_begun s at (client_rule s at) held (client_core held) waits.what refl may holds waits.holds,
+      );
+      spends = holds_spend s at (client_rule s at) held turns may holds sound stands;
+    }
+
+pub sends_falls : (s : ClientState) (at : Seen) (memory packet : List ℕ) (opens : Bool) (t : ClientState) (new : List ℕ) (turns : List Turn) → ClientSends s at memory packet opens t new
+    → ClientSound s → EndStands Initiator (client_core s) turns → ClientFalls 1 0 s t
+sends_falls s at memory packet opens t new turns sends sound stands =
+    let may = client_may s at in
+    let held = client_held s at (client_rule s at) sends.held may sends.holds sound in
+    let waits = client_waits s at sends.held sound sends.holds in
+    let says = client_says s at memory packet opens t new sound (client_sends s at memory packet opens t new sound sends) sends in
+    record {
+      own = begun_by (client_rule s at);
+      packets = omega (
+        arith,
+        says_packets Initiator (client_core s) (client_core t) turns packet opens stands says,
+        own_begun s at (client_rule s at) sends.held says.held says.what refl may sends.holds says.holds,
+      );
+      spends = subst (ClientSpends (begun_by (client_rule s at)) 0 s) (sym sends.is)
+          (then_spends (begun_by (client_rule s at)) s sends.held (client_put sends.held) (holds_spend s at (client_rule s at) sends.held turns may sends.holds sound stands)
+          (put_spends sends.held turns held (held_stands Initiator (client_core s) (client_core sends.held) turns waits.what stands waits.holds)));
+    }
+
+-- IT PUBLISHES a request
+is_pending : (pending : List Request) (n : ℕ) (request : Request) → slice_get pending n ≡ Some request → n < length pending
+is_pending [] n request is = absurd (cc is)
+is_pending (one ∷ pending) zero request is = omega arith
+is_pending (one ∷ pending) (suc n) request is = omega (arith, is_pending pending n request is)
+
+published_sum : (pending completed published announced rest : ℕ) → published + 1 ≤ pending + completed
+    → ((pending + completed) - (published + 1)) + 2 * ((pending + completed) - announced) + pending + rest + (2 * 0 + 1)
+    ≤ ((pending + completed) - published) + 2 * ((pending + completed) - announced) + pending + rest
+published_sum pending completed published announced rest some = omega (arith, some)
+
+pub publishes_falls : (s : ClientState) (at : Seen) (memory : List ℕ) (id : ℕ) (t : ClientState) (new : List ℕ) → ClientSound s → ClientPublishes s at memory id t new → ClientFalls 0 1 s t
+publishes_falls s at memory id t new sound step =
+    let may : ClientMay s at (Publishes step.session step.request) = subst (ClientMay s at) step.rule (client_may s at) in
+    let session : ClientSession = step.session in
+    let counts : InOrder (length s.pending) session = in_order (length s.pending) s.session session may.1 sound.counts in
+    let some = is_pending s.pending (session.published - session.completed) step.request may.2 in
+    record {
+      own = 0;
+      packets = omega (arith, stays_packets (client_core s) (client_core t) (client_published s at memory id t new step));
+      spends = subst (ClientSpends 0 1 s) (sym step.is)
+          (session_spends 0 1 s (record s { ever_published = max s.ever_published (id + 1); session = Some (record session { published = session.published + 1 }) }) (Some session) may.1
+          (omega arith) (omega arith)
+          (λ asked. published_sum (length s.pending) session.completed session.published (session.announced + one_if session.announcing)
+          (12 * ((length s.pending + session.completed) - asked)) (omega (arith, counts.completed, counts.acked, counts.announced, some))));
+    }
+
+-- IT COMPLETES one
+front_some : (pending : List Request) (request : Request) → slice_get pending 0 ≡ Some request → 1 ≤ length pending
+front_some [] request is = absurd (cc is)
+front_some (one ∷ pending) request is = omega arith
+
+completed_sum : (few many completed published announced asked : ℕ) → few + 1 ≡ many
+    → ((few + (completed + 1)) - published) + 2 * ((few + (completed + 1)) - announced) + few + 12 * ((few + (completed + 1)) - asked) + (2 * 0 + 1)
+    ≤ ((many + completed) - published) + 2 * ((many + completed) - announced) + many + 12 * ((many + completed) - asked)
+completed_sum few many completed published announced asked one =
+    let same : few + (completed + 1) ≡ many + completed = omega (arith, one) in
+    subst (λ (n : ℕ). (n - published) + 2 * (n - announced) + few + 12 * (n - asked) + (2 * 0 + 1)
+    ≤ ((many + completed) - published) + 2 * ((many + completed) - announced) + many + 12 * ((many + completed) - asked)) (sym same) (omega (arith, one))
+
+pub completes_falls : (s : ClientState) (at : Seen) (memory : List ℕ) (id operation status : ℕ) (bytes : List ℕ) (t : ClientState) (new : List ℕ)
+    → ClientCompletes s at memory id operation status bytes t new → ClientFalls 0 1 s t
+completes_falls s at memory id operation status bytes t new step =
+    let may : ClientMay s at (Completes step.session) = subst (ClientMay s at) step.rule (client_may s at) in
+    let session : ClientSession = step.session in
+    let some = front_some s.pending step.request step.front in
+    let less = length-drop 1 s.pending in
+    record {
+      own = 0;
+      packets = omega (arith, stays_packets (client_core s) (client_core t) (client_completed s at memory id operation status bytes t new step));
+      spends = subst (ClientSpends 0 1 s) (sym step.is)
+          (session_spends 0 1 s (record s { pending = drop 1 s.pending; session = Some (record session { completed = session.completed + 1 }); last = bytes }) (Some session) may.1
+          (omega (arith, less)) (omega arith)
+          (λ asked. completed_sum (length (drop 1 s.pending)) (length s.pending) session.completed session.published (session.announced + one_if session.announcing) asked
+          (omega (arith, less, some))));
+    }

@@ -1,38 +1,41 @@
 -- What remains on a lane falls by each step of an end that takes nothing.
 use Rattle.std.proofs.Common.{◌≡◌, ◌≢◌, ℕ, ◌+◌, ◌≤◌, Bool, true, false, Option, Some, None, List, [], ◌∷◌, ◌++◌, length, refl, sym, ap, ◌∙◌, subst, arith, length-append}
-use Rattle.ldc_link.specs.declared.phase.Role.{Role}
 use Rattle.ldc_link.specs.declared.phase.Role.TheVariants.{Initiator, Responder}
-use Rattle.ldc_link.specs.LinkState.{first_phase}
 use Rattle.ldc_queue.specs.declared.end.ChannelState.{ChannelState}
 use Rattle.ldc_queue.specs.declared.end.ChannelState.TheVariants.{Down, Up, Resetting}
 use Rattle.ldc_queue.specs.declared.end.End.TheVariants.{A, B}
+use Rattle.ldc_queue.specs.Transcript.{Turn}
 use Rattle.ldc_queue.specs.Wire.{Wire, configured, peer_behind, put_for, queue_behind}
-use Rattle.vio_handshake.specs.declared.handshake.Phase.TheVariants as hand
-use Rattle.vio_handshake.specs.declared.handshake.Phase.{Phase}
-use Rattle.vio_handshake.specs.Rules.{opens_by_put}
+use Rattle.channel_model.specs.Seeing.{Seen, seen}
 use Rattle.channel_model.specs.WireEvent.{Joined, Sent, WireEvent}
 use Rattle.channel_model.specs.WireLog.{lossy_behind, wire_moved}
 use Rattle.disk_model.specs.ClientRule as client_rules
-use Rattle.disk_model.specs.ClientState.{ClientSession, ClientState, joined_client}
+use Rattle.disk_model.specs.ClientState.{ClientState, joined_client}
 use Rattle.disk_model.specs.DiskEvent.{Desc, DiskEvent, Done, Finished, Misplaced, Moved, OnWire, Published, Stored, Worked, Works}
 use Rattle.disk_model.specs.LaneState.{LaneState}
 use Rattle.disk_model.specs.LaneStep.{ClientWorks, LaneStep, ServerWorks, WorkStep, near_worked}
-use Rattle.channel_model.specs.Seeing.{Seen, seen}
 use Rattle.disk_model.specs.ServerRule as server_rules
-use Rattle.disk_model.specs.ServerState.{ServerState, joined_server}
-use Rattle.lane_laws.proofs.ClientSteps.{client_sends}
-use Rattle.lane_laws.proofs.RemainingClientPuts.{ClientLowers}
-use Rattle.lane_laws.proofs.RemainingClientSteps.{completes_lowers, publishes_lowers, sends_lowers}
+use Rattle.disk_model.specs.ServerState.{ServerSession, ServerState, Work, joined_server}
+use Rattle.channel_laws.proofs.Lifting.{begins_anew}
+use Rattle.channel_laws.proofs.PacketsLeft.{anew_packets}
+use Rattle.channel_laws.specs.Standing.{EndStands}
+use Rattle.lane_laws.proofs.ClientHolding.{holds_up}
+use Rattle.lane_laws.proofs.ClientMoves.{client_begins}
+use Rattle.lane_laws.proofs.LaneCounting.{Knows}
+use Rattle.lane_laws.proofs.RemainingClientPuts.{ClientLowers, completes_falls, falls_lower, publishes_falls, sends_falls}
 use Rattle.lane_laws.proofs.RemainingServerPuts.{ServerLowers}
 use Rattle.lane_laws.proofs.RemainingServerPuts as server
 use Rattle.lane_laws.proofs.RemainingServerSteps.{fetches_lowers, finishes_lowers, moves_lowers, stores_lowers}
-use Rattle.lane_laws.proofs.RemainingSums.{second_less}
 use Rattle.lane_laws.proofs.Ruling.{client_may, server_may}
-use Rattle.lane_laws.proofs.ServerSteps.{server_sends}
-use Rattle.lane_laws.specs.Remaining.{absent, asked_by, asked_in, client_left, client_puts, later, life, remaining, second_life, server_left, server_puts}
-use Rattle.lane_laws.specs.RemainingSteps.{IsPutOrJoined, IsWork, OpensLast, StepsStand, TakesNothing}
+use Rattle.lane_laws.proofs.ServerMoves.{server_begins}
+use Rattle.lane_laws.proofs.ServerSpeaking.{server_holds_up}
+use Rattle.lane_laws.specs.Agreement.{ServerAgrees}
+use Rattle.lane_laws.specs.ChannelEnds.{client_core, server_core}
+use Rattle.lane_laws.specs.DiskLog.{DiskLog}
+use Rattle.lane_laws.specs.Remaining.{absent, asked_by, asked_in, client_left, client_packets, life, remaining, second_life, server_left, server_packets}
+use Rattle.lane_laws.specs.RemainingSteps.{CountsFit, IsPutOrJoined, IsWork, TakesNothing}
 use Rattle.lane_laws.specs.RuleFacts.{ClientMay, ServerMay}
-use Rattle.lane_laws.specs.Sound.{ClientSound, ServerSound}
+use Rattle.lane_laws.specs.WorkLog.{ServerCounts}
 
 -- by its parts
 abbrev pub left : Wire → Bool → ClientState → ServerState → ℕ
@@ -43,6 +46,11 @@ at_client s = seen A s.shape.entries s.wire.wire
 
 abbrev pub at_server : LaneState → Seen
 at_server s = seen B s.shape.entries s.wire.wire
+
+-- a second life is longer with more requests
+pub second_less : (lossy : Bool) (n m : ℕ) → n ≤ m → second_life lossy n ≤ second_life lossy m
+second_less true n m less = omega (arith, less)
+second_less false n m less = omega arith
 
 -- ONE END goes on
 pub client_falls : (e : ChannelState) (asked : ℕ) (c t : ClientState) (by : ℕ) → e ≡ Up → ClientLowers by c t → client_left e asked t + by ≤ client_left e asked c
@@ -103,22 +111,35 @@ server_puts_one w lossy c v u packet up lower =
     sum_puts rest longer long waits one other few many more longer_is same falls = omega (arith, longer_is, same, falls)
 
 -- AN END JOINS: one that isn't up counts as one that begins
-pub begun_client : (role : Role) (c : ClientState) (asked : ℕ) → role ≡ Initiator → c.link.role ≡ role → client_left Up asked (joined_client c) ≡ client_left Down asked c
-begun_client Initiator c asked is same = omega (arith, ap (λ (r : Role). client_puts (first_phase r) (later c.handshake.role hand.Down)) same)
-begun_client Responder c asked is same = absurd (cc)
+pub begun_packets : (c : ClientState) (turns : List Turn) → EndStands Initiator (client_core c) turns → client_packets (joined_client c) ≡ 9
+begun_packets c turns stands =
+    anew_packets Initiator (client_core c) (client_core (joined_client c)) stands.handshake
+    (begins_anew Initiator (client_core c) (client_core (joined_client c)) turns stands (client_begins c (joined_client c) refl))
 
-pub begun_server : (role : Role) (v : ServerState) → role ≡ Responder → v.link.role ≡ role → server_left Up (joined_server v) ≡ 16
-begun_server Responder v is same = omega (arith, ap (λ (r : Role). server_puts (first_phase r) (later v.handshake.role hand.Down)) same)
-begun_server Initiator v is same = absurd (cc)
+pub begun_client : (c : ClientState) (turns : List Turn) (asked : ℕ) → EndStands Initiator (client_core c) turns → client_left Up asked (joined_client c) ≡ client_left Down asked c
+begun_client c turns asked stands = omega (arith, begun_packets c turns stands)
+
+pub begun_answers : (v : ServerState) (turns : List Turn) → EndStands Responder (server_core v) turns → server_packets (joined_server v) ≡ 8
+begun_answers v turns stands =
+    let begins = server_begins v (joined_server v) refl in
+    omega (
+      arith,
+      begins.more,
+      anew_packets Responder (server_core v) (server_core (joined_server v)) stands.handshake
+          (begins_anew Responder (server_core v) (server_core (joined_server v)) turns stands begins),
+    )
+
+pub begun_server : (v : ServerState) (turns : List Turn) → EndStands Responder (server_core v) turns → server_left Up (joined_server v) ≡ 16
+begun_server v turns stands = omega (arith, begun_answers v turns stands)
 
 joins_sum : (away there waits more joined was other second : ℕ) → away ≡ 1 → joined ≡ was → 0 + there + waits + more + joined + other + second + 1 ≤ away + there + waits + more + was + other + second
 joins_sum away there waits more joined was other second one same = omega (arith, one, same)
 
-joins_down : (w : Wire) (lossy : Bool) (c : ClientState) (v : ServerState) → ClientSound c → absent w.end_a ≡ 1
+joins_down : (w : Wire) (lossy : Bool) (c : ClientState) (v : ServerState) (turns : List Turn) → EndStands Initiator (client_core c) turns → absent w.end_a ≡ 1
     → client_left w.end_a (asked_by w.end_b v) c ≡ client_left Down (asked_by w.end_b v) c → left (record w { end_a = Up }) lossy (joined_client c) v + 1 ≤ left w lossy c v
-joins_down w lossy c v sound away counts =
+joins_down w lossy c v turns stands away counts =
     joins_sum (absent w.end_a) (absent w.end_b) (length w.to_a) (length w.to_b) (client_left Up (asked_by w.end_b v) (joined_client c)) (client_left w.end_a (asked_by w.end_b v) c)
-    (server_left w.end_b v) (second_life lossy (length c.pending)) away (begun_client c.link.role c (asked_by w.end_b v) sound.role refl ∙ sym counts)
+    (server_left w.end_b v) (second_life lossy (length c.pending)) away (begun_client c turns (asked_by w.end_b v) stands ∙ sym counts)
 
 abbrev pub joined_a : ChannelState → Wire → Wire
 joined_a x w = record { end_a = Up; end_b = peer_behind x w.end_b; to_a = queue_behind x w.to_a; to_b = queue_behind x w.to_b }
@@ -126,75 +147,71 @@ joined_a x w = record { end_a = Up; end_b = peer_behind x w.end_b; to_a = queue_
 abbrev pub joined_b : ChannelState → Wire → Wire
 joined_b x w = record { end_a = peer_behind x w.end_a; end_b = Up; to_a = queue_behind x w.to_a; to_b = queue_behind x w.to_b }
 
-client_joins : (e : ChannelState) (w : Wire) (lossy : Bool) (c : ClientState) (v : ServerState) → ClientSound c → w.end_a ≡ e → w.end_a ≢ Up
+client_joins : (e : ChannelState) (w : Wire) (lossy : Bool) (c : ClientState) (v : ServerState) (turns : List Turn) → EndStands Initiator (client_core c) turns → w.end_a ≡ e → w.end_a ≢ Up
     → left (joined_a w.end_a w) (lossy_behind w.end_a lossy) (joined_client c) v + 1 ≤ left w lossy c v
-client_joins Up w lossy c v sound is down = absurd (down is)
-client_joins Down w lossy c v sound is down =
+client_joins Up w lossy c v turns stands is down = absurd (down is)
+client_joins Down w lossy c v turns stands is down =
     subst (λ (x : ChannelState). left (joined_a x w) (lossy_behind x lossy) (joined_client c) v + 1 ≤ left w lossy c v) (sym is)
-    (joins_down w lossy c v sound (ap absent is) (ap (λ (x : ChannelState). client_left x (asked_by w.end_b v) c) is))
-client_joins Resetting w lossy c v sound is down =
+    (joins_down w lossy c v turns stands (ap absent is) (ap (λ (x : ChannelState). client_left x (asked_by w.end_b v) c) is))
+client_joins Resetting w lossy c v turns stands is down =
     subst (λ (x : ChannelState). left (joined_a x w) (lossy_behind x lossy) (joined_client c) v + 1 ≤ left w lossy c v) (sym is)
-    (joins_down w lossy c v sound (ap absent is) (ap (λ (x : ChannelState). client_left x (asked_by w.end_b v) c) is))
+    (joins_down w lossy c v turns stands (ap absent is) (ap (λ (x : ChannelState). client_left x (asked_by w.end_b v) c) is))
 
 serves_sum : (there away waits more one other joined was second : ℕ) → away ≡ 1 → one ≡ other → joined ≡ was
     → there + 0 + waits + more + one + joined + second + 1 ≤ there + away + waits + more + other + was + second
 serves_sum there away waits more one other joined was second present same counts = omega (arith, present, same, counts)
 
-serves_down : (w : Wire) (lossy : Bool) (c : ClientState) (v : ServerState) → ServerSound v → absent w.end_b ≡ 1 → asked_by w.end_b v ≡ 0 → server_left w.end_b v ≡ 16
+serves_down : (w : Wire) (lossy : Bool) (c : ClientState) (v : ServerState) (turns : List Turn) → EndStands Responder (server_core v) turns → absent w.end_b ≡ 1 → asked_by w.end_b v ≡ 0 → server_left w.end_b v ≡ 16
     → left (record w { end_b = Up }) lossy c (joined_server v) + 1 ≤ left w lossy c v
-serves_down w lossy c v sound away none counts =
+serves_down w lossy c v turns stands away none counts =
     serves_sum (absent w.end_a) (absent w.end_b) (length w.to_a) (length w.to_b) (client_left w.end_a 0 c) (client_left w.end_a (asked_by w.end_b v) c)
     (server_left Up (joined_server v)) (server_left w.end_b v) (second_life lossy (length c.pending)) away (ap (λ (n : ℕ). client_left w.end_a n c) (sym none))
-    (begun_server v.link.role v sound.role refl ∙ sym counts)
+    (begun_server v turns stands ∙ sym counts)
 
-server_joins : (e : ChannelState) (w : Wire) (lossy : Bool) (c : ClientState) (v : ServerState) → ServerSound v → w.end_b ≡ e → w.end_b ≢ Up
+server_joins : (e : ChannelState) (w : Wire) (lossy : Bool) (c : ClientState) (v : ServerState) (turns : List Turn) → EndStands Responder (server_core v) turns → w.end_b ≡ e → w.end_b ≢ Up
     → left (joined_b w.end_b w) (lossy_behind w.end_b lossy) c (joined_server v) + 1 ≤ left w lossy c v
-server_joins Up w lossy c v sound is down = absurd (down is)
-server_joins Down w lossy c v sound is down =
+server_joins Up w lossy c v turns stands is down = absurd (down is)
+server_joins Down w lossy c v turns stands is down =
     subst (λ (x : ChannelState). left (joined_b x w) (lossy_behind x lossy) c (joined_server v) + 1 ≤ left w lossy c v) (sym is)
-    (serves_down w lossy c v sound (ap absent is) (ap (λ (x : ChannelState). asked_by x v) is) (ap (λ (x : ChannelState). server_left x v) is))
-server_joins Resetting w lossy c v sound is down =
+    (serves_down w lossy c v turns stands (ap absent is) (ap (λ (x : ChannelState). asked_by x v) is) (ap (λ (x : ChannelState). server_left x v) is))
+server_joins Resetting w lossy c v turns stands is down =
     subst (λ (x : ChannelState). left (joined_b x w) (lossy_behind x lossy) c (joined_server v) + 1 ≤ left w lossy c v) (sym is)
-    (serves_down w lossy c v sound (ap absent is) (ap (λ (x : ChannelState). asked_by x v) is) (ap (λ (x : ChannelState). server_left x v) is))
+    (serves_down w lossy c v turns stands (ap absent is) (ap (λ (x : ChannelState). asked_by x v) is) (ap (λ (x : ChannelState). server_left x v) is))
 
 -- THE EVENTS
-opens_at : (role : Role) → opens_by_put role hand.Open ≡ false
-opens_at Initiator = refl
-opens_at Responder = refl
-
-opens_closed : (role : Role) (ph : Phase) → ph ≡ hand.Open → opens_by_put role ph ≡ false
-opens_closed role ph is = ap (opens_by_put role) is ∙ opens_at role
-
-pub closed_in : (c : ClientState) (open_one : Option ClientSession) → c.session ≡ open_one → OpensLast c.handshake.phase c.link.phase open_one → opens_by_put c.handshake.role c.handshake.phase ≡ true → c.session ≡ None
-closed_in c None is opened opens = is
-closed_in c (Some session) is opened opens = let never = opens_closed c.handshake.role c.handshake.phase opened.0 in absurd (cc)
+counts_fit : (o : Option ServerSession) (work : Option Work) (counts : Option ServerCounts) → ServerAgrees o work counts → CountsFit o
+counts_fit None work counts agrees = tt
+counts_fit (Some session) work None agrees = absurd agrees
+counts_fit (Some session) work (Some counts) agrees = (omega (arith, agrees.0.asked), omega (arith, agrees.0.finished))
 
 pub falls_is : (s t u : LaneState) → t ≡ u → remaining u + 1 ≤ remaining s → remaining t + 1 ≤ remaining s
 falls_is s t u is falls = subst (λ (x : LaneState). remaining x + 1 ≤ remaining s) (sym is) falls
 
-on_wire : (s : LaneState) (event : WireEvent) (t : LaneState) → ClientSound s.client → ServerSound s.server → StepsStand s → LaneStep s (OnWire event) t
+on_wire : (s : LaneState) (l : DiskLog) (event : WireEvent) (t : LaneState) → Knows s l → LaneStep s (OnWire event) t
     → IsPutOrJoined event → remaining t + 1 ≤ remaining s
-on_wire s (Joined A lost) t client_sound server_sound stands step is =
+on_wire s l (Joined A lost) t knows step is =
     let may : ClientMay s.client (at_client s) client_rules.Joins = subst (ClientMay s.client (at_client s)) step.step.0 (client_may s.client (at_client s)) in
     falls_is s t (record s { wire = wire_moved s.wire (Joined A lost); client = t.client; memory = t.memory; near = s.near }) step.is
     (subst (λ (c : ClientState). left (configured A s.wire.wire) (lossy_behind s.wire.wire.end_a s.wire.lossy) c s.server + 1 ≤ remaining s) (sym step.step.2)
-    (client_joins s.wire.wire.end_a s.wire.wire s.wire.lossy s.client s.server client_sound refl may))
-on_wire s (Joined B lost) t client_sound server_sound stands step is =
+    (client_joins s.wire.wire.end_a s.wire.wire s.wire.lossy s.client s.server l.transcript.client knows.rests.client.stands refl may))
+on_wire s l (Joined B lost) t knows step is =
     let may : ServerMay s.server (at_server s) server_rules.Joins = subst (ServerMay s.server (at_server s)) step.1.step.1.0 (server_may s.server (at_server s)) in
     falls_is s t (record s { wire = wire_moved s.wire (Joined B lost); server = t.server; memory = t.memory; near = s.near }) step.1.is
     (subst (λ (v : ServerState). left (configured B s.wire.wire) (lossy_behind s.wire.wire.end_b s.wire.lossy) s.client v + 1 ≤ remaining s) (sym step.1.step.1.2)
-    (server_joins s.wire.wire.end_b s.wire.wire s.wire.lossy s.client s.server server_sound refl may))
-on_wire s (Sent A packet opens) t client_sound server_sound stands step is =
-    let put = client_sends s.client (at_client s) s.memory packet opens t.client t.memory client_sound step.step in
-    let lower = sends_lowers s.client (at_client s) s.memory packet opens t.client t.memory client_sound (closed_in s.client s.client.session refl stands.opens) step.step in
+    (server_joins s.wire.wire.end_b s.wire.wire s.wire.lossy s.client s.server l.transcript.server knows.rests.server.stands refl may))
+on_wire s l (Sent A packet opens) t knows step is =
+    let sound = knows.all.sound in
+    let up = holds_up s.client (at_client s) (client_rules.client_rule s.client (at_client s)) step.step.held (client_may s.client (at_client s)) step.step.holds in
+    let falls = sends_falls s.client (at_client s) s.memory packet opens t.client t.memory l.transcript.client step.step sound knows.rests.client.stands in
     falls_is s t (record s { wire = wire_moved s.wire (Sent A packet opens); client = t.client; memory = t.memory; near = s.near }) step.is
-    (client_puts_one s.wire.wire s.wire.lossy s.client t.client s.server packet put.up lower)
-on_wire s (Sent B packet opens) t client_sound server_sound stands step is =
-    let put = server_sends s.server (at_server s) packet opens t.server server_sound step.1.step.1.0 in
-    let lower = server.sends_lowers s.server (at_server s) packet opens t.server server_sound step.1.step.1.0 in
+    (client_puts_one s.wire.wire s.wire.lossy s.client t.client s.server packet up (falls_lower 1 0 s.client t.client falls))
+on_wire s l (Sent B packet opens) t knows step is =
+    let sends = step.1.step.1.0 in
+    let up = server_holds_up s.server (at_server s) (server_rules.server_rule s.server (at_server s)) sends.held (server_may s.server (at_server s)) sends.holds in
+    let falls = server.sends_falls s.server (at_server s) packet opens t.server l.transcript.server sends knows.rests.server.stands in
     falls_is s t (record s { wire = wire_moved s.wire (Sent B packet opens); server = t.server; memory = t.memory; near = s.near }) step.1.is
-    (server_puts_one s.wire.wire s.wire.lossy s.client s.server t.server packet put.up lower)
-on_wire s _ t client_sound server_sound stands step is = absurd is
+    (server_puts_one s.wire.wire s.wire.lossy s.client s.server t.server packet up (server.falls_lower 1 s.server t.server falls))
+on_wire s l _ t knows step is = absurd is
 
 client_works : (s : LaneState) (event : Worked) (t : LaneState) → s.wire.wire.end_a ≡ Up → ClientLowers 1 s.client t.client → ClientWorks s event t → remaining t + 1 ≤ remaining s
 client_works s event t up lower step =
@@ -206,35 +223,38 @@ server_works s gave event t up lower step =
     falls_is s t (record s { server = t.server; memory = t.memory; failed = _; near = near_worked event s.near }) step.is
     (server_goes s.wire.wire s.wire.lossy s.client s.server t.server up lower)
 
-works : (s : LaneState) (event : Worked) (t : LaneState) → ClientSound s.client → StepsStand s → WorkStep s event t → IsWork event → remaining t + 1 ≤ remaining s
-works s (Published id) t sound stands step is =
+fit_of : (s : LaneState) (l : DiskLog) → Knows s l → CountsFit s.server.session
+fit_of s l knows = counts_fit s.server.session s.server.work l.work.server knows.counted.server.agrees
+
+works : (s : LaneState) (l : DiskLog) (event : Worked) (t : LaneState) → Knows s l → WorkStep s event t → IsWork event → remaining t + 1 ≤ remaining s
+works s l (Published id) t knows step is =
     let may : ClientMay s.client (at_client s) (client_rules.Publishes step.step.session step.step.request) =
     subst (ClientMay s.client (at_client s)) step.step.rule (client_may s.client (at_client s)) in
-    client_works s (Published id) t may.0 (publishes_lowers s.client (at_client s) s.memory id t.client t.memory sound step.step) step
-works s (Done id operation status bytes) t sound stands step is =
+    client_works s (Published id) t may.0 (falls_lower 0 1 s.client t.client (publishes_falls s.client (at_client s) s.memory id t.client t.memory knows.all.sound step.step)) step
+works s l (Done id operation status bytes) t knows step is =
     let may : ClientMay s.client (at_client s) (client_rules.Completes step.step.session) =
     subst (ClientMay s.client (at_client s)) step.step.rule (client_may s.client (at_client s)) in
-    client_works s (Done id operation status bytes) t may.0 (completes_lowers s.client (at_client s) s.memory id operation status bytes t.client t.memory step.step) step
-works s (Desc slot bytes) t sound stands step is =
+    client_works s (Done id operation status bytes) t may.0
+    (falls_lower 0 1 s.client t.client (completes_falls s.client (at_client s) s.memory id operation status bytes t.client t.memory step.step)) step
+works s l (Desc slot bytes) t knows step is =
     let work = step.1.step.1.0 in
     let may : ServerMay s.server (at_server s) (server_rules.Fetches work.session) = subst (ServerMay s.server (at_server s)) work.rule (server_may s.server (at_server s)) in
-    server_works s step.0 (Desc slot bytes) t may.0 (fetches_lowers s.server (at_server s) _ slot bytes t.server t.memory stands.fit work) step.1
-works s (Moved unit fault) t sound stands step is =
+    server_works s step.0 (Desc slot bytes) t may.0 (fetches_lowers s.server (at_server s) _ slot bytes t.server t.memory (fit_of s l knows) work) step.1
+works s l (Moved unit fault) t knows step is =
     let work = step.1.step.1.0 in
     let may : ServerMay s.server (at_server s) (server_rules.Serves work.session work.work) = subst (ServerMay s.server (at_server s)) work.rule (server_may s.server (at_server s)) in
     server_works s step.0 (Moved unit fault) t may.0 (moves_lowers s.server (at_server s) _ unit fault t.server t.memory work) step.1
-works s (Stored operation block count failed) t sound stands step is =
+works s l (Stored operation block count failed) t knows step is =
     let work = step.1.step.1.0 in
     let may : ServerMay s.server (at_server s) (server_rules.Serves work.session work.work) = subst (ServerMay s.server (at_server s)) work.rule (server_may s.server (at_server s)) in
     server_works s step.0 (Stored operation block count failed) t may.0 (stores_lowers s.server (at_server s) operation block count failed step.0 t.server work) step.1
-works s (Finished slot status) t sound stands step is =
+works s l (Finished slot status) t knows step is =
     let work = step.1.step.1.0 in
     let may : ServerMay s.server (at_server s) (server_rules.Serves work.session work.work) = subst (ServerMay s.server (at_server s)) work.rule (server_may s.server (at_server s)) in
-    server_works s step.0 (Finished slot status) t may.0 (finishes_lowers s.server (at_server s) _ slot status t.server t.memory stands.fit work) step.1
-works s Misplaced t sound stands step is = absurd step
+    server_works s step.0 (Finished slot status) t may.0 (finishes_lowers s.server (at_server s) _ slot status t.server t.memory (fit_of s l knows) work) step.1
+works s l Misplaced t knows step is = absurd step
 
-pub step_falls : (s : LaneState) (event : DiskEvent) (t : LaneState) → ClientSound s.client → ServerSound s.server → StepsStand s → LaneStep s event t → TakesNothing event
-    → remaining t + 1 ≤ remaining s
-step_falls s (OnWire event) t client_sound server_sound stands step is = on_wire s event t client_sound server_sound stands step is
-step_falls s (Works event) t client_sound server_sound stands step is = works s event t client_sound stands step is
-step_falls s _ t client_sound server_sound stands step is = absurd is
+pub step_falls : (s : LaneState) (l : DiskLog) (event : DiskEvent) (t : LaneState) → Knows s l → LaneStep s event t → TakesNothing event → remaining t + 1 ≤ remaining s
+step_falls s l (OnWire event) t knows step is = on_wire s l event t knows step is
+step_falls s l (Works event) t knows step is = works s l event t knows step is
+step_falls s l _ t knows step is = absurd is

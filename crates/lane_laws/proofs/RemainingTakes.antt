@@ -1,6 +1,6 @@
 -- A packet that is taken lowers what remains, where the end that takes it has no more to put than before, and a server is asked for what
 -- its client announced.
-use Rattle.std.proofs.Common.{◌≡◌, ℕ, ◌+◌, ◌-◌, ◌*◌, ◌≤◌, Bool, Some, List, [], ◌∷◌, length, drop, sym, ap, subst, arith, inl, inr, length-drop}
+use Rattle.std.proofs.Common.{◌≡◌, ℕ, ◌+◌, ◌-◌, ◌*◌, ◌≤◌, Bool, Some, List, [], ◌∷◌, length, drop, ap, subst, arith, inl, inr, length-drop}
 use Rattle.std.specs.Prelude.{slice_get}
 use Rattle.ldc_queue.specs.declared.end.ChannelState.{ChannelState}
 use Rattle.ldc_queue.specs.declared.end.ChannelState.TheVariants.{Down, Up, Resetting}
@@ -10,22 +10,17 @@ use Rattle.channel_model.specs.WireEvent.{Took}
 use Rattle.channel_model.specs.WireLog.{wire_moved}
 use Rattle.disk_model.specs.ClientRule as client_rules
 use Rattle.disk_model.specs.ClientState.{ClientState}
-use Rattle.disk_model.specs.DiskEvent.{DiskEvent, OnWire}
+use Rattle.disk_model.specs.DiskEvent.{OnWire}
 use Rattle.disk_model.specs.LaneState.{LaneState}
 use Rattle.disk_model.specs.LaneStep.{LaneStep}
 use Rattle.disk_model.specs.ServerRule as server_rules
 use Rattle.disk_model.specs.ServerState.{ServerState}
-use Rattle.lane_laws.proofs.RemainingClientHears.{client_hears}
 use Rattle.lane_laws.proofs.RemainingClientPuts.{ClientLowers}
-use Rattle.lane_laws.proofs.RemainingLane.{asked_same, at_client, at_server, client_falls, falls_is, left}
-use Rattle.lane_laws.proofs.RemainingServerTurns.{server_turns}
-use Rattle.lane_laws.proofs.RemainingSums.{second_less}
+use Rattle.lane_laws.proofs.RemainingLane.{asked_same, at_client, at_server, client_falls, falls_is, left, second_less}
 use Rattle.lane_laws.proofs.Ruling.{client_may, server_may}
 use Rattle.lane_laws.specs.Remaining.{absent, asked_by, asked_in, client_left, client_packets, remaining, requests_left, second_life, server_left, server_packets, serving_left, total}
-use Rattle.lane_laws.specs.RemainingSteps.{ClientHears, ServerHears, ServerIsAsked, ServerTurn, TakesInTurn, total_at}
-use Rattle.lane_laws.specs.RemainingTurn.{ClientInTurn, ServerInTurn}
+use Rattle.lane_laws.specs.RemainingSteps.{ServerHears, ServerIsAsked, ServerTurn, total_at}
 use Rattle.lane_laws.specs.RuleFacts.{ClientMay, ServerMay}
-use Rattle.lane_laws.specs.LinkMoves.{IsAsking}
 
 -- a packet that waits is one more
 pub first_gone : (packet : List ℕ) (packets : List (List ℕ)) → slice_get packets 0 ≡ Some packet → length (drop 1 packets) + 1 ≡ length packets
@@ -33,21 +28,9 @@ first_gone packet [] is = absurd (cc)
 first_gone packet (one ∷ packets) is = omega (arith, length-drop 1 (one ∷ packets))
 
 -- THE CLIENT
-hears_lowers : (c t : ClientState) → ClientHears c t → ClientLowers 0 c t
-hears_lowers c t hears = record {
-  pending = omega (arith, hears.pending);
-  lowers = λ asked. sums (client_packets t) (client_packets c) (requests_left (length t.pending) t.session) (requests_left (length c.pending) c.session)
-      (total (length t.pending) t.session) (total (length c.pending) c.session) asked hears.packets hears.requests hears.all;
-}
-  where
-    sums : (few many less more one other asked : ℕ) → few ≤ many → less ≡ more → one ≡ other → 2 * few + less + 12 * (one - asked) + 0 ≤ 2 * many + more + 12 * (other - asked)
-    sums few many less more one other asked packets requests all =
-        subst (λ (n : ℕ). 2 * few + less + 12 * (n - asked) + 0 ≤ 2 * many + more + 12 * (other - asked)) (sym all) (omega (arith, packets, requests))
-
-client_took : (w : Wire) (lossy : Bool) (c t : ClientState) (v : ServerState) (packet : List ℕ) → w.end_a ≡ Up → slice_get w.to_a 0 ≡ Some packet → ClientHears c t
+client_took : (w : Wire) (lossy : Bool) (c t : ClientState) (v : ServerState) (packet : List ℕ) → w.end_a ≡ Up → slice_get w.to_a 0 ≡ Some packet → ClientLowers 0 c t
     → left (taken_for A w) lossy t v + 1 ≤ left w lossy c v
-client_took w lossy c t v packet up first hears =
-    let lower = hears_lowers c t hears in
+client_took w lossy c t v packet up first lower =
     sums (absent w.end_a + absent w.end_b) (length (drop 1 w.to_a)) (length w.to_a) (length w.to_b) (client_left w.end_a (asked_by w.end_b v) t)
     (client_left w.end_a (asked_by w.end_b v) c) (server_left w.end_b v) (second_life lossy (length t.pending)) (second_life lossy (length c.pending))
     (first_gone packet w.to_a first) (client_falls w.end_a (asked_by w.end_b v) c t 0 up lower) (second_less lossy (length t.pending) (length c.pending) lower.pending)
@@ -103,26 +86,16 @@ server_took w lossy c v u packet up first (inl hears) = server_hears w lossy c v
 server_took w lossy c v u packet up first (inr asks) = server_is_asked w lossy c v u packet asks.0 up first asks.1
 
 -- THE LANE
-pub took_falls : (s : LaneState) (event : DiskEvent) (t : LaneState) → LaneStep s event t → TakesInTurn s event t → remaining t + 1 ≤ remaining s
-took_falls s (OnWire (Took A packet opens)) t step turn =
+pub client_took_falls : (s : LaneState) (packet : List ℕ) (opens : Bool) (t : LaneState) → ClientLowers 0 s.client t.client → LaneStep s (OnWire (Took A packet opens)) t
+    → remaining t + 1 ≤ remaining s
+client_took_falls s packet opens t lower step =
     let may : ClientMay s.client (at_client s) (client_rules.Takes packet) = subst (ClientMay s.client (at_client s)) step.step.0 (client_may s.client (at_client s)) in
     falls_is s t (record s { wire = wire_moved s.wire (Took A packet opens); client = t.client; memory = t.memory; near = s.near }) step.is
-    (client_took s.wire.wire s.wire.lossy s.client t.client s.server packet may.0 may.1 turn)
-took_falls s (OnWire (Took B packet opens)) t step turn =
+    (client_took s.wire.wire s.wire.lossy s.client t.client s.server packet may.0 may.1 lower)
+
+pub server_took_falls : (s : LaneState) (packet : List ℕ) (opens : Bool) (t : LaneState) → ServerTurn (total_at s.wire.wire.end_a s.client) s.server t.server
+    → LaneStep s (OnWire (Took B packet opens)) t → remaining t + 1 ≤ remaining s
+server_took_falls s packet opens t turn step =
     let may : ServerMay s.server (at_server s) (server_rules.Takes packet) = subst (ServerMay s.server (at_server s)) step.1.step.1.0 (server_may s.server (at_server s)) in
     falls_is s t (record s { wire = wire_moved s.wire (Took B packet opens); server = t.server; memory = t.memory; near = s.near }) step.1.is
     (server_took s.wire.wire s.wire.lossy s.client s.server t.server packet may.0 may.1 turn)
-took_falls s _ t step turn = absurd turn
-
--- a packet that the client takes, where what it owes after it is in turn
-pub client_took_falls : (s : LaneState) (packet : List ℕ) (opens : Bool) (t : LaneState) → IsAsking s.client.link.phase → ClientInTurn s.client t.client
-    → LaneStep s (OnWire (Took A packet opens)) t → remaining t + 1 ≤ remaining s
-client_took_falls s packet opens t asking turn step =
-    took_falls s (OnWire (Took A packet opens)) t step (client_hears s.client (at_client s) packet t.client asking step.step.0 turn step.step.1)
-
--- and one that the server takes
-pub server_took_falls : (s : LaneState) (packet : List ℕ) (opens : Bool) (t : LaneState)
-    → ServerInTurn (total_at s.wire.wire.end_a s.client) opens packet s.server t.server → LaneStep s (OnWire (Took B packet opens)) t → remaining t + 1 ≤ remaining s
-server_took_falls s packet opens t turn step =
-    took_falls s (OnWire (Took B packet opens)) t step
-    (server_turns (total_at s.wire.wire.end_a s.client) s.server (at_server s) packet t.server opens step.1.step.1.0 turn step.1.step.1.1)

@@ -12,10 +12,9 @@ use Rattle.disk_model.specs.ClientStep.{ClientCompletes, ClientPublishes, Client
 use Rattle.disk_model.specs.ClientTaking.{ClientTakes, GoesOn}
 use Rattle.channel_model.specs.EndPuts.{ComesUp, EndsOwn, EndsHandshake, Goes, PutKind, put_opens}
 use Rattle.channel_model.specs.Seeing.{Seen}
-use Rattle.lane_laws.proofs.ClientHearing.{by_link}
+use Rattle.lane_laws.proofs.ClientHearing.{took_by}
 use Rattle.lane_laws.proofs.Ruling.{client_may}
 use Rattle.lane_laws.specs.RuleFacts.{ClientMay}
-use Rattle.lane_laws.specs.Sound.{ClientSound}
 use Rattle.lane_laws.specs.Standing.{RequestsStand, SessionStands}
 
 -- its requests stay, and so does what its session counts, or it opens at the first that isn't done
@@ -32,10 +31,10 @@ stays_kept c = record { pending = refl; next = refl; blocks = refl; slots = refl
 pub joined_kept : (c : ClientState) → KeepsRequests c (joined_client c)
 joined_kept c = record { pending = refl; next = refl; blocks = refl; slots = refl; session = λ done first stands. tt }
 
-pub took_kept : (c : ClientState) (packet : List ℕ) (t : ClientState) → ClientSound c → ClientTakes c packet (GoesOn t) → KeepsRequests c t
-took_kept c packet t sound takes =
-    let by = by_link c packet takes.link t sound takes.takes takes.hears in
-    record { pending = by.2.pending; next = by.2.next; blocks = by.2.blocks; slots = by.2.slots; session = λ done first stands. by.2.keeps done stands }
+pub took_kept : (c : ClientState) (packet : List ℕ) (t : ClientState) → ClientTakes c packet (GoesOn t) → KeepsRequests c t
+took_kept c packet t takes =
+    let by = took_by c packet t takes in
+    record { pending = by.pending; next = by.next; blocks = by.blocks; slots = by.slots; session = λ done first stands. by.keeps done stands }
 
 -- a session after a packet that was put
 announced_stands : (done : ℕ) (session : Option ClientSession) → SessionStands done session → SessionStands done (announced session)

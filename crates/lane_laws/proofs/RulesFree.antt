@@ -1,9 +1,9 @@
--- What more is known where a rule is an end's next step: that its link holds nothing, that nothing is owed, and how its range stands.
+-- What more is known where a rule is an end's next step: that its link holds nothing, that nothing is owed or urgent, and how its range stands.
 use Rattle.std.proofs.Common.{◌≡◌, ℕ, ◌-◌, ◌⊎◌, Bool, true, false, Option, Some, None, List, refl, sym, ◌∙◌, inl, inr, subst}
-use Rattle.std.specs.Prelude.{if◌then◌else◌, nat_lt, slice_get, ◌==◌, ⊤}
+use Rattle.std.specs.Prelude.{◌&&◌, ◌||◌, if◌then◌else◌, is_none, is_some, nat_lt, slice_get, ◌==◌, ⊤}
 use Rattle.std.proofs.lemmas.Bool.{eqb-true}
 use Rattle.cookie_copy.specs.Faults.{is_up}
-use Rattle.ldc_link.specs.Putting.{owes}
+use Rattle.ldc_link.specs.Putting.{owes, owes_control}
 use Rattle.vdisk_msg.specs.declared.request.Request.{Request}
 use Rattle.vio_tag.specs.declared.message.Message.{Message}
 use Rattle.disk_model.specs.ClientRule as client
@@ -12,10 +12,11 @@ use Rattle.channel_model.specs.Seeing.{Seen}
 use Rattle.disk_model.specs.ServerRule as server
 use Rattle.disk_model.specs.ServerState.{ServerSession, ServerState, SlotRange, Work}
 
--- THE CLIENT publishes only where its link holds nothing, and puts a packet where it owes one
+-- THE CLIENT publishes only where its link holds nothing, puts a packet where it owes one, and takes one where nothing is urgent
 abbrev PublishesFree : ClientState → client.ClientRule → Type 0
 PublishesFree s (client.Publishes session request) = owes s.link ≡ false
 PublishesFree s client.Puts = owes s.link ≡ true
+PublishesFree s (client.Takes packet) = client.is_urgent s ≡ false
 PublishesFree s _ = ⊤
 
 announces_free : (s : ClientState) (session : ClientSession) (b : Bool) → PublishesFree s (if b then client.Announces session else client.Idles)
@@ -38,20 +39,21 @@ puts_free : (s : ClientState) (b : Bool) → owes s.link ≡ b → PublishesFree
 puts_free s true is = is
 puts_free s false is = says_free s s.handshake.owed is
 
-takes_free : (s : ClientState) (first : Option (List ℕ)) → PublishesFree s (client.takes_first first (client.puts_first s))
-takes_free s None = puts_free s (owes s.link) refl
-takes_free s (Some packet) = tt
+takes_free : (s : ClientState) (first : Option (List ℕ)) → client.is_urgent s ≡ false → PublishesFree s (client.takes_first first (client.puts_first s))
+takes_free s None calm = puts_free s (owes s.link) refl
+takes_free s (Some packet) calm = calm
 
-urgent_free : (s : ClientState) (at : Seen) (b : Bool) → PublishesFree s (if b then client.puts_first s else client.takes_first at.first (client.puts_first s))
-urgent_free s at true = puts_free s (owes s.link) refl
-urgent_free s at false = takes_free s at.first
+urgent_free : (s : ClientState) (at : Seen) (b : Bool) → client.is_urgent s ≡ b
+    → PublishesFree s (if b then client.puts_first s else client.takes_first at.first (client.puts_first s))
+urgent_free s at true is = puts_free s (owes s.link) refl
+urgent_free s at false is = takes_free s at.first is
 
 completes_if : (s : ClientState) (at : Seen) (session : ClientSession) (b : Bool) → PublishesFree s (if b then client.Completes session else client.puts_or_takes s at)
 completes_if s at session true = tt
-completes_if s at session false = urgent_free s at (client.is_urgent s)
+completes_if s at session false = urgent_free s at (client.is_urgent s) refl
 
 completes_free : (s : ClientState) (at : Seen) (open_one : Option ClientSession) → PublishesFree s (client.completes_first open_one (client.puts_or_takes s at))
-completes_free s at None = urgent_free s at (client.is_urgent s)
+completes_free s at None = urgent_free s at (client.is_urgent s) refl
 completes_free s at (Some session) = completes_if s at session (nat_lt session.completed session.acked)
 
 up_free : (s : ClientState) (at : Seen) (b : Bool) → PublishesFree s (if b then client.completes_first s.session (client.puts_or_takes s at) else client.Joins)
@@ -63,6 +65,22 @@ publishes_free s at session request rule = subst (PublishesFree s) rule (up_free
 
 pub puts_owe : (s : ClientState) (at : Seen) → client.client_rule s at ≡ client.Puts → owes s.link ≡ true
 puts_owe s at rule = subst (PublishesFree s) rule (up_free s at (is_up at.state))
+
+pub takes_calm : (s : ClientState) (at : Seen) (packet : List ℕ) → client.client_rule s at ≡ client.Takes packet → client.is_urgent s ≡ false
+takes_calm s at packet rule = subst (PublishesFree s) rule (up_free s at (is_up at.state))
+
+middle_false : (a b c : Bool) → (a || b || c) ≡ false → b ≡ false
+middle_false true b c is = absurd (cc is)
+middle_false false true c is = absurd (cc is)
+middle_false false false c is = refl
+
+nothing_owed : (owed : Option Message) → is_some owed ≡ false → owed ≡ None
+nothing_owed None is = refl
+nothing_owed (Some message) is = absurd (cc is)
+
+pub owes_nothing : (s : ClientState) (at : Seen) (packet : List ℕ) → client.client_rule s at ≡ client.Takes packet → s.handshake.owed ≡ None
+owes_nothing s at packet rule =
+    nothing_owed s.handshake.owed (middle_false (owes_control s.link) (is_some s.handshake.owed) (is_none s.session && owes s.link) (takes_calm s at packet rule))
 
 -- THE SERVER answers a range whose descriptors are all finished, and serves one that isn't
 pub record ServesFree (s : ServerState) (session : ServerSession) : Type 0 where

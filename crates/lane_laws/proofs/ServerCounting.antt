@@ -10,7 +10,6 @@ use Rattle.vio_handshake.specs.declared.handshake.Handshake.{Handshake}
 use Rattle.vio_handshake.specs.declared.handshake.Phase.{Phase}
 use Rattle.vio_handshake.specs.declared.handshake.Phase.TheVariants.{Open}
 use Rattle.vio_handshake.specs.declared.session.Offer.{Offer}
-use Rattle.vio_handshake.specs.Rules.{HandshakeTake, handshake_take}
 use Rattle.vio_handshake.specs.State.{handshake_up}
 use Rattle.channel_model.specs.Sayings.{half_heard, half_said, heard, said}
 use Rattle.lane_laws.specs.Agreement.{ServerAgrees, ServerCountsAgree, WorkAgrees}
@@ -21,19 +20,20 @@ use Rattle.disk_model.specs.LaneState.{Shape}
 use Rattle.disk_model.specs.Offering.{server_offer}
 use Rattle.channel_model.specs.Ranges.{range_length, wrapped}
 use Rattle.disk_model.specs.ServerState.{ServerSession, ServerState, SlotRange, Work, joined_server, restarted_server}
-use Rattle.lane_laws.proofs.ClientTaken.{HearsMessage, HandshakesTo}
-use Rattle.lane_laws.proofs.Awake.{up_empty}
-use Rattle.lane_laws.proofs.Fitting.{TakesFit, joined_fits, take_fits, up_fits}
+use Rattle.channel_laws.specs.Grounds.{has_named}
+use Rattle.lane_laws.proofs.ClientTaken.{HearsMessage}
+use Rattle.channel_laws.proofs.EndStanding.{open_declines, up_empty}
+use Rattle.channel_laws.proofs.HandshakeCases.{HandshakeTook, opens_row}
+use Rattle.channel_laws.proofs.HandshakeFitting.{joined_fits, row_fits, up_fits}
 use Rattle.lane_laws.proofs.RangeSums.{count_more, ready_more, sum_heard, sum_more}
-use Rattle.lane_laws.proofs.RangesSaid.{IsNoData, heard_no_range, heard_one, heard_range, ready_heard}
+use Rattle.lane_laws.proofs.RangesSaid.{IsNoData, heard_no_range, heard_one, heard_range, no_data, ready_heard}
 use Rattle.lane_laws.proofs.RulesFree.{TakesFree}
 use Rattle.lane_laws.proofs.ServerTaken.{ServerAsked, ServerHearsPart, ServerHandshakes, ServerTook, still}
-use Rattle.lane_laws.proofs.HandshakesOpen.{no_data, opens_not_open, opens_ready}
 use Rattle.lane_laws.specs.Budget.{one_range}
 use Rattle.lane_laws.specs.Counted.{HoldsEither, NothingAsked, RangeStands, ServerCounted, ServerHolds, ServerOrder, is_ready, one_where, range_count, range_sum, ready_count}
 use Rattle.vio_tag.specs.declared.message.Message.{Message}
 use Rattle.lane_laws.specs.LaneRests.{ServerRests, ServerUtters}
-use Rattle.lane_laws.specs.HandshakeFits.{Fits, RingFits}
+use Rattle.channel_laws.specs.HandshakeFits.{HandshakeFits}
 
 -- IT BEGINS
 pub server_begins_counting : (shape : Shape) (v : ServerState) (turns : List Turn) (d : Option ServerCounts) → ServerCounted shape v turns d → ServerCounted shape (joined_server v) [] None
@@ -56,7 +56,7 @@ server_restarts_counting shape v turns d counted = record {
     role_is = refl;
     offer_is = ap (λ (n : ℕ). server_offer n v.slots) counted.blocks ∙ ap (server_offer shape.blocks) counted.slots;
     owed = tt;
-    ring = tt;
+    ring = λ takes named. absurd (cc named);
   };
   holds = λ some. absurd (omega (arith, some));
   order = record { asked = refl; answered = refl; infos = refl };
@@ -111,7 +111,7 @@ abbrev Behind : Shape → List Turn → List ℕ → ℕ → Option ServerCounts
 Behind shape turns packet sid d opens t = ServerCounted shape t (Heard_ packet ∷ turns) (opened_counts opens sid (asks_more shape turns packet d))
 
 -- IT TAKES a packet: a part of a message, or one of its link's handshake, with which the link may come up
-fits_risen : (b c : Bool) (offer : Offer) (h : Handshake) → Fits Responder offer h → Fits Responder offer (if b && not c then handshake_up h else h)
+fits_risen : (b c : Bool) (offer : Offer) (h : Handshake) → HandshakeFits Responder offer h → HandshakeFits Responder offer (if b && not c then handshake_up h else h)
 fits_risen true true offer h fits = fits
 fits_risen true false offer h fits = up_fits Responder offer h fits
 fits_risen false c offer h fits = fits
@@ -153,9 +153,8 @@ takes_part shape v t turns packet sid d opens utters counted part =
     }))
 
 -- a message of the handshake: its session may open by it
-fits_to : (offer : Offer) (h g : Handshake) (answer : HandshakeTake) (opens : Bool) → HandshakesTo h answer opens g → TakesFit Responder offer answer → Fits Responder offer g
-fits_to offer h g answer false is fits = subst (TakesFit Responder offer) is fits
-fits_to offer h g answer true is fits = subst (TakesFit Responder offer) is fits
+opens_closed : (h g : Handshake) (message : Message) → h.phase ≡ Open → HandshakeTook h message g true → ⊥
+opens_closed h g message is took = let never : true ≡ false = (open_declines h g message true is took.row).1 in cc never
 
 closed : (o : Option ServerSession) (phase : Phase) → (is_some o ≡ true → phase ≡ Open) → (phase ≡ Open → ⊥) → o ≡ None
 closed None phase opened never = refl
@@ -190,7 +189,7 @@ takes_handshake : (opens : Bool) (shape : Shape) (v t : ServerState) (turns : Li
     → ServerCounted shape v turns d → ServerHandshakes v turns packet t opens → Behind shape turns packet sid d opens t
 takes_handshake false shape v t turns packet sid d rests free counted handshakes =
     let bytes = handshakes.hears.bytes in
-    let apart : IsNoData handshakes.message.body = no_data v.handshake handshakes.message false handshakes.handshake handshakes.takes in
+    let apart : IsNoData handshakes.message.body = no_data v.handshake handshakes.handshake handshakes.message false handshakes.took in
     let empty : v.link.to_send ≡ [] = up_empty v.link handshakes.up free.free in
     let same : range_sum shape.slots 1 (heard (Heard_ packet ∷ turns)) ≡ range_sum shape.slots 1 (heard turns) =
     omega (
@@ -204,8 +203,7 @@ takes_handshake false shape v t turns packet sid d rests free counted handshakes
     subst (Behind shape turns packet sid d false) (sym handshakes.is) (record {
       slots = counted.slots;
       blocks = counted.blocks;
-      handshake = fits_to (server_offer shape.blocks shape.slots) v.handshake handshakes.handshake (handshake_take v.handshake handshakes.message) false handshakes.takes
-          (take_fits Responder (server_offer shape.blocks shape.slots) v.handshake handshakes.message free.owed counted.handshake);
+      handshake = row_fits Responder (server_offer shape.blocks shape.slots) v.handshake handshakes.handshake handshakes.message false free.owed counted.handshake handshakes.took.row;
       holds = λ some. absurd (omega (arith, some, ap length handshakes.left, ap length empty));
       order = order_same shape v.session d turns packet same as_many counted.order;
       unit = counted.unit;
@@ -214,17 +212,16 @@ takes_handshake false shape v t turns packet sid d rests free counted handshakes
     })
 takes_handshake true shape v t turns packet sid d rests free counted handshakes =
     let bytes = handshakes.hears.bytes in
-    let apart : IsNoData handshakes.message.body = no_data v.handshake handshakes.message true handshakes.handshake handshakes.takes in
+    let apart : IsNoData handshakes.message.body = no_data v.handshake handshakes.handshake handshakes.message true handshakes.took in
     let empty : v.link.to_send ≡ [] = up_empty v.link handshakes.up free.free in
-    let none : v.session ≡ None = closed v.session v.handshake.phase rests.opened (λ (now : v.handshake.phase ≡ Open). opens_not_open v.handshake handshakes.message handshakes.handshake now handshakes.takes) in
+    let none : v.session ≡ None = closed v.session v.handshake.phase rests.opened (λ (now : v.handshake.phase ≡ Open). opens_closed v.handshake handshakes.handshake handshakes.message now handshakes.took) in
     let nothing = nothing_asked shape.slots v.session d turns none counted.order in
-    let is = opens_ready v.handshake handshakes.message handshakes.handshake handshakes.takes in
-    let readies : one_where (is_ready bytes) ≡ 1 = ap one_where (ready_heard bytes handshakes.message handshakes.hears.spells is.0 is.1) in
+    let is = (opens_row v.handshake handshakes.handshake handshakes.message handshakes.took.row).1 in
+    let readies : one_where (is_ready bytes) ≡ 1 = ap one_where (ready_heard bytes handshakes.message handshakes.hears.spells (ap (λ (m : Message). m.subtype) is) (ap (λ (m : Message). m.body) is)) in
     subst (Behind shape turns packet sid d true) (sym handshakes.is) (record {
       slots = counted.slots;
       blocks = counted.blocks;
-      handshake = fits_to (server_offer shape.blocks shape.slots) v.handshake handshakes.handshake (handshake_take v.handshake handshakes.message) true handshakes.takes
-          (take_fits Responder (server_offer shape.blocks shape.slots) v.handshake handshakes.message free.owed counted.handshake);
+      handshake = row_fits Responder (server_offer shape.blocks shape.slots) v.handshake handshakes.handshake handshakes.message true free.owed counted.handshake handshakes.took.row;
       holds = λ some. absurd (omega (arith, some, ap length handshakes.left, ap length empty));
       order = record {
         asked = omega (
@@ -310,7 +307,7 @@ asked_agrees (Some s) w (Some c) session next range n added is same adds agrees 
 pub own_slots : (shape : Shape) (v : ServerState) (turns : List Turn) (d : Option ServerCounts) → ServerRests v turns → is_some v.session ≡ true → ServerCounted shape v turns d
     → v.handshake.draft.peer_slots ≡ shape.slots
 own_slots shape v turns d rests now counted =
-    subst (λ (p : Phase). RingFits Responder p v.handshake.draft (server_offer shape.blocks shape.slots)) (rests.opened now) counted.handshake.ring
+    counted.handshake.ring refl (ap (has_named Responder) (rests.opened now))
 
 takes_ask : (shape : Shape) (v t : ServerState) (turns : List Turn) (packet : List ℕ) (sid : ℕ) (d : Option ServerCounts) (opens : Bool) → ServerRests v turns → TakesFree v
     → ServerCounted shape v turns d → ServerAsked v turns packet t opens → Behind shape turns packet sid d opens t
@@ -362,5 +359,5 @@ server_takes_counting shape v t turns packet sid d opens rests utters free count
 pub opens_new : (v t : ServerState) (turns : List Turn) (packet : List ℕ) → ServerRests v turns → ServerTook v turns packet t true → v.session ≡ None
 opens_new v t turns packet rests (inl part) = let never : true ≡ false = part.opens_is in absurd (cc)
 opens_new v t turns packet rests (inr (inl handshakes)) =
-    closed v.session v.handshake.phase rests.opened (λ (now : v.handshake.phase ≡ Open). opens_not_open v.handshake handshakes.message handshakes.handshake now handshakes.takes)
+    closed v.session v.handshake.phase rests.opened (λ (now : v.handshake.phase ≡ Open). opens_closed v.handshake handshakes.handshake handshakes.message now handshakes.took)
 opens_new v t turns packet rests (inr (inr asks)) = let never : true ≡ false = asks.opens_is in absurd (cc)

@@ -4,7 +4,6 @@ use Rattle.std.specs.Prelude.{is_none, is_some, ◌==◌}
 use Rattle.std.proofs.lemmas.Bool.Decides.{nat_tests}
 use Rattle.ldc_link.specs.declared.phase.Role.{Role}
 use Rattle.ldc_link.specs.declared.phase.Role.TheVariants.{Responder}
-use Rattle.ldc_link.specs.Following.{Follows}
 use Rattle.ldc_queue.specs.Transcript.{Said, Turn}
 use Rattle.vdisk_msg.specs.Descriptor.{disk_desc_of}
 use Rattle.vdisk_msg.specs.Pieces.{pieces}
@@ -23,11 +22,10 @@ use Rattle.disk_model.specs.ServerState.{Ends, Progress, ServerSession, ServerSt
 use Rattle.disk_model.specs.ServerStep.{ServerFetches, ServerFinishes, ServerSends}
 use Rattle.cookie_copy.specs.Reach.{Reach}
 use Rattle.disk_model.specs.ServerWork.{desc_of, first_progress}
-use Rattle.lane_laws.proofs.EndPutting.{PutSays, put_says}
+use Rattle.channel_laws.proofs.PutSayings.{PutSays, put_says}
 use Rattle.lane_laws.proofs.RulesFree.{ServerFree, server_free}
 use Rattle.lane_laws.proofs.ServerPutCounting.{answers_more, comes_counting, goes_counting, own_counting, put_as, server_holds_counting, handshake_counting}
-use Rattle.lane_laws.proofs.HeldLinks.{held_server as held_link}
-use Rattle.lane_laws.proofs.Speaking.{server_blocked_utters}
+use Rattle.lane_laws.proofs.Speaking.{server_blocked_rests, server_blocked_utters}
 use Rattle.lane_laws.proofs.ServerWorkCounting.{begins_owing, first_unit, holds_none}
 use Rattle.lane_laws.specs.Budget.{one_range}
 use Rattle.lane_laws.specs.Counted.{RangeStands, ServerCounted, ServerOrder}
@@ -173,12 +171,13 @@ never_opens EndsOwn h is = refl
 never_opens EndsHandshake h is = responder_never h.role h.phase is
 
 pub server_puts_counting : (shape : Shape) (v : ServerState) (at : Seen) (packet : List ℕ) (opens : Bool) (t : ServerState) (turns : List Turn) (d : Option ServerCounts) → shape.slots ≤ 256
-    → Follows v.link turns → ServerSends v at packet opens t → ServerRests v turns → ServerUtters v turns → ServerCounted shape v turns d
+    → ServerSends v at packet opens t → ServerRests v turns → ServerUtters v turns → ServerCounted shape v turns d
     → ServerCounted shape t (Said packet ∷ turns) (answers_more shape turns packet d) × (opens ≡ false)
-server_puts_counting shape v at packet opens t turns d few follows sends rests utters counted =
+server_puts_counting shape v at packet opens t turns d few sends rests utters counted =
     let held : ServerCounted shape sends.held turns d = server_holds_counting shape v (server_rule v at) sends.held turns d rests utters (server_free v at) sends.holds counted in
     let held_utters = server_blocked_utters v at sends.held turns sends.holds rests in
-    let says = put_says (is_none sends.held.handshake.owed) sends.held.link t.link turns packet (held_link v (server_rule v at) sends.held turns sends.holds follows) sends.packet in (
+    let follows = (server_blocked_rests v at sends.held turns sends.holds rests).stands.link.follows in
+    let says = put_says (is_none sends.held.handshake.owed) sends.held.link t.link turns packet follows sends.packet in (
       subst (λ (x : ServerState). ServerCounted shape x (Said packet ∷ turns) (answers_more shape turns packet d)) (sym sends.is)
           (put_counting (server_kind sends.held) shape sends.held turns packet d few held_utters says held),
       sends.opens_is ∙ never_opens (server_kind sends.held) sends.held.handshake held.handshake.role_is,

@@ -24,19 +24,19 @@ use Rattle.disk_model.specs.ServerState.{ServerSession, ServerState, SlotRange, 
 use Rattle.disk_model.specs.ServerStep.{ServerFetches, ServerFinishes, ServerMoves, ServerStores}
 use Rattle.cookie_copy.specs.Reach.{Reach}
 use Rattle.lane_laws.proofs.ClientFolds.{LinkIs, link_begins, link_hears, link_puts, link_stuck, owes_up}
-use Rattle.lane_laws.proofs.EndPutting.{PutSays}
-use Rattle.lane_laws.proofs.Awake.{is_awake, is_open_up}
+use Rattle.channel_laws.proofs.PutSayings.{PutSays}
+use Rattle.channel_laws.proofs.EndStanding.{open_up, owing_up}
 use Rattle.channel_laws.proofs.TurnCases.{heard_none, heard_some, said_none, said_some}
-use Rattle.lane_laws.proofs.HandshakesOpen.{no_data}
 use Rattle.channel_laws.proofs.EndStanding.{SameSending}
-use Rattle.lane_laws.proofs.RangesSaid.{heard_no_range, is_data, owed_no_range, range_is}
+use Rattle.lane_laws.proofs.RangesSaid.{heard_no_range, is_data, no_data, owed_no_range, range_is}
 use Rattle.lane_laws.proofs.RulesFree.{AnswersFree, ServerFree, TakesFree, server_free}
 use Rattle.lane_laws.proofs.ServerCounting.{opens_new}
 use Rattle.lane_laws.proofs.ServerPutCounting.{put_as, some_owed, the_answer}
-use Rattle.lane_laws.proofs.ServerTaken.{ServerTook, opened_or}
+use Rattle.lane_laws.proofs.ServerAnswers.{opened_or}
+use Rattle.lane_laws.proofs.ServerTaken.{ServerTook}
 use Rattle.channel_laws.proofs.Short.{some_bytes}
 use Rattle.lane_laws.specs.Counted.{HoldsAnswer, HoldsOwed, ServerHolds}
-use Rattle.lane_laws.specs.HandshakeFits.{MayOwe, OwedFits}
+use Rattle.channel_laws.specs.HandshakeFits.{MayOwe, OwedFits}
 use Rattle.lane_laws.specs.LaneRests.{ServerRests, ServerUtters}
 use Rattle.lane_laws.specs.ChannelEnds.{server_core}
 
@@ -105,7 +105,7 @@ server_takes_so s t turns packet opens b taking rests is (inr (inl took)) =
     takes_by s t turns packet b taking is (λ up. ap (λ (x : ServerState). is_up x.link) took.is ∙ took.stays)
     (ap (λ (x : ServerState). ranged x.session) took.is ∙ opened_none opens s.session new ∙ is.range
     ∙ heard_same turns packet (Some took.hears.bytes) (heard_some turns packet took.hears.bytes took.hears.messages)
-    (heard_no_range 1 took.hears.bytes took.message took.hears.spells took.hears.form (no_data s.handshake took.message opens took.handshake took.takes)))
+    (heard_no_range 1 took.hears.bytes took.message took.hears.spells took.hears.form (no_data s.handshake took.handshake took.message opens took.took)))
 server_takes_so s t turns packet opens b taking rests is (inr (inr asks)) =
     let fields : SpellsBody asks.hears.bytes (DringData asks.range.seq asks.ident asks.range.start asks.range.end asks.range.state) =
     subst (SpellsBody asks.hears.bytes) asks.body_is asks.hears.spells.body in
@@ -163,8 +163,8 @@ held_is : (one other : ServerState) (turns : List Turn) (b : Blockage) → Some 
 held_is one other turns b same is = let mine : one ≡ other = cc same in subst (λ (x : ServerState). ServerIs x turns b) mine is
 
 says_up : (v : ServerState) (turns : List Turn) (message : Message) → Blocking v turns → (v.handshake.owed ≡ Some message) ⊎ AnswersFree v message → is_up v.link ≡ true
-says_up v turns message known (inl owed) = is_awake (server_core v) turns message owed known.utters
-says_up v turns message known (inr a) = is_open_up Responder (server_core v) turns known.rests (ap is_some a.session_is)
+says_up v turns message known (inl owed) = owing_up Responder (server_core v) turns message known.rests.stands owed
+says_up v turns message known (inr a) = open_up Responder (server_core v) turns known.rests.stands (ap is_some a.session_is)
 
 pub server_blocks_so : (s : ServerState) (rule : ServerRule) (t : ServerState) (turns : List Turn) (b : Blockage) → ServerFree s rule → server_holds rule s ≡ Some t → Blocking s turns
     → ServerIs s turns b → ServerIs t turns (stuck b)

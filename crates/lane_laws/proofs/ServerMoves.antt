@@ -1,6 +1,6 @@
 -- Each step of a disk's server is a move of an end that answers.
-use Rattle.std.proofs.Common.{◌≡◌, ℕ, ◌+◌, ◌≤◌, ◌⊎◌, inl, inr, Bool, true, false, Option, Some, None, List, [], ◌∷◌, length, drop, refl, sym, ap, ◌∙◌, subst, arith, length-drop}
-use Rattle.std.specs.Prelude.{◌&&◌, is_some, is_none, not, nat_le, if◌then◌else◌, Result, Ok, Err}
+use Rattle.std.proofs.Common.{◌≡◌, ℕ, ◌+◌, ◌≤◌, inl, inr, Bool, true, false, Option, Some, None, List, [], ◌∷◌, length, drop, refl, sym, ap, ◌∙◌, subst, arith, length-drop}
+use Rattle.std.specs.Prelude.{◌&&◌, is_some, is_none, not, nat_le, Ok, Err}
 use Rattle.std.proofs.lemmas.Bool.{leb-false, leb-true}
 use Rattle.cookie_copy.specs.declared.fault.CopyFault.{CopyFault}
 use Rattle.ldc_link.specs.declared.phase.LinkPhase.{LinkPhase}
@@ -9,41 +9,38 @@ use Rattle.ldc_link.specs.declared.phase.Role.TheVariants.{Responder}
 use Rattle.ldc_link.specs.LinkState.{LinkState, cleared, is_established, is_up, offered}
 use Rattle.ldc_link.specs.Calls.{Puts as PutsPacket}
 use Rattle.ldc_link.specs.Putting.{behind_put, left_behind_put, owed_in, owes, phase_behind_put, with_link}
-use Rattle.ldc_link.specs.Taking.{Heard, LinkTake, TakesBytes, Unheard}
+use Rattle.ldc_link.specs.Taking.{Heard, LinkTake, Unheard}
 use Rattle.ldc_packet.specs.declared.packet.Packet.{Packet}
-use Rattle.ldc_packet.specs.declared.packet.Subtype.{Subtype}
-use Rattle.ldc_packet.specs.declared.packet.Subtype.TheVariants.{Info}
 use Rattle.ldc_queue.specs.Messages.{is_empty}
 use Rattle.vio_tag.proofs.Canonical.{length_canonical}
 use Rattle.vio_tag.specs.declared.cause.Cause.{Cause}
 use Rattle.vio_tag.specs.declared.cause.Cause.TheVariants as the_cause
 use Rattle.vio_tag.specs.declared.message.Message.{Message}
-use Rattle.vio_tag.specs.declared.message.MsgBody.{MsgBody}
-use Rattle.vio_tag.specs.declared.message.MsgBody.TheVariants.{DringData}
-use Rattle.vio_tag.specs.declared.message.TagFault.{TagFault}
 use Rattle.vio_tag.specs.Decoding.{Decodes}
 use Rattle.vio_tag.specs.Spelling.{canonical}
 use Rattle.vio_handshake.specs.declared.handshake.Handshake.{Handshake}
-use Rattle.vio_handshake.specs.Rules.{Faults, Goes, GoesOpen, HandshakeTake, fault_or, handshake_hear, handshake_take, sid_fault}
+use Rattle.vio_handshake.specs.Rules.{HandshakeTake, handshake_take}
 use Rattle.channel_model.specs.EndPuts.{ComesUp, EndsOwn, EndsHandshake, Goes as Goes_, PutKind, ending, kind_in, put_opens, handshake_behind, handshake_risen}
 use Rattle.disk_model.specs.Offering.{server_offer}
-use Rattle.channel_model.specs.Ranges.{is_other, wrapped}
+use Rattle.channel_model.specs.Ranges.{wrapped}
 use Rattle.channel_model.specs.Seeing.{Seen}
 use Rattle.disk_model.specs.ServerPutting.{answered, server_holds, server_kind, server_put, session_behind}
 use Rattle.disk_model.specs.ServerRule.{Fetches, Puts, Says, ServerRule, Serves, Takes, answer, server_rule}
-use Rattle.disk_model.specs.ServerState.{ServerSession, ServerState, SlotRange, Work, joined_server, opened_server, restarted_server}
+use Rattle.disk_model.specs.ServerState.{ServerSession, ServerState, SlotRange, Work, joined_server, restarted_server}
 use Rattle.disk_model.specs.ServerStep.{ServerFails, ServerFetches, ServerFinishes, ServerMoves, ServerSends, ServerStores}
-use Rattle.disk_model.specs.ServerTaking.{GoesOn, HearsLink, HearsWhole, Resets, ServerTake, ServerTakes, asked, by_handshake, hears_message, in_session, place_of, reads, sid_first, takes_info}
+use Rattle.disk_model.specs.ServerTaking.{GoesOn, HearsLink, Resets, ServerTake, ServerTakes, asked}
 use Rattle.cookie_copy.specs.Reach.{Reach}
 use Rattle.disk_model.specs.ServerWork.{first_progress}
 use Rattle.vdisk_msg.specs.Descriptor as slot_says
 use Rattle.channel_laws.specs.EndCore.{holds}
-use Rattle.channel_laws.specs.EndStep.{DecodedFails, EndBegins, EndFails, EndHears, EndRenews, EndSays, EndStays, EndWaits, HandshakeTakes, HearsOwn, Holding, Holds, HoldsOn, HoldsOwed, HoldsOwn, IsOwn, KeepsOwn, LinkFails, MayTake, WholeFails}
+use Rattle.channel_laws.specs.EndStep.{EndBegins, EndFails, EndHears, EndRenews, EndSays, EndStays, EndWaits, HandshakeTakes, HearsWhole, Holding, Holds, HoldsOn, HoldsOwed, HoldsOwn, IsOfSession, KeepsOwn, LinkFails, MayTake, WholeFails}
 use Rattle.channel_laws.specs.EndStep as core
+use Rattle.lane_laws.proofs.ClientAnswers.{HandshakesTo}
 use Rattle.lane_laws.proofs.ClientMoves.{cleared_is, holds_and, holds_none}
-use Rattle.lane_laws.proofs.Awake.{up_empty}
+use Rattle.channel_laws.proofs.EndStanding.{up_empty}
 use Rattle.lane_laws.proofs.Ruling.{server_may}
 use Rattle.lane_laws.proofs.RulesFree.{ServerFree, TakesFree, server_free}
+use Rattle.lane_laws.proofs.ServerAnswers.{Answers, comes_to, goes_by, heard_on, opened_or}
 use Rattle.lane_laws.proofs.ServerSpeaking.{range_few}
 use Rattle.lane_laws.proofs.Sharing.{some_left}
 use Rattle.channel_laws.proofs.Short.{some_bytes}
@@ -140,135 +137,83 @@ server_takes_free s at packet rule = subst (ServerFree s) rule (server_free s at
 server_may_take : (s : ServerState) → TakesFree s → MayTake (server_core s)
 server_may_take s free = record { owed = free.owed; quiet = λ closed. free.free }
 
-record TookTo (x t : ServerState) : Type 0 where
-  link : t.link ≡ x.link
-  blocks : t.blocks ≡ x.blocks
-  slots : t.slots ≡ x.slots
-
-abbrev Hears : ServerState → Message → Bool → ServerState → Type 0
-Hears x message opens t =
-    HandshakeTakes Responder (is_some x.session) (handshake_take x.handshake message) opens (server_core t)
-    ⊎ HearsOwn x.handshake (is_some x.session) message opens (server_core t)
-
-abbrev Fails : ServerState → Message → Cause → Type 0
-Fails x message cause = (handshake_take x.handshake message ≡ Faults cause) ⊎ IsOwn x.handshake (is_some x.session) message
-
-abbrev Comes : ServerState → Message → ServerTake → Type 0
-Comes x message (GoesOn t opens) = TookTo x t × Hears x message opens t
-Comes x message (Resets cause) = Fails x message cause
-
-by_handshake_comes : (x : ServerState) (message : Message) (take : HandshakeTake) → handshake_take x.handshake message ≡ take → Comes x message (by_handshake x take)
-by_handshake_comes x message (Goes h) is = (
-  record { link = refl; blocks = refl; slots = refl },
-  inl (subst (λ (a : HandshakeTake). HandshakeTakes Responder (is_some x.session) a false (server_core (record x { handshake = h }))) (sym is) (refl, refl, refl)),
-)
-by_handshake_comes x message (GoesOpen h) is = (
-  record { link = refl; blocks = refl; slots = refl },
-  inl (subst (λ (a : HandshakeTake). HandshakeTakes Responder (is_some x.session) a true (server_core (record x { handshake = h; session = Some opened_server }))) (sym is) (refl, refl, refl)),
-)
-by_handshake_comes x message (Faults cause) is = inl is
-
-if_comes : (x : ServerState) (message : Message) (b : Bool) (one other : ServerTake) → Comes x message one → Comes x message other → Comes x message (if b then one else other)
-if_comes x message true one other first rest = first
-if_comes x message false one other first rest = rest
-
-by_info_comes : (x : ServerState) (message : Message) (session : ServerSession) (ident : ℕ) (range : SlotRange) → x.session ≡ Some session
-    → IsOwn x.handshake (is_some x.session) message → Comes x message (takes_info x session ident range)
-by_info_comes x message session ident range is own =
-    if_comes x message (is_other x.handshake.draft.ident_peer ident) (Resets (the_cause.Ident x.handshake.draft.ident_peer ident)) _ (inr own)
-    (if_comes x message (is_other session.seq range.seq) (Resets (the_cause.Seq session.seq range.seq)) _ (inr own)
-    (if_comes x message (is_other (place_of x session) range.start) (Resets (the_cause.Slot (place_of x session) range.start)) _ (inr own)
-    (if_comes x message (nat_le x.handshake.draft.peer_slots range.end) (Resets (the_cause.RangeEnd range.end)) (GoesOn (asked x session range) false) (inr own)
-    (record { link = refl; blocks = refl; slots = refl }, inr (own, refl, refl, ap is_some (sym is))))))
-
-by_session_comes : (x : ServerState) (message : Message) (session : ServerSession) (subtype : Subtype) (body : MsgBody) → x.session ≡ Some session
-    → message.body ≡ body → sid_fault x.handshake.sid message.sid ≡ None → Comes x message (in_session x session message subtype body)
-by_session_comes x message session Info (DringData seq ident start end state) is body sid =
-    by_info_comes x message session ident (record { seq = seq; start = start; end = end; state = state }) is
-    (record { opened = ap is_some is; sid = sid; body = subst core.IsOfSession (sym body) tt })
-by_session_comes x message session _ _ is body sid = by_handshake_comes x message (handshake_take x.handshake message) refl
-
-by_sid_comes : (x : ServerState) (message : Message) (session : ServerSession) (fault : Option Cause) → x.session ≡ Some session
-    → sid_fault x.handshake.sid message.sid ≡ fault → Comes x message (sid_first fault (in_session x session message message.subtype message.body))
-by_sid_comes x message session None is sid = by_session_comes x message session message.subtype message.body is refl sid
-by_sid_comes x message session (Some cause) is sid =
-    inl (ap (λ (f : Option Cause). fault_or f (handshake_hear x.handshake message.subtype message.sid message.body)) sid)
-
-by_message_comes : (x : ServerState) (message : Message) (open_one : Option ServerSession) → x.session ≡ open_one → Comes x message (hears_message x open_one message)
-by_message_comes x message None is = by_handshake_comes x message (handshake_take x.handshake message) refl
-by_message_comes x message (Some session) is = by_sid_comes x message session (sid_fault x.handshake.sid message.sid) is refl
-
--- it goes on
-abbrev heard_on : ServerState → LinkState → ServerState
-heard_on s k = record s { link = k; handshake = handshake_risen s.link k s.handshake }
+-- what it comes to: it goes on, or resets itself
+abbrev FailsAs : ServerState → LinkState → Option (List ℕ) → Cause → Type 0
+FailsAs s k whole cause = WholeFails (handshake_risen s.link k s.handshake) (is_some s.session) whole cause
 
 record GoesTo (s : ServerState) (k : LinkState) (whole : Option (List ℕ)) (opens : Bool) (t : ServerState) : Type 0 where
   link : t.link ≡ cleared k
   blocks : t.blocks ≡ s.blocks
   slots : t.slots ≡ s.slots
-  hears : core.HearsWhole Responder (handshake_risen s.link k s.handshake) (is_some s.session) whole opens (server_core t)
+  hears : HearsWhole Responder (handshake_risen s.link k s.handshake) (is_some s.session) whole opens (server_core t)
 
-goes_decoded : (s t : ServerState) (k : LinkState) (opens : Bool) (bytes : List ℕ) (d : Result Message TagFault) → Decodes bytes d
-    → GoesOn t opens ≡ reads (record s { link = cleared k; handshake = handshake_risen s.link k s.handshake }) d → GoesTo s k (Some bytes) opens t
-goes_decoded s t k opens bytes (Ok message) decodes is =
-    let x : ServerState = record s { link = cleared k; handshake = handshake_risen s.link k s.handshake } in
-    let comes : Comes x message (GoesOn t opens) = subst (Comes x message) (sym is) (by_message_comes x message s.session refl) in
-    record { link = comes.0.link; blocks = comes.0.blocks; slots = comes.0.slots; hears = (Ok message, decodes, comes.1) }
-goes_decoded s t k opens bytes (Err fault) decodes is = absurd (cc is)
+abbrev Comes : ServerState → LinkState → ServerTake → Type 0
+Comes s k (GoesOn t opens) = GoesTo s k k.whole opens t
+Comes s k (Resets cause) = FailsAs s k k.whole cause
 
-goes_same : (s t : ServerState) (k : LinkState) (opens : Bool) → k.whole ≡ None → t ≡ heard_on s k → opens ≡ false → GoesTo s k None opens t
-goes_same s t k opens none same closed =
-    subst (λ (x : ServerState). GoesTo s k None opens x) (sym same) (record { link = cleared_is k none; blocks = refl; slots = refl; hears = (closed, refl, refl) })
+goes_to : (x : ServerState) (message : Message) (opens : Bool) (h : Handshake) → HandshakesTo x.handshake (handshake_take x.handshake message) opens h
+    → HandshakeTakes Responder (is_some x.session) (handshake_take x.handshake message) opens (server_core (record x { handshake = h; session = opened_or opens x.session }))
+goes_to x message false h is =
+    subst (λ (a : HandshakeTake). HandshakeTakes Responder (is_some x.session) a false (server_core (record x { handshake = h }))) (sym is) (refl, refl, refl)
+goes_to x message true h is =
+    subst (λ (a : HandshakeTake). HandshakeTakes Responder (is_some x.session) a true (server_core (record x { handshake = h; session = opened_or true x.session }))) (sym is) (refl, refl, refl)
 
-the_state : (t x : ServerState) (a b : Bool) → GoesOn t a ≡ GoesOn x b → t ≡ x
-the_state t x a b is = cc is
+answers : (s : ServerState) (k : LinkState) (bytes : List ℕ) (message : Message) → k.whole ≡ Some bytes → Decodes bytes (Ok message)
+    → Answers (heard_on s k (cleared k)) message (Comes s k)
+answers s k bytes message whole decodes =
+    let x : ServerState = heard_on s k (cleared k) in
+    record {
+      goes = λ opens h to.
+          subst (λ (w : Option (List ℕ)). GoesTo s k w opens (record x { handshake = h; session = opened_or opens x.session })) (sym whole)
+          (record { link = refl; blocks = refl; slots = refl; hears = (Ok message, decodes, inl (goes_to x message opens h to)) });
+      faults = λ cause is. subst (λ (w : Option (List ℕ)). FailsAs s k w cause) (sym whole) (Ok message, decodes, inl is);
+      asks = λ a.
+          subst (λ (w : Option (List ℕ)). GoesTo s k w false (asked x a.session a.range)) (sym whole)
+          (record {
+            link = refl;
+            blocks = refl;
+            slots = refl;
+            hears = (Ok message, decodes, inr (record { opened = ap is_some a.session_is; sid = a.sid_is; body = subst IsOfSession (sym a.body_is) tt }, refl, refl, ap is_some (sym a.session_is)));
+          });
+      refuses = λ cause refuses. subst (λ (w : Option (List ℕ)). FailsAs s k w cause) (sym whole) (Ok message, decodes, inr refuses.own);
+    }
 
-the_flag : (t x : ServerState) (a b : Bool) → GoesOn t a ≡ GoesOn x b → a ≡ b
-the_flag t x a b is = cc is
+server_comes : (s : ServerState) (k : LinkState) (take : ServerTake) → HearsLink s (Heard k) take → Comes s k take
+server_comes s k take hears =
+    comes_to s k (Comes s k) take (record {
+      none = λ none.
+          subst (λ (w : Option (List ℕ)). GoesTo s k w false (heard_on s k k)) (sym none) (record { link = cleared_is k none; blocks = refl; slots = refl; hears = (refl, refl, refl) });
+      some = λ bytes message whole decodes. answers s k bytes message whole decodes;
+      tags = λ bytes fault whole decodes. subst (λ (w : Option (List ℕ)). FailsAs s k w (the_cause.Tag fault)) (sym whole) (Err fault, decodes, refl);
+    }) hears
 
-goes_whole : (s t : ServerState) (k : LinkState) (opens : Bool) (whole : Option (List ℕ)) → k.whole ≡ whole → HearsWhole (heard_on s k) whole (GoesOn t opens)
-    → GoesTo s k whole opens t
-goes_whole s t k opens None none is = goes_same s t k opens none (the_state t (heard_on s k) opens false is) (the_flag t (heard_on s k) opens false is)
-goes_whole s t k opens (Some bytes) some is = goes_decoded s t k opens bytes is.0 is.1 is.2
-
+-- it goes on
 offers_same : (s t : ServerState) → t.blocks ≡ s.blocks → t.slots ≡ s.slots → server_offer t.blocks t.slots ≡ server_offer s.blocks s.slots
 offers_same s t blocks slots = ap (λ (n : ℕ). server_offer n t.slots) blocks ∙ ap (λ (n : ℕ). server_offer s.blocks n) slots
 
 answers_most : (b : Bool) (session : Option ServerSession) → answers_to_begin b (range_left session) ≤ 256
 answers_most b session = omega (arith, answers_less b (range_left session), range_few session)
 
-goes_link : (s t : ServerState) (packet : List ℕ) (opens : Bool) (link : LinkTake) → TakesFree s → TakesBytes s.link packet link → HearsLink s link (GoesOn t opens)
+pub server_hears : (s : ServerState) (at : Seen) (packet : List ℕ) (t : ServerState) (opens : Bool) → server_rule s at ≡ Takes packet → ServerTakes s packet (GoesOn t opens)
     → EndHears Responder (server_core s) packet opens (server_core t)
-goes_link s t packet opens (Heard k) free takes hears =
-    let to = goes_whole s t k opens k.whole refl hears in
+server_hears s at packet t opens rule takes =
+    let free = server_takes_free s at packet rule in
+    let by = goes_by s packet t opens takes in
+    let to : Comes s by.link (GoesOn t opens) = server_comes s by.link (GoesOn t opens) by.hears in
     record {
       may = server_may_take s free;
-      heard = k;
-      takes = takes;
+      heard = by.link;
+      takes = by.takes;
       link = to.link;
       hears = to.hears;
       offer = offers_same s t to.blocks to.slots;
       own = λ before behind. absurd (cc (sym before ∙ quiet_holds s.link free.free));
       most = answers_most (holds t.link && is_none t.handshake.owed) t.session;
     }
-goes_link s t packet opens (Unheard cause) free takes hears = absurd (cc hears)
-
-pub server_hears : (s : ServerState) (at : Seen) (packet : List ℕ) (t : ServerState) (opens : Bool) → server_rule s at ≡ Takes packet → ServerTakes s packet (GoesOn t opens)
-    → EndHears Responder (server_core s) packet opens (server_core t)
-server_hears s at packet t opens rule takes = goes_link s t packet opens takes.link (server_takes_free s at packet rule) takes.takes takes.hears
 
 -- IT RESETS ITSELF
-resets_decoded : (x : ServerState) (cause : Cause) (d : Result Message TagFault) → Resets cause ≡ reads x d → DecodedFails x.handshake (is_some x.session) d cause
-resets_decoded x cause (Ok message) is = subst (Comes x message) (sym is) (by_message_comes x message x.session refl)
-resets_decoded x cause (Err fault) is = cc is
-
-resets_whole : (s : ServerState) (k : LinkState) (cause : Cause) (whole : Option (List ℕ)) → HearsWhole (heard_on s k) whole (Resets cause)
-    → WholeFails (handshake_risen s.link k s.handshake) (is_some s.session) whole cause
-resets_whole s k cause None is = absurd (cc is)
-resets_whole s k cause (Some bytes) is = (is.0, is.1, resets_decoded (record s { link = cleared k; handshake = handshake_risen s.link k s.handshake }) cause is.0 is.2)
-
 resets_link : (s : ServerState) (cause : Cause) (link : LinkTake) → HearsLink s link (Resets cause) → LinkFails Responder (server_core s) link cause
-resets_link s cause (Heard k) hears = resets_whole s k cause k.whole hears
+resets_link s cause (Heard k) hears = server_comes s k (Resets cause) hears
 resets_link s cause (Unheard why) hears = cc hears
 
 pub server_refuses : (s : ServerState) (at : Seen) (packet : List ℕ) (cause : Cause) → server_rule s at ≡ Takes packet → ServerTakes s packet (Resets cause)

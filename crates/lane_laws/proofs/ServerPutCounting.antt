@@ -20,16 +20,16 @@ use Rattle.channel_model.specs.Ranges.{range_length, wrapped}
 use Rattle.disk_model.specs.ServerPutting.{answered, server_holds, session_behind}
 use Rattle.disk_model.specs.ServerRule.{Fetches, Joins, Puts, Idles, Says, ServerRule, Serves, Takes}
 use Rattle.disk_model.specs.ServerState.{ServerSession, ServerState, SlotRange, Work}
-use Rattle.lane_laws.proofs.EndPutting.{SaysLast, SaysOn}
-use Rattle.lane_laws.proofs.Awake.{is_awake, is_open_up, up_empty}
-use Rattle.lane_laws.proofs.Fitting.{sent_fits, up_fits}
+use Rattle.channel_laws.proofs.PutSayings.{SaysWhole, SaysOn}
+use Rattle.channel_laws.proofs.EndStanding.{open_up, owing_up, up_empty}
+use Rattle.channel_laws.proofs.HandshakeFitting.{sent_fits, up_fits}
 use Rattle.lane_laws.proofs.RangeSums.{count_said, sum_more, sum_said}
 use Rattle.lane_laws.proofs.RangesSaid.{owed_no_range, said_range}
 use Rattle.lane_laws.proofs.RulesFree.{AnswersFree, ServerFree}
 use Rattle.lane_laws.specs.Budget.{one_range}
 use Rattle.lane_laws.specs.Counted.{HoldsAnswer, HoldsEither, HoldsOwed, InServerOrder, RangeStands, ServerCounted, ServerOrder, range_count, range_sum}
 use Rattle.lane_laws.specs.LaneRests.{ServerRests, ServerUtters}
-use Rattle.lane_laws.specs.HandshakeFits.{MayOwe, OwedFits}
+use Rattle.channel_laws.specs.HandshakeFits.{MayOwe, OwedFits}
 use Rattle.lane_laws.specs.ChannelEnds.{server_core}
 
 -- the same answer of a server with another link
@@ -62,9 +62,9 @@ says_either v turns message half (inr a) = inr (record {
   bytes_are = ap (λ (xs : List ℕ). xs ++ canonical message) half ∙ ap canonical a.message_is;
 })
 
-says_up : (v : ServerState) (turns : List Turn) (message : Message) → ServerRests v turns → ServerUtters v turns → (v.handshake.owed ≡ Some message) ⊎ AnswersFree v message → is_up v.link ≡ true
-says_up v turns message rests utters (inl owed) = is_awake (server_core v) turns message owed utters
-says_up v turns message rests utters (inr a) = is_open_up Responder (server_core v) turns rests (ap is_some a.session_is)
+says_up : (v : ServerState) (turns : List Turn) (message : Message) → ServerRests v turns → (v.handshake.owed ≡ Some message) ⊎ AnswersFree v message → is_up v.link ≡ true
+says_up v turns message rests (inl owed) = owing_up Responder (server_core v) turns message rests.stands owed
+says_up v turns message rests (inr a) = open_up Responder (server_core v) turns rests.stands (ap is_some a.session_is)
 
 held_is : (shape : Shape) (one other : ServerState) (turns : List Turn) (d : Option ServerCounts) → Some one ≡ Some other → ServerCounted shape one turns d → ServerCounted shape other turns d
 held_is shape one other turns d is counted = let same : one ≡ other = cc is in subst (λ (x : ServerState). ServerCounted shape x turns d) same counted
@@ -73,7 +73,7 @@ pub server_holds_counting : (shape : Shape) (v : ServerState) (rule : ServerRule
     → ServerFree v rule → server_holds rule v ≡ Some held → ServerCounted shape v turns d → ServerCounted shape held turns d
 server_holds_counting shape v Puts held turns d rests utters free is counted = held_is shape v held turns d is counted
 server_holds_counting shape v (Says message) held turns d rests utters free is counted =
-    let empty : v.link.to_send ≡ [] = up_empty v.link (says_up v turns message rests utters free.1) free.0 in
+    let empty : v.link.to_send ≡ [] = up_empty v.link (says_up v turns message rests free.1) free.0 in
     let half : half_said turns ≡ [] = utters.half empty in
     held_is shape (record v { link = offered (canonical message) v.link }) held turns d is (record {
       slots = counted.slots;
@@ -182,7 +182,7 @@ some_owed owed v bytes is some (inl holds) = holds
 some_owed None v bytes is some (inr a) = absurd (cc)
 some_owed (Some message) v bytes is some (inr a) = let never : None ≡ Some message = sym a.nothing_owed ∙ is in absurd (cc)
 
-pub handshake_counting : (shape : Shape) (v : ServerState) (turns : List Turn) (packet : List ℕ) (d : Option ServerCounts) → is_none v.handshake.owed ≡ false → SaysLast v.link turns packet
+pub handshake_counting : (shape : Shape) (v : ServerState) (turns : List Turn) (packet : List ℕ) (d : Option ServerCounts) → is_none v.handshake.owed ≡ false → SaysWhole v.link turns packet
     → ServerCounted shape v turns d → ServerCounted shape (put_as EndsHandshake v) (Said packet ∷ turns) (answers_more shape turns packet d)
 handshake_counting shape v turns packet d some last counted =
     let bytes = half_said turns ++ v.link.to_send in
@@ -268,7 +268,7 @@ answered_order slots n (Some s) w (Some c) turns behind session range few is ans
       ),
     )
 
-pub own_counting : (shape : Shape) (v : ServerState) (turns : List Turn) (packet : List ℕ) (d : Option ServerCounts) → shape.slots ≤ 256 → is_none v.handshake.owed ≡ true → SaysLast v.link turns packet
+pub own_counting : (shape : Shape) (v : ServerState) (turns : List Turn) (packet : List ℕ) (d : Option ServerCounts) → shape.slots ≤ 256 → is_none v.handshake.owed ≡ true → SaysWhole v.link turns packet
     → ServerCounted shape v turns d → ServerCounted shape (put_as EndsOwn v) (Said packet ∷ turns) (answers_more shape turns packet d)
 own_counting shape v turns packet d few none last counted =
     let bytes = half_said turns ++ v.link.to_send in

@@ -22,7 +22,7 @@ use Rattle.disk_model.specs.ServerStep.{ServerMoves, ServerStores, with_progress
 use Rattle.disk_model.specs.ServerWork as server_work
 use Rattle.cookie_copy.specs.Reach.{Reach}
 use Rattle.disk_model.specs.ServerWork.{MovesIn, StoresIn, desc_of, first_progress, gathers_next, or_ends, reads_next}
-use Rattle.lane_laws.proofs.Awake.{is_open_up, up_empty}
+use Rattle.channel_laws.proofs.EndStanding.{open_up, up_empty}
 use Rattle.lane_laws.proofs.RulesFree.{ServerFree, ServesFree, server_free}
 use Rattle.lane_laws.specs.Counted.{RangeStands, ServerCounted, ServerHolds, ServerOrder, UnitFits, UnitIn}
 use Rattle.lane_laws.specs.LaneRests.{ServerRests}
@@ -189,7 +189,7 @@ unit_of w work is fits = subst UnitFits is fits
 -- a server whose session is open and whose link owes nothing holds nothing
 pub holds_none : (v t : ServerState) (turns : List Turn) → ServerRests v turns → is_some v.session ≡ true → owes v.link ≡ false → t.link ≡ v.link → ServerHolds t turns
 holds_none v t turns rests now free same =
-    let empty : v.link.to_send ≡ [] = up_empty v.link (is_open_up Responder (server_core v) turns rests now) free in
+    let empty : v.link.to_send ≡ [] = up_empty v.link (open_up Responder (server_core v) turns rests.stands now) free in
     λ some. absurd (omega (arith, some, ap (λ (k : LinkState). length k.to_send) same, ap length empty))
 
 piece_counting : (shape : Shape) (v : ServerState) (turns : List Turn) (d : Option ServerCounts) (session : ServerSession) (work : Work) (next : Progress) (f : List Piece → List Piece)

@@ -60,13 +60,13 @@ none_log (Some s) w q is agrees = absurd (cc is)
 opens_none : (s : LaneState) (l : DiskLog) (event : DiskEvent) (t : LaneState) (packet : List ℕ) → Knows s l → LaneStep s event t → event ≡ OnWire (Took B packet true) → l.work.server ≡ None
 opens_none s l event t packet knows step is =
     let here : LaneStep s (OnWire (Took B packet true)) t = subst (λ (e : DiskEvent). LaneStep s e t) is step in
-    let took = server_took_what s.server l.transcript.server packet t.server true knows.all.transcripts.follows_b knows.rests.server.whole here.1.step.1.1 in
+    let took = server_took_what s.server l.transcript.server packet t.server true knows.rests.server.stands.link.follows knows.rests.server.whole here.1.step.1.1 in
     none_log s.server.session s.server.work l.work.server (opens_new s.server t.server l.transcript.server packet knows.rests.server took) knows.counted.server.agrees
 
 never_sends : (s : LaneState) (l : DiskLog) (event : DiskEvent) (t : LaneState) (packet : List ℕ) → Knows s l → LaneStep s event t → event ≡ OnWire (Sent B packet true) → ⊥
 never_sends s l event t packet knows step is =
     let here : LaneStep s (OnWire (Sent B packet true)) t = subst (λ (e : DiskEvent). LaneStep s e t) is step in
-    let both = server_puts_counting l.shape s.server (seen B s.shape.entries s.wire.wire) packet true t.server l.transcript.server l.work.server (few_slots s l knows) knows.all.transcripts.follows_b
+    let both = server_puts_counting l.shape s.server (seen B s.shape.entries s.wire.wire) packet true t.server l.transcript.server l.work.server (few_slots s l knows)
     here.1.step.1.0 knows.rests.server knows.utters.server knows.counted.server in
     let never : true ≡ false = both.1 in absurd (cc)
 
@@ -97,7 +97,7 @@ facts_at shape events s event t sound along run step clean =
       announced = λ k is.
           let next : Knows t (log_of after (nothing_yet shape) more) = run_knows shape more t sound then_run in
           announced_in (length t.client.pending) t.client.session (log_of after (nothing_yet shape) more).work.done (log_of after (nothing_yet shape) more).work.client k
-          (ap (λ (x : DiskLog). x.work.client) behind ∙ is) next.counted.client.agrees next.all.transcripts.client.counts;
+          (ap (λ (x : DiskLog). x.work.client) behind ∙ is) next.counted.client.agrees next.all.sound.counts;
       acked = λ k finished descs is up at.
           acked_finished shape more t k finished descs sound then_run clean_more (ap (λ (x : DiskLog). x.work.client) behind ∙ is)
           (ap (λ (x : DiskLog). x.wire.wire.end_a) behind ∙ up) (subst (λ (x : DiskLog). ServerAt x.wire.wire x.work.server finished descs) (sym behind) at);

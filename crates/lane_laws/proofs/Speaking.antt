@@ -31,7 +31,7 @@ use Rattle.channel_laws.specs.LaneCore.{move_of, transcript_after, turns_after}
 use Rattle.channel_laws.specs.Utterances.{SaysEach}
 use Rattle.lane_laws.proofs.ClientMoves.{client_waits}
 use Rattle.lane_laws.proofs.EndMoves.{step_a, step_b, transcript_same}
-use Rattle.lane_laws.proofs.LaneStepping.{LaneTranscripts, fresh_transcripts, transcripts_step}
+use Rattle.lane_laws.proofs.LaneStepping.{fresh_sound, sound_step}
 use Rattle.lane_laws.proofs.OpeningDeal.{client_fits, server_fits}
 use Rattle.lane_laws.proofs.ServerMoves.{server_waits}
 use Rattle.lane_laws.specs.ChannelEnds.{client_core, core_event, server_core}
@@ -78,13 +78,13 @@ pub server_blocked_utters : (s : ServerState) (at : Seen) (t : ServerState) (tur
 server_blocked_utters s at t turns is rests = utters_of Responder (server_core t) turns (server_blocked_rests s at t turns is rests)
 
 -- EACH EVENT
-pub rests_step : (s : LaneState) (event : DiskEvent) (t : LaneState) (transcript : TranscriptLog) → LaneTranscripts s transcript → LaneRests s transcript → LaneStep s event t → LaneRests t (after_transcript transcript event)
-rests_step s event t transcript transcripts rests step =
-    let behind = transcripts_step s event t transcript transcripts step in
+pub rests_step : (s : LaneState) (event : DiskEvent) (t : LaneState) (transcript : TranscriptLog) → ClientSound s.client → LaneRests s transcript → LaneStep s event t
+    → LaneRests t (after_transcript transcript event)
+rests_step s event t transcript sound rests step =
     let now : LaneRests t (transcript_after transcript (core_event event)) = record {
       client = subst (λ (turns : List Turn). ClientRests t.client turns) (sym (transcript_turns A transcript (core_event event)))
           (rests_move Initiator (client_core s.client) (move_of A (core_event event)) (client_core t.client) transcript.client rests.client
-          (step_a s event t (record { before = transcripts.client; behind = behind.client }) step));
+          (step_a s event t (record { before = sound; behind = sound_step s event t sound step }) step));
       server = subst (λ (turns : List Turn). ServerRests t.server turns) (sym (transcript_turns B transcript (core_event event)))
           (rests_move Responder (server_core s.server) (move_of B (core_event event)) (server_core t.server) transcript.server rests.server (step_b s event t step));
     } in
@@ -105,11 +105,11 @@ lane_utters s transcript rests =
     record { client = utters_of Initiator (client_core s.client) transcript.client rests.client; server = utters_of Responder (server_core s.server) transcript.server rests.server }
 
 -- ALONG EVERY RUN
-run_rests : (shape : Shape) (events : List DiskEvent) (s : LaneState) → IsShape shape → Run LaneStep (fresh shape) events s → LaneRests s (transcript_behind events)
+pub run_rests : (shape : Shape) (events : List DiskEvent) (s : LaneState) → IsShape shape → Run LaneStep (fresh shape) events s → LaneRests s (transcript_behind events)
 run_rests shape events s sound run =
-    let both = (run_lawful LaneStep (λ (l : TranscriptLog) (e : DiskEvent). ⊤) after_transcript (λ (x : LaneState) (l : TranscriptLog). LaneTranscripts x l × LaneRests x l)
-    (λ (x : LaneState) (l : TranscriptLog) (e : DiskEvent) (y : LaneState) stands step. (tt, (transcripts_step x e y l stands.0 step, rests_step x e y l stands.0 stands.1 step)))
-    (fresh shape) s nothing_said events (fresh_transcripts shape sound, fresh_rests shape sound) run) in
+    let both = (run_lawful LaneStep (λ (l : TranscriptLog) (e : DiskEvent). ⊤) after_transcript (λ (x : LaneState) (l : TranscriptLog). ClientSound x.client × LaneRests x l)
+    (λ (x : LaneState) (l : TranscriptLog) (e : DiskEvent) (y : LaneState) stands step. (tt, (sound_step x e y stands.0 step, rests_step x e y l stands.0 stands.1 step)))
+    (fresh shape) s nothing_said events (fresh_sound shape sound, fresh_rests shape sound) run) in
     both.1.1
 
 pub client_open_rests : (shape : Shape) (events : List DiskEvent) (s : LaneState) → IsShape shape → Run LaneStep (fresh shape) events s → is_some s.client.session ≡ true

@@ -13,7 +13,6 @@ use Rattle.disk_model.specs.DiskEvent.{Accepted, Admitted, Asks, Calm, CalmReset
 use Rattle.disk_model.specs.LaneState.{IsShape, LaneState, Shape, fresh}
 use Rattle.disk_model.specs.LaneStep.{LaneStep, RestStep, ServerWorks, TurnStep, WorkStep}
 use Rattle.channel_model.specs.Seeing.{seen}
-use Rattle.lane_laws.proofs.LaneStepping.{LaneTranscripts, transcripts_step, fresh_transcripts}
 use Rattle.lane_laws.proofs.Requesting.{accepted_stand, completed_next, kept_stand, published_kept, same_stand}
 use Rattle.lane_laws.proofs.StandingSteps.{Behind, on_wire}
 use Rattle.lane_laws.specs.Standing.{LaneInvariant, MayOfRequests, RequestsStand}
@@ -180,18 +179,14 @@ rests s l (CalmReset B) t stands step =
 rests s l CalmRestart t stands step =
     record { may = record { admission = tt; once = tt; turns = sym stands.stopped ∙ step.0 }; stands = same_lane s l (Calms CalmRestart) t stands step.1 refl refl }
 
-pub stands_step : (s : LaneState) (l : DiskLog) (event : DiskEvent) (t : LaneState) → LaneTranscripts s l.transcript → LaneInvariant s l → LaneStep s event t → Behind s l event t
-stands_step s l (OnWire event) t transcripts stands step = on_wire s l event t transcripts.client stands step
-stands_step s l (Asks event) t transcripts stands step = asks s l event t stands step
-stands_step s l (Works event) t transcripts stands step = works s l event t stands step
-stands_step s l (Switches event) t transcripts stands step = turns s l event t stands step
-stands_step s l (Calms event) t transcripts stands step = rests s l event t stands step
+pub stands_step : (s : LaneState) (l : DiskLog) (event : DiskEvent) (t : LaneState) → LaneInvariant s l → LaneStep s event t → Behind s l event t
+stands_step s l (OnWire event) t stands step = on_wire s l event t stands step
+stands_step s l (Asks event) t stands step = asks s l event t stands step
+stands_step s l (Works event) t stands step = works s l event t stands step
+stands_step s l (Switches event) t stands step = turns s l event t stands step
+stands_step s l (Calms event) t stands step = rests s l event t stands step
 
 -- ALONG EVERY RUN
-record Both (s : LaneState) (l : DiskLog) : Type 0 where
-  transcripts : LaneTranscripts s l.transcript
-  stands : LaneInvariant s l
-
 pub fresh_stands : (shape : Shape) → LaneInvariant (fresh shape) (nothing_yet shape)
 fresh_stands shape = record {
   shape = refl;
@@ -202,15 +197,12 @@ fresh_stands shape = record {
   requests = record { pending = refl; next = refl; done = omega arith; session = tt };
 }
 
-both_step : (s : LaneState) (l : DiskLog) (event : DiskEvent) (t : LaneState) → Both s l → LaneStep s event t → MayOfRequests l event × Both t (after l event)
-both_step s l event t both step =
-    let behind = stands_step s l event t both.transcripts both.stands step in
-    (behind.may, record { transcripts = transcripts_step s event t l.transcript both.transcripts step; stands = behind.stands })
+requests_step : (s : LaneState) (l : DiskLog) (event : DiskEvent) (t : LaneState) → LaneInvariant s l → LaneStep s event t → MayOfRequests l event × LaneInvariant t (after l event)
+requests_step s l event t stands step = let behind = stands_step s l event t stands step in (behind.may, behind.stands)
 
 pub requests_lawful : (shape : Shape) (events : List DiskEvent) (s : LaneState) → IsShape shape → Run LaneStep (fresh shape) events s → Lawful MayOfRequests after (nothing_yet shape) events
 requests_lawful shape events s sound run =
-    (run_lawful LaneStep MayOfRequests after Both both_step (fresh shape) s (nothing_yet shape) events
-    (record { transcripts = fresh_transcripts shape sound; stands = fresh_stands shape }) run).0
+    (run_lawful LaneStep MayOfRequests after LaneInvariant requests_step (fresh shape) s (nothing_yet shape) events (fresh_stands shape) run).0
 
 -- a law that follows from another, event by event
 pub lawful_by : (May Other : DiskLog → DiskEvent → Type 0) → ((l : DiskLog) (e : DiskEvent) → May l e → Other l e) → (l : DiskLog) (events : List DiskEvent) → Lawful May after l events

@@ -17,7 +17,6 @@ use Rattle.channel_model.specs.Seeing.{seen}
 use Rattle.lane_laws.proofs.Requesting.{KeepsRequests, held_kept, joined_kept, kept_stand, same_stand, sent_kept, stays_kept, took_kept}
 use Rattle.lane_laws.proofs.Ruling.{client_may}
 use Rattle.disk_model.specs.ClientRule.{client_rule}
-use Rattle.lane_laws.specs.Sound.{ClientSound}
 use Rattle.lane_laws.specs.Standing.{LaneInvariant, MayOfRequests}
 
 -- a state and a log after an event
@@ -52,68 +51,68 @@ pub record OnlyWire (s : LaneState) (event : WireEvent) (t : LaneState) : Type 0
 pub same_client : (s t : LaneState) → t.client ≡ s.client → KeepsRequests s.client t.client
 same_client s t is = subst (λ (c : ClientState). KeepsRequests s.client c) (sym is) (stays_kept s.client)
 
-client_kept : (s : LaneState) (event : WireEvent) (t : LaneState) → ClientSound s.client → EndOnWire A s event t → KeepsRequests s.client t.client
-client_kept s (Joined A lost) t sound step = subst (λ (c : ClientState). KeepsRequests s.client c) (sym step.step.2) (joined_kept s.client)
-client_kept s (Took A packet opens) t sound step = took_kept s.client packet t.client sound step.step.1
-client_kept s (Sent A packet opens) t sound step = sent_kept s.client (seen A s.shape.entries s.wire.wire) s.memory packet opens t.client t.memory step.step
-client_kept s (Blocked A) t sound step =
+client_kept : (s : LaneState) (event : WireEvent) (t : LaneState) → EndOnWire A s event t → KeepsRequests s.client t.client
+client_kept s (Joined A lost) t step = subst (λ (c : ClientState). KeepsRequests s.client c) (sym step.step.2) (joined_kept s.client)
+client_kept s (Took A packet opens) t step = took_kept s.client packet t.client step.step.1
+client_kept s (Sent A packet opens) t step = sent_kept s.client (seen A s.shape.entries s.wire.wire) s.memory packet opens t.client t.memory step.step
+client_kept s (Blocked A) t step =
     held_kept s.client (seen A s.shape.entries s.wire.wire) (client_rule s.client (seen A s.shape.entries s.wire.wire)) t.client (client_may s.client (seen A s.shape.entries s.wire.wire)) step.step.0
-client_kept s (Idle A) t sound step = same_client s t step.step.1
-client_kept s (Reset A cause packet lost) t sound step = subst (λ (c : ClientState). KeepsRequests s.client c) (sym step.step.2) (joined_kept s.client)
-client_kept s (Joined B lost) t sound step = absurd step.step
-client_kept s (Took B packet opens) t sound step = absurd step.step
-client_kept s (Sent B packet opens) t sound step = absurd step.step
-client_kept s (Blocked B) t sound step = absurd step.step
-client_kept s (Idle B) t sound step = absurd step.step
-client_kept s (Reset B cause packet lost) t sound step = absurd step.step
-client_kept s (Lost e packet) t sound step = absurd step.step
-client_kept s (Injected e packet) t sound step = absurd step.step
-client_kept s (Poked e at bytes) t sound step = absurd step.step
-client_kept s (Declines d) t sound step = absurd step.step
+client_kept s (Idle A) t step = same_client s t step.step.1
+client_kept s (Reset A cause packet lost) t step = subst (λ (c : ClientState). KeepsRequests s.client c) (sym step.step.2) (joined_kept s.client)
+client_kept s (Joined B lost) t step = absurd step.step
+client_kept s (Took B packet opens) t step = absurd step.step
+client_kept s (Sent B packet opens) t step = absurd step.step
+client_kept s (Blocked B) t step = absurd step.step
+client_kept s (Idle B) t step = absurd step.step
+client_kept s (Reset B cause packet lost) t step = absurd step.step
+client_kept s (Lost e packet) t step = absurd step.step
+client_kept s (Injected e packet) t step = absurd step.step
+client_kept s (Poked e at bytes) t step = absurd step.step
+client_kept s (Declines d) t step = absurd step.step
 
-end_only : (e : End) (s : LaneState) (event : WireEvent) (t : LaneState) → ClientSound s.client → EndOnWire e s event t → OnlyWire s event t
-end_only A s event t sound step = record {
+end_only : (e : End) (s : LaneState) (event : WireEvent) (t : LaneState) → EndOnWire e s event t → OnlyWire s event t
+end_only A s event t step = record {
   shape = ap (λ (x : LaneState). x.shape) step.is;
   wire = ap (λ (x : LaneState). x.wire) step.is;
   stopped = ap (λ (x : LaneState). x.stopped) step.is;
-  kept = client_kept s event t sound step;
+  kept = client_kept s event t step;
 }
-end_only B s event t sound step = record {
+end_only B s event t step = record {
   shape = ap (λ (x : LaneState). x.shape) step.1.is;
   wire = ap (λ (x : LaneState). x.wire) step.1.is;
   stopped = ap (λ (x : LaneState). x.stopped) step.1.is;
   kept = same_client s t (ap (λ (x : LaneState). x.client) step.1.is);
 }
 
-reset_only : (by : Giver) (e : End) (s : LaneState) (cause : Cause) (packet : Option (List ℕ)) (lost : ℕ) (t : LaneState) → ClientSound s.client
+reset_only : (by : Giver) (e : End) (s : LaneState) (cause : Cause) (packet : Option (List ℕ)) (lost : ℕ) (t : LaneState)
     → ResetBy by e s cause packet lost t → OnlyWire s (Reset e cause packet lost) t
-reset_only ByStep e s cause packet lost t sound step = end_only e s (Reset e cause packet lost) t sound step
-reset_only ByScript A s cause packet lost t sound step = record {
+reset_only ByStep e s cause packet lost t step = end_only e s (Reset e cause packet lost) t step
+reset_only ByScript A s cause packet lost t step = record {
   shape = ap (λ (x : LaneState). x.shape) step.2;
   wire = ap (λ (x : LaneState). x.wire) step.2;
   stopped = ap (λ (x : LaneState). x.stopped) step.2;
   kept = subst (λ (c : ClientState). KeepsRequests s.client c) (sym (ap (λ (x : LaneState). x.client) step.2)) (joined_kept s.client);
 }
-reset_only ByScript B s cause packet lost t sound step = record {
+reset_only ByScript B s cause packet lost t step = record {
   shape = ap (λ (x : LaneState). x.shape) step.1.2;
   wire = ap (λ (x : LaneState). x.wire) step.1.2;
   stopped = ap (λ (x : LaneState). x.stopped) step.1.2;
   kept = same_client s t (ap (λ (x : LaneState). x.client) step.1.2);
 }
-reset_only ByRestart A s cause packet lost t sound step = absurd step
-reset_only ByRestart B s cause packet lost t sound step = record {
+reset_only ByRestart A s cause packet lost t step = absurd step
+reset_only ByRestart B s cause packet lost t step = record {
   shape = ap (λ (x : LaneState). x.shape) step.1.2;
   wire = ap (λ (x : LaneState). x.wire) step.1.2;
   stopped = ap (λ (x : LaneState). x.stopped) step.1.2;
   kept = same_client s t (ap (λ (x : LaneState). x.client) step.1.2);
 }
-reset_only ByTick A s cause packet lost t sound step = record {
+reset_only ByTick A s cause packet lost t step = record {
   shape = ap (λ (x : LaneState). x.shape) step.1.2;
   wire = ap (λ (x : LaneState). x.wire) step.1.2;
   stopped = ap (λ (x : LaneState). x.stopped) step.1.2;
   kept = subst (λ (c : ClientState). KeepsRequests s.client c) (sym (ap (λ (x : LaneState). x.client) step.1.2)) (joined_kept s.client);
 }
-reset_only ByTick B s cause packet lost t sound step = absurd step
+reset_only ByTick B s cause packet lost t step = absurd step
 
 poked_only : (e : End) (s : LaneState) (at : ℕ) (bytes : List ℕ) (t : LaneState) → WireStep s (Poked e at bytes) t → OnlyWire s (Poked e at bytes) t
 poked_only A s at bytes t step = record {
@@ -124,27 +123,27 @@ poked_only A s at bytes t step = record {
 }
 poked_only B s at bytes t step = absurd step
 
-pub wire_only : (s : LaneState) (event : WireEvent) (t : LaneState) → ClientSound s.client → WireStep s event t → OnlyWire s event t
-wire_only s (Joined e lost) t sound step = end_only e s (Joined e lost) t sound step
-wire_only s (Took e packet opens) t sound step = end_only e s (Took e packet opens) t sound step
-wire_only s (Sent e packet opens) t sound step = end_only e s (Sent e packet opens) t sound step
-wire_only s (Idle e) t sound step = end_only e s (Idle e) t sound step
-wire_only s (Blocked e) t sound step = end_only e s (Blocked e) t sound step
-wire_only s (Reset e cause packet lost) t sound step = reset_only (giver cause) e s cause packet lost t sound step
-wire_only s (Lost e packet) t sound step = record {
+pub wire_only : (s : LaneState) (event : WireEvent) (t : LaneState) → WireStep s event t → OnlyWire s event t
+wire_only s (Joined e lost) t step = end_only e s (Joined e lost) t step
+wire_only s (Took e packet opens) t step = end_only e s (Took e packet opens) t step
+wire_only s (Sent e packet opens) t step = end_only e s (Sent e packet opens) t step
+wire_only s (Idle e) t step = end_only e s (Idle e) t step
+wire_only s (Blocked e) t step = end_only e s (Blocked e) t step
+wire_only s (Reset e cause packet lost) t step = reset_only (giver cause) e s cause packet lost t step
+wire_only s (Lost e packet) t step = record {
   shape = ap (λ (x : LaneState). x.shape) step.1;
   wire = ap (λ (x : LaneState). x.wire) step.1;
   stopped = ap (λ (x : LaneState). x.stopped) step.1;
   kept = same_client s t (ap (λ (x : LaneState). x.client) step.1);
 }
-wire_only s (Injected e packet) t sound step = record {
+wire_only s (Injected e packet) t step = record {
   shape = ap (λ (x : LaneState). x.shape) step.2;
   wire = ap (λ (x : LaneState). x.wire) step.2;
   stopped = ap (λ (x : LaneState). x.stopped) step.2;
   kept = same_client s t (ap (λ (x : LaneState). x.client) step.2);
 }
-wire_only s (Poked e at bytes) t sound step = poked_only e s at bytes t step
-wire_only s (Declines d) t sound step = record {
+wire_only s (Poked e at bytes) t step = poked_only e s at bytes t step
+wire_only s (Declines d) t step = record {
   shape = ap (λ (x : LaneState). x.shape) step.1;
   wire = ap (λ (x : LaneState). x.wire) step.1;
   stopped = ap (λ (x : LaneState). x.stopped) step.1;
@@ -178,9 +177,9 @@ wire_turn s w (Injected e packet) t stopped step = tt
 wire_turn s w (Poked e at bytes) t stopped step = tt
 wire_turn s w (Declines d) t stopped step = tt
 
-pub on_wire : (s : LaneState) (l : DiskLog) (event : WireEvent) (t : LaneState) → ClientSound s.client → LaneInvariant s l → WireStep s event t → Behind s l (OnWire event) t
-on_wire s l event t sound stands step =
-    let only = wire_only s event t sound step in
+pub on_wire : (s : LaneState) (l : DiskLog) (event : WireEvent) (t : LaneState) → LaneInvariant s l → WireStep s event t → Behind s l (OnWire event) t
+on_wire s l event t stands step =
+    let only = wire_only s event t step in
     let keeps = wired_keeps l.shape.slots l.transcript l.work event in
     record {
       may = record { admission = tt; once = tt; turns = wire_turn s l.work event t stands.stopped step };

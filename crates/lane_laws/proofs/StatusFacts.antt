@@ -25,7 +25,6 @@ use Rattle.lane_laws.specs.WorkLaws.{IfServer}
 use Rattle.channel_model.specs.Messages.{opening_sid}
 use Rattle.lane_laws.specs.WorkLog.{ClientCounts, ServerCounts}
 use Rattle.disk_model.specs.ClientPutting.{client_kind}
-use Rattle.disk_model.specs.ClientRule.{client_rule}
 use Rattle.disk_model.specs.ClientState.{ClientSession, ClientState}
 use Rattle.disk_model.specs.DiskEvent.{DiskEvent, OnWire}
 use Rattle.channel_model.specs.EndPuts.{ComesUp, EndsOwn, EndsHandshake, Goes, PutKind, put_opens}
@@ -45,10 +44,9 @@ use Rattle.lane_laws.proofs.Speaking.{client_blocked_rests}
 use Rattle.lane_laws.proofs.HeardFront.{heard_messages}
 use Rattle.lane_laws.proofs.LaneCounting.{Knows, few_slots, run_knows}
 use Rattle.lane_laws.proofs.NoOwnReset.{run_known}
-use Rattle.lane_laws.proofs.OpenRuns.{held_open}
+use Rattle.lane_laws.proofs.ClientMoves.{held_open}
 use Rattle.lane_laws.proofs.RingRuns.{before}
 use Rattle.lane_laws.proofs.RingWork.{Known, ids_in, turn_in}
-use Rattle.lane_laws.proofs.Ruling.{client_may}
 use Rattle.lane_laws.proofs.ServerCounting.{opens_new}
 use Rattle.lane_laws.proofs.ServerEndCounting.{server_puts_counting}
 use Rattle.lane_laws.proofs.ServerTaken.{server_took_what}
@@ -142,8 +140,8 @@ sends_new shape s l packet t now step =
     let at = seen A s.shape.entries s.wire.wire in
     let sends = step.step in
     let held = sends.held in
-    let rests : ClientRests held l.transcript.client = client_blocked_rests s.client at held l.transcript.client now.knows.all.transcripts.client sends.holds now.knows.rests.client in
-    let same : is_some held.session ≡ is_some s.client.session = held_open s.client at (client_rule s.client at) held (client_may s.client at) sends.holds in
+    let rests : ClientRests held l.transcript.client = client_blocked_rests s.client at held l.transcript.client now.knows.all.sound sends.holds now.knows.rests.client in
+    let same : is_some held.session ≡ is_some s.client.session = held_open s.client at held now.knows.all.sound sends.holds in
     none_if s.client.session (λ open_one.
     let closed : put_opens (client_kind held) held.handshake ≡ false = kind_opens (client_kind held) held (rests.opened (same ∙ open_one)) in
     let never : true ≡ false = sends.opens_is ∙ closed in absurd (cc never))
@@ -200,7 +198,7 @@ pub hears_session : (shape : Shape) (s : LaneState) (l : DiskLog) (packet : List
 hears_session shape s l packet t now step =
     let up : s.wire.wire.end_b ≡ Up = ap (λ (w : WireLog). w.wire.end_b) now.knows.all.stands.wire ∙ now.table.0 in
     let up_t : t.wire.wire.end_b ≡ Up = ap (λ (x : LaneState). x.wire.wire.end_b) step.1.is ∙ up in
-    let took = server_took_what s.server l.transcript.server packet t.server true now.knows.all.transcripts.follows_b now.knows.rests.server.whole step.1.step.1.1 in
+    let took = server_took_what s.server l.transcript.server packet t.server true now.knows.rests.server.stands.link.follows now.knows.rests.server.whole step.1.step.1.1 in
     let few = few_heard (deal (asks_of shape) (answers_of shape) now.on.meets.handshakes.sid) s.server l.transcript.server now.on.stand.theirs (now.on.meets.handshakes.theirs up) (opens_new s.server t.server l.transcript.server packet now.knows.rests.server took) in
     let open_one : is_some t.server.session ≡ true = server_open t.server.session t.server.work _ _ refl now.next.counted.server.agrees in
     let d = deal (asks_of shape) (answers_of shape) now.next_on.meets.handshakes.sid in
@@ -236,6 +234,6 @@ none_given shape s l packet t now k is = none_in s l packet l.work.client now.kn
 -- and none opens by a packet that the server puts
 pub sends_not : (shape : Shape) (s : LaneState) (l : DiskLog) (packet : List ℕ) (t : LaneState) → Around shape s l (OnWire (Sent B packet true)) t → LaneStep s (OnWire (Sent B packet true)) t → ⊥
 sends_not shape s l packet t now step =
-    let both = server_puts_counting l.shape s.server (seen B s.shape.entries s.wire.wire) packet true t.server l.transcript.server l.work.server (few_slots s l now.knows) now.knows.all.transcripts.follows_b
+    let both = server_puts_counting l.shape s.server (seen B s.shape.entries s.wire.wire) packet true t.server l.transcript.server l.work.server (few_slots s l now.knows)
     step.1.step.1.0 now.knows.rests.server now.knows.utters.server now.knows.counted.server in
     let never : true ≡ false = both.1 in absurd (cc never)

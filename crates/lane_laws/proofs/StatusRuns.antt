@@ -26,7 +26,8 @@ use Rattle.lane_laws.specs.RuleFacts.{ServerMay}
 use Rattle.lane_laws.proofs.StatusFacts.{Around, around, hears_session, names_session, none_given, opens_alone, sends_not}
 use Rattle.lane_laws.proofs.StatusSteps.{cleared_none, fetched_keeps, freed_keeps, gives_status, keeps_changed, last_client, last_gone, last_server, named_changed, named_more, none_keeps, one_name, published_keeps}
 use Rattle.lane_laws.proofs.UnforgedMoves.{moved_answered}
-use Rattle.lane_laws.proofs.WorkRuns.{Serves, fresh_serves, serves_step}
+use Rattle.lane_laws.proofs.PieceLaw.{Working}
+use Rattle.lane_laws.proofs.WorkRuns.{fresh_working, working_step}
 use Rattle.lane_laws.specs.Statuses.{IsLast, IsNamed, KeepsStatus, LastIn, StatusesStand}
 
 -- A SESSION OPENS
@@ -171,7 +172,7 @@ record AlongWork (shape : Shape) (s : LaneState) (l : DiskLog) : Type 0 where
   events : List DiskEvent
   run : Run LaneStep (fresh shape) events s
   log : l ≡ log_of after (nothing_yet shape) events
-  serves : Serves s l
+  working : Working s l
   statuses : l.wire.forged ≡ false → StatusesStand l
 
 completes_with : (l : DiskLog) (k : ClientCounts) (id operation status : ℕ) (bytes : List ℕ) → l.work.client ≡ Some k → StatusesStand l
@@ -181,41 +182,41 @@ completes_with l k id operation status bytes is stand slot got =
     subst (λ (o : Option ClientCounts). InClient o (λ (c : ClientCounts). slice_get (last_of c.sid l.work.opened) (id - c.base) ≡ Some status)) (sym is) (keeps slot id status got)
 
 worked_unforged : (shape : Shape) (events : List DiskEvent) (s : LaneState) (event : Worked) (t : LaneState) → IsShape shape → Run LaneStep (fresh shape) events s
-    → Serves s (log_of after (nothing_yet shape) events) → StatusesStand (log_of after (nothing_yet shape) events) → (log_of after (nothing_yet shape) events).wire.forged ≡ false
+    → Working s (log_of after (nothing_yet shape) events) → StatusesStand (log_of after (nothing_yet shape) events) → (log_of after (nothing_yet shape) events).wire.forged ≡ false
     → LaneStep s (Works event) t → Unforged (log_of after (nothing_yet shape) events) (Works event)
-worked_unforged shape events s (Desc slot bytes) t sound run serves stand clean step = run_fetches shape events s t slot bytes sound run step clean
-worked_unforged shape events s (Moved unit fault) t sound run serves stand clean step = moved_answered shape events s t unit fault sound run serves.0.work clean step
-worked_unforged shape events s (Done id operation status bytes) t sound run serves stand clean step =
+worked_unforged shape events s (Desc slot bytes) t sound run working stand clean step = run_fetches shape events s t slot bytes sound run step clean
+worked_unforged shape events s (Moved unit fault) t sound run working stand clean step = moved_answered shape events s t unit fault sound run working.work clean step
+worked_unforged shape events s (Done id operation status bytes) t sound run working stand clean step =
     let l = log_of after (nothing_yet shape) events in
     let found = run_status shape events s t id operation status bytes sound run step clean in
     completes_with l found.0 id operation status bytes found.1.open_is stand _ found.1.done_is
-worked_unforged shape events s (Published id) t sound run serves stand clean step = tt
-worked_unforged shape events s (Stored operation block count failed) t sound run serves stand clean step = tt
-worked_unforged shape events s (Finished slot status) t sound run serves stand clean step = tt
-worked_unforged shape events s Misplaced t sound run serves stand clean step = tt
+worked_unforged shape events s (Published id) t sound run working stand clean step = tt
+worked_unforged shape events s (Stored operation block count failed) t sound run working stand clean step = tt
+worked_unforged shape events s (Finished slot status) t sound run working stand clean step = tt
+worked_unforged shape events s Misplaced t sound run working stand clean step = tt
 
 unforged_at : (shape : Shape) (events : List DiskEvent) (s : LaneState) (event : DiskEvent) (t : LaneState) → IsShape shape → Run LaneStep (fresh shape) events s
-    → Serves s (log_of after (nothing_yet shape) events) → ((log_of after (nothing_yet shape) events).wire.forged ≡ false → StatusesStand (log_of after (nothing_yet shape) events))
+    → Working s (log_of after (nothing_yet shape) events) → ((log_of after (nothing_yet shape) events).wire.forged ≡ false → StatusesStand (log_of after (nothing_yet shape) events))
     → LaneStep s event t → WorkUnforgedAt (log_of after (nothing_yet shape) events) event
-unforged_at shape events s (Works event) t sound run serves stand step = λ clean. worked_unforged shape events s event t sound run serves (stand clean) clean step
-unforged_at shape events s (OnWire event) t sound run serves stand step = λ clean. tt
-unforged_at shape events s (Asks event) t sound run serves stand step = λ clean. tt
-unforged_at shape events s (Switches event) t sound run serves stand step = λ clean. tt
-unforged_at shape events s (Calms event) t sound run serves stand step = λ clean. tt
+unforged_at shape events s (Works event) t sound run working stand step = λ clean. worked_unforged shape events s event t sound run working (stand clean) clean step
+unforged_at shape events s (OnWire event) t sound run working stand step = λ clean. tt
+unforged_at shape events s (Asks event) t sound run working stand step = λ clean. tt
+unforged_at shape events s (Switches event) t sound run working stand step = λ clean. tt
+unforged_at shape events s (Calms event) t sound run working stand step = λ clean. tt
 
 along_step : (shape : Shape) → IsShape shape → (s : LaneState) (l : DiskLog) (event : DiskEvent) (t : LaneState) → AlongWork shape s l → LaneStep s event t
     → WorkUnforgedAt l event × AlongWork shape t (after l event)
 along_step shape sound s l event t along step =
     let events = along.events in
     let m = log_of after (nothing_yet shape) events in
-    let serves : Serves s m = subst (Serves s) along.log along.serves in
+    let working : Working s m = subst (Working s) along.log along.working in
     let stand : m.wire.forged ≡ false → StatusesStand m = subst (λ (x : DiskLog). x.wire.forged ≡ false → StatusesStand x) along.log along.statuses in (
-      subst (λ (x : DiskLog). WorkUnforgedAt x event) (sym along.log) (unforged_at shape events s event t sound along.run serves stand step),
+      subst (λ (x : DiskLog). WorkUnforgedAt x event) (sym along.log) (unforged_at shape events s event t sound along.run working stand step),
       record {
         events = events ++ event ∷ [];
         run = run_push LaneStep (fresh shape) s t events event along.run step;
         log = ap (λ (x : DiskLog). after x event) along.log ∙ sym (log_append after (nothing_yet shape) events (event ∷ []));
-        serves = serves_step s l event t along.serves step;
+        working = working_step s l event t along.working step;
         statuses = subst (λ (x : DiskLog). (after x event).wire.forged ≡ false → StatusesStand (after x event)) (sym along.log)
             (λ clean. event_status shape s m event t (around shape events s event t sound along.run step clean) step (stand (before m event clean)));
       },
@@ -224,4 +225,4 @@ along_step shape sound s l event t along step =
 pub unforged_lawful : (shape : Shape) (events : List DiskEvent) (s : LaneState) → IsShape shape → Run LaneStep (fresh shape) events s → Lawful WorkUnforgedAt after (nothing_yet shape) events
 unforged_lawful shape events s sound run =
     (run_lawful LaneStep WorkUnforgedAt after (AlongWork shape) (along_step shape sound) (fresh shape) s (nothing_yet shape) events
-    (record { events = []; run = refl; log = refl; serves = fresh_serves shape sound; statuses = λ clean. record { done = tt; last = λ up. tt; named = tt } }) run).0
+    (record { events = []; run = refl; log = refl; working = fresh_working shape sound; statuses = λ clean. record { done = tt; last = λ up. tt; named = tt } }) run).0

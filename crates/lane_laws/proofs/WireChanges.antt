@@ -123,7 +123,7 @@ pub wire_rests : (s : LaneState) (l : DiskLog) (event : WireEvent) (t : LaneStat
     → WireStep s event t → Changed s (OnWire event) t
 wire_rests s l event t before facts clean not calm step =
     let quiet = wire_quiet s l event t before.knows not step in
-    let only = wire_only s event t before.known.sound step in
+    let only = wire_only s event t step in
     let near : t.near ≡ s.near = quiet.near ∙ near_quiet s event calm in
     let memory = wire_same s l event t not before.known step clean in
     let work : work_while t.wire.wire.end_b t.server.work ≡ work_while s.wire.wire.end_b s.server.work =

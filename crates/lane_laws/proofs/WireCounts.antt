@@ -128,7 +128,7 @@ near_quiet : (s : LaneState) (l : DiskLog) (event : WireEvent) (t : LaneState) �
 near_quiet s l event t before facts behind not step m_few =
     let m = after l (OnWire event) in
     let quiet = wire_quiet s l event t before.knows not step in
-    let only = wire_only s event t before.known.sound step in
+    let only = wire_only s event t step in
     let done = (wired_keeps l.shape.slots l.transcript l.work event).done in
     let ever = quiet.client.ever in
     let m_is : t.near.m ≡ (near_on_wire s event).m = ap (λ (n : NearCounts). n.m) quiet.near in
@@ -145,7 +145,7 @@ near_opens : (s : LaneState) (l : DiskLog) (packet : List ℕ) (t : LaneState) �
 near_opens s l packet t before facts behind step =
     let m = after l (OnWire (Sent A packet true)) in
     let opened = client_opened s.client (seen A s.shape.entries s.wire.wire) s.memory packet t.client t.memory step.step in
-    let only = wire_only s (Sent A packet true) t before.known.sound step in
+    let only = wire_only s (Sent A packet true) t step in
     let same : t.near ≡ s.near = ap (λ (x : LaneState). x.near) step.is in
     let ever = opened.ever in
     let m_few = before.near.m in

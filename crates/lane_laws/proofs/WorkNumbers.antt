@@ -60,7 +60,7 @@ publishes s t l at id grounded step =
     let of : OfClient step.session l.work.done l.work.client =
     of_client s.client.session step.session l.work.done l.work.client open_one grounded.knows.counted.client.agrees in
     let order : InOrder (length s.client.pending) step.session =
-    in_order (length s.client.pending) s.client.session step.session open_one grounded.knows.all.transcripts.client.counts in
+    in_order (length s.client.pending) s.client.session step.session open_one grounded.knows.all.sound.counts in
     let within = is_within s.client.pending (step.session.published - step.session.completed) step.request may.2 in
     in_client l.work.client of.counts (MayPublish l id) of.is (record {
       next = omega (arith, step.id_is, of.agree.base, of.agree.published);

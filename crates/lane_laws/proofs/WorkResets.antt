@@ -152,7 +152,7 @@ reset_in e s l (the_cause.Copy fault) packet lost t grounded lies step = end_res
 
 wire_resets : (s : LaneState) (l : DiskLog) (event : WireEvent) (t : LaneState) → Grounded s l → WireStep s event t → WorkResetAt l (OnWire event)
 wire_resets s l (Reset e cause packet lost) t grounded step =
-    reset_in e s l cause packet lost t grounded (by_giver e s l.transcript cause packet lost t (grounded.knows.all.transcripts, grounded.knows.rests) step).carried step
+    reset_in e s l cause packet lost t grounded (by_giver e s l.transcript cause packet lost t (grounded.knows.all.sound, grounded.knows.rests) step).carried step
 wire_resets s l (Joined e lost) t grounded step = tt
 wire_resets s l (Took e packet opens) t grounded step = tt
 wire_resets s l (Sent e packet opens) t grounded step = tt

@@ -4,7 +4,7 @@ use Rattle.std.specs.Prelude.{⊤}
 use Rattle.runs.specs.Lawful.{Lawful, log_of, run_lawful}
 use Rattle.runs.specs.Run.{Run}
 use Rattle.channel_model.specs.TranscriptLog.{nothing_said}
-use Rattle.lane_laws.specs.DiskLog.{DiskLog, after, after_transcript, nothing_yet}
+use Rattle.lane_laws.specs.DiskLog.{DiskLog, after, nothing_yet}
 use Rattle.lane_laws.specs.QuietLaws.{IdleAt}
 use Rattle.lane_laws.specs.WorkLaws.{PiecesAt, RangesAt, WorkNumbersAt, WorkResetAt}
 use Rattle.disk_model.specs.DiskEvent.{DiskEvent}
@@ -19,10 +19,9 @@ use Rattle.lane_laws.proofs.Speaking.{fresh_rests}
 use Rattle.lane_laws.proofs.Speaking.{lane_utters}
 use Rattle.lane_laws.proofs.RingPages.{same_pages}
 use Rattle.lane_laws.proofs.IdleLaw.{idle_at}
-use Rattle.lane_laws.proofs.Lifting.{Both, Known, both_step}
 use Rattle.lane_laws.proofs.PieceLaw.{Working, pieces_at}
 use Rattle.lane_laws.proofs.RangeLaw.{ranges_at}
-use Rattle.lane_laws.proofs.WorkKept.{AnyClient, ServerWorks, any_client_keeps, server_keeps_works}
+use Rattle.lane_laws.proofs.WorkKept.{OfWork, pieces_keep, work_step}
 use Rattle.lane_laws.proofs.WorkNumbers.{Grounded, numbers_at}
 use Rattle.lane_laws.proofs.WorkResets.{own_resets_at}
 
@@ -57,36 +56,27 @@ pub idle_lawful : (shape : Shape) (events : List DiskEvent) (s : LaneState) → 
 idle_lawful = grounded_lawful IdleAt idle_at
 
 -- with what its server works on, and its table
-abbrev pub Serves : LaneState → DiskLog → Type 0
-Serves s l = Working s l × Both AnyClient ServerWorks s l.transcript
+pub working_step : (s : LaneState) (l : DiskLog) (event : DiskEvent) (t : LaneState) → Working s l → LaneStep s event t → Working t (after l event)
+working_step s l event t working step = record {
+  grounded = record { knows = (knows_step s l event t working.grounded.knows step).1; sound = working.grounded.sound };
+  work = work_step OfWork pieces_keep s event t working.work step;
+  table = (same_pages s event t step).table ∙ working.table;
+}
 
-pub serves_step : (s : LaneState) (l : DiskLog) (event : DiskEvent) (t : LaneState) → Serves s l → LaneStep s event t → Serves t (after l event)
-serves_step s l event t (working, both) step =
-    let knows = working.grounded.knows in
-    let known : Known s l.transcript = record { transcripts = knows.all.transcripts; rests = knows.rests; utters = knows.utters } in
-    let next : Both AnyClient ServerWorks t (after_transcript l.transcript event) = both_step AnyClient ServerWorks s event t l.transcript any_client_keeps server_keeps_works known both step in (
-      record {
-        grounded = record { knows = (knows_step s l event t knows step).1; sound = working.grounded.sound };
-        work = next.server;
-        table = (same_pages s event t step).table ∙ working.table;
-      },
-      next,
-    )
+pub fresh_working : (shape : Shape) → IsShape shape → Working (fresh shape) (nothing_yet shape)
+fresh_working shape sound = record { grounded = fresh_grounded shape sound; work = tt; table = refl }
 
-pub fresh_serves : (shape : Shape) → IsShape shape → Serves (fresh shape) (nothing_yet shape)
-fresh_serves shape sound = (record { grounded = fresh_grounded shape sound; work = tt; table = refl }, record { client = tt; server = tt })
-
-pub run_serves : (shape : Shape) (events : List DiskEvent) (s : LaneState) → IsShape shape → Run LaneStep (fresh shape) events s → Serves s (log_of after (nothing_yet shape) events)
-run_serves shape events s sound run =
-    (run_lawful LaneStep (λ (l : DiskLog) (e : DiskEvent). ⊤) after Serves
-    (λ (x : LaneState) (l : DiskLog) (e : DiskEvent) (y : LaneState) serves step. (tt, serves_step x l e y serves step))
-    (fresh shape) s (nothing_yet shape) events (fresh_serves shape sound) run).1
+pub run_working : (shape : Shape) (events : List DiskEvent) (s : LaneState) → IsShape shape → Run LaneStep (fresh shape) events s → Working s (log_of after (nothing_yet shape) events)
+run_working shape events s sound run =
+    (run_lawful LaneStep (λ (l : DiskLog) (e : DiskEvent). ⊤) after Working
+    (λ (x : LaneState) (l : DiskLog) (e : DiskEvent) (y : LaneState) working step. (tt, working_step x l e y working step))
+    (fresh shape) s (nothing_yet shape) events (fresh_working shape sound) run).1
 
 pub pieces_lawful : (shape : Shape) (events : List DiskEvent) (s : LaneState) → IsShape shape → Run LaneStep (fresh shape) events s → Lawful PiecesAt after (nothing_yet shape) events
 pieces_lawful shape events s sound run =
-    (run_lawful LaneStep PiecesAt after Serves
-    (λ (x : LaneState) (l : DiskLog) (e : DiskEvent) (y : LaneState) serves step. (pieces_at x l e y serves.0 step, serves_step x l e y serves step))
-    (fresh shape) s (nothing_yet shape) events (fresh_serves shape sound) run).0
+    (run_lawful LaneStep PiecesAt after Working
+    (λ (x : LaneState) (l : DiskLog) (e : DiskEvent) (y : LaneState) working step. (pieces_at x l e y working step, working_step x l e y working step))
+    (fresh shape) s (nothing_yet shape) events (fresh_working shape sound) run).0
 
 pub ranges_lawful : (shape : Shape) (events : List DiskEvent) (s : LaneState) → IsShape shape → Run LaneStep (fresh shape) events s → Lawful RangesAt after (nothing_yet shape) events
 ranges_lawful shape events s sound run =

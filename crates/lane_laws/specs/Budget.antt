@@ -12,6 +12,11 @@ abbrev pub infos_left : ℕ → Option ClientSession → ℕ
 infos_left slots None = 0
 infos_left slots (Some s) = (s.acked + slots) - (s.announced + one_if s.announcing)
 
+-- the INFO of its session that a client put, and the one that its link holds
+abbrev pub infos_begun : Option ClientSession → ℕ
+infos_begun None = 0
+infos_begun (Some s) = s.infos + one_if s.announcing
+
 abbrev pub one_range : Option SlotRange → ℕ
 one_range None = 0
 one_range (Some range) = 1

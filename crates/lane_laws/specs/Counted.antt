@@ -21,7 +21,7 @@ use Rattle.disk_model.specs.ServerRule.{answer}
 use Rattle.disk_model.specs.ServerState.{Gathers, Gives, Progress, Reads, ServerSession, ServerState, SlotRange, Work, Writes}
 use Rattle.disk_model.specs.ServerWork.{desc_of}
 use Rattle.lane_laws.specs.Budget.{one_range}
-use Rattle.lane_laws.specs.HandshakeFits.{Fits}
+use Rattle.channel_laws.specs.HandshakeFits.{HandshakeFits}
 
 -- SUMS over messages: the slots of their ranges, INFO 1 or ACK 2, how many ranges, and how many agreements to RDX
 abbrev pub range_sum : ℕ → ℕ → List (List ℕ) → ℕ
@@ -69,7 +69,7 @@ acked_of (Some session) = session.acked
 -- its session counts what was said and heard, as the log does, and is open once it agreed to RDX
 pub record ClientCounted (shape : Shape) (c : ClientState) (turns : List Turn) (done : ℕ) (k : Option ClientCounts) : Type 0 where
   pub slots : c.slots ≡ shape.slots
-  pub handshake : Fits Initiator (client_offer shape.blocks shape.slots) c.handshake
+  pub handshake : HandshakeFits Initiator (client_offer shape.blocks shape.slots) c.handshake
   pub holds : ClientHolds c turns
   pub announced : announced_of c.session ≡ range_sum shape.slots 1 (said turns)
   pub infos : infos_of c.session ≡ range_count 1 (said turns)
@@ -135,7 +135,7 @@ UnitFits (Some work) = UnitIn (unit_count (desc_of work).size) work.progress
 pub record ServerCounted (shape : Shape) (v : ServerState) (turns : List Turn) (d : Option ServerCounts) : Type 0 where
   pub slots : v.slots ≡ shape.slots
   pub blocks : v.blocks ≡ shape.blocks
-  pub handshake : Fits Responder (server_offer shape.blocks shape.slots) v.handshake
+  pub handshake : HandshakeFits Responder (server_offer shape.blocks shape.slots) v.handshake
   pub holds : ServerHolds v turns
   pub order : ServerOrder shape.slots v.session d turns
   pub unit : UnitFits v.work

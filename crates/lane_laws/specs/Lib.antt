@@ -19,7 +19,6 @@ pub mod LaneTranscripts
 pub mod MemoryStands
 pub mod Remaining
 pub mod RemainingSteps
-pub mod RemainingTurn
 pub mod RingAgreed
 pub mod RingSlots
 pub mod RuleFacts
@@ -28,7 +27,6 @@ pub mod SlotsWritten
 pub mod Sound
 pub mod Standing
 pub mod TableStands
-pub mod HandshakeFits
 pub mod Counted
 pub mod OneSession
 pub mod OnTheWay

@@ -3,104 +3,36 @@
 -- an end has still to put (that it is put, and that it is taken), and for each request one that it is published, two for the INFO that
 -- announces it, one that it is done, and twelve for the server: ten that it is served and two for the ACK that answers it. A request counts
 -- as if it were announced and answered alone: an INFO that announces several lowers the number by two for each.
-use Rattle.std.specs.Prelude.{ℕ, ◌+◌, ◌-◌, ◌*◌, ◌/◌, ◌%◌, Bool, true, false, List, [], ◌∷◌, length, Option, Some, None}
-use Rattle.ldc_link.specs.declared.phase.LinkPhase.{LinkPhase}
-use Rattle.ldc_link.specs.declared.phase.LinkPhase.TheVariants as phase
-use Rattle.ldc_link.specs.declared.phase.Role.{Role}
-use Rattle.ldc_link.specs.declared.phase.Role.TheVariants.{Initiator, Responder}
+use Rattle.std.specs.Prelude.{ℕ, ◌+◌, ◌-◌, ◌*◌, ◌%◌, Bool, true, false, length, Option, Some, None}
 use Rattle.ldc_queue.specs.declared.end.ChannelState.{ChannelState}
 use Rattle.ldc_queue.specs.declared.end.ChannelState.TheVariants.{Down, Up, Resetting}
 use Rattle.ldc_queue.specs.Wire.{Wire}
 use Rattle.vdisk_msg.specs.Pieces.{unit_count}
-use Rattle.vio_handshake.specs.declared.handshake.Phase.{Phase}
-use Rattle.vio_handshake.specs.declared.handshake.Phase.TheVariants.{Version, Attributes, OwnRing, PeerRing, PeerRingTaken, OwnReady, PeerReady, PeerReadyTaken}
-use Rattle.vio_tag.specs.declared.message.Message.{Message}
-use Rattle.vio_tag.specs.Spelling.{canonical}
-use Rattle.disk_model.specs.ClientPutting.{is_announcing}
 use Rattle.disk_model.specs.ClientState.{ClientSession, ClientState}
 use Rattle.disk_model.specs.LaneState.{LaneState}
 use Rattle.disk_model.specs.ServerState.{Ends, Flushes, Gathers, Gives, Progress, Reads, ServerSession, ServerState, Work, Writes}
 use Rattle.disk_model.specs.ServerWork.{desc_of}
-use Rattle.lane_laws.specs.Budget.{range_left}
+use Rattle.channel_laws.specs.PacketsLeft.{packets_left}
+use Rattle.lane_laws.specs.Budget.{one_if}
+use Rattle.lane_laws.specs.ChannelEnds.{client_core, server_core}
 
--- PACKETS. Those of so many bytes, and of the message that is owed
-abbrev pub parts : ℕ → ℕ
-parts n = (n + 55) / 56
-
-abbrev pub parts_owed : Option Message → ℕ
-parts_owed None = 0
-parts_owed (Some message) = parts (length (canonical message))
-
--- those of the handshake that follow the message which is owed; the registration of a ring, and its answer, have two
-abbrev pub later : Role → Phase → ℕ
-later Initiator Version = 5
-later Initiator Attributes = 4
-later Initiator OwnRing = 2
-later Initiator PeerRing = 3
-later Initiator PeerRingTaken = 2
-later Initiator OwnReady = 1
-later Initiator PeerReady = 1
-later Responder Version = 6
-later Responder Attributes = 5
-later Responder PeerRing = 4
-later Responder PeerRingTaken = 7
-later Responder OwnRing = 2
-later Responder PeerReady = 2
-later Responder PeerReadyTaken = 1
-later Initiator _ = 0
-later Responder _ = 0
-
--- before the link is up: its own packets, and all of the handshake
-abbrev pub client_puts : LinkPhase → ℕ → ℕ
-client_puts phase.OwesVersInfo n = 9
-client_puts phase.AwaitsVersAck n = 8
-client_puts phase.OwesRts n = 8
-client_puts phase.AwaitsRtr n = 7
-client_puts phase.OwesRdx n = 7
-client_puts phase.Established n = n
-client_puts _ n = 9
-
--- a server begins with the last of these; it is never in one of the first
-abbrev pub server_puts : LinkPhase → ℕ → ℕ
-server_puts phase.OwesVersInfo n = 10
-server_puts phase.AwaitsVersAck n = 9
-server_puts phase.OwesRts n = 9
-server_puts phase.AwaitsRtr n = 8
-server_puts phase.OwesRdx n = 8
-server_puts (phase.OwesVersNack major) n = 9
-server_puts phase.AwaitsVersInfo n = 8
-server_puts phase.OwesVersAck n = 8
-server_puts phase.AwaitsRts n = 7
-server_puts phase.OwesRtr n = 7
-server_puts phase.AwaitsRdx n = 6
-server_puts phase.Established n = n
-
--- At a client the link holds the message that is owed or its own INFO, whose last packet counts with the requests that it announces.
-abbrev pub held_left : Bool → List ℕ → Option Message → ℕ
-held_left own [] owed = parts_owed owed
-held_left true (byte ∷ bytes) owed = (parts (length (byte ∷ bytes)) - 1) + parts_owed owed
-held_left false (byte ∷ bytes) owed = parts (length (byte ∷ bytes))
-
+-- PACKETS. The message of a client's session, its INFO, is one of them while its link holds it; a server's counts from when it is asked for a
+-- range.
 abbrev pub client_packets : ClientState → ℕ
-client_packets c = client_puts c.link.phase (later c.handshake.role c.handshake.phase) + held_left (is_announcing c.session) c.link.to_send c.handshake.owed
-
--- at a server it holds the message that is owed, or the answer to a range
-abbrev pub answers_held : List ℕ → Option Message → ℕ → ℕ
-answers_held [] owed range = parts_owed owed + range
-answers_held (byte ∷ bytes) None range = parts (length (byte ∷ bytes))
-answers_held (byte ∷ bytes) (Some message) range = parts (length (byte ∷ bytes)) + range
+client_packets c = packets_left (client_core c)
 
 abbrev pub server_packets : ServerState → ℕ
-server_packets v = server_puts v.link.phase (later v.handshake.role v.handshake.phase) + answers_held v.link.to_send v.handshake.owed (range_left v.session)
+server_packets v = packets_left (server_core v) + (server_core v).more
 
--- REQUESTS at the client, of which so many are pending: those that aren't published, aren't announced, and aren't done
+-- REQUESTS at the client, of which so many are pending: those that aren't published, aren't announced, and aren't done. One is announced by the
+-- INFO that the link holds.
 abbrev pub total : ℕ → Option ClientSession → ℕ
 total pending None = pending
 total pending (Some s) = pending + s.completed
 
 abbrev pub requests_left : ℕ → Option ClientSession → ℕ
 requests_left pending None = 4 * pending
-requests_left pending (Some s) = ((pending + s.completed) - s.published) + 2 * ((pending + s.completed) - s.announced) + pending
+requests_left pending (Some s) = ((pending + s.completed) - s.published) + 2 * ((pending + s.completed) - (s.announced + one_if s.announcing)) + pending
 
 -- AT THE SERVER: those that it was asked for, and those of them that it didn't finish, modulo 2^64
 abbrev pub asked_in : Option ServerSession → ℕ

@@ -1,33 +1,17 @@
--- What an end must be told for its steps to lower what remains, and which steps lower it whatever comes.
+-- Which steps of an end lower what remains, and what a server takes.
 use Rattle.std.specs.Prelude.{◌≡◌, List, [], ◌∷◌, ℕ, ◌+◌, ◌*◌, ◌<◌, ◌≤◌, ◌⊎◌, ⊤, length, Option, Some, None}
-use Rattle.ldc_link.specs.declared.phase.LinkPhase.{LinkPhase}
-use Rattle.ldc_link.specs.declared.phase.LinkPhase.TheVariants.{Established}
-use Rattle.vio_handshake.specs.declared.handshake.Phase.{Phase}
-use Rattle.vio_handshake.specs.declared.handshake.Phase.TheVariants.{Open}
-use Rattle.disk_model.specs.ClientState.{ClientSession, ClientState}
+use Rattle.disk_model.specs.ClientState.{ClientState}
 use Rattle.disk_model.specs.DiskEvent.{Desc, DiskEvent, Done, Finished, Moved, OnWire, Published, Stored, Worked, Works}
-use Rattle.disk_model.specs.LaneState.{LaneState}
 use Rattle.disk_model.specs.ServerState.{ServerSession, ServerState}
 use Rattle.channel_model.specs.WireEvent.{Joined, Sent, Took, WireEvent}
 use Rattle.ldc_queue.specs.declared.end.ChannelState.{ChannelState}
 use Rattle.ldc_queue.specs.declared.end.ChannelState.TheVariants.{Down, Up, Resetting}
-use Rattle.ldc_queue.specs.declared.end.End.TheVariants.{A, B}
-use Rattle.lane_laws.specs.Remaining.{asked_in, client_packets, requests_left, server_packets, serving_left, total}
-
--- a client's session is open only where its handshake is through and its link is up
-abbrev pub OpensLast : Phase → LinkPhase → Option ClientSession → Type 0
-OpensLast handshake link None = ⊤
-OpensLast handshake link (Some session) = (handshake ≡ Open) × (link ≡ Established)
+use Rattle.lane_laws.specs.Remaining.{asked_in, server_packets, serving_left, total}
 
 -- a server's counts fit into 8 bytes
 abbrev pub CountsFit : Option ServerSession → Type 0
 CountsFit None = ⊤
 CountsFit (Some session) = (session.asked < 18446744073709551616) × (session.finished < 18446744073709551616)
-
--- what always holds of a lane, also where somebody forges, by which each step that takes nothing lowers what remains
-pub record StepsStand (s : LaneState) : Type 0 where
-  pub opens : OpensLast s.client.handshake.phase s.client.link.phase s.client.session
-  pub fit : CountsFit s.server.session
 
 -- THE STEPS of an end that take nothing: it joins, puts a packet, publishes or completes a request, fetches a descriptor, does a piece of
 -- it, or gives it its status
@@ -64,15 +48,7 @@ abbrev pub AllDo : List DiskEvent → Type 0
 AllDo [] = ⊤
 AllDo (event ∷ events) = DoesSomething event × AllDo events
 
--- A PACKET THAT IS TAKEN lowers what remains where the end that takes it has no more to put than before, and a server that is asked for
--- more is asked for what its client announced. On a lane that nobody forged each packet that is taken is so.
-pub record ClientHears (c t : ClientState) : Type 0 where
-  pub packets : client_packets t ≤ client_packets c
-  pub pending : length t.pending ≡ length c.pending
-  pub requests : requests_left (length t.pending) t.session ≡ requests_left (length c.pending) c.session
-  pub all : total (length t.pending) t.session ≡ total (length c.pending) c.session
-
--- a server takes what asks for nothing
+-- A PACKET THAT A SERVER TAKES, where nobody forged: it asks for nothing, and the server has no more to put than before
 pub record ServerHears (v u : ServerState) : Type 0 where
   pub packets : server_packets u ≤ server_packets v
   pub asked : asked_in u.session ≡ asked_in v.session
@@ -84,7 +60,7 @@ total_at Up c = total (length c.pending) c.session
 total_at Down c = length c.pending
 total_at Resetting c = length c.pending
 
--- it takes the INFO of a range, and owes one ACK for it
+-- or it is the INFO of a range that the client announced, for which the server owes one ACK
 pub record ServerIsAsked (most count : ℕ) (v u : ServerState) : Type 0 where
   pub some : 1 ≤ count
   pub packets : server_packets u ≤ server_packets v + 1
@@ -94,8 +70,3 @@ pub record ServerIsAsked (most count : ℕ) (v u : ServerState) : Type 0 where
 
 abbrev pub ServerTurn : ℕ → ServerState → ServerState → Type 0
 ServerTurn most v u = ServerHears v u ⊎ ((count : ℕ) × ServerIsAsked most count v u)
-
-abbrev pub TakesInTurn : LaneState → DiskEvent → LaneState → Type 0
-TakesInTurn s (OnWire (Took A packet opens)) t = ClientHears s.client t.client
-TakesInTurn s (OnWire (Took B packet opens)) t = ServerTurn (total_at s.wire.wire.end_a s.client) s.server t.server
-TakesInTurn s _ t = ⊥

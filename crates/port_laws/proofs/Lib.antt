@@ -10,7 +10,7 @@ pub mod WireLaws
 pub mod GroupsAgree
 mod MessageDoes
 mod OwnBytes
-mod HandshakeKeeps
+mod OwedSays
 mod EndCounting
 mod MemoryRoom
 mod RemainingReady
@@ -27,5 +27,4 @@ pub mod RemainingTakes
 pub mod RuleFrames
 pub mod RuleRest
 pub mod RuleIdle
-mod AtRest
 pub mod RuleTwoIdle

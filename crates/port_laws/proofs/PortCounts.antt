@@ -36,7 +36,7 @@ use Rattle.port_laws.specs.PortCore.{port_core, port_events}
 use Rattle.port_laws.proofs.CoreLaws.{sizes_fit}
 use Rattle.port_laws.proofs.Fitting.{BothFit}
 use Rattle.port_laws.proofs.GroupsAgree.{event_groups}
-use Rattle.port_laws.proofs.HandshakeKeeps.{EndKeeps, keeps_run}
+use Rattle.channel_laws.proofs.HandshakeFitting.{EndFits, fits_run}
 use Rattle.port_laws.proofs.HeldCounts.{SlotsFit}
 use Rattle.port_laws.proofs.PortRuns.{before_core, before_fits, fresh_port_core, port_fits_behind, spoken_behind}
 use Rattle.port_laws.proofs.StepCounts.{Acting, begins_counts, step_counts}
@@ -196,13 +196,13 @@ pub record Ready (shape : NetShape) (u : PortState) (l : PortLog) : Type 0 where
   pub members : u.lane.guest.groups ≡ l.members
   pub wire : u.lane.wire ≡ l.wire
   pub fits : BothFit u.lane
-  pub keeps : EndsAll EndKeeps (lane_core u.lane) l.transcript
+  pub keeps : EndsAll EndFits (lane_core u.lane) l.transcript
 
 acts_of : (role : Role) (slots : ℕ) (queue : List (List ℕ)) (s : NetEndState) (l : EndLog) (turns : List Turn) (begun : Bool) → EndCounts role slots queue s l → FramesStand s → NetFits role s
-    → EndKeeps role (net_core_at role begun s) turns → SlotsFit slots → begun ≡ true → Acting role slots queue s l turns
+    → EndFits role (net_core_at role begun s) turns → SlotsFit slots → begun ≡ true → Acting role slots queue s l turns
 acts_of role slots queue s l turns begun counts stands fits keeps fit is =
-    let here : EndKeeps role (net_core_at role true s) turns = subst (λ (b : Bool). EndKeeps role (net_core_at role b s) turns) is keeps in
-    record { counts = counts; stands = stands; fits = fits; ends = here.stands; keeps = here.keeps; slots_fit = fit }
+    let here : EndFits role (net_core_at role true s) turns = subst (λ (b : Bool). EndFits role (net_core_at role b s) turns) is keeps in
+    record { counts = counts; stands = stands; fits = fits; ends = here.stands; keeps = here.fits; slots_fit = fit }
 
 pub guest_acts : (shape : NetShape) (u : PortState) (l : PortLog) → Ready shape u l → is_up u.lane.wire.wire.end_a ≡ true
     → Acting Initiator shape.slots [] u.lane.guest l.guest l.transcript.client
@@ -220,8 +220,8 @@ pub ready_before : (shape : NetShape) (s : PortState) (l : PortLog) (event : Net
 ready_before shape s l event is counts =
     let transcript : transcript_behind (port_events counts.events) ≡ l.transcript =
     spoken_behind shape counts.events ∙ sym (ap (λ (x : PortLog). x.transcript) counts.log) in
-    let all : EndsAll EndKeeps (port_core s) (transcript_behind (port_events counts.events)) =
-    keeps_run shape.entries (port_offer Initiator shape.address shape.slots) (port_offer Responder shape.address shape.slots) (port_events counts.events) (port_core s)
+    let all : EndsAll EndFits (port_core s) (transcript_behind (port_events counts.events)) =
+    fits_run shape.entries (port_offer Initiator shape.address shape.slots) (port_offer Responder shape.address shape.slots) (port_events counts.events) (port_core s)
     (sizes_fit shape is) (fresh_port_core shape counts.events s counts.run) in
     let hub : HubReady shape.slots (before event s) l.hub = hub_ready shape.slots event s l.hub counts.hub counts.stands.1 in
     record {
@@ -233,7 +233,7 @@ ready_before shape s l event is counts =
       members = ap (λ (x : NetEndState). x.groups) (before_guest event s) ∙ counts.members;
       wire = before_wire event s ∙ counts.wire;
       fits = before_fits event s (port_fits_behind shape counts.events s counts.run);
-      keeps = subst (λ (x : LaneCore). EndsAll EndKeeps x l.transcript) (sym (before_core event s)) (subst (EndsAll EndKeeps (port_core s)) transcript all);
+      keeps = subst (λ (x : LaneCore). EndsAll EndFits x l.transcript) (sym (before_core event s)) (subst (EndsAll EndFits (port_core s)) transcript all);
     }
 
 -- WHAT IS ASKED

@@ -32,7 +32,9 @@ use Rattle.port_model.specs.Spoken.{Other, Spoken, spoken}
 use Rattle.port_laws.specs.Counted.{Counts, EndCounts, GuestCounts, HoldsRightly, SaysRightly, SessionCounts, UnsaidRight, left_of, unsaid}
 use Rattle.port_laws.specs.NetCore.{net_core}
 use Rattle.port_laws.proofs.EndCounting.{OpenCounts, ShutCounts, empty_unsaid, open_counts, shut_counts}
-use Rattle.port_laws.proofs.HandshakeKeeps.{HandshakeKeeps, OwesNoData, owed_other}
+use Rattle.channel_laws.proofs.PacketsLeft.{opening_shut}
+use Rattle.channel_laws.specs.HandshakeFits.{OwedFits}
+use Rattle.port_laws.proofs.OwedSays.{owed_other}
 
 -- A SESSION OPENS with nothing published, taken or told
 guest_opened : (role : Role) (base : ℕ) (groups : List (List ℕ)) (sid : ℕ) → GuestCounts role (opened_session base) groups (opened_log sid)
@@ -210,25 +212,19 @@ other_right slots groups l said other message v is log =
     let same : said ≡ message = cc in
     subst (λ (x : List ℕ). SaysRightly slots groups v x (spoken x)) same (subst (SaysRightly slots groups v said) (sym other) tt)
 
-handshake_said : (role : Role) (held : NetEndState) (turns : List Turn) → EndStands role (net_core role held) turns → OwesNoData held.handshake.owed → is_none held.handshake.owed ≡ false
+handshake_said : (role : Role) (held : NetEndState) (turns : List Turn) → EndStands role (net_core role held) turns → OwedFits held.handshake.phase held.handshake.owed → is_none held.handshake.owed ≡ false
     → is_up held.link ≡ true → 1 ≤ length held.link.to_send → spoken (half_said turns ++ held.link.to_send) ≡ Other
 handshake_said role held turns stands owes own up some =
     let carried : CarriesOwed held.handshake (half_said turns ++ held.link.to_send) =
     subst (λ (b : Bool). Carries b held.handshake (half_said turns ++ held.link.to_send)) own (stands.carries (holds_some held.link up some)) in
-    ap spoken carried.is ∙ owed_other carried.message (subst OwesNoData carried.owed owes)
-
--- a session that opens wasn't open before
-opening_phase : (role : Role) (ph : Phase) → opens_by_put role ph ≡ true → (role ≡ Initiator) × (is_open_in ph ≡ false)
-opening_phase Initiator PeerReadyTaken is = (refl, refl)
-opening_phase Responder ph is = false_true is
-opening_phase Initiator ph is = false_true is
+    ap spoken carried.is ∙ owed_other held.handshake.phase carried.message (subst (OwedFits held.handshake.phase) carried.owed owes)
 
 not_some : (session : Option NetSession) → is_some session ≡ false → session ≡ None
 not_some None is = refl
 not_some (Some p) is = true_false is
 
 put_handshake : (role : Role) (slots : ℕ) (queue : List (List ℕ)) (held : NetEndState) (l : EndLog) (turns : List Turn) (packet : List ℕ) (sid : ℕ) → EndCounts role slots queue held l
-    → EndStands role (net_core role held) turns → OwesNoData held.handshake.owed → is_none held.handshake.owed ≡ false → is_up held.link ≡ true → SaysLast held.link turns packet
+    → EndStands role (net_core role held) turns → OwedFits held.handshake.phase held.handshake.owed → is_none held.handshake.owed ≡ false → is_up held.link ≡ true → SaysLast held.link turns packet
     → (net_core role (net_put role held)).link ≡ behind_part held.link → net_opens held ≡ opens_by_put held.handshake.role held.handshake.phase
     → PutCounts role slots queue held (net_put role held) l turns packet (net_opens held) sid
 put_handshake role slots queue held l turns packet sid counts stands owes own up last link opens = by_opens (net_opens held) refl
@@ -250,10 +246,10 @@ put_handshake role slots queue held l turns packet sid counts stands owes own up
 
     opens_it : (r : Role) → role ≡ r → net_opens held ≡ true → PutCounts role slots queue held (net_put role held) l turns packet (net_opens held) sid
     opens_it Responder role_is is =
-        let at = opening_phase held.handshake.role held.handshake.phase (sym opens ∙ is) in
+        let at = opening_shut held.handshake.role held.handshake.phase (sym opens ∙ is) in
         let never : Initiator ≡ Responder = sym at.0 ∙ stands.handshake.role_is ∙ role_is in absurd (cc never)
     opens_it Initiator role_is is =
-        let at = opening_phase held.handshake.role held.handshake.phase (sym opens ∙ is) in
+        let at = opening_shut held.handshake.role held.handshake.phase (sym opens ∙ is) in
         let shut : held.session ≡ None = not_some held.session (stands.opened ∙ at.1) in
         let put_is : net_put role held ≡ opened_net_end (put_end held) =
         ap (λ (r : Role). opened_by_put r (net_opens held) (put_end held)) role_is ∙ ap (λ (b : Bool). opened_by_put Initiator b (put_end held)) is in
@@ -344,16 +340,16 @@ put_below role slots queue held l turns packet sid counts stands shut down same 
     (λ message v is log. none_some v (sym gone.is ∙ log))
 
 pub put_counts : (role : Role) (slots : ℕ) (queue : List (List ℕ)) (held : NetEndState) (l : EndLog) (turns : List Turn) (packet : List ℕ) (sid : ℕ) → EndCounts role slots queue held l
-    → EndStands role (net_core role held) turns → HandshakeKeeps held.handshake
+    → EndStands role (net_core role held) turns → OwedFits held.handshake.phase held.handshake.owed
     → PutWhat role (net_core role held) turns packet (net_opens held) (net_core role (net_put role held))
     → PutCounts role slots queue held (net_put role held) l turns packet (net_opens held) sid
-put_counts role slots queue held l turns packet sid counts stands keeps (PutControl next gone link says same shut is_open) =
+put_counts role slots queue held l turns packet sid counts stands owes (PutControl next gone link says same shut is_open) =
     put_below role slots queue held l turns packet sid counts stands shut (put_down held.link.phase packet next gone).0 (ap (λ (x : LinkState). x.to_send) link)
-put_counts role slots queue held l turns packet sid counts stands keeps (PutReady r at is link says same shut is_open) =
+put_counts role slots queue held l turns packet sid counts stands owes (PutReady r at is link says same shut is_open) =
     put_below role slots queue held l turns packet sid counts stands shut (ap is_established at) (ap (λ (x : LinkState). x.to_send) link)
-put_counts role slots queue held l turns packet sid counts stands keeps (PutMore at link says same shut is_open) =
+put_counts role slots queue held l turns packet sid counts stands owes (PutMore at link says same shut is_open) =
     put_more role slots queue held l turns packet sid counts stands (ap is_established at) shut says same
-put_counts role slots queue held l turns packet sid counts stands keeps (PutOwn own at link says same shut is_open) =
+put_counts role slots queue held l turns packet sid counts stands owes (PutOwn own at link says same shut is_open) =
     put_own role slots queue held l turns packet sid counts stands own shut says link
-put_counts role slots queue held l turns packet sid counts stands keeps (PutHandshake own at link says same opens_is is_open) =
-    put_handshake role slots queue held l turns packet sid counts stands keeps.owes own (ap is_established at) says link opens_is
+put_counts role slots queue held l turns packet sid counts stands owes (PutHandshake own at link says same opens_is is_open) =
+    put_handshake role slots queue held l turns packet sid counts stands owes own (ap is_established at) says link opens_is

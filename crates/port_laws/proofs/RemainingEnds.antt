@@ -18,7 +18,7 @@ use Rattle.channel_model.specs.EndPuts.{ComesUp, EndsHandshake, EndsOwn, Goes, P
 use Rattle.channel_model.specs.Seeing.{Seen}
 use Rattle.cookie_copy.specs.Reach.{Reach}
 use Rattle.channel_laws.proofs.EndStanding.{held_stands}
-use Rattle.channel_laws.proofs.PacketsLeft.{held_packets, says_packets}
+use Rattle.channel_laws.proofs.PacketsLeft.{held_packets, loud_none, owing_none, own_most, says_packets}
 use Rattle.channel_laws.specs.EndStep.{EndSays, Holding, Holds, HoldsOn, HoldsOwed, HoldsOwn}
 use Rattle.channel_laws.specs.PacketsLeft.{own_in, packets_left}
 use Rattle.channel_laws.specs.Standing.{EndStands, is_open_in}
@@ -47,21 +47,6 @@ abbrev pub own_left : Role → ℕ → List ℕ → NetEndState → ℕ
 own_left role more memory s = session_left role s.slots (length s.frames + more) memory s.session
 
 -- IT HOLDS a message: one of its session comes with a packet more, and what is left of the session falls by as much
-own_most : (what : Holding) → own_in what ≤ 1
-own_most HoldsOn = omega arith
-own_most (HoldsOwed message) = omega arith
-own_most (HoldsOwn message) = omega arith
-
-loud_none : (role : Role) (s held : NetEndState) (what : Holding) → owes s.link ≡ true → Holds (net_core role s) what (net_core role held) → own_in what ≡ 0
-loud_none role s held HoldsOn loud holds = refl
-loud_none role s held (HoldsOwed message) loud holds = refl
-loud_none role s held (HoldsOwn message) loud holds = true_false (sym loud ∙ holds.quiet)
-
-owing_none : (role : Role) (s held : NetEndState) (message : Message) (what : Holding) → s.handshake.owed ≡ Some message → Holds (net_core role s) what (net_core role held) → own_in what ≡ 0
-owing_none role s held message HoldsOn owed holds = refl
-owing_none role s held message (HoldsOwed other) owed holds = refl
-owing_none role s held message (HoldsOwn other) owed holds = none_some message (sym holds.owed ∙ owed)
-
 abbrev OwnLess : Role → ℕ → List ℕ → NetEndState → Holding → NetEndState → Type 0
 OwnLess role more memory s what held = own_left role more memory held + put_weight role * own_in what ≤ own_left role more memory s
 
@@ -138,10 +123,10 @@ slot_less role more memory s p activity None found held what is active some same
 own_less : (role : Role) (more : ℕ) (memory : List ℕ) (s : NetEndState) (at : Seen) (reach : Reach) (rule : NetRule) (held : NetEndState) (what : Holding)
     → port_rule role s at ≡ rule → net_holds rule s reach ≡ Some held → Holds (net_core role s) what (net_core role held) → OwnLess role more memory s what held
 own_less role more memory s at reach Puts held what is same holds =
-    let none = loud_none role s held what (says_of role s at Puts is).1 holds in
+    let none = loud_none (net_core role s) (net_core role held) what (says_of role s at Puts is).1 holds in
     of_some (OwnLess role more memory s what) s held same (no_less role (own_left role more memory s) (own_in what) none)
 own_less role more memory s at reach (Says message) held what is same holds =
-    let none = owing_none role s held message what (says_of role s at (Says message) is).2 holds in
+    let none = owing_none (net_core role s) (net_core role held) message what (says_of role s at (Says message) is).2 holds in
     of_some (OwnLess role more memory s what) (holding message s) held same (no_less role (own_left role more memory s) (own_in what) none)
 own_less role more memory s at reach (Replies p reply) held what is same holds =
     let says = says_of role s at (Replies p reply) is in

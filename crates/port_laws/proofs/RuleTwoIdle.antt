@@ -30,7 +30,7 @@ use Rattle.port_model.specs.PortState.{OnLane, PortEvent, PortState, PortStep, R
 use Rattle.port_model.specs.RestLaws.{TwoIdleAt}
 use Rattle.port_laws.specs.NetCore.{lane_core}
 use Rattle.port_laws.specs.PortCore.{port_core, port_events}
-use Rattle.port_laws.proofs.AtRest.{BothRest, rests_open}
+use Rattle.channel_laws.proofs.AtRest.{BothRest, rests_open}
 use Rattle.port_laws.proofs.CoreLaws.{offers_match, sizes_fit}
 use Rattle.port_laws.proofs.EndCounting.{open_counts}
 use Rattle.port_laws.proofs.PortCounts.{PortCounts, Ready, ready_before, wire_event}
@@ -139,9 +139,9 @@ two_idle shape s l counts ready one other clean whole =
     let knows = meets_knows shape.entries asks answers (port_events counts.events) (port_core s) (sizes_fit shape ready.sound) (offers_match shape ready.sound) (fresh_port_core shape counts.events s counts.run) in
     let transcript : TranscriptLog = (log_of core.after (core.nothing_yet shape.entries) (port_events counts.events)).transcript in
     let meets : Meets asks answers Initiator (sides_of (port_core s) transcript) = knows.holds.holds unforged in
-    let opened = rests_open asks answers (sides_of (port_core s) transcript) meets refl (rest_both (port_core s) transcript lossless one other) in
-    let guest = some_session s.lane.guest.session (ready.keeps.a.stands.opened ∙ opened.0) in
-    let hub = some_session s.lane.hub.session (ready.keeps.b.stands.opened ∙ opened.1) in
+    let opened = rests_open asks answers (sides_of (port_core s) transcript) (record { mine = knows.holds.ends.a; theirs = knows.holds.ends.b }) meets (rest_both (port_core s) transcript lossless one other) in
+    let guest = some_session s.lane.guest.session opened.0 in
+    let hub = some_session s.lane.hub.session opened.1 in
     let guest_log = open_counts Initiator shape.slots [] s.lane.guest l.guest guest.0 counts.guest guest.1 in
     let hub_log = open_counts Responder shape.slots s.queue s.lane.hub l.hub hub.0 counts.hub hub.1 in
     (λ none. none_some guest_log.of_log (sym none ∙ guest_log.is), λ none. none_some hub_log.of_log (sym none ∙ hub_log.is))

@@ -36,7 +36,9 @@ use Rattle.port_laws.specs.NetCore.{net_core}
 use Rattle.port_laws.specs.NetFits.{NetFits}
 use Rattle.port_laws.proofs.EndCounting.{OpenCounts, ShutCounts, empty_unsaid, frames_leave, gone_within, guest_same, open_counts, shut_counts}
 use Rattle.port_laws.proofs.EndMoves.{HeldCore, held_core, puts_behind, says_core, waits_core}
-use Rattle.port_laws.proofs.HandshakeKeeps.{HandshakeKeeps, same_keeps}
+use Rattle.channel_laws.proofs.HandshakeFitting.{same_fits}
+use Rattle.channel_laws.specs.HandshakeFits.{HandshakeFits, takes_ring}
+use Rattle.port_model.specs.Offers.{port_offer}
 use Rattle.port_laws.proofs.HeldCounts.{SlotsFit, held_counts}
 use Rattle.port_laws.proofs.PutCounts.{PutCounts, SaidRight, put_counts}
 use Rattle.port_laws.proofs.TookCounts.{TookCounts, free_empty, session_open, took_counts}
@@ -47,7 +49,7 @@ pub record Acting (role : Role) (slots : ℕ) (queue : List (List ℕ)) (s : Net
   pub stands : FramesStand s
   pub fits : NetFits role s
   pub ends : EndStands role (net_core role s) turns
-  pub keeps : HandshakeKeeps s.handshake
+  pub keeps : HandshakeFits role (port_offer role s.address s.slots) s.handshake
   pub slots_fit : SlotsFit slots
 
 counts_stand : (s : NetEndState) (p : NetSession) → FramesStand s → s.session ≡ Some p → CountsStand s p
@@ -95,10 +97,10 @@ sent_counts role slots queue s l turns at memory reach packet opens t sid acting
     let counts : EndCounts role slots queue held l =
     held_counts role slots queue s l at reach (port_rule role s at) held
     (record { counts = acting.counts; fits = acting.fits; slots_fit = acting.slots_fit; empty = λ quiet. free_empty role s turns acting.ends quiet }) refl step.holds in
-    let keeps : HandshakeKeeps held.handshake = same_keeps s.handshake held.handshake acting.keeps (held_handshake (net_core role s) (net_core role held) core.what core.holds) in
+    let keeps = same_fits role (port_offer role s.address s.slots) s.handshake held.handshake acting.keeps (held_handshake (net_core role s) (net_core role held) core.what core.holds) in
     let what : PutWhat role (net_core role held) turns packet (net_opens held) (net_core role (net_put role held)) =
     end_put role (net_core role s) (net_core role (net_put role held)) turns packet (net_opens held) (says_core role s held packet core puts) held_stands in
-    let here : PutCounts role slots queue held (net_put role held) l turns packet (net_opens held) sid = put_counts role slots queue held l turns packet sid counts held_stands keeps what in
+    let here : PutCounts role slots queue held (net_put role held) l turns packet (net_opens held) sid = put_counts role slots queue held l turns packet sid counts held_stands keeps.owed what in
     subst (λ (b : Bool). PutCounts role slots queue held t.end l turns packet b sid) (sym step.opens_is)
     (subst (λ (x : NetLeft). PutCounts role slots queue held x.end l turns packet (net_opens held) sid) (sym step.is) here)
 
@@ -188,13 +190,14 @@ named_open : (role : Role) (ph : Phase) → is_open_in ph ≡ true → has_named
 named_open role Open is = refl
 named_open role ph is = false_true is
 
+takes_both : (role : Role) → takes_ring role true ≡ true
+takes_both Initiator = refl
+takes_both Responder = refl
+
 peer_slots_known : (role : Role) (slots : ℕ) (queue : List (List ℕ)) (s : NetEndState) (l : EndLog) (turns : List Turn) (p : NetSession) → Acting role slots queue s l turns → s.session ≡ Some p
     → s.handshake.draft.peer_slots ≡ slots
 peer_slots_known role slots queue s l turns p acting is =
-    let offer = acting.ends.handshake.offer_is in
-    let both : s.handshake.offer.both_rings ≡ true = ap (λ (x : Offer). x.both_rings) offer in
-    let named : has_named s.handshake.role s.handshake.phase ≡ true = named_open s.handshake.role s.handshake.phase (session_open role s turns p acting.ends is) in
-    acting.keeps.slots both named ∙ ap (λ (x : Offer). x.peer_slots) offer ∙ acting.counts.slots_is
+    acting.keeps.ring (takes_both role) (named_open role s.handshake.phase (session_open role s turns p acting.ends is)) ∙ acting.counts.slots_is
 
 -- IT IS UP where it puts, and takes what waits
 pub holds_up : (role : Role) (s : NetEndState) (at : Seen) (reach : Reach) (rule : NetRule) (held : NetEndState) → port_rule role s at ≡ rule → net_holds rule s reach ≡ Some held → is_up at.state ≡ true

@@ -26,7 +26,7 @@ pub record UnitStored (shape : Shape) (s : LaneState) (operation block count : �
   pub blocks : s.server.blocks ≡ shape.blocks
 
 server_blocks : (shape : Shape) (events : List DiskEvent) (s : LaneState) → ServesChecked s (log_of after (nothing_yet shape) events) → s.server.blocks ≡ shape.blocks
-server_blocks shape events s along = along.serves.0.grounded.knows.counted.server.blocks ∙ ap (λ (x : Shape). x.blocks) (log_shape (nothing_yet shape) events)
+server_blocks shape events s along = along.serves.grounded.knows.counted.server.blocks ∙ ap (λ (x : Shape). x.blocks) (log_shape (nothing_yet shape) events)
 
 pub unit_stored : (shape : Shape) (events : List DiskEvent) (s : LaneState) (operation block count : ℕ) (failed : Bool) (t : LaneState) (store : List ℕ) (told : Option (List ℕ)) → IsShape shape
     → Run LaneStep (fresh shape) events s → 512 * (shape.first + shape.blocks) ≤ length store → Served s (Some store) (Works (Stored operation block count failed)) t told

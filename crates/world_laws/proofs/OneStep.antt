@@ -299,7 +299,7 @@ at_done shape p s store id operation status bytes t front stands step =
     record {
       split = front_split s.client.pending step.step.request step.step.front;
       rest = ap (λ (c : ClientState). c.pending) step.step.is;
-      id_is = (stands_step s l event t all.transcripts all.stands step).may.once.next ∙ at.done;
+      id_is = (stands_step s l event t all.stands step).may.once.next ∙ at.done;
       operation_is = step.step.operation_is;
       keeps = keeps;
       well = well;

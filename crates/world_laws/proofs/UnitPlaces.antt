@@ -136,9 +136,9 @@ pub stored_at : (s : LaneState) (l : DiskLog) (operation block count : ℕ) (fai
 stored_at s l operation block count failed gave t store told along room step does =
     let m : ServerStores s.server (at_server s) operation block count failed gave t.server = step.step.1.0 in
     let serves = (subst (ServerFree s.server) m.rule (server_free s.server (at_server s))).1 in
-    let inside : UnitIn (unit_count (desc_of m.work).size) m.work.progress = subst UnitFits serves along.serves.0.grounded.knows.counted.server.unit in
-    let is : UnitIs (desc_of m.work) m.work.progress = subst WorkIs serves along.serves.0.work in
-    let checked : CheckedBy s.server.blocks (desc_of m.work) m.work.progress = subst (IsChecked s.server.blocks) serves along.checks.server in
+    let inside : UnitIn (unit_count (desc_of m.work).size) m.work.progress = subst UnitFits serves along.serves.grounded.knows.counted.server.unit in
+    let is : UnitIs (desc_of m.work) m.work.progress = subst WorkIs serves along.serves.work in
+    let checked : CheckedBy s.server.blocks (desc_of m.work) m.work.progress = subst (IsChecked s.server.blocks) serves along.checks in
     let here : StoreDoesIn m.work.progress s.server block failed gave (Some store) told =
     subst (λ (o : Option Work). StoreDoes o s.server block failed gave (Some store) told) serves does in
     record {
