@@ -350,9 +350,14 @@ held_folds role c t turns folds link handshake offer = record {
 
 folds_move : (role : Role) (c : EndCore) (move : EndMove) (t : EndCore) (turns : List Turn) → FoldsSo role c turns → EndStep role c move t → EndFolds role t (turns_after turns move)
 folds_move role c Begins t turns so step = begins_folds role c t turns so.stands step
-folds_move role c Renews t turns so step = record {
+folds_move Initiator c Renews t turns so step = record {
   phase = ap (λ (k : LinkState). k.phase) step.link;
-  handshake = same_last role t c.offer 0 [] step.offer (ap (λ (h : Handshake). h.last_sid) step.handshake) step.handshake;
+  handshake = same_last Initiator t c.offer c.handshake.last_sid [] step.offer (ap (λ (h : Handshake). h.last_sid) step.handshake)
+      (step.handshake ∙ joined_down Initiator c.offer c.handshake so.stands.handshake.role_is so.stands.handshake.offer_is);
+}
+folds_move Responder c Renews t turns so step = record {
+  phase = ap (λ (k : LinkState). k.phase) step.link;
+  handshake = same_last Responder t c.offer 0 [] step.offer (ap (λ (h : Handshake). h.last_sid) step.handshake) step.handshake;
 }
 folds_move role c (Fails cause packet) t turns so step = begins_folds role c t turns so.stands step.1
 folds_move role c (Hears packet opens) t turns so step = hears_folds role c t turns packet opens so.stands so.folds step

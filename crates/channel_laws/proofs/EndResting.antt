@@ -315,8 +315,11 @@ says_rests role c t turns packet opens all says = by_what (end_put role c t turn
 rests_step : (role : Role) (c : EndCore) (move : EndMove) (t : EndCore) (turns : List Turn) → StandsResting role c turns → EndStep role c move t
     → RestsOn role t.handshake (heard (turns_after turns move))
 rests_step role c Begins t turns all step = begins_rests role c t turns all.stands step
-rests_step role c Renews t turns all step =
-    same_handshake role (fresh_handshake role c.offer) t.handshake [] step.handshake (record { role_is = refl; sid = tt; version = tt; own = tt; peer = tt })
+rests_step Initiator c Renews t turns all step =
+    same_handshake Initiator (joined_handshake c.handshake) t.handshake [] step.handshake
+    (record { role_is = all.stands.handshake.role_is; sid = tt; version = tt; own = tt; peer = tt })
+rests_step Responder c Renews t turns all step =
+    same_handshake Responder (fresh_handshake Responder c.offer) t.handshake [] step.handshake (record { role_is = refl; sid = tt; version = tt; own = tt; peer = tt })
 rests_step role c (Fails cause packet) t turns all step = begins_rests role c t turns all.stands step.1
 rests_step role c (Hears packet opens) t turns all step = hears_rests role c t turns packet opens all step
 rests_step role c (Says packet opens) t turns all step = says_rests role c t turns packet opens all step

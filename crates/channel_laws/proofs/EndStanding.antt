@@ -117,8 +117,11 @@ begins_stands role c t turns stands begins =
     (record { role_is = stands.handshake.role_is; offer_is = stands.handshake.offer_is; few = stands.handshake.few; owed = tt })
 
 renews_stands : (role : Role) (c t : EndCore) (turns : List Turn) → EndStands role c turns → EndRenews role c t → EndStands role t []
-renews_stands role c t turns stands renews =
-    anew_stands role c t (fresh_handshake role c.offer) renews.link renews.handshake renews.offer renews.closed renews.more refl refl
+renews_stands Initiator c t turns stands renews =
+    anew_stands Initiator c t (joined_handshake c.handshake) renews.link renews.handshake renews.offer renews.closed renews.more refl refl
+    (record { role_is = stands.handshake.role_is; offer_is = stands.handshake.offer_is; few = stands.handshake.few; owed = tt })
+renews_stands Responder c t turns stands renews =
+    anew_stands Responder c t (fresh_handshake Responder c.offer) renews.link renews.handshake renews.offer renews.closed renews.more refl refl
     (record { role_is = refl; offer_is = refl; few = stands.handshake.few; owed = tt })
 
 pub fresh_end_stands : (role : Role) (offer : Offer) → offer.count ≤ 14 → EndStands role (fresh_end role offer) []

@@ -421,7 +421,8 @@ says_utters role c t turns packet opens all says = by_what (end_put role c t tur
 utters_step : (role : Role) (c : EndCore) (move : EndMove) (t : EndCore) (turns : List Turn) → EndSpeaks role c turns → EndStep role c move t
     → Utters role t.handshake (said (turns_after turns move))
 utters_step role c Begins t turns all step = down_utters role t.handshake (ap (λ (h : Handshake). h.phase) step.handshake) (ap (λ (h : Handshake). h.owed) step.handshake)
-utters_step role c Renews t turns all step = down_utters role t.handshake (ap (λ (h : Handshake). h.phase) step.handshake) (ap (λ (h : Handshake). h.owed) step.handshake)
+utters_step Initiator c Renews t turns all step = down_utters Initiator t.handshake (ap (λ (h : Handshake). h.phase) step.handshake) (ap (λ (h : Handshake). h.owed) step.handshake)
+utters_step Responder c Renews t turns all step = down_utters Responder t.handshake (ap (λ (h : Handshake). h.phase) step.handshake) (ap (λ (h : Handshake). h.owed) step.handshake)
 utters_step role c (Fails cause packet) t turns all step =
     down_utters role t.handshake (ap (λ (h : Handshake). h.phase) step.1.handshake) (ap (λ (h : Handshake). h.owed) step.1.handshake)
 utters_step role c (Hears packet opens) t turns all step = hears_utters role c t turns packet opens all step

@@ -173,7 +173,8 @@ says_fits role c t turns packet opens end says =
 
 move_fits : (role : Role) (c : EndCore) (move : EndMove) (t : EndCore) (turns : List Turn) → EndFits role c turns → EndStep role c move t → HandshakeFits role c.offer t.handshake
 move_fits role c Begins t turns end step = same_fits role c.offer (joined_handshake c.handshake) t.handshake (joined_fits role c.offer c.handshake end.fits) step.handshake
-move_fits role c Renews t turns end step = same_fits role c.offer (fresh_handshake role c.offer) t.handshake (fresh_fits role c.offer) step.handshake
+move_fits Initiator c Renews t turns end step = same_fits Initiator c.offer (joined_handshake c.handshake) t.handshake (joined_fits Initiator c.offer c.handshake end.fits) step.handshake
+move_fits Responder c Renews t turns end step = same_fits Responder c.offer (fresh_handshake Responder c.offer) t.handshake (fresh_fits Responder c.offer) step.handshake
 move_fits role c (Fails cause packet) t turns end step =
     same_fits role c.offer (joined_handshake c.handshake) t.handshake (joined_fits role c.offer c.handshake end.fits) step.1.handshake
 move_fits role c (Hears packet opens) t turns end step = took_fits role c t turns packet opens step.may.owed end.fits (end_took role c t turns packet opens end.stands step)

@@ -39,3 +39,7 @@ pub mod ToyRuns
 pub mod WhoseTurn
 pub mod AtRest
 pub mod EndFolding
+pub mod EndsAtRest
+pub mod KnownAttributes
+pub mod PacketCauses
+pub mod CausesSaid

@@ -117,7 +117,8 @@ begins_anew role c t turns stands begins =
     record { link = begins.link ∙ ap fresh_link stands.link.role_is; handshake = inl begins.handshake; offer = begins.offer; closed = begins.closed }
 
 pub renews_anew : (role : Role) (c t : EndCore) → EndRenews role c t → EndAnew role c t
-renews_anew role c t renews = record { link = renews.link; handshake = inr renews.handshake; offer = renews.offer; closed = renews.closed }
+renews_anew Initiator c t renews = record { link = renews.link; handshake = inl renews.handshake; offer = renews.offer; closed = renews.closed }
+renews_anew Responder c t renews = record { link = renews.link; handshake = inr renews.handshake; offer = renews.offer; closed = renews.closed }
 
 pub resets_anew : (g : Giver) (role : Role) (c t : EndCore) (turns : List Turn) (cause : Cause) (packet : Option (List ℕ)) → EndStands role c turns
     → EndStep role c (reset_move g cause packet) t → EndAnew role c t

@@ -224,7 +224,7 @@ table_at s l event t knows step =
     by_event (OnChannel (Lost e packet)) stands = stands
     by_event (OnChannel (Injected e packet)) stands = stands
     by_event (OnChannel (Poked e at bytes)) stands = tt
-    by_event (OnChannel (Declines d)) stands = tt
+    by_event (OnChannel (Declines d)) stands = stands
     by_event (Closes e) stands = tt
     by_event Beside stands = tt
 

@@ -1,4 +1,4 @@
--- An initiator's last sid is how often its link came up since its values were made new, modulo 2^32; a responder counts none.
+-- An initiator's last sid is how often its link came up, modulo 2^32; a responder counts none.
 use Rattle.std.proofs.Common.{◌≡◌, ℕ, ◌+◌, ◌%◌, Bool, true, false, ◌||◌, List, [], ◌∷◌, Option, refl, sym, ap, ◌∙◌, arith}
 use Rattle.std.specs.Prelude.{⊤, nat_eq, ◌&&◌}
 use Rattle.std.proofs.lemmas.Bool.{eqb-true}
@@ -27,7 +27,7 @@ use Rattle.channel_laws.proofs.EndStanding.{fresh_end_stands, held_stands, stand
 use Rattle.channel_laws.proofs.HandshakeCases.{AttributesAgreed, AttributesAsked, AttributesRefused, Declined, OneRingAgreed, Opened, Opens, Owes, OwnReadyFollows, PeerAgreed, ReadyAgreed, ReadyAsked, ReadyFollows, RingAgreed, RingAsked, RingFollows, RingRefused, RowSent, RowTaken, VersionAgreed, VersionAsked, VersionRefused, row_sent}
 use Rattle.channel_laws.proofs.Lifting.{EndsAll, ends_step}
 use Rattle.channel_laws.proofs.LinkCases.{canonical_is, put_quiet, ready_loud}
-use Rattle.channel_laws.specs.CoreLog.{comings_after, renewed_by}
+use Rattle.channel_laws.specs.CoreLog.{comings_after}
 use Rattle.channel_laws.specs.EndCore.{Begins, EndCore, EndMove, Fails, Hears, Renews, Says, Stays, Waits}
 use Rattle.channel_laws.specs.EndStep.{EndHears, EndSays, EndStep}
 use Rattle.channel_laws.specs.LaneCore.{Beside, Closes, CoreEvent, CoreFits, CoreStep, LaneCore, OnChannel, fresh_core, move_of, reset_move, transcript_after}
@@ -80,10 +80,15 @@ abbrev next_if : Bool → ℕ → ℕ
 next_if true n = (n + 1) % 4294967296
 next_if false n = n
 
-abbrev sid_after : EndMove → ℕ → ℕ
-sid_after Renews n = 0
-sid_after (Says packet opens) n = next_if (is_rdx packet) n
-sid_after _ n = n
+-- a responder's values are made new, and its count with them
+abbrev renewed_sid : Role → ℕ → ℕ
+renewed_sid Initiator n = n
+renewed_sid Responder n = 0
+
+abbrev sid_after : Role → EndMove → ℕ → ℕ
+sid_after role Renews n = renewed_sid role n
+sid_after role (Says packet opens) n = next_if (is_rdx packet) n
+sid_after role _ n = n
 
 up_last : (role : Role) (h : Handshake) → h.role ≡ role → (role ≡ Responder → (handshake_up h).last_sid ≡ h.last_sid) × (role ≡ Initiator → (handshake_up h).last_sid ≡ (h.last_sid + 1) % 4294967296)
 up_last role h is = (
@@ -138,9 +143,10 @@ says_last role c t turns packet opens stands says = by_what (end_put role c t tu
 
 -- EACH MOVE
 last_step : (role : Role) (c : EndCore) (move : EndMove) (t : EndCore) (turns : List Turn) → EndStands role c turns → EndStep role c move t
-    → t.handshake.last_sid ≡ sid_after move c.handshake.last_sid
+    → t.handshake.last_sid ≡ sid_after role move c.handshake.last_sid
 last_step role c Begins t turns stands step = ap (λ (h : Handshake). h.last_sid) step.handshake
-last_step role c Renews t turns stands step = ap (λ (h : Handshake). h.last_sid) step.handshake
+last_step Initiator c Renews t turns stands step = ap (λ (h : Handshake). h.last_sid) step.handshake
+last_step Responder c Renews t turns stands step = ap (λ (h : Handshake). h.last_sid) step.handshake
 last_step role c (Fails cause packet) t turns stands step = ap (λ (h : Handshake). h.last_sid) step.1.handshake
 last_step role c (Hears packet opens) t turns stands step = hears_last role c t turns packet opens stands step
 last_step role c (Says packet opens) t turns stands step = (says_last role c t turns packet opens stands step).last
@@ -164,13 +170,13 @@ more_mod : (b : Bool) (last n : ℕ) → last ≡ n % 4294967296 → next_if b l
 more_mod true last n is = omega (arith, is)
 more_mod false last n is = is
 
-reset_count : (g : Giver) (cause : Cause) (packet : Option (List ℕ)) (last n : ℕ) → last ≡ n % 4294967296 → sid_after (reset_move g cause packet) last ≡ renewed_by g n % 4294967296
+reset_count : (g : Giver) (cause : Cause) (packet : Option (List ℕ)) (last n : ℕ) → last ≡ n % 4294967296 → sid_after Initiator (reset_move g cause packet) last ≡ n % 4294967296
 reset_count ByStep cause packet last n is = is
 reset_count ByScript cause packet last n is = is
-reset_count ByRestart cause packet last n is = omega arith
+reset_count ByRestart cause packet last n is = is
 reset_count ByTick cause packet last n is = is
 
-event_count : (event : CoreEvent) (last n : ℕ) → last ≡ n % 4294967296 → sid_after (move_of A event) last ≡ comings_after n event % 4294967296
+event_count : (event : CoreEvent) (last n : ℕ) → last ≡ n % 4294967296 → sid_after Initiator (move_of A event) last ≡ comings_after n event % 4294967296
 event_count (OnChannel (Sent A packet opens)) last n is = more_mod (is_rdx packet) last n is
 event_count (OnChannel (Sent B packet opens)) last n is = is
 event_count (OnChannel (Reset A cause packet lost)) last n is = reset_count (giver cause) cause packet last n is
@@ -186,7 +192,7 @@ event_count (OnChannel (Lost e packet)) last n is = is
 event_count (OnChannel (Injected e packet)) last n is = is
 event_count (OnChannel (Poked e at bytes)) last n is = is
 event_count (OnChannel (Declines d)) last n is = is
-event_count (Closes A) last n is = omega arith
+event_count (Closes A) last n is = is
 event_count (Closes B) last n is = is
 event_count Beside last n is = is
 

@@ -3,13 +3,13 @@
 use Rattle.std.specs.Prelude.{◌≡◌, false, ℕ, ◌+◌, ◌≤◌, length, ⊤}
 use Rattle.channel_model.specs.TranscriptLog.{TranscriptLog, is_rdx, more_if, nothing_said}
 use Rattle.channel_model.specs.WireAt.{IsUp, WireHeardAt, WireSaidAt}
-use Rattle.channel_model.specs.WireEvent.{Blocked, ByRestart, ByScript, ByStep, ByTick, Giver, Reset, Sent, WireEvent, giver}
+use Rattle.channel_model.specs.WireEvent.{Blocked, Sent, WireEvent}
 use Rattle.channel_model.specs.WireLog.{WireLog, nothing_on_wire}
 use Rattle.ldc_queue.specs.declared.end.ChannelState.TheVariants.{Down, Resetting}
 use Rattle.ldc_queue.specs.declared.end.End.{End}
 use Rattle.ldc_queue.specs.declared.end.End.TheVariants.{A}
 use Rattle.ldc_queue.specs.Wire.{peer_of, state_of, waiting_for}
-use Rattle.channel_laws.specs.LaneCore.{Closes, CoreEvent, CoreStands, LaneCore, OnChannel, end_of, transcript_after, wire_after}
+use Rattle.channel_laws.specs.LaneCore.{CoreEvent, CoreStands, LaneCore, OnChannel, end_of, transcript_after, wire_after}
 
 pub record CoreLog : Type 0 where
   pub entries : ℕ
@@ -48,15 +48,7 @@ pub record UpStands (s : LaneCore) : Type 0 where
   pub one : s.wire.wire.end_a ≡ Resetting → s.wire.wire.end_b ≡ Resetting → ⊥
   pub closed : (e : End) → state_of e s.wire.wire ≡ Down → (end_of e s).is_open ≡ false
 
--- HOW OFTEN the initiator's link came up since its values were last made new
-abbrev pub renewed_by : Giver → ℕ → ℕ
-renewed_by ByStep n = n
-renewed_by ByScript n = n
-renewed_by ByRestart n = 0
-renewed_by ByTick n = n
-
+-- HOW OFTEN the initiator's link came up
 abbrev pub comings_after : ℕ → CoreEvent → ℕ
 comings_after n (OnChannel (Sent A packet opens)) = more_if (is_rdx packet) n
-comings_after n (OnChannel (Reset A cause packet lost)) = renewed_by (giver cause) n
-comings_after n (Closes A) = 0
 comings_after n event = n

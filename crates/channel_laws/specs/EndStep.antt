@@ -20,7 +20,7 @@ use Rattle.vio_tag.specs.Spelling.{canonical}
 use Rattle.channel_model.specs.EndPuts.{PutKind, put_kind, put_opens, handshake_behind, handshake_risen}
 use Rattle.channel_laws.specs.EndCore.{Begins, EndCore, EndMove, Fails, Hears, Renews, Says, Stays, Waits, holds}
 
--- IT BEGINS ANEW, and its count of sids goes on; or its values are made new, and the count with them
+-- IT BEGINS ANEW, or its values are made new. An initiator's count of sids goes on both times: who asks for sessions never counts anew.
 pub record EndBegins (c t : EndCore) : Type 0 where
   pub link : t.link ≡ joined_link c.link
   pub handshake : t.handshake ≡ joined_handshake c.handshake
@@ -28,9 +28,13 @@ pub record EndBegins (c t : EndCore) : Type 0 where
   pub closed : t.is_open ≡ false
   pub more : t.more ≡ 0
 
+abbrev pub renewed : Role → EndCore → Handshake
+renewed Initiator c = joined_handshake c.handshake
+renewed Responder c = fresh_handshake Responder c.offer
+
 pub record EndRenews (role : Role) (c t : EndCore) : Type 0 where
   pub link : t.link ≡ fresh_link role
-  pub handshake : t.handshake ≡ fresh_handshake role c.offer
+  pub handshake : t.handshake ≡ renewed role c
   pub offer : t.offer ≡ c.offer
   pub closed : t.is_open ≡ false
   pub more : t.more ≡ 0

@@ -1,5 +1,5 @@
 -- Two ends and the wire between them, of any kind of lane. The initiator's end is A, the responder's B.
-use Rattle.std.specs.Prelude.{◌≡◌, ◌≢◌, ℕ, ◌+◌, ◌^◌, ◌<◌, ◌≤◌, false, List, [], ◌∷◌, length, Option, ⊤}
+use Rattle.std.specs.Prelude.{◌≡◌, ◌≢◌, ℕ, ◌+◌, ◌^◌, ◌<◌, ◌≤◌, false, List, [], ◌∷◌, length, Option, None, slice_get, ⊤}
 use Rattle.std.specs.List.{AllByRecursion}
 use Rattle.runs.specs.Lawful.{log_of}
 use Rattle.ldc_link.specs.declared.phase.Role.{Role}
@@ -12,7 +12,7 @@ use Rattle.ldc_queue.specs.Wire.{Wire, closed, peer_of, state_of, waiting_for}
 use Rattle.vio_handshake.specs.declared.session.Offer.{Offer}
 use Rattle.channel_model.specs.TranscriptLog.{TranscriptLog, nothing_said, silenced, transcript_moved}
 use Rattle.channel_model.specs.WireAt.{IsFirstOn, IsUp, MayReset}
-use Rattle.channel_model.specs.WireEvent.{Blocked, ByRestart, ByScript, ByStep, ByTick, Declines, Giver, Idle, Injected, Joined, Lost, Poked, Reset, Sent, Took, WireEvent, giver}
+use Rattle.channel_model.specs.WireEvent.{Blocked, ByRestart, ByScript, ByStep, ByTick, Declined, Declines, Giver, Idle, Injected, InjectedFull, Joined, Lost, NotInjected, NothingLost, PokeRefused, Poked, Reset, Sent, Took, WireEvent, giver}
 use Rattle.channel_model.specs.WireLog.{WireLog, nothing_on_wire, wire_moved}
 use Rattle.map_table.specs.Cookies.{IsCookie}
 use Rattle.vio_tag.specs.declared.cause.Cause.{Cause}
@@ -127,17 +127,24 @@ HasRoomOf entries e w = length (waiting_for e w) + 1 < entries
 abbrev pub HasNoRoom : ℕ → End → Wire → Type 0
 HasNoRoom entries e w = entries ≤ length (waiting_for e w) + 1
 
+-- what was asked and changes nothing; how much memory an end has is its kind's
+abbrev pub AnswerStands : ℕ → WireLog → Declined → Type 0
+AnswerStands entries l (NothingLost e) = slice_get (waiting_for e l.wire) 0 ≡ None
+AnswerStands entries l (NotInjected e packet) = state_of e l.wire ≢ Up
+AnswerStands entries l (InjectedFull e packet) = IsUp e l.wire × (length (waiting_for e l.wire) + 1 ≡ entries)
+AnswerStands entries l (PokeRefused e at count) = ⊤
+
 abbrev pub WireStands : ℕ → WireLog → WireEvent → Type 0
 WireStands entries l (Joined e lost) = state_of e l.wire ≢ Up
 WireStands entries l (Reset e cause packet lost) = MayReset (giver cause) packet e l.wire
 WireStands entries l (Took e packet opens) = IsUp e l.wire × IsFirstOn packet e l.wire
 WireStands entries l (Sent e packet opens) = IsUp e l.wire × HasRoomOf entries (peer_of e) l.wire
-WireStands entries l (Idle e) = IsUp e l.wire
+WireStands entries l (Idle e) = IsUp e l.wire × (waiting_for e l.wire ≡ [])
 WireStands entries l (Blocked e) = IsUp e l.wire × HasNoRoom entries (peer_of e) l.wire
 WireStands entries l (Lost e packet) = IsFirstOn packet e l.wire
 WireStands entries l (Injected e packet) = IsUp e l.wire × HasRoomOf entries e l.wire
 WireStands entries l (Poked e at bytes) = ⊤
-WireStands entries l (Declines d) = ⊤
+WireStands entries l (Declines d) = AnswerStands entries l d
 
 abbrev pub CoreStands : ℕ → WireLog → CoreEvent → Type 0
 CoreStands entries l (OnChannel event) = WireStands entries l event

@@ -16,3 +16,6 @@ pub mod Resetting
 pub mod ToyKind
 pub mod EndFold
 pub mod PacketsLeft
+pub mod EndsAtRest
+pub mod KnownAttributes
+pub mod PacketCauses

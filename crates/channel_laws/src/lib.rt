@@ -4,6 +4,7 @@
 
 mod end_laws;
 mod pair_laws;
+mod session_laws;
 mod toy_laws;
 
 pub use end_laws::{
@@ -16,5 +17,9 @@ pub use pair_laws::{
     an_end_resets_itself_behind_a_loss_or_for_its_session, events_stand_by_both_ends,
     links_stand_at_one_place, open_sessions_of_both_ends_are_one, two_ends_converse,
     what_an_end_heard_is_as_the_other_has_it,
+};
+pub use session_laws::{
+    a_packet_resets_a_session_for_its_first_cause, open_sessions_know_each_others_attributes,
+    two_ends_at_rest_are_in_session,
 };
 pub use toy_laws::toys_with_rings_both_ways_have_their_row_and_one_session;

@@ -90,9 +90,10 @@ pub fn an_end_resets_itself_behind_a_loss_or_for_its_session()
 {}
 
 /// Along every run of two ends on a channel, forged or not: each event stands where the states of the ends and what
-/// waits for them let it. A packet finds no room only where the queue holds all that it can. Each queue holds fewer
-/// packets than it has entries; the wire is as the events say; never do both ends wait to begin anew. And the session
-/// of an end that was never configured, or is closed, isn't open.
+/// waits for them let it. An end is idle only where nothing waits for it, and what changes nothing is said exactly where
+/// it is so. A packet finds no room only where the queue holds all that it can. Each queue holds fewer packets than it
+/// has entries; the wire is as the events say; never do both ends wait to begin anew. And the session of an end that was
+/// never configured, or is closed, isn't open.
 pub fn events_stand_by_both_ends()
     ensures table { (entries : ℕ) (asks answers : Offer) (events : List CoreEvent) (s : LaneCore)
         → CoreFits entries asks answers → Run CoreStep (fresh_core entries asks answers) events s

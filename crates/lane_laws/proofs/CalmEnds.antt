@@ -31,7 +31,7 @@ use Rattle.lane_laws.proofs.LaneCores.{transcript_is}
 use Rattle.lane_laws.proofs.HeardFront.{heard_messages}
 use Rattle.lane_laws.specs.LaneTranscripts.{transcript_behind}
 use Rattle.lane_laws.proofs.CalmSteps.{ClientCalm, ServerCalm, client_calm, no_room, server_calm, are_still, waits_up_a, waits_up_b}
-use Rattle.lane_laws.proofs.IdleLaw.{none_waits}
+use Rattle.channel_laws.proofs.EndsAtRest.{none_waits}
 use Rattle.lane_laws.proofs.IdleRules.{client_idles, server_idles}
 use Rattle.channel_laws.specs.LinkPlaces.{live_phase, phase_at}
 use Rattle.lane_laws.proofs.LaneChannel.{answers_of, asks_of, lane_links, lane_meets}

@@ -21,7 +21,8 @@ use Rattle.lane_laws.proofs.LaneCounting.{knows_step}
 use Rattle.lane_laws.proofs.Ruling.{client_may, server_may}
 use Rattle.lane_laws.proofs.ServerSpeaking.{server_holds_up}
 use Rattle.lane_laws.specs.RuleFacts.{ClientMay, ServerMay}
-use Rattle.lane_laws.proofs.IdleLaw.{idle_client, idle_server, none_waits}
+use Rattle.channel_laws.proofs.EndsAtRest.{none_waits}
+use Rattle.lane_laws.proofs.IdleLaw.{idle_client, idle_server}
 use Rattle.lane_laws.proofs.IdleRules.{client_idles, server_idles}
 use Rattle.lane_laws.proofs.WorkNumbers.{Grounded, at_client, at_server}
 use Rattle.lane_laws.specs.CalmEnds.{AreStill, IsCalm, IsStill}

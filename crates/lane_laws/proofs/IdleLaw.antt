@@ -8,6 +8,7 @@ use Rattle.ldc_queue.specs.Wire.{waiting_for}
 use Rattle.vdisk_msg.specs.declared.request.Request.{Request}
 use Rattle.channel_model.specs.WireEvent.{Blocked, Declines, Idle, Injected, Joined, Lost, Poked, Reset, Sent, Took, WireEvent}
 use Rattle.channel_model.specs.WireLog.{WireLog}
+use Rattle.channel_laws.proofs.EndsAtRest.{none_waits}
 use Rattle.lane_laws.specs.Agreement.{ClientAgrees, ServerAgrees, WorkAgrees}
 use Rattle.lane_laws.specs.DiskLog.{DiskLog}
 use Rattle.lane_laws.specs.QuietLaws.{ClientIsIdle, EndIsIdle, IdleAt, ServerIsIdle}
@@ -24,10 +25,6 @@ use Rattle.lane_laws.specs.Sound.{InOrder}
 use Rattle.lane_laws.proofs.Counting.{OfServer, of_client, of_server}
 use Rattle.lane_laws.proofs.IdleRules.{ClientIdles, ServerIdles, client_idles, server_idles}
 use Rattle.lane_laws.proofs.WorkNumbers.{Grounded, at_client, at_server, finished_descs, order_of}
-
-pub none_waits : (waiting : List (List ℕ)) → slice_get waiting 0 ≡ None → waiting ≡ []
-none_waits [] none = refl
-none_waits (packet ∷ waiting) none = absurd (cc)
 
 not_below : (a b : ℕ) → nat_lt a b ≡ false → b ≤ a
 not_below a b test = grind (arith, nat_tests, test)

@@ -1,5 +1,5 @@
 -- What holds of two ends on a channel holds of a disk's lane: what is said and heard, its links, its sids.
-use Rattle.std.proofs.Common.{◌≡◌, ℕ, ◌%◌, false, List, [], ◌∷◌, ◌++◌, Option, refl, sym, ap, ◌∙◌, subst, map, arith}
+use Rattle.std.proofs.Common.{◌≡◌, ℕ, ◌%◌, false, List, [], ◌∷◌, ◌++◌, refl, sym, ap, ◌∙◌, subst, map, arith}
 use Rattle.runs.specs.Lawful.{Lawful, log_append, log_of}
 use Rattle.runs.specs.Run.{Run, run_push}
 use Rattle.ldc_link.specs.declared.phase.Role.{Role}
@@ -8,17 +8,16 @@ use Rattle.ldc_queue.specs.declared.end.End.TheVariants.{A, B}
 use Rattle.ldc_queue.specs.Transcript.{Turn}
 use Rattle.vio_handshake.specs.declared.session.Offer.{Offer}
 use Rattle.vio_handshake.specs.Offers.{Match}
-use Rattle.vio_tag.specs.declared.cause.Cause.{Cause}
 use Rattle.lane_laws.proofs.EndMoves.{transcript_same}
 use Rattle.channel_model.proofs.SameSayings.{half_heard_is}
 use Rattle.lane_laws.specs.Agreement.{LinkAgrees}
 use Rattle.channel_model.specs.TranscriptLog.{TranscriptLog}
 use Rattle.channel_model.specs.WireAt.{WireHeardAt, WireSaidAt, counts_next}
-use Rattle.channel_model.specs.WireEvent.{Blocked, ByRestart, ByScript, ByStep, ByTick, Declines, Giver, Idle, Injected, Joined, Lost, Poked, Reset, Sent, Took, WireEvent, giver}
+use Rattle.channel_model.specs.WireEvent.{Blocked, Declines, Idle, Injected, Joined, Lost, Poked, Reset, Sent, Took, WireEvent}
 use Rattle.disk_model.specs.DiskEvent.{Asks, Calms, DiskEvent, Off, OnWire, Started, Stopped, Switches, Works}
 use Rattle.lane_laws.specs.DiskLog.{DiskLog, after, after_transcript, nothing_yet}
 use Rattle.disk_model.specs.LaneState.{IsShape, LaneState, Shape, fresh}
-use Rattle.disk_model.specs.LaneStep.{LaneStep, ResetBy, WireStep}
+use Rattle.disk_model.specs.LaneStep.{LaneStep}
 use Rattle.lane_laws.specs.May.{OfWire}
 use Rattle.disk_model.specs.Offering.{client_offer, server_offer}
 use Rattle.channel_laws.proofs.EndFolding.{FoldsSo, folds_run}
@@ -32,7 +31,7 @@ use Rattle.channel_laws.proofs.PartsSaid.{PartsSaid, parts_run}
 use Rattle.channel_laws.proofs.Sessions.{meets_knows}
 use Rattle.channel_laws.proofs.Sessions as sessions
 use Rattle.channel_laws.proofs.Sids.{last_sid_counts, last_sid_none}
-use Rattle.channel_laws.specs.CoreLog.{CoreLog, OfChannel, comings_after, renewed_by}
+use Rattle.channel_laws.specs.CoreLog.{CoreLog, OfChannel, comings_after}
 use Rattle.channel_laws.specs.CoreLog as core_log
 use Rattle.channel_laws.specs.EndCore.{EndCore}
 use Rattle.channel_laws.specs.LaneCore.{CoreEvent}
@@ -174,47 +173,38 @@ lane_meets_other shape events s sound run clean =
       parts_theirs = on.parts_mine;
     }
 
--- THE CLIENT'S LAST SID is how often its link came up: its values are never made new
-reset_coming : (by : Giver) (s : LaneState) (cause : Cause) (packet : Option (List ℕ)) (lost : ℕ) (t : LaneState) (n : ℕ) → ResetBy by A s cause packet lost t → renewed_by by n ≡ n
-reset_coming ByStep s cause packet lost t n step = refl
-reset_coming ByScript s cause packet lost t n step = refl
-reset_coming ByRestart s cause packet lost t n step = absurd step
-reset_coming ByTick s cause packet lost t n step = refl
+-- THE CLIENT'S LAST SID is how often its link came up
+wire_coming : (event : WireEvent) (l : TranscriptLog) → comings_after l.links (core_event (OnWire event)) ≡ (after_transcript l (OnWire event)).links
+wire_coming (Sent A packet opens) l = refl
+wire_coming (Sent B packet opens) l = refl
+wire_coming (Reset A cause packet lost) l = refl
+wire_coming (Reset B cause packet lost) l = refl
+wire_coming (Joined A lost) l = refl
+wire_coming (Joined B lost) l = refl
+wire_coming (Took A packet opens) l = refl
+wire_coming (Took B packet opens) l = refl
+wire_coming (Idle e) l = refl
+wire_coming (Blocked e) l = refl
+wire_coming (Lost e packet) l = refl
+wire_coming (Injected e packet) l = refl
+wire_coming (Poked e at bytes) l = refl
+wire_coming (Declines d) l = refl
 
-wire_coming : (s : LaneState) (event : WireEvent) (t : LaneState) (l : TranscriptLog) → WireStep s event t
-    → comings_after l.links (core_event (OnWire event)) ≡ (after_transcript l (OnWire event)).links
-wire_coming s (Sent A packet opens) t l step = refl
-wire_coming s (Sent B packet opens) t l step = refl
-wire_coming s (Reset A cause packet lost) t l step = reset_coming (giver cause) s cause packet lost t l.links step
-wire_coming s (Reset B cause packet lost) t l step = refl
-wire_coming s (Joined A lost) t l step = refl
-wire_coming s (Joined B lost) t l step = refl
-wire_coming s (Took A packet opens) t l step = refl
-wire_coming s (Took B packet opens) t l step = refl
-wire_coming s (Idle e) t l step = refl
-wire_coming s (Blocked e) t l step = refl
-wire_coming s (Lost e packet) t l step = refl
-wire_coming s (Injected e packet) t l step = refl
-wire_coming s (Poked e at bytes) t l step = refl
-wire_coming s (Declines d) t l step = refl
+coming : (event : DiskEvent) (l : TranscriptLog) → comings_after l.links (core_event event) ≡ (after_transcript l event).links
+coming (OnWire event) l = wire_coming event l
+coming (Asks event) l = refl
+coming (Works event) l = refl
+coming (Switches Stopped) l = refl
+coming (Switches Started) l = refl
+coming (Switches Off) l = refl
+coming (Calms event) l = refl
 
-coming : (s : LaneState) (event : DiskEvent) (t : LaneState) (l : TranscriptLog) → LaneStep s event t → comings_after l.links (core_event event) ≡ (after_transcript l event).links
-coming s (OnWire event) t l step = wire_coming s event t l step
-coming s (Asks event) t l step = refl
-coming s (Works event) t l step = refl
-coming s (Switches Stopped) t l step = refl
-coming s (Switches Started) t l step = refl
-coming s (Switches Off) t l step = refl
-coming s (Calms event) t l step = refl
-
-comings : (s u : LaneState) (l : DiskLog) (events : List DiskEvent) → Run LaneStep s events u
-    → log_of comings_after l.transcript.links (map core_event events) ≡ (log_of after l events).transcript.links
-comings s u l [] run = refl
-comings s u l (event ∷ events) run =
-    ap (λ (n : ℕ). log_of comings_after n (map core_event events)) (coming s event run.0 l.transcript run.1) ∙ comings run.0 u (after l event) events run.2
+comings : (l : DiskLog) (events : List DiskEvent) → log_of comings_after l.transcript.links (map core_event events) ≡ (log_of after l events).transcript.links
+comings l [] = refl
+comings l (event ∷ events) = ap (λ (n : ℕ). log_of comings_after n (map core_event events)) (coming event l.transcript) ∙ comings (after l event) events
 
 pub run_sids : (shape : Shape) (events : List DiskEvent) (s : LaneState) → IsShape shape → Run LaneStep (fresh shape) events s
     → s.client.handshake.last_sid ≡ (transcript_in shape events).links % 4294967296
 run_sids shape events s sound run =
     last_sid_counts shape.entries (asks_of shape) (answers_of shape) (map core_event events) (core_of s) (lane_fits shape sound) (lane_cores shape events s sound run)
-    ∙ ap (λ (n : ℕ). n % 4294967296) (comings (fresh shape) s (nothing_yet shape) events run)
+    ∙ ap (λ (n : ℕ). n % 4294967296) (comings (nothing_yet shape) events)

@@ -8,7 +8,6 @@ use Rattle.disk_model.specs.DiskEvent.{DiskEvent}
 use Rattle.lane_laws.specs.DiskLog.{DiskLog, after, after_transcript, after_wire, nothing_yet}
 use Rattle.disk_model.specs.LaneState.{IsShape, LaneState, Shape, fresh}
 use Rattle.disk_model.specs.LaneStep.{LaneStep}
-use Rattle.lane_laws.specs.May.{sizes_in}
 use Rattle.disk_model.specs.Offering.{client_offer, server_offer}
 use Rattle.channel_laws.specs.LaneCore.{CoreFits, CoreStands, CoreStep, fresh_core, transcript_after, transcript_behind}
 use Rattle.lane_laws.proofs.OpeningDeal.{client_fits, server_fits}
@@ -25,7 +24,7 @@ lane_core_step s l event t stands step =
     let more = queues_step s l event t stands step in
     let before = stands.all.stands in
     let behind = more.1.all.stands in
-    let at_log : CoreStands l.shape.entries l.wire (core_event event) = core_stands (sizes_in l) l.wire event more.0.table in (
+    let at_log : CoreStands l.shape.entries l.wire (core_event event) = core_stands l event more.0 in (
       record {
         entries = ap (λ (x : Shape). x.entries) (behind.shape ∙ sym before.shape);
         stands = subst (λ (x : Shape). CoreStands x.entries s.wire (core_event event)) (sym before.shape)

@@ -18,7 +18,8 @@ use Rattle.lane_laws.proofs.Ruling.{client_may, server_may}
 use Rattle.lane_laws.specs.Counted.{acked_of, announced_of, range_sum}
 use Rattle.lane_laws.specs.RuleFacts.{ClientMay, ServerMay}
 use Rattle.lane_laws.proofs.Counting.{OfClient, OfServer, of_client, of_server}
-use Rattle.lane_laws.proofs.IdleLaw.{idle_client, idle_server, none_waits}
+use Rattle.channel_laws.proofs.EndsAtRest.{none_waits}
+use Rattle.lane_laws.proofs.IdleLaw.{idle_client, idle_server}
 use Rattle.lane_laws.proofs.IdleRules.{ClientIdles, ServerIdles, client_idles, server_idles}
 use Rattle.lane_laws.proofs.LaneChannel.{answers_of, asks_of, lane_meets}
 use Rattle.channel_laws.proofs.AtRest as core

@@ -1,18 +1,19 @@
 -- Along every run each event of the wire stands where the table of states and queues lets it, and an answer that changes nothing is said
 -- exactly where it is.
-use Rattle.std.proofs.Common.{◌≡◌, ℕ, ◌+◌, ◌*◌, ◌≤◌, false, Option, Some, None, List, length, refl, sym, ap, ◌∙◌, subst, arith}
+use Rattle.std.proofs.Common.{◌≡◌, ℕ, ◌+◌, ◌*◌, ◌≤◌, false, Option, Some, None, List, [], length, refl, sym, ap, ◌∙◌, subst, arith}
 use Rattle.std.specs.Prelude.{⊤, nat_lt}
 use Rattle.std.proofs.lemmas.Bool.{ltb-false, ltb-true}
 use Rattle.runs.specs.Lawful.{Lawful, run_lawful}
 use Rattle.runs.specs.Run.{Run}
 use Rattle.ldc_queue.specs.declared.end.End.{End}
 use Rattle.ldc_queue.specs.declared.end.End.TheVariants.{A, B}
+use Rattle.ldc_queue.specs.Wire.{waiting_for}
 use Rattle.vio_tag.specs.declared.cause.Cause.{Cause}
-use Rattle.channel_model.specs.WireAt.{IsUp, MayCarry, MayReset, Sizes, WireAnswersAt, WireTableAt}
-use Rattle.channel_model.specs.WireEvent.{Blocked, ByRestart, ByScript, ByStep, ByTick, Declines, Giver, Idle, Injected, Joined, Lost, Poked, Reset, Sent, Took, WireEvent, giver}
+use Rattle.channel_model.specs.WireAt.{DeclinesAt, IsUp, MayCarry, MayReset, Sizes, WireAnswersAt, WireTableAt}
+use Rattle.channel_model.specs.WireEvent.{Blocked, ByRestart, ByScript, ByStep, ByTick, Declined, Declines, Giver, Idle, Injected, InjectedFull, Joined, Lost, NotInjected, NothingLost, PokeRefused, Poked, Reset, Sent, Took, WireEvent, giver}
 use Rattle.channel_model.specs.WireLog.{WireLog}
 use Rattle.lane_laws.specs.DiskLog.{DiskLog, after, after_wire, nothing_yet}
-use Rattle.lane_laws.specs.May.{OfWire, sizes_in}
+use Rattle.lane_laws.specs.May.{sizes_in}
 use Rattle.disk_model.specs.ClientRule as client_rules
 use Rattle.disk_model.specs.ClientStep.{ClientFails}
 use Rattle.disk_model.specs.DiskEvent.{Asks, DiskEvent, Off, OnWire, Calms, Started, Stopped, Switches, Works}
@@ -24,16 +25,18 @@ use Rattle.disk_model.specs.ServerStep.{ServerFails}
 use Rattle.cookie_copy.specs.Reach.{Reach}
 use Rattle.lane_laws.proofs.CarriedRuns.{AllStand, all_step, fresh_all}
 use Rattle.lane_laws.proofs.ClientHolding.{holds_up}
+use Rattle.lane_laws.proofs.IdleRules.{client_idles, server_idles}
 use Rattle.lane_laws.proofs.Ruling.{client_may, server_may}
 use Rattle.lane_laws.proofs.ServerSpeaking.{server_holds_up}
 use Rattle.lane_laws.proofs.StandingRuns.{lawful_by}
 use Rattle.lane_laws.specs.MemoryStands.{MemoryStands, memory_long}
 use Rattle.lane_laws.specs.RuleFacts.{ClientMay, ServerMay}
 use Rattle.lane_laws.specs.Standing.{LaneInvariant}
-use Rattle.lane_laws.specs.TableStands.{AnswersAt, MayOfTable, TableAt}
+use Rattle.lane_laws.specs.TableStands.{AnswersAt, IdleNone, MayOfTable, TableAt}
 use Rattle.lane_laws.specs.ChannelEnds.{core_event}
 use Rattle.channel_laws.proofs.CoreRuns.{Room, room_after}
-use Rattle.channel_laws.specs.LaneCore.{CoreStands, WireStands, wire_after}
+use Rattle.channel_laws.proofs.EndsAtRest.{none_waits}
+use Rattle.channel_laws.specs.LaneCore.{AnswerStands, CoreStands, WireStands, wire_after}
 
 abbrev at_client : LaneState → Seen
 at_client s = seen A s.shape.entries s.wire.wire
@@ -184,6 +187,15 @@ answers s (Lost e packet) t step = tt
 answers s (Injected e packet) t step = tt
 answers s (Poked e at bytes) t step = tt
 
+-- NOTHING WAITS for an end that is idle
+end_none : (e : End) (s : LaneState) (t : LaneState) → EndOnWire e s (Idle e) t → waiting_for e s.wire.wire ≡ []
+end_none A s t step = none_waits s.wire.wire.to_a (client_idles s.client (at_client s) step.step.0).rests.first
+end_none B s t step = none_waits s.wire.wire.to_b (server_idles s.server (at_server s) step.1.step.1.0).first
+
+idle_none : (s : LaneState) (event : WireEvent) (t : LaneState) → WireStep s event t → IdleNone s.wire event
+idle_none s (Idle e) t step = end_none e s t step
+idle_none s _ t step = tt
+
 -- THE WIRE: what an event makes of it, and where it may stand
 pub wire_same : (l : WireLog) (event : DiskEvent) → after_wire l event ≡ wire_after l (core_event event)
 wire_same l (OnWire event) = refl
@@ -194,32 +206,38 @@ wire_same l (Switches Started) = refl
 wire_same l (Switches Off) = refl
 wire_same l (Calms event) = refl
 
-wire_stands : (n : Sizes) (l : WireLog) (event : WireEvent) → WireTableAt n l event → WireStands n.entries l event
-wire_stands n l (Joined e lost) table = table
-wire_stands n l (Reset e cause packet lost) table = table
-wire_stands n l (Took e packet opens) table = table
-wire_stands n l (Sent e packet opens) table = table
-wire_stands n l (Idle e) table = table
-wire_stands n l (Blocked e) table = (table.0, omega (arith, table.1))
-wire_stands n l (Lost e packet) table = table
-wire_stands n l (Injected e packet) table = table
-wire_stands n l (Poked e at bytes) table = tt
-wire_stands n l (Declines d) table = tt
+answer_stands : (n : Sizes) (l : WireLog) (d : Declined) → DeclinesAt n l d → AnswerStands n.entries l d
+answer_stands n l (NothingLost e) answers = answers
+answer_stands n l (NotInjected e packet) answers = answers
+answer_stands n l (InjectedFull e packet) answers = answers
+answer_stands n l (PokeRefused e at count) answers = tt
 
-pub core_stands : (n : Sizes) (l : WireLog) (event : DiskEvent) → OfWire (WireTableAt n l) event → CoreStands n.entries l (core_event event)
-core_stands n l (OnWire event) table = wire_stands n l event table
-core_stands n l (Asks event) table = tt
-core_stands n l (Works event) table = tt
-core_stands n l (Switches Stopped) table = tt
-core_stands n l (Switches Started) table = tt
-core_stands n l (Switches Off) table = tt
-core_stands n l (Calms event) table = tt
+wire_stands : (n : Sizes) (l : WireLog) (event : WireEvent) → WireTableAt n l event → WireAnswersAt n l event → IdleNone l event → WireStands n.entries l event
+wire_stands n l (Joined e lost) table answers none = table
+wire_stands n l (Reset e cause packet lost) table answers none = table
+wire_stands n l (Took e packet opens) table answers none = table
+wire_stands n l (Sent e packet opens) table answers none = table
+wire_stands n l (Idle e) table answers none = (table, none)
+wire_stands n l (Blocked e) table answers none = (table.0, omega (arith, table.1))
+wire_stands n l (Lost e packet) table answers none = table
+wire_stands n l (Injected e packet) table answers none = table
+wire_stands n l (Poked e at bytes) table answers none = tt
+wire_stands n l (Declines d) table answers none = answer_stands n l d answers
+
+pub core_stands : (l : DiskLog) (event : DiskEvent) → MayOfTable l event → CoreStands l.shape.entries l.wire (core_event event)
+core_stands l (OnWire event) may = wire_stands (sizes_in l) l.wire event may.table may.answers may.none_waits
+core_stands l (Asks event) may = tt
+core_stands l (Works event) may = tt
+core_stands l (Switches Stopped) may = tt
+core_stands l (Switches Started) may = tt
+core_stands l (Switches Off) may = tt
+core_stands l (Calms event) may = tt
 
 -- ROOM in the queues is what two ends on a channel have
-room_moved : (l : DiskLog) (event : DiskEvent) → TableAt l event → Room l.shape.entries l.wire → Room l.shape.entries (after_wire l.wire event)
-room_moved l event table room =
+room_moved : (l : DiskLog) (event : DiskEvent) → MayOfTable l event → Room l.shape.entries l.wire → Room l.shape.entries (after_wire l.wire event)
+room_moved l event may room =
     subst (Room l.shape.entries) (sym (wire_same l.wire event))
-    (room_after l.shape.entries l.wire (core_event event) (omega (arith, room.to_a)) (core_stands (sizes_in l) l.wire event table) room)
+    (room_after l.shape.entries l.wire (core_event event) (omega (arith, room.to_a)) (core_stands l event may) room)
 
 -- ALONG EVERY RUN
 pub record QueuesStand (s : LaneState) (l : DiskLog) : Type 0 where
@@ -246,19 +264,20 @@ wire_step s l event t stands step =
     record {
       table = at_log (λ (n : Sizes) (w : WireLog). WireTableAt n w event) s l sizes wire (table s event t room step);
       answers = at_log (λ (n : Sizes) (w : WireLog). WireAnswersAt n w event) s l sizes wire (answers s event t step);
+      none_waits = subst (λ (w : WireLog). IdleNone w event) wire (idle_none s event t step);
     }
 
 may_step : (s : LaneState) (l : DiskLog) (event : DiskEvent) (t : LaneState) → QueuesStand s l → LaneStep s event t → MayOfTable l event
 may_step s l (OnWire event) t stands step = wire_step s l event t stands step
-may_step s l (Asks event) t stands step = record { table = tt; answers = tt }
-may_step s l (Works event) t stands step = record { table = tt; answers = tt }
-may_step s l (Switches event) t stands step = record { table = tt; answers = tt }
-may_step s l (Calms event) t stands step = record { table = tt; answers = tt }
+may_step s l (Asks event) t stands step = record { table = tt; answers = tt; none_waits = tt }
+may_step s l (Works event) t stands step = record { table = tt; answers = tt; none_waits = tt }
+may_step s l (Switches event) t stands step = record { table = tt; answers = tt; none_waits = tt }
+may_step s l (Calms event) t stands step = record { table = tt; answers = tt; none_waits = tt }
 
 pub queues_step : (s : LaneState) (l : DiskLog) (event : DiskEvent) (t : LaneState) → QueuesStand s l → LaneStep s event t → MayOfTable l event × QueuesStand t (after l event)
 queues_step s l event t stands step =
     let may = may_step s l event t stands step in
-    (may, record { all = (all_step s l event t stands.all step).1; room = room_moved l event may.table stands.room })
+    (may, record { all = (all_step s l event t stands.all step).1; room = room_moved l event may stands.room })
 
 pub fresh_queues : (shape : Shape) → IsShape shape → QueuesStand (fresh shape) (nothing_yet shape)
 fresh_queues shape sound = record { all = fresh_all shape sound; room = record { to_a = omega (arith, sound.some_entries); to_b = omega (arith, sound.some_entries) } }

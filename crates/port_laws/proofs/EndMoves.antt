@@ -279,7 +279,7 @@ whole_goes role s memory None tk fits is hears =
 whole_goes role s memory (Some bytes) tk fits is hears = subst (WholeGoes role s (Some bytes)) (sym hears.2) (decoded_whole role s memory bytes hears.0 fits hears.1)
 
 -- WHAT COMES OF A PACKET
-risen_same : (role : Role) (before behind : LinkState) (h : Handshake) → take.risen role before behind h ≡ risen_at role before behind h
+pub risen_same : (role : Role) (before behind : LinkState) (h : Handshake) → take.risen role before behind h ≡ risen_at role before behind h
 risen_same Initiator before behind h = refl
 risen_same Responder before behind h = refl
 

@@ -14,19 +14,20 @@ use Rattle.runs.specs.Run.{Run, run_keeps}
 use Rattle.vio_tag.specs.declared.cause.Cause.{Cause}
 use Rattle.channel_model.specs.Seeing.{Seen}
 use Rattle.cookie_copy.specs.Reach.{Reach}
-use Rattle.channel_model.specs.WireAt.{IsUp, MayCarry, MayReset}
-use Rattle.channel_model.specs.WireEvent.{ByStep, Giver, WireEvent, giver}
+use Rattle.channel_model.specs.WireAt.{DeclinesAt, IsUp, MayCarry, MayReset}
+use Rattle.channel_model.specs.WireEvent.{ByStep, Declined, Giver, InjectedFull, NotInjected, NothingLost, PokeRefused, WireEvent, giver}
 use Rattle.channel_model.specs.WireLog.{WireLog}
 use Rattle.channel_laws.specs.EndCore.{EndMove, Fails, Stays}
 use Rattle.channel_laws.specs.EndStep.{EndBegins, EndStays, EndStep}
-use Rattle.channel_laws.specs.LaneCore.{CoreStands, CoreStep, move_of, reset_move, wire_after}
+use Rattle.channel_laws.proofs.EndsAtRest.{none_waits}
+use Rattle.channel_laws.specs.LaneCore.{AnswerStands, CoreStands, CoreStep, move_of, reset_move, wire_after}
 use Rattle.port_model.specs.NetEndPutting.{net_holds}
 use Rattle.port_model.specs.NetEndRule.{Announces, Fetches, Idles, Joins, NetRule, Publishes, Puts, Replies, Says, Takes, Tells, port_rule}
 use Rattle.port_model.specs.NetEndState.{NetEndState, NetSession, joined_net_end, with_frame}
 use Rattle.port_model.specs.NetEndStep.{Already, BadLength, Blocked, Frame, Full, Given, GroupsFull, Idle, Joined, Joining, Member, NetAnswer, NetEndStep, NetFails, NetGives, NetJoins, NetLeft, Published, Queued, Reset, Sent, Took, untold}
 use Rattle.port_model.specs.NetEvent.{Asked, CalmTick, Declines, Gives, Injects, Joins as JoinsGroup, Loses, NetEvent, Pokes, Steps, Ticked, on_wire}
 use Rattle.port_model.specs.NetLaneState.{NetLaneState, NetShape, fresh_net, net_end, reach_of, role_at, seen_at, memory_of}
-use Rattle.port_model.specs.NetLaneStep.{NetLaneStep, Resets, moved_on, net_wire}
+use Rattle.port_model.specs.NetLaneStep.{NetLaneStep, Resets, declined_at, moved_on, net_wire, sizes_of}
 use Rattle.port_model.proofs.OwnResets.{net_resets_own}
 use Rattle.port_model.proofs.Ruling.{says_of}
 use Rattle.port_laws.specs.NetCore.{core_event, core_events, event_core, fresh_net_core, is_begun, lane_core, more_of, net_core, net_core_at}
@@ -103,7 +104,9 @@ answer_stands e s Blocked left step =
       up_of (state_of e s.wire.wire) (holds_up (role_at e) (net_end e s) (seen_at e s) (reach_of e s) (port_rule (role_at e) (net_end e s) (seen_at e s)) left.end refl step.0),
       grind (arith, nat_tests, room),
     )
-answer_stands e s Idle left step = up_of (state_of e s.wire.wire) (says_of (role_at e) (net_end e s) (seen_at e s) Idles step.0).0.up
+answer_stands e s Idle left step =
+    let says = says_of (role_at e) (net_end e s) (seen_at e s) Idles step.0 in
+    (up_of (state_of e s.wire.wire) says.0.up, none_waits (waiting_for e s.wire.wire) says.1)
 answer_stands e s (Published id) left step = tt
 answer_stands e s (Frame frame) left step = tt
 answer_stands e s (Reset cause packet lost) left step =
@@ -237,7 +240,7 @@ guest_moves s Blocked left fits step =
     let up = begun_up A s (answer_stands A s Blocked left step).0 in
     moved_up Initiator s.guest left.end (is_begun s.wire.wire.end_a) (is_begun s.wire.wire.end_a) (move_of A (core_event (Steps A Blocked))) (move_by Blocked) refl up up (step_core Initiator s.guest (seen_at A s) s.guest_memory (reach_of A s) Blocked left fits step)
 guest_moves s Idle left fits step =
-    let up = begun_up A s (answer_stands A s Idle left step) in
+    let up = begun_up A s (answer_stands A s Idle left step).0 in
     moved_up Initiator s.guest left.end (is_begun s.wire.wire.end_a) (is_begun s.wire.wire.end_a) (move_of A (core_event (Steps A Idle))) (move_by Idle) refl up up (step_core Initiator s.guest (seen_at A s) s.guest_memory (reach_of A s) Idle left fits step)
 guest_moves s (Published id) left fits step =
     let up = begun_up A s (published_up A s id left step) in
@@ -264,7 +267,7 @@ hub_moves s Blocked left fits step =
     let up = begun_up B s (answer_stands B s Blocked left step).0 in
     moved_up Responder s.hub left.end (is_begun s.wire.wire.end_b) (is_begun s.wire.wire.end_b) (move_of B (core_event (Steps B Blocked))) (move_by Blocked) refl up up (step_core Responder s.hub (seen_at B s) s.hub_memory (reach_of B s) Blocked left fits step)
 hub_moves s Idle left fits step =
-    let up = begun_up B s (answer_stands B s Idle left step) in
+    let up = begun_up B s (answer_stands B s Idle left step).0 in
     moved_up Responder s.hub left.end (is_begun s.wire.wire.end_b) (is_begun s.wire.wire.end_b) (move_of B (core_event (Steps B Idle))) (move_by Idle) refl up up (step_core Responder s.hub (seen_at B s) s.hub_memory (reach_of B s) Idle left fits step)
 hub_moves s (Published id) left fits step =
     let up = begun_up B s (published_up B s id left step) in
@@ -353,6 +356,13 @@ joins_stays s (Member address) t joins =
     subst (λ (x : NetEndState). EndStays (net_core Initiator s) (net_core Initiator x)) (sym joins.3)
     (stays_with Initiator s (record s { groups = s.groups ++ address ∷ []; session = untold s.session }) refl refl refl refl (untold_open s.session) (untold_more s.session))
 
+-- WHAT CAME TO NOTHING
+declined_stands : (d : Declined) (s : NetLaneState) → DeclinesAt (sizes_of (declined_at d) s) s.wire d → AnswerStands s.shape.entries s.wire d
+declined_stands (NothingLost e) s stands = stands
+declined_stands (NotInjected e packet) s stands = stands
+declined_stands (InjectedFull e packet) s stands = stands
+declined_stands (PokeRefused e at count) s stands = tt
+
 -- AN EVENT
 abbrev guest_up : NetLaneState → Bool
 guest_up s = is_begun s.wire.wire.end_a
@@ -405,7 +415,7 @@ event_core_step s (Pokes A at bytes) t fits step =
 event_core_step s (Pokes B at bytes) t fits step =
     subst (Embeds s (Pokes B at bytes)) (sym step.1) (record { entries = refl; stands = tt; wire = refl; a = still Initiator (guest_up s) s.guest; b = still Responder (hub_up s) s.hub })
 event_core_step s (Declines d) t fits step =
-    subst (Embeds s (Declines d)) (sym step.1) (record { entries = refl; stands = tt; wire = refl; a = still Initiator (guest_up s) s.guest; b = still Responder (hub_up s) s.hub })
+    subst (Embeds s (Declines d)) (sym step.1) (record { entries = refl; stands = declined_stands d s step.0; wire = refl; a = still Initiator (guest_up s) s.guest; b = still Responder (hub_up s) s.hub })
 
 -- A RUN
 pub run_core : (s t : NetLaneState) (events : List NetEvent) → BothFit s → Run NetLaneStep s events t → Run CoreStep (lane_core s) (core_events events) (lane_core t)

@@ -28,3 +28,5 @@ pub mod RuleFrames
 pub mod RuleRest
 pub mod RuleIdle
 pub mod RuleTwoIdle
+pub mod PortCauses
+pub mod PortResets

@@ -31,6 +31,7 @@ use Rattle.port_model.specs.PortLog.{PortLog, after, no_events}
 use Rattle.port_model.specs.PortState.{OnLane, PortEvent, PortState, PortStep, before, fresh_port, moved, moves_first, takes_more}
 use Rattle.port_model.specs.RestLaws.{AllPublished, IdleAt, IsIdle, IsTold}
 use Rattle.port_model.specs.RuleFacts.{IfOpen, IsFree, MayListen}
+use Rattle.channel_laws.proofs.EndsAtRest.{none_waits}
 use Rattle.port_laws.specs.Counted.{ActiveCounts, EndCounts, GroupCounts}
 use Rattle.port_laws.proofs.EndCounting.{OpenCounts, empty_unsaid, open_counts}
 use Rattle.port_laws.proofs.PortCounts.{PortCounts, Ready}
@@ -206,10 +207,6 @@ hub_idle shape s l kept ready idles =
     record { answered = counts.answered; published = all; announced = counts.announced; told = tt })
 
 -- NOTHING WAITS
-pub none_waits : (waiting : List (List ℕ)) → slice_get waiting 0 ≡ None → waiting ≡ []
-none_waits [] is = refl
-none_waits (packet ∷ waiting) is = absurd (cc is)
-
 idle_waits : (shape : NetShape) (e : End) (u : PortState) (l : PortLog) → Ready shape u l → port_rule (role_at e) (net_end e u.lane) (seen_at e u.lane) ≡ Idles → waiting_for e l.wire.wire ≡ []
 idle_waits shape e u l ready idles =
     let says = says_of (role_at e) (net_end e u.lane) (seen_at e u.lane) Idles idles in

@@ -79,7 +79,7 @@ pub port_works : (shape : NetShape) (events : List PortEvent) (s : PortState) �
 port_works shape events s is run = along shape WorksAt is (λ x l event t counts ready step. works_event shape (before event x) l event t.lane ready step.1) (λ l frame. tt) events s run
 
 -- 5. WHY A SLOT REFUSES
-abbrev Fits : Fetched → Type 0
+abbrev pub Fits : Fetched → Type 0
 Fits (IsFrame frame new) = ⊤
 Fits (NotReady state) = state ≢ 2
 Fits (Refuses why) = SlotCause why
@@ -129,10 +129,10 @@ slot_fits : (s : NetEndState) (reach : Reach) (slot : ℕ) (why : Option CopyFau
 slot_fits s reach slot None = read_fits s reach slot (moved_in reach.table reach.memory (slots_cookies s) (64 * slot) 64)
 slot_fits s reach slot (Some why) = copy_fits why
 
-fetched_fits : (s : NetEndState) (reach : Reach) (slot : ℕ) → Fits (fetched s reach slot)
+pub fetched_fits : (s : NetEndState) (reach : Reach) (slot : ℕ) → Fits (fetched s reach slot)
 fetched_fits s reach slot = slot_fits s reach slot (first_copy_fault reach.both Read reach.table (slots_cookies s) (64 * slot) 64)
 
-fails_fit : (found : Fetched) (activity : Activity) (slot : ℕ) (cause : Cause) → Fits found → FetchFails found activity slot cause → SlotCause cause
+pub fails_fit : (found : Fetched) (activity : Activity) (slot : ℕ) (cause : Cause) → Fits found → FetchFails found activity slot cause → SlotCause cause
 fails_fit (IsFrame frame new) activity slot cause fits fails = absurd fails
 fails_fit (NotReady state) activity slot cause fits fails = subst SlotCause (sym fails.1) fits
 fails_fit (Refuses why) activity slot cause fits fails = subst SlotCause (sym fails) fits

@@ -9,13 +9,9 @@ use Rattle.ldc_queue.specs.declared.end.End.TheVariants.{A, B}
 use Rattle.ldc_queue.specs.Wire.{state_of, waiting_for}
 use Rattle.runs.specs.Lawful.{Lawful, log_of, run_lawful}
 use Rattle.runs.specs.Run.{Run}
-use Rattle.channel_model.specs.TranscriptLog.{TranscriptLog}
 use Rattle.channel_model.specs.WireLog.{WireLog}
-use Rattle.channel_laws.proofs.HandshakesPlaced.{Meets}
-use Rattle.channel_laws.proofs.Sessions.{meets_knows}
-use Rattle.channel_laws.specs.CoreLog as core
-use Rattle.channel_laws.specs.LaneCore.{LaneCore, end_of}
-use Rattle.channel_laws.specs.Sides.{sides_of}
+use Rattle.channel_laws.proofs.EndsAtRest.{none_waits, two_at_rest_open}
+use Rattle.channel_laws.specs.EndsAtRest.{IsAtRest}
 use Rattle.port_model.proofs.Refuting.{none_some}
 use Rattle.port_model.proofs.Ruling.{says_of}
 use Rattle.port_model.specs.NetEndRule.{Idles, port_rule}
@@ -30,23 +26,15 @@ use Rattle.port_model.specs.PortState.{OnLane, PortEvent, PortState, PortStep, R
 use Rattle.port_model.specs.RestLaws.{TwoIdleAt}
 use Rattle.port_laws.specs.NetCore.{lane_core}
 use Rattle.port_laws.specs.PortCore.{port_core, port_events}
-use Rattle.channel_laws.proofs.AtRest.{BothRest, rests_open}
 use Rattle.port_laws.proofs.CoreLaws.{offers_match, sizes_fit}
 use Rattle.port_laws.proofs.EndCounting.{open_counts}
 use Rattle.port_laws.proofs.PortCounts.{PortCounts, Ready, ready_before, wire_event}
 use Rattle.port_laws.proofs.PortRuns.{before_core, fresh_port_core}
 use Rattle.port_laws.proofs.RuleFrames.{along}
-use Rattle.port_laws.proofs.RuleIdle.{none_waits}
 use Rattle.port_laws.proofs.RuleRest.{up_state}
 
 -- AN END AT REST, as its channel sees it
-record CoreRests (e : End) (c : LaneCore) : Type 0 where
-  up : state_of e c.wire.wire ≡ Up
-  quiet : owes (end_of e c).link ≡ false
-  owed : (end_of e c).handshake.owed ≡ None
-  waits : waiting_for e c.wire.wire ≡ []
-
-idle_rests : (e : End) (u : NetLaneState) → port_rule (role_at e) (net_end e u) (seen_at e u) ≡ Idles → CoreRests e (lane_core u)
+idle_rests : (e : End) (u : NetLaneState) → port_rule (role_at e) (net_end e u) (seen_at e u) ≡ Idles → IsAtRest e (lane_core u)
 idle_rests A u idles =
     let says = says_of Initiator u.guest (seen_at A u) Idles idles in
     record { up = up_state u.wire.wire.end_a says.0.up; quiet = says.0.quiet; owed = says.0.owed; waits = none_waits u.wire.wire.to_a says.1 }
@@ -55,7 +43,7 @@ idle_rests B u idles =
     record { up = up_state u.wire.wire.end_b says.0.up; quiet = says.0.quiet; owed = says.0.owed; waits = none_waits u.wire.wire.to_b says.1 }
 
 -- an idle step leaves its end and the wire
-idle_left : (e : End) (u t : NetLaneState) → NetLaneStep u (Steps e Idle) t → CoreRests e (lane_core t)
+idle_left : (e : End) (u t : NetLaneState) → NetLaneStep u (Steps e Idle) t → IsAtRest e (lane_core t)
 idle_left A u t step =
     let end : t.guest ≡ u.guest = ap (λ (x : NetLaneState). x.guest) step.is ∙ ap (λ (x : NetLeft). x.end) step.step.1 in
     let wire : t.wire ≡ u.wire = wire_event u (Steps A Idle) t step in
@@ -79,11 +67,11 @@ idle_left B u t step =
 
 -- THE END that was idle last is at rest
 record IdleKept (s : PortState) (l : PortLog) : Type 0 where
-  rests : (e : End) → l.last_idle ≡ Some e → CoreRests e (lane_core s.lane)
+  rests : (e : End) → l.last_idle ≡ Some e → IsAtRest e (lane_core s.lane)
 
-last_rests : (u : NetLaneState) (event : NetEvent) (t : NetLaneState) → NetLaneStep u event t → (e : End) → idle_in event ≡ Some e → CoreRests e (lane_core t)
+last_rests : (u : NetLaneState) (event : NetEvent) (t : NetLaneState) → NetLaneStep u event t → (e : End) → idle_in event ≡ Some e → IsAtRest e (lane_core t)
 last_rests u (Steps end Idle) t step e is =
-    let same : end ≡ e = cc in subst (λ (x : End). CoreRests x (lane_core t)) same (idle_left end u t step)
+    let same : end ≡ e = cc in subst (λ (x : End). IsAtRest x (lane_core t)) same (idle_left end u t step)
 last_rests u (Steps end Blocked) t step e is = none_some e is
 last_rests u (Steps end (Joined lost)) t step e is = none_some e is
 last_rests u (Steps end (Took packet opens)) t step e is = none_some e is
@@ -104,7 +92,7 @@ last_rests u (Declines d) t step e is = none_some e is
 kept_step : (s : PortState) (l : PortLog) (event : PortEvent) (t : PortState) → IdleKept s l → PortStep s event t → IdleKept t (after l event)
 kept_step s l (OnLane event) t kept step = record { rests = λ e is. last_rests (before event s).lane event t.lane step.1 e is }
 kept_step s l (Receives frame) t kept step =
-    record { rests = λ e is. subst (λ (x : PortState). CoreRests e (lane_core x.lane)) (sym step.2) (kept.rests e is) }
+    record { rests = λ e is. subst (λ (x : PortState). IsAtRest e (lane_core x.lane)) (sym step.2) (kept.rests e is) }
 
 idle_kept : (shape : NetShape) (events : List PortEvent) (s : PortState) → Run PortStep (fresh_port shape) events s → IdleKept s (log_of after (no_events shape) events)
 idle_kept shape events s run =
@@ -112,34 +100,17 @@ idle_kept shape events s run =
     (fresh_port shape) s (no_events shape) events (record { rests = λ e is. none_some e is }) run).1
 
 -- BOTH AT REST
-rest_both : (c : LaneCore) (transcript : TranscriptLog) → c.wire.lossy ≡ false → CoreRests A c → CoreRests B c → BothRest (sides_of c transcript)
-rest_both c transcript whole one other = record {
-  whole = whole;
-  up = one.up;
-  peer_up = other.up;
-  waits = one.waits;
-  peer_waits = other.waits;
-  quiet = one.quiet;
-  peer_quiet = other.quiet;
-  owed = one.owed;
-  peer_owed = other.owed;
-}
-
 some_session : (session : Option NetSession) → is_some session ≡ true → (p : NetSession) × (session ≡ Some p)
 some_session (Some p) is = (p, refl)
 some_session None is = absurd (cc is)
 
-two_idle : (shape : NetShape) (s : PortState) (l : PortLog) → PortCounts shape s l → Ready shape s l → CoreRests A (lane_core s.lane) → CoreRests B (lane_core s.lane) → l.wire.forged ≡ false → l.wire.lossy ≡ false
+two_idle : (shape : NetShape) (s : PortState) (l : PortLog) → PortCounts shape s l → Ready shape s l → IsAtRest A (lane_core s.lane) → IsAtRest B (lane_core s.lane) → l.wire.forged ≡ false → l.wire.lossy ≡ false
     → (l.guest.session ≢ None) × (l.hub.session ≢ None)
 two_idle shape s l counts ready one other clean whole =
-    let asks = port_offer Initiator shape.address shape.slots in
-    let answers = port_offer Responder shape.address shape.slots in
     let unforged : s.lane.wire.forged ≡ false = ap (λ (w : WireLog). w.forged) counts.wire ∙ clean in
     let lossless : s.lane.wire.lossy ≡ false = ap (λ (w : WireLog). w.lossy) counts.wire ∙ whole in
-    let knows = meets_knows shape.entries asks answers (port_events counts.events) (port_core s) (sizes_fit shape ready.sound) (offers_match shape ready.sound) (fresh_port_core shape counts.events s counts.run) in
-    let transcript : TranscriptLog = (log_of core.after (core.nothing_yet shape.entries) (port_events counts.events)).transcript in
-    let meets : Meets asks answers Initiator (sides_of (port_core s) transcript) = knows.holds.holds unforged in
-    let opened = rests_open asks answers (sides_of (port_core s) transcript) (record { mine = knows.holds.ends.a; theirs = knows.holds.ends.b }) meets (rest_both (port_core s) transcript lossless one other) in
+    let opened = two_at_rest_open shape.entries (port_offer Initiator shape.address shape.slots) (port_offer Responder shape.address shape.slots) (port_events counts.events) (port_core s)
+    (sizes_fit shape ready.sound) (offers_match shape ready.sound) (fresh_port_core shape counts.events s counts.run) unforged lossless one other in
     let guest = some_session s.lane.guest.session opened.0 in
     let hub = some_session s.lane.hub.session opened.1 in
     let guest_log = open_counts Initiator shape.slots [] s.lane.guest l.guest guest.0 counts.guest guest.1 in
@@ -153,7 +124,7 @@ two_idle_event shape s l (Steps A Idle) t counts ready step = λ last clean whol
 two_idle_event shape s l (Steps B Idle) t counts ready step = λ last clean whole.
     let kept : IdleKept s l = subst (IdleKept s) (sym counts.log) (idle_kept shape counts.events s counts.run) in
     two_idle shape s l counts ready (kept.rests A last)
-    (subst (CoreRests B) (before_core (Steps B Idle) s) (idle_rests B (before (Steps B Idle) s).lane step.step.0)) clean whole
+    (subst (IsAtRest B) (before_core (Steps B Idle) s) (idle_rests B (before (Steps B Idle) s).lane step.step.0)) clean whole
 two_idle_event shape s l (Steps e (Published id)) t counts ready step = tt
 two_idle_event shape s l (Steps e (Frame frame)) t counts ready step = tt
 two_idle_event shape s l (Steps e (Took packet opens)) t counts ready step = tt

@@ -5,3 +5,4 @@ pub mod LetsGo
 pub mod Counted
 pub mod Remaining
 pub mod RemainingSteps
+pub mod PortCauses

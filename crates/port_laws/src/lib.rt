@@ -6,6 +6,7 @@ mod core_laws;
 mod frame_laws;
 mod group_laws;
 mod remaining_laws;
+mod reset_laws;
 mod rest_laws;
 mod rule_laws;
 mod wire_laws;
@@ -18,6 +19,9 @@ pub use core_laws::{
 pub use frame_laws::an_ack_alone_lets_frames_go;
 pub use group_laws::a_guest_joins_each_group_once;
 pub use remaining_laws::what_remains_on_a_port_falls_by_what_an_end_does;
+pub use reset_laws::{
+    a_packet_resets_a_session_of_a_port_for_its_first_cause, resets_of_a_port_say_why,
+};
 pub use rest_laws::{
     a_tick_is_calm_where_the_port_is_finished, an_end_resets_itself_without_a_packet_for_a_slot,
     an_idle_end_of_a_port_has_nothing_to_do, only_an_end_that_is_up_moves_frames,

@@ -1,0 +1,58 @@
+// What holds of the open sessions of two ends on a channel, of any kind of lane.
+
+ghost use Rattle.std.specs.Prelude.{◌≡◌, ℕ, List, Option, Some, false, true};
+ghost use Rattle.runs.specs.Run.{Run};
+ghost use Rattle.ldc_queue.specs.Transcript.{Turn};
+ghost use Rattle.ldc_queue.specs.Wire.{peer_of};
+ghost use Rattle.ldc_queue.specs.declared.end.End.TheVariants.{A, B};
+ghost use Rattle.ldc_queue.specs.declared.end.End.{End};
+ghost use Rattle.vio_handshake.specs.Offers.{Match};
+ghost use Rattle.vio_handshake.specs.declared.session.Offer.{Offer};
+ghost use Rattle.vio_tag.specs.declared.cause.Cause.{Cause};
+ghost use Rattle.vio_tag.specs.declared.message.Message.{Message};
+ghost use Rattle.channel_model.specs.ResetSays.{PacketSays};
+ghost use Rattle.channel_model.specs.Sayings.{heard, said};
+ghost use Rattle.channel_model.specs.TranscriptLog.{transcript_of};
+ghost use Rattle.channel_model.specs.WireAt.{GapOf};
+ghost use Rattle.channel_laws.specs.EndsAtRest.{IsAtRest};
+ghost use Rattle.channel_laws.specs.KnownAttributes.{KnowAttributes};
+ghost use Rattle.channel_laws.specs.LaneCore.{end_of, fresh_core, role_of, transcript_behind, CoreEvent, CoreFits, CoreStep, LaneCore};
+ghost use Rattle.channel_laws.specs.PacketCauses.{packet_cause, Judges, JudgesRightly};
+
+/// On a channel that nobody forged, where no packet was lost since the queues were last emptied, two ends at rest are in
+/// session, of whatever kind their offers match; and each has heard all that the other said since it last began.
+pub fn two_ends_at_rest_are_in_session()
+    ensures opened { (entries : ℕ) (asks answers : Offer) (events : List CoreEvent) (s : LaneCore)
+        → CoreFits entries asks answers → Match asks answers → Run CoreStep (fresh_core entries asks answers) events s
+        → s.wire.forged ≡ false → s.wire.lossy ≡ false → IsAtRest A s → IsAtRest B s
+        → (s.a.is_open ≡ true) × (s.b.is_open ≡ true) }
+    ensures all { (entries : ℕ) (asks answers : Offer) (events : List CoreEvent) (s : LaneCore) (e : End)
+        → CoreFits entries asks answers → Run CoreStep (fresh_core entries asks answers) events s
+        → s.wire.forged ≡ false → s.wire.lossy ≡ false → IsAtRest A s → IsAtRest B s
+        → heard (transcript_of e (transcript_behind events)) ≡ said (transcript_of (peer_of e) (transcript_behind events)) }
+{}
+
+/// On a channel that nobody forged, where both sessions are open, the responder heard the attributes that the initiator's
+/// offer says, and the initiator the answer of the responder's to them: those of the smaller of both minors.
+pub fn open_sessions_know_each_others_attributes()
+    ensures { (entries : ℕ) (asks answers : Offer) (events : List CoreEvent) (s : LaneCore)
+        → CoreFits entries asks answers → Match asks answers → Run CoreStep (fresh_core entries asks answers) events s
+        → s.wire.forged ≡ false → s.a.is_open ≡ true → s.b.is_open ≡ true
+        → KnowAttributes asks answers s.a.handshake.draft.sid (heard (transcript_behind events).client)
+        (heard (transcript_behind events).server) }
+{}
+
+/// An end on a channel whose session is open resets itself for the first cause that a packet has, and takes the packet
+/// where it has none. The causes are read from the packet's bytes, from what the end heard before, and from what its
+/// session makes of messages of rings and groups, which is its kind's. Where the kind's causes are as the messages say,
+/// so is each cause as the packet says, and a gap names both numbers.
+pub fn a_packet_resets_a_session_for_its_first_cause()
+    ensures first { (entries : ℕ) (asks answers : Offer) (events : List CoreEvent) (s : LaneCore) (e : End)
+        (own : Message → Option Cause) (packet : List ℕ) (answer : Option Cause)
+        → CoreFits entries asks answers → Run CoreStep (fresh_core entries asks answers) events s
+        → (end_of e s).is_open ≡ true → Judges own (role_of e) (end_of e s) packet answer
+        → answer ≡ packet_cause own (end_of e s).handshake.draft.sid (transcript_of e (transcript_behind events)) packet }
+    ensures says { (own : Message → Option Cause) (sid : ℕ) (turns : List Turn) (packet : List ℕ) (cause : Cause)
+        → JudgesRightly own → packet_cause own sid turns packet ≡ Some cause
+        → PacketSays turns packet cause × GapOf turns cause (Some packet) }
+{}

@@ -1,0 +1,223 @@
+-- An end of a port in session resets itself for the first cause that a packet has, and takes the packet where it has none.
+use Rattle.std.proofs.Common.{◌≡◌, ℕ, Bool, true, false, Option, Some, None, List, refl, sym, subst, ap, ◌∙◌, inr}
+use Rattle.std.specs.Prelude.{Result, Ok, Err, ◌+◌, ◌%◌, ◌&&◌, is_some, nat_le, nat_lt, if◌then◌else◌}
+use Rattle.cookie_copy.specs.Reach.{Reach}
+use Rattle.runs.specs.Run.{Run}
+use Rattle.ldc_link.specs.declared.phase.Role.{Role}
+use Rattle.ldc_link.specs.declared.phase.Role.TheVariants.{Initiator, Responder}
+use Rattle.ldc_link.specs.LinkState.{LinkState, cleared, is_up}
+use Rattle.ldc_link.specs.Taking.{Heard, LinkTake, Unheard}
+use Rattle.ldc_packet.specs.declared.packet.Subtype.{Subtype}
+use Rattle.ldc_packet.specs.declared.packet.Subtype.TheVariants.{Ack, Info, Nack}
+use Rattle.ldc_queue.specs.declared.end.End.{End}
+use Rattle.ldc_queue.specs.declared.end.End.TheVariants.{A, B}
+use Rattle.ldc_queue.specs.Transcript.{Turn}
+use Rattle.vio_handshake.specs.declared.handshake.Handshake.{Handshake}
+use Rattle.vio_handshake.specs.declared.handshake.Phase.TheVariants.{Open}
+use Rattle.vio_handshake.specs.declared.session.Offer.{Offer}
+use Rattle.vio_handshake.specs.Rules.{Faults, Goes, GoesOpen, HandshakeTake, handshake_take, is_declined, sid_fault}
+use Rattle.vio_tag.specs.declared.cause.Cause.{Cause}
+use Rattle.vio_tag.specs.declared.cause.Cause.TheVariants as the_cause
+use Rattle.vio_tag.specs.declared.message.Message.{Message}
+use Rattle.vio_tag.specs.declared.message.MsgBody.{MsgBody}
+use Rattle.vio_tag.specs.declared.message.MsgBody.TheVariants.{DringData, Mcast}
+use Rattle.vio_tag.specs.declared.message.TagFault.{TagFault}
+use Rattle.channel_model.specs.Ranges.{is_other, range_length}
+use Rattle.channel_model.specs.TranscriptLog.{transcript_of}
+use Rattle.channel_laws.proofs.CoreLaws.{stands_a, stands_b}
+use Rattle.channel_laws.proofs.EndCases.{stays_risen}
+use Rattle.channel_laws.proofs.EndStanding.{open_up, opened_phase}
+use Rattle.channel_laws.proofs.PacketCauses.{run_judges, take_refused}
+use Rattle.channel_laws.specs.EndStep.{risen_at}
+use Rattle.channel_laws.specs.LaneCore.{CoreEvent, CoreStep, transcript_behind}
+use Rattle.channel_laws.specs.PacketCauses.{Judges, LinkJudged, WholeJudged, fault_first, judged, judged_body, refused_by}
+use Rattle.channel_laws.specs.Standing.{EndStands}
+use Rattle.port_model.specs.Groups.{groups_after}
+use Rattle.port_model.specs.NetEndRule.{Fetches, NetRule, Takes, port_rule}
+use Rattle.port_model.specs.NetEndState.{NetEndState, NetSession}
+use Rattle.port_model.specs.NetEndStep.{NetFails, Reset, Took}
+use Rattle.port_model.specs.NetEndTaking.{GoesOn, HearsLink, HearsWhole, NetTake, NetTakes, Resets, by_handshake, ends_outside, first_undone, hears_message, in_session, opens_by_take, reads, sid_first, takes_ack, takes_done, takes_groups, takes_info}
+use Rattle.port_model.specs.NetEvent.{NetEvent, Steps}
+use Rattle.port_model.specs.NetLaneState.{IsNetShape, NetLaneState, NetShape, fresh_net, memory_of, net_end, reach_of, role_at, seen_at}
+use Rattle.port_model.specs.NetLaneStep.{NetLaneStep}
+use Rattle.port_model.specs.Offers.{port_offer}
+use Rattle.port_laws.specs.NetCore.{core_events, fresh_net_core, is_begun, lane_core, net_core_at}
+use Rattle.port_laws.specs.PortCauses.{ack_cause, info_cause, own_cause, port_cause, session_cause}
+use Rattle.port_laws.proofs.CoreLaws.{sizes_fit}
+use Rattle.port_laws.proofs.EndMoves.{risen_same}
+use Rattle.port_laws.proofs.LaneMoves.{fresh_run_core}
+
+-- THE CAUSE of what an end makes of something
+abbrev cause_in : NetTake → Option Cause
+cause_in (GoesOn s opens memory) = None
+cause_in (Resets cause) = Some cause
+
+cause_if : (b : Bool) (one other : NetTake) (x y : Option Cause) → cause_in one ≡ x → cause_in other ≡ y → cause_in (if b then one else other) ≡ (if b then x else y)
+cause_if true one other x y is rest = is
+cause_if false one other x y is rest = rest
+
+opens_none : (role : Role) (s : NetEndState) (memory : List ℕ) → cause_in (opens_by_take role s memory) ≡ None
+opens_none Initiator s memory = refl
+opens_none Responder s memory = refl
+
+handshake_cause : (role : Role) (s : NetEndState) (memory : List ℕ) (take : HandshakeTake) → cause_in (by_handshake role s memory take) ≡ refused_by take
+handshake_cause role s memory (Goes h) = refl
+handshake_cause role s memory (GoesOpen h) = opens_none role (record s { handshake = h }) memory
+handshake_cause role s memory (Faults cause) = refl
+
+info_judged : (s : NetEndState) (m : LinkState) (p : NetSession) (memory : List ℕ) (seq ident start end : ℕ)
+    → cause_in (takes_info (record s { link = m }) p memory seq ident start end) ≡ info_cause s p seq ident start end
+info_judged s m p memory seq ident start end =
+    cause_if (is_other s.handshake.draft.ident_peer ident) _ _ _ _ refl
+    (cause_if (is_other p.seq seq) _ _ _ _ refl
+    (cause_if (is_other p.place start) _ _ _ _ refl
+    (cause_if (ends_outside s end) _ _ _ _ refl refl)))
+
+done_cause : (s : NetEndState) (p : NetSession) (memory : List ℕ) (count : ℕ) (fault : Option Cause) → cause_in (takes_done s p memory count fault) ≡ fault
+done_cause s p memory count None = refl
+done_cause s p memory count (Some cause) = refl
+
+ack_judged : (s : NetEndState) (m : LinkState) (p : NetSession) (memory : List ℕ) (ident start end : ℕ)
+    → cause_in (takes_ack (record s { link = m }) p memory ident start end) ≡ ack_cause s p memory ident start end
+ack_judged s m p memory ident start end =
+    cause_if (is_other s.handshake.draft.ident_own ident) _ _ _ _ refl
+    (cause_if (is_other (p.seen % s.slots) start) _ _ _ _ refl
+    (cause_if (nat_lt end s.slots && nat_le (p.seen + range_length s.slots start end) p.published) _ _ _ _
+    (done_cause (record s { link = m }) p memory (range_length s.slots start end) (first_undone s.slots memory p.seen (range_length s.slots start end))) refl))
+
+groups_none : (s : NetEndState) (p : NetSession) (memory : List ℕ) (set count : ℕ) (addresses : List (List ℕ)) (groups : Option (List (List ℕ)))
+    → cause_in (takes_groups s p memory set count addresses groups) ≡ None
+groups_none s p memory set count addresses None = refl
+groups_none s p memory set count addresses (Some groups) = refl
+
+-- A MESSAGE: one of rings or groups, or another, which is the handshake's
+module _ (s : NetEndState) (m : LinkState) (p : NetSession) (memory : List ℕ) (message : Message) (open_now : s.handshake.phase ≡ Open) (sound : sid_fault s.handshake.sid message.sid ≡ None) where
+  own_is : (role : Role) (subtype : Subtype) (body : MsgBody) → message.subtype ≡ subtype → message.body ≡ body → own_cause role s p memory message ≡ session_cause role s p memory subtype body
+  own_is role subtype body subtype_is body_is =
+      ap (λ (x : Subtype). session_cause role s p memory x message.body) subtype_is ∙ ap (session_cause role s p memory subtype) body_is
+
+  another : (role : Role) → cause_in (by_handshake role (record s { link = m }) memory (handshake_take s.handshake message)) ≡ refused_by (handshake_take s.handshake message)
+  another role = handshake_cause role (record s { link = m }) memory (handshake_take s.handshake message)
+
+  out_of_order : (role : Role) (subtype : Subtype) (body : MsgBody) → message.subtype ≡ subtype → message.body ≡ body → is_declined subtype body ≡ false
+      → cause_in (by_handshake role (record s { link = m }) memory (handshake_take s.handshake message)) ≡ Some the_cause.Order
+  out_of_order role subtype body subtype_is body_is not =
+      another role ∙ take_refused s.handshake message open_now sound
+      ∙ ap (λ (x : Subtype). if is_declined x message.body then None else Some the_cause.Order) subtype_is
+      ∙ ap (λ (b : MsgBody). if is_declined subtype b then None else Some the_cause.Order) body_is
+      ∙ ap (λ (b : Bool). if b then None else Some the_cause.Order) not
+
+  session_judged : (role : Role) (subtype : Subtype) (body : MsgBody) → message.subtype ≡ subtype → message.body ≡ body
+      → cause_in (in_session role (record s { link = m }) p memory message subtype body) ≡ judged_body (own_cause role s p memory) s.handshake message body
+  session_judged Initiator Info (DringData seq ident start end state) one two =
+      info_judged s m p memory seq ident start end ∙ sym (own_is Initiator Info (DringData seq ident start end state) one two)
+  session_judged Responder Info (DringData seq ident start end state) one two =
+      info_judged s m p memory seq ident start end ∙ sym (own_is Responder Info (DringData seq ident start end state) one two)
+  session_judged Initiator Ack (DringData seq ident start end state) one two =
+      ack_judged s m p memory ident start end ∙ sym (own_is Initiator Ack (DringData seq ident start end state) one two)
+  session_judged Responder Ack (DringData seq ident start end state) one two =
+      ack_judged s m p memory ident start end ∙ sym (own_is Responder Ack (DringData seq ident start end state) one two)
+  session_judged Initiator Nack (DringData seq ident start end state) one two = sym (own_is Initiator Nack (DringData seq ident start end state) one two)
+  session_judged Responder Nack (DringData seq ident start end state) one two = sym (own_is Responder Nack (DringData seq ident start end state) one two)
+  session_judged Responder Info (Mcast set count addresses) one two =
+      groups_none (record s { link = m }) p memory set count addresses (groups_after set count addresses s.groups) ∙ sym (own_is Responder Info (Mcast set count addresses) one two)
+  session_judged Initiator Ack (Mcast set count addresses) one two =
+      cause_if p.telling _ _ _ _ refl refl ∙ sym (own_is Initiator Ack (Mcast set count addresses) one two)
+  session_judged Initiator Nack (Mcast set count addresses) one two =
+      cause_if p.telling _ _ _ _ refl refl ∙ sym (own_is Initiator Nack (Mcast set count addresses) one two)
+  session_judged Initiator Info (Mcast set count addresses) one two =
+      out_of_order Initiator Info (Mcast set count addresses) one two refl ∙ sym (own_is Initiator Info (Mcast set count addresses) one two)
+  session_judged Responder Ack (Mcast set count addresses) one two =
+      out_of_order Responder Ack (Mcast set count addresses) one two refl ∙ sym (own_is Responder Ack (Mcast set count addresses) one two)
+  session_judged Responder Nack (Mcast set count addresses) one two =
+      out_of_order Responder Nack (Mcast set count addresses) one two refl ∙ sym (own_is Responder Nack (Mcast set count addresses) one two)
+  session_judged role _ _ one two = another role
+
+sid_judged : (fault : Option Cause) (rest : NetTake) (answer : Option Cause) → (fault ≡ None → cause_in rest ≡ answer) → cause_in (sid_first fault rest) ≡ fault_first fault answer
+sid_judged None rest answer same = same refl
+sid_judged (Some cause) rest answer same = refl
+
+reads_judged : (role : Role) (s : NetEndState) (m : LinkState) (p : NetSession) (memory : List ℕ) (d : Result Message TagFault) → s.session ≡ Some p → s.handshake.phase ≡ Open
+    → cause_in (reads role (record s { link = m }) memory d) ≡ judged (own_cause role s p memory) s.handshake d
+reads_judged role s m p memory (Err fault) session open_now = refl
+reads_judged role s m p memory (Ok message) session open_now =
+    ap (λ (o : Option NetSession). cause_in (hears_message role (record s { link = m }) memory o message)) session
+    ∙ sid_judged (sid_fault s.handshake.sid message.sid) (in_session role (record s { link = m }) p memory message message.subtype message.body)
+    (judged_body (own_cause role s p memory) s.handshake message message.body)
+    (λ sound. session_judged s m p memory message open_now sound role message.subtype message.body refl refl)
+
+-- WHAT AN END MAKES of a packet
+whole_judges : (role : Role) (s : NetEndState) (k : LinkState) (p : NetSession) (memory : List ℕ) (whole : Option (List ℕ)) (take : NetTake) → s.session ≡ Some p → s.handshake.phase ≡ Open
+    → HearsWhole role (record s { link = k }) memory whole take → WholeJudged (own_cause role s p memory) s.handshake whole (cause_in take)
+whole_judges role s k p memory None take session open_now is = ap cause_in is
+whole_judges role s k p memory (Some bytes) take session open_now hears =
+    (hears.0, hears.1, ap cause_in hears.2 ∙ reads_judged role s (cleared k) p memory hears.0 session open_now)
+
+link_judges : (role : Role) (begun : Bool) (s : NetEndState) (p : NetSession) (memory : List ℕ) (link : LinkTake) (take : NetTake) → s.session ≡ Some p → s.handshake.phase ≡ Open → is_up s.link ≡ true
+    → HearsLink role s memory link take → LinkJudged (own_cause role s p memory) role (net_core_at role begun s) link (cause_in take)
+link_judges role begun s p memory (Unheard why) take session open_now up is = ap cause_in is
+link_judges role begun s p memory (Heard k) take session open_now up hears =
+    let same : risen_at role s.link k s.handshake ≡ s.handshake = stays_risen role s.link k s.handshake (inr up) in
+    subst (λ (h : Handshake). WholeJudged (own_cause role s p memory) h k.whole (cause_in take)) (sym same)
+    (whole_judges role s k p memory k.whole take session open_now
+    (subst (λ (h : Handshake). HearsWhole role (record s { link = k; handshake = h }) memory k.whole take) (risen_same role s.link k s.handshake ∙ same) hears))
+
+end_judges : (role : Role) (begun : Bool) (s : NetEndState) (p : NetSession) (turns : List Turn) (memory packet : List ℕ) (take : NetTake) → EndStands role (net_core_at role begun s) turns
+    → s.session ≡ Some p → NetTakes role s memory packet take → Judges (own_cause role s p memory) role (net_core_at role begun s) packet (cause_in take)
+end_judges role begun s p turns memory packet take stands session takes =
+    let opened : is_some s.session ≡ true = ap (λ (o : Option NetSession). is_some o) session in
+    record {
+      take = takes.link;
+      takes = takes.takes;
+      judges = link_judges role begun s p memory takes.link take session (opened_phase s.handshake.phase (sym stands.opened ∙ opened))
+          (open_up role (net_core_at role begun s) turns stands opened) takes.hears;
+    }
+
+-- a reset that carries a packet is for what the end takes
+fails_takes : (role : Role) (rule : NetRule) (s : NetEndState) (memory : List ℕ) (reach : Reach) (cause : Cause) (packet : List ℕ) → NetFails role rule s memory reach cause (Some packet)
+    → NetTakes role s memory packet (Resets cause)
+fails_takes role (Takes bytes) s memory reach cause packet fails =
+    let same : bytes ≡ packet = cc fails.0 in subst (λ (x : List ℕ). NetTakes role s memory x (Resets cause)) same fails.1
+fails_takes role (Fetches p activity) s memory reach cause packet fails = absurd (cc fails.0)
+fails_takes role _ s memory reach cause packet fails = absurd fails
+
+-- BEHIND EVENTS of a channel that led to a lane
+module _ (shape : NetShape) (moves : List CoreEvent) (s : NetLaneState) (is : IsNetShape shape) (run : Run CoreStep (fresh_net_core shape) moves (lane_core s)) where
+  abbrev asks : Offer
+  asks = port_offer Initiator shape.address shape.slots
+
+  abbrev answers : Offer
+  answers = port_offer Responder shape.address shape.slots
+
+  pub take_cause : (e : End) (session : NetSession) (packet : List ℕ) (take : NetTake) → (net_end e s).session ≡ Some session → NetTakes (role_at e) (net_end e s) (memory_of e s) packet take
+      → cause_in take ≡ port_cause s e session (transcript_of e (transcript_behind moves)) packet
+  take_cause A session packet take opened takes =
+      run_judges shape.entries asks answers moves (lane_core s) A (own_cause Initiator s.guest session s.guest_memory) packet (cause_in take) (sizes_fit shape is) run
+      (ap (λ (o : Option NetSession). is_some o) opened)
+      (end_judges Initiator (is_begun s.wire.wire.end_a) s.guest session (transcript_behind moves).client s.guest_memory packet take
+      (stands_a shape.entries asks answers moves (lane_core s) (sizes_fit shape is) run) opened takes)
+  take_cause B session packet take opened takes =
+      run_judges shape.entries asks answers moves (lane_core s) B (own_cause Responder s.hub session s.hub_memory) packet (cause_in take) (sizes_fit shape is) run
+      (ap (λ (o : Option NetSession). is_some o) opened)
+      (end_judges Responder (is_begun s.wire.wire.end_b) s.hub session (transcript_behind moves).server s.hub_memory packet take
+      (stands_b shape.entries asks answers moves (lane_core s) (sizes_fit shape is) run) opened takes)
+
+  pub fails_with : (e : End) (session : NetSession) (cause : Cause) (packet : List ℕ) → (net_end e s).session ≡ Some session
+      → NetFails (role_at e) (port_rule (role_at e) (net_end e s) (seen_at e s)) (net_end e s) (memory_of e s) (reach_of e s) cause (Some packet)
+      → port_cause s e session (transcript_of e (transcript_behind moves)) packet ≡ Some cause
+  fails_with e session cause packet opened fails =
+      sym (take_cause e session packet (Resets cause) opened
+      (fails_takes (role_at e) (port_rule (role_at e) (net_end e s) (seen_at e s)) (net_end e s) (memory_of e s) (reach_of e s) cause packet fails))
+
+-- ALONG EVERY RUN
+pub takes_without : (shape : NetShape) (events : List NetEvent) (s : NetLaneState) (e : End) (session : NetSession) (packet : List ℕ) (opens : Bool) (t : NetLaneState) → IsNetShape shape
+    → Run NetLaneStep (fresh_net shape) events s → (net_end e s).session ≡ Some session → NetLaneStep s (Steps e (Took packet opens)) t
+    → port_cause s e session (transcript_of e (transcript_behind (core_events events))) packet ≡ None
+takes_without shape events s e session packet opens t is run opened step =
+    sym (take_cause shape (core_events events) s is (fresh_run_core shape events s run) e session packet (GoesOn step.left.end opens step.left.own) opened step.step.1)
+
+pub resets_with : (shape : NetShape) (events : List NetEvent) (s : NetLaneState) (e : End) (session : NetSession) (cause : Cause) (packet : List ℕ) (lost : ℕ) (t : NetLaneState) → IsNetShape shape
+    → Run NetLaneStep (fresh_net shape) events s → (net_end e s).session ≡ Some session → NetLaneStep s (Steps e (Reset cause (Some packet) lost)) t
+    → port_cause s e session (transcript_of e (transcript_behind (core_events events))) packet ≡ Some cause
+resets_with shape events s e session cause packet lost t is run opened step =
+    fails_with shape (core_events events) s is (fresh_run_core shape events s run) e session cause packet opened step.step.0

@@ -1,0 +1,46 @@
+// Why an end of a port resets itself, by the packet that it takes.
+
+ghost use Rattle.std.specs.Prelude.{◌≡◌, ℕ, Bool, List, None, Option, Some};
+ghost use Rattle.runs.specs.Lawful.{Lawful};
+ghost use Rattle.runs.specs.Run.{Run};
+ghost use Rattle.ldc_queue.specs.declared.end.End.{End};
+ghost use Rattle.vio_tag.specs.declared.cause.Cause.{Cause};
+ghost use Rattle.channel_laws.specs.LaneCore.{transcript_behind};
+ghost use Rattle.channel_model.specs.ResetSays.{WireResetAt};
+ghost use Rattle.channel_model.specs.TranscriptLog.{transcript_of};
+ghost use Rattle.channel_model.specs.WireAt.{WireGapAt};
+ghost use Rattle.port_model.specs.NetEndState.{NetSession};
+ghost use Rattle.port_model.specs.NetEndStep.{Reset, Took};
+ghost use Rattle.port_model.specs.NetEvent.{NetEvent, Steps};
+ghost use Rattle.port_model.specs.NetLaneState.{fresh_net, net_end, IsNetShape, NetLaneState, NetShape};
+ghost use Rattle.port_model.specs.NetLaneStep.{NetLaneStep};
+ghost use Rattle.port_model.specs.PortLog.{after, no_events, PortLog};
+ghost use Rattle.port_model.specs.PortMay.{OfWire};
+ghost use Rattle.port_model.specs.PortState.{fresh_port, PortEvent, PortState, PortStep};
+ghost use Rattle.port_laws.specs.NetCore.{core_events};
+ghost use Rattle.port_laws.specs.PortCauses.{port_cause};
+
+/// In an open session an end of a port takes a packet only where the packet has no cause of a reset. It resets itself
+/// for a packet with the first cause that the packet has: its bytes, its number, its mode, its kind, its place in a
+/// message; the message's codec, sid and order; and what the end's session makes of ranges and groups. This holds where
+/// somebody forges too.
+pub fn a_packet_resets_a_session_of_a_port_for_its_first_cause()
+    ensures taken { (shape : NetShape) (events : List NetEvent) (s : NetLaneState) (e : End) (session : NetSession) (packet : List ℕ) (opens : Bool)
+        (t : NetLaneState) → IsNetShape shape → Run NetLaneStep (fresh_net shape) events s → (net_end e s).session ≡ Some session
+        → NetLaneStep s (Steps e (Took packet opens)) t
+        → port_cause s e session (transcript_of e (transcript_behind (core_events events))) packet ≡ None }
+    ensures reset { (shape : NetShape) (events : List NetEvent) (s : NetLaneState) (e : End) (session : NetSession) (cause : Cause) (packet : List ℕ)
+        (lost : ℕ) (t : NetLaneState) → IsNetShape shape → Run NetLaneStep (fresh_net shape) events s → (net_end e s).session ≡ Some session
+        → NetLaneStep s (Steps e (Reset cause (Some packet) lost)) t
+        → port_cause s e session (transcript_of e (transcript_behind (core_events events))) packet ≡ Some cause }
+{}
+
+/// Along every run of a port, forged or not, the packet that a reset carries says why, by its own bytes or by those of
+/// the message that it ends; a reset without one is for a slot, or wasn't a step's. A gap names the number that was to
+/// come and the one that came.
+pub fn resets_of_a_port_say_why()
+    ensures says { (shape : NetShape) (events : List PortEvent) (s : PortState) → IsNetShape shape → Run PortStep (fresh_port shape) events s
+        → Lawful (λ (l : PortLog) (event : PortEvent). OfWire (WireResetAt l.transcript) event) after (no_events shape) events }
+    ensures gaps { (shape : NetShape) (events : List PortEvent) (s : PortState) → IsNetShape shape → Run PortStep (fresh_port shape) events s
+        → Lawful (λ (l : PortLog) (event : PortEvent). OfWire (WireGapAt l.transcript) event) after (no_events shape) events }
+{}
