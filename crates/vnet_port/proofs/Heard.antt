@@ -30,7 +30,8 @@ use Rattle.port_model.specs.FramesStand.{CountsStand, FramesStand}
 use Rattle.port_model.specs.RuleFacts.{IfOpen}
 use Rattle.port_model.proofs.Refuting.{none_some}
 use Rattle.vnet_port.specs.Standing.{Knows, KnowsRing, SessionStands, Stands}
-use Rattle.vnet_port.specs.Stepping.{Steps, StepsAlone, reach_over, rule_of}
+use Rattle.port_frames.specs.Memories.{reach_over}
+use Rattle.vnet_port.specs.Stepping.{Steps, StepsAlone, rule_of}
 
 -- THE HANDSHAKE of the switch's end as its link comes up
 cond_rose : (test : Bool) (s : NetEndState)

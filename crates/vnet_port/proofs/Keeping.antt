@@ -17,7 +17,8 @@ use Rattle.vnet_port.proofs.KeptTakes.{taken_stays}
 use Rattle.vnet_port.proofs.Standing.{joined_stands}
 use Rattle.vnet_port.specs.declared.net_out.NetOut.{NetOut}
 use Rattle.vnet_port.specs.Standing.{Knows, KnowsRing, Stands}
-use Rattle.vnet_port.specs.Stepping.{Steps, net_answer, reach_over, sees}
+use Rattle.port_frames.specs.Memories.{reach_over}
+use Rattle.vnet_port.specs.Stepping.{Steps, net_answer, sees}
 
 -- the place in the peer's ring, which has as many slots as the own
 peer_slots_are : (s : NetEndState) (p : NetSession) → Core s → s.session ≡ Some p → s.handshake.draft.peer_slots ≡ s.slots

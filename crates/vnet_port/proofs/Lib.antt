@@ -1,10 +1,7 @@
 pub mod Standing
-pub mod Held
 pub mod Puts
-pub mod Frames
-pub mod Ranges
 pub mod Says
-pub mod SlotFinds
+pub mod FetchEnds
 pub mod LinkTakes
 pub mod Heard
 pub mod Ruled

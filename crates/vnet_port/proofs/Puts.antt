@@ -26,7 +26,8 @@ use Rattle.vnet_port.specs.Calls.{end_at, end_of, role_of}
 use Rattle.vnet_port.specs.declared.net_out.NetOut.{NetOut}
 use Rattle.vnet_port.specs.declared.net_out.NetOut.TheVariants as out
 use Rattle.vnet_port.specs.Putting.{PutsHeld, cleared_if, kind_after, noted, opened_if}
-use Rattle.vnet_port.specs.Stepping.{Steps, channel_after, reach_over, rule_of}
+use Rattle.port_frames.specs.Memories.{reach_over}
+use Rattle.vnet_port.specs.Stepping.{Steps, channel_after, rule_of}
 
 -- THE KIND of a put, by the link after it
 some_part : (k : LinkState) (left : List ℕ) → 0 < length left → is_some (part_owed k left) ≡ true

@@ -11,7 +11,8 @@ use Rattle.port_model.specs.NetEndState.{Activity, NetEndState, NetSession, with
 use Rattle.vnet_port.specs.declared.net_out.NetOut.{NetOut}
 use Rattle.vnet_port.proofs.Puts.{puts_steps}
 use Rattle.vnet_port.specs.Putting.{PutsHeld}
-use Rattle.vnet_port.specs.Stepping.{Steps, StepsAlone, reach_over, rule_of}
+use Rattle.port_frames.specs.Memories.{reach_over}
+use Rattle.vnet_port.specs.Stepping.{Steps, StepsAlone, rule_of}
 
 pub rest_steps : (s t : NetEndState) (c d : ChannelView) (memory new : List ℕ) (answer : NetOut) → rule_of s c ≡ Puts
     → PutsHeld s c memory answer t d new → StepsAlone s c memory answer t d new

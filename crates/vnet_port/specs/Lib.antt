@@ -1,4 +1,3 @@
-pub mod FrameQueue
 pub mod Calls
 pub mod Standing
 pub mod Stepping

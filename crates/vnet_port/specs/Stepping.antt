@@ -1,12 +1,11 @@
 -- A step of an end, over its channel and the memories, as what the port's model says of it.
-use Rattle.std.specs.Prelude.{◌≡◌, ℕ, ◌+◌, ◌*◌, ◌≤◌, List, length, Option, ⊤}
-use Rattle.cookie_copy.specs.Faults.{both_up}
-use Rattle.cookie_copy.specs.Reach.{Reach}
+use Rattle.std.specs.Prelude.{◌≡◌, ℕ, List, length, Option, ⊤}
 use Rattle.ldc_queue.specs.ChannelView.{ChannelView, channel_with, channel_without_first, configured_channel}
 use Rattle.ldc_queue.specs.declared.end.End.{End}
 use Rattle.ldc_queue.specs.Wire.{peer_of}
 use Rattle.map_table.specs.declared.table.Entry.{Entry}
 use Rattle.channel_model.specs.Seeing.{Seen, seen}
+use Rattle.port_frames.specs.Memories.{reach_over}
 use Rattle.port_model.specs.NetEndRule.{NetRule, port_rule}
 use Rattle.port_model.specs.NetEndState.{NetEndState}
 use Rattle.port_model.specs.NetEndStep.{Blocked, Frame, Idle, Joined, NetAnswer, NetEndStep, Published, Reset, Sent, Took}
@@ -14,16 +13,9 @@ use Rattle.vnet_port.specs.Calls.{end_of, role_of}
 use Rattle.vnet_port.specs.declared.net_out.NetOut.{NetOut}
 use Rattle.vnet_port.specs.declared.net_out.NetOut.TheVariants as out
 
--- the memory has the page of the ring, and 2,048 bytes for each slot
-abbrev pub HoldsRing : ℕ → List ℕ → Type 0
-HoldsRing slots memory = 8192 + 2048 * slots ≤ length memory
-
--- what the end sees of the channel, and what its copies work on
+-- what the end sees of the channel
 abbrev pub sees : NetEndState → ChannelView → Seen
 sees s c = seen (end_of s) c.entries c.wire
-
-abbrev pub reach_over : ChannelView → List (Option Entry) → List ℕ → Reach
-reach_over c table memory = record { both = both_up c.wire; table = table; memory = memory }
 
 -- the rule of its next step
 abbrev pub rule_of : NetEndState → ChannelView → NetRule

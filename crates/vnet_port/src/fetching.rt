@@ -1,82 +1,29 @@
-// The next slot of the peer's ring is looked at.
+// The next slot of the peer's ring is worked.
 
 ghost use Rattle.std.specs.Prelude.{◌≡◌, ℕ, ◌<◌, ◌≤◌, List, length, Option, None, Some};
 ghost use Rattle.cookie_copy.specs.Faults.{PagesWithin};
-ghost use Rattle.cookie_copy.specs.Reach.{copy_number};
 ghost use Rattle.ldc_queue.specs.Wire.{state_of};
 ghost use Rattle.ldc_queue.specs.declared.end.ChannelState.TheVariants.{Up};
 ghost use Rattle.vio_handshake.specs.declared.handshake.Phase.TheVariants.{Open};
-ghost use Rattle.vnet_msg.specs.Frames.{header};
 ghost use Rattle.map_table.specs.declared.table.Entry.{Entry};
-ghost use Rattle.port_model.specs.Fetching.{NotReady, copy_refused, fetched};
+ghost use Rattle.port_model.specs.Fetching.{NotReady, fetched};
 ghost use Rattle.vnet_port.specs.declared.net_out.NetOut.TheVariants.{Frame};
-ghost use Rattle.vnet_port.specs.Fetches.{found_fault, found_of};
-ghost use Rattle.vnet_port.specs.Stepping.{HoldsRing, reach_over};
+ghost use Rattle.port_frames.specs.Memories.{HoldsRing, reach_over};
 
 use crate::net_out::NetOut;
 use crate::port_end::PortEnd;
-use crate::session::{PortSession, RingActivity};
-use cookie_copy::CopyFault;
 use dom_memory::Memory;
-use dring::{PeerRing, RingFault, VIO_DESC_DONE, fetch, mark};
+use dring::PeerRing;
 use ldc_packet::Subtype;
 use ldc_queue::Channel;
 use map_table::MapTable;
-use vio_bytes::put_u8;
+use port_frames::SlotFault;
+use port_session::{PortSession, RingActivity};
 use vio_handshake::Session;
 use vio_tag::{Cause, Message, MsgBody};
-use vnet_msg::{NetDesc, decode, holds_frame};
 
 /// The ring isn't worked any more (`VIO_DRING_STOPPED` of Linux's vio.h).
 const VIO_DRING_STOPPED: u8 = 2;
-
-/// Why no frame was taken from a slot.
-#[derive(Clone, Copy)]
-pub(crate) enum SlotFault {
-    /// It has this state, which isn't READY.
-    NotReady(u8),
-    /// The end resets itself for this.
-    Refused(Cause),
-}
-
-/// The number of a copy's fault in the cause of a reset.
-fn copy_number(fault: CopyFault) -> u8
-    ensures { result ≡ copy_number fault }
-{
-    match fault {
-        CopyFault::Channel => 1,
-        CopyFault::BadAlign => 2,
-        CopyFault::Short => 3,
-        CopyFault::BadPage => 4,
-        CopyFault::NoMap => 5,
-        CopyFault::NoAccess => 6,
-    }
-}
-
-fn copy_refused(fault: CopyFault) -> SlotFault
-    ensures { found_fault result ≡ copy_refused fault }
-{
-    SlotFault::Refused(Cause::Copy(copy_number(fault)))
-}
-
-fn slot_fault(fault: RingFault) -> SlotFault
-    ensures { found_fault result ≡ found_of fault }
-{
-    match fault {
-        RingFault::Copy(fault) => copy_refused(fault),
-        RingFault::NotReady(state) => SlotFault::NotReady(state),
-    }
-}
-
-/// The header that is written once a frame was taken.
-fn done_header(ack: u8) -> [u8; 8]
-    ensures { result ≡ header 4 ack }
-{
-    let mut header = [0; 8];
-    put_u8(&mut header, 0, VIO_DESC_DONE);
-    put_u8(&mut header, 1, ack);
-    header
-}
 
 impl PortEnd {
     ghost use Rattle.port_model.specs.FramesStand.{FramesStand};
@@ -144,35 +91,7 @@ impl PortEnd {
     {
         let ring = self.peer_ring();
         let end = self.end();
-        let bytes = match fetch::<64>(channel, end, table, peer, &ring, slot) {
-            Ok(bytes) => bytes,
-            Err(fault) => return Err(slot_fault(fault)),
-        };
-        let desc = decode(&bytes);
-        if !holds_frame(&desc) {
-            return Err(SlotFault::Refused(Cause::Frame {
-                size: desc.size,
-                count: desc.count,
-            }));
-        }
-        match self.spare.copy(channel, end, table, peer, &desc) {
-            Ok(()) => {}
-            Err(fault) => return Err(copy_refused(fault)),
-        }
-        match mark::<64>(
-            channel,
-            end,
-            table,
-            peer,
-            &ring,
-            slot,
-            done_header(desc.ack),
-        ) {
-            Ok(()) => {}
-            Err(fault) => return Err(copy_refused(fault)),
-        }
-        std::mem::swap(&mut self.last, &mut self.spare);
-        Ok(())
+        self.last.take(channel, end, table, peer, &ring, slot)
     }
 
     /// The peer's ring is active: the frame of the next slot is taken; or the slot isn't READY, which ends the activity;

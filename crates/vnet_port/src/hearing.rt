@@ -6,22 +6,20 @@ ghost use Rattle.ldc_queue.specs.declared.end.ChannelState.TheVariants.{Up};
 ghost use Rattle.ldc_link.specs.Putting.{owes_control};
 ghost use Rattle.vio_handshake.specs.Rules.{handshake_take};
 ghost use Rattle.vio_handshake.specs.declared.handshake.Phase.TheVariants.{Down, Open};
-ghost use Rattle.channel_model.specs.Ranges.{range_length};
 ghost use Rattle.port_model.specs.Groups.{groups_after};
 ghost use Rattle.port_model.specs.NetEndState.{NetEndState};
 ghost use Rattle.port_model.specs.NetEndTaking.{refused};
 ghost use Rattle.vnet_port.specs.Hearing.{take_of};
-ghost use Rattle.vnet_port.specs.Stepping.{HoldsRing};
+ghost use Rattle.port_frames.specs.Memories.{HoldsRing};
 
-use crate::acknowledging::{first_undone, free_slots};
-use crate::membership::groups_after;
 use crate::net_out::NetOut;
 use crate::port_end::PortEnd;
-use crate::session::{MembershipReply, PortSession};
 use dom_memory::Memory;
 use ldc_link::{Role, TakeOut};
 use ldc_packet::Subtype;
 use ldc_queue::Channel;
+use port_frames::{first_undone, free_slots};
+use port_session::{MembershipReply, PortSession, groups_after, range_length};
 use vio_handshake::HsOut;
 use vio_tag::{Cause, Message, MsgBody, TagFault, decode};
 
@@ -391,15 +389,4 @@ fn refuse(session: &PortSession) -> Result<bool, Cause>
     } else {
         Err(Cause::Order)
     }
-}
-
-/// The number of slots from `start` to `end`, both among them, around a ring of so many.
-fn range_length(slots: u32, start: u32, end: u32) -> u32
-    requires few { slots ≤ 64 }
-    requires start { start < slots }
-    requires end { end < slots }
-    ensures length { result ≡ range_length slots start end }
-    ensures within { result ≤ slots }
-{
-    (end + slots - start) % slots + 1
 }

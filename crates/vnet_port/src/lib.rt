@@ -7,23 +7,16 @@
 //! and both memories hold. No call but [`NetEnd::new`] takes memory.
 #![tactic(auto)]
 
-mod acknowledging;
 mod answers;
 mod fetching;
-mod frame_buffer;
 mod hearing;
-mod held_frames;
-mod membership;
 mod net_end;
 mod net_out;
-mod offering;
 mod port_end;
 mod publishing;
 mod putting;
 mod saying;
-mod session;
 mod stepping;
-mod taken_frame;
 
 pub use answers::{GroupsFull, SendFault};
 pub use net_end::NetEnd;

@@ -35,8 +35,10 @@ impl Model for NetEnd {
 impl NetEnd {
     ghost use Rattle.port_model.specs.NetEndState.{fresh_net_end, joined_net_end, unseen};
     ghost use Rattle.port_model.specs.NetEndStep.{NetGives, NetJoins};
+    ghost use Rattle.port_model.specs.NetLaneStep.{told_all};
     ghost use Rattle.vnet_port.specs.Calls.{end_of, given, joining, role_of};
-    ghost use Rattle.vnet_port.specs.Stepping.{HoldsRing, Steps};
+    ghost use Rattle.port_frames.specs.Memories.{HoldsRing};
+    ghost use Rattle.vnet_port.specs.Stepping.{Steps};
 
     /// The end of the port with this address, whose rings have so many slots, 2 to 64. It isn't configured yet. Its one
     /// refusal is for want of memory.
@@ -146,6 +148,13 @@ impl NetEnd {
         ensures { result ≡ is_some self.now.session }
     {
         self.end.in_session()
+    }
+
+    /// Whether its session is open, and in it a guest's list of groups is told as it is, and that was answered.
+    pub fn told_groups(&self) -> bool
+        ensures { result ≡ told_all self.now.session }
+    {
+        self.end.told_groups()
     }
 
     /// The bytes of the frame that it took last, none before the first.

@@ -8,14 +8,12 @@ ghost use Rattle.vnet_port.specs.Calls.{end_at};
 ghost use Rattle.vnet_port.specs.declared.net_out.NetOut.TheVariants.{Reset};
 
 use crate::answers::{GroupsFull, SendFault};
-use crate::held_frames::HeldFrames;
 use crate::net_out::NetOut;
-use crate::offering::port_offer;
-use crate::session::PortSession;
-use crate::taken_frame::TakenFrame;
 use arrayvec::ArrayVec;
 use ldc_link::{Link, Role};
 use ldc_queue::{Channel, End};
+use port_frames::{HeldFrames, LastFrame};
+use port_session::{PortSession, port_offer};
 use std::alloc::Global;
 use std::marker::Model;
 use vio_bytes::NoMemory;
@@ -36,9 +34,7 @@ pub(crate) struct PortEnd {
     pub(crate) next_id: u64,
     pub(crate) groups: ArrayVec<[u8; 6], 7>,
     pub(crate) session: Option<PortSession>,
-    /// The frame that it took last, and room for the next.
-    pub(crate) last: TakenFrame,
-    pub(crate) spare: TakenFrame,
+    pub(crate) last: LastFrame,
 }
 
 impl Model for PortEnd {
@@ -80,6 +76,7 @@ impl PortEnd {
     ghost use Rattle.port_model.specs.NetEndState.{fresh_net_end, joined_net_end, kept_groups, unseen};
     ghost use Rattle.port_model.specs.NetEndStep.{NetGives, NetJoins, untold};
     ghost use Rattle.port_model.specs.FramesStand.{CountsStand, FramesStand};
+    ghost use Rattle.port_model.specs.NetLaneStep.{told_all};
     ghost use Rattle.vnet_port.specs.Calls.{end_of, given, joining, role_of};
 
     /// An end that isn't configured.
@@ -93,8 +90,7 @@ impl PortEnd {
         ensures { IfOk result (λ end. end ≡ fresh_net_end role address slots) }
     {
         let frames = HeldFrames::new(alloc, slots as usize)?;
-        let last = TakenFrame::new(alloc)?;
-        let spare = TakenFrame::new(alloc)?;
+        let last = LastFrame::new(alloc)?;
         Ok(PortEnd {
             role,
             link: Link::new(role),
@@ -106,7 +102,6 @@ impl PortEnd {
             groups: ArrayVec::new(),
             session: None,
             last,
-            spare,
         })
     }
 
@@ -237,6 +232,16 @@ impl PortEnd {
         ensures { result ≡ is_some self.now.session }
     {
         self.session.is_some()
+    }
+
+    /// Whether a session is open in which the groups are told, and that was answered.
+    pub(crate) fn told_groups(&self) -> bool
+        ensures { result ≡ told_all self.now.session }
+    {
+        match &self.session {
+            Some(session) => session.has_told(),
+            None => false,
+        }
     }
 
     /// The frame that it took last.

@@ -9,19 +9,12 @@ ghost use Rattle.vio_tag.specs.Form.{IsWellFormed};
 
 use crate::net_out::NetOut;
 use crate::port_end::PortEnd;
-use crate::session::PortSession;
 use dom_memory::Memory;
-use dring::Ring;
 use ldc_link::SendOut;
 use ldc_queue::Channel;
+use port_frames::ring_of;
+use port_session::PortSession;
 use vio_tag::{Message, encode};
-
-/// The ring of so many slots, at the front of the memory.
-pub(crate) fn ring_of(slots: u32) -> Ring<64>
-    ensures { result.slots ≡ slots }
-{
-    Ring::new(slots)
-}
 
 impl PortEnd {
     ghost use Rattle.channel_model.specs.EndPuts.{EndsHandshake, ending, put_opens};

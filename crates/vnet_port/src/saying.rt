@@ -1,20 +1,19 @@
 // What an end says: what the handshake owes, and the messages of the session.
 
-ghost use Rattle.std.specs.Prelude.{◌≡◌, ◌*◌, ◌<◌, ◌≤◌, length, true, false};
+ghost use Rattle.std.specs.Prelude.{◌≡◌, ◌<◌, ◌≤◌, length, true, false};
 ghost use Rattle.ldc_link.specs.Putting.{owes};
 ghost use Rattle.ldc_queue.specs.Wire.{state_of};
 ghost use Rattle.ldc_queue.specs.declared.end.ChannelState.TheVariants.{Up};
 ghost use Rattle.vio_handshake.specs.declared.handshake.Phase.TheVariants.{Open};
 ghost use Rattle.vio_tag.specs.Form.{IsWellFormed};
-ghost use Rattle.port_model.specs.Groups.{seven};
-ghost use Rattle.vnet_port.specs.Stepping.{HoldsRing};
+ghost use Rattle.port_frames.specs.Memories.{HoldsRing};
 
 use crate::net_out::NetOut;
 use crate::port_end::PortEnd;
-use crate::session::{MembershipReply, PortSession};
 use dom_memory::Memory;
 use ldc_packet::Subtype;
 use ldc_queue::Channel;
+use port_session::{MembershipReply, PortSession, seven};
 use vio_handshake::Session;
 use vio_tag::{Message, MsgBody};
 
@@ -203,14 +202,4 @@ impl PortEnd {
             },
         }
     }
-}
-
-/// Room for seven addresses, of which those of the list come first.
-fn seven(groups: &[[u8; 6]]) -> [[u8; 6]; 7]
-    requires { length groups.now ≤ 7 }
-    ensures { result ≡ seven 7 groups.now }
-{
-    let mut addresses = [[0; 6]; 7];
-    addresses[..groups.len()].copy_from_slice(groups);
-    addresses
 }

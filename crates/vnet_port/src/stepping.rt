@@ -11,11 +11,11 @@ ghost use Rattle.vio_tag.specs.declared.message.Message.{Message};
 
 use crate::net_out::NetOut;
 use crate::port_end::PortEnd;
-use crate::session::PortSession;
 use dom_memory::Memory;
 use ldc_link::Role;
 use ldc_queue::{Channel, ChannelState};
 use map_table::MapTable;
+use port_session::PortSession;
 
 impl PortEnd {
     ghost use Rattle.port_model.specs.FramesStand.{FramesStand};
@@ -24,7 +24,8 @@ impl PortEnd {
     ghost use Rattle.vnet_port.specs.Calls.{end_of, role_of};
     ghost use Rattle.vnet_port.specs.Putting.{CanSay};
     ghost use Rattle.vnet_port.specs.Standing.{Stands};
-    ghost use Rattle.vnet_port.specs.Stepping.{HoldsRing, Steps, StepsAlone, rule_of, sees};
+    ghost use Rattle.port_frames.specs.Memories.{HoldsRing};
+    ghost use Rattle.vnet_port.specs.Stepping.{Steps, StepsAlone, rule_of, sees};
 
     /// An end that isn't up joins; what the link owes is put, and what the handshake owes is said; and then what is of
     /// the session.

@@ -6,7 +6,8 @@ use Rattle.port_model.specs.NetEndRule.{Fetches}
 use Rattle.port_model.specs.NetEndState.{Activity, NetEndState}
 use Rattle.vnet_port.proofs.Says.{answer_steps}
 use Rattle.vnet_port.specs.contracts.port_end.PortEnd.{the_view}
-use Rattle.vnet_port.specs.Stepping.{Steps, reach_over, rule_of}
+use Rattle.port_frames.specs.Memories.{reach_over}
+use Rattle.vnet_port.specs.Stepping.{Steps, rule_of}
 use Rattle.vnet_port.proofs.port_end.PortEnd.end_activity.Goals as goal
 
 pub returns-in-Some-clause-step : goal.returns-in-Some-clause-step

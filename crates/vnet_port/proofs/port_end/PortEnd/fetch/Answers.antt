@@ -1,9 +1,9 @@
 use Rattle.std.proofs.Common.{sym, ◌∙◌, ap}
 use Rattle.port_model.specs.Fetching.{fetched}
 use Rattle.port_model.specs.NetEndState.{NetSession}
-use Rattle.vnet_port.specs.Stepping.{reach_over}
-use Rattle.vnet_port.specs.Fetches.{found_fault}
-use Rattle.vnet_port.proofs.SlotFinds.{fetch_ends}
+use Rattle.port_frames.specs.Memories.{reach_over}
+use Rattle.port_frames.specs.Fetches.{found_fault}
+use Rattle.vnet_port.proofs.FetchEnds.{fetch_ends}
 use Rattle.vnet_port.proofs.port_end.PortEnd.fetch.Goals as goal
 
 pub returns-in-Err-NotReady-clause-step : goal.returns-in-Err-NotReady-clause-step

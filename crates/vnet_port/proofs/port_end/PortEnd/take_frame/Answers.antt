@@ -1,20 +1,17 @@
-use Rattle.std.proofs.Common.{rules, ◌≡◌, ℕ, List, sym, ◌∙◌, ap}
-use Rattle.port_model.specs.Fetching.{IsFrame}
-use Rattle.cookie_copy.specs.Reach.{Reach}
-use Rattle.vnet_port.proofs.SlotFinds.{frame_taken, ready}
-use Rattle.vnet_port.specs.Stepping.{reach_over}
+use Rattle.std.proofs.Common.{refl, sym, ap, ◌∙◌, subst}
+use Rattle.port_frames.specs.Memories.{reach_over}
+use Rattle.port_model.specs.Fetching.{fetched}
+use Rattle.port_model.specs.NetEndState.{NetEndState, peer_ring}
+use Rattle.vnet_port.proofs.FetchEnds.{takes_frame}
+use Rattle.vnet_port.specs.contracts.port_end.PortEnd.{the_view}
+use Rattle.vnet_port.specs.Fetches.{TakesFrame}
 use Rattle.vnet_port.proofs.port_end.PortEnd.take_frame.Goals as goal
 
 pub returns-clause-takes : goal.returns-clause-takes
 returns-clause-takes c =
-    let reach : Reach = reach_over c.args.channel.now c.args.table.now c.args.peer.now in
-    let swapped : c.swap.new.x ≡ c.copy.new.self = search rules in (
-      ready c.args.self.now reach c.args.slot c.peer_ring-ring.result c.peer_ring-ring.ensures c.in-Ok.bytes c.decode-desc.result
-          c.in-Ok.ensures.copied c.in-Ok.ensures.fetched c.in-Ok.ensures.ready c.decode-desc.ensures
-          ∙ frame_taken c.args.self.now reach c.args.slot c.decode-desc.result c.peer_ring-ring.result c.peer_ring-ring.ensures c.copy.new.self
-          (sym c.holds_frame.ensures ∙ c.if-not-holds_frame.false)
-          c.in-Ok-copy.ensures.fault c.in-Ok-copy.ensures.copied c.mark.new.memory c.done_header.result c.in-Ok-mark.ensures.fault c.done_header.ensures
-          c.in-Ok-mark.ensures.written
-          ∙ ap (λ (f : List ℕ). IsFrame f c.mark.new.memory) (sym swapped),
-      search rules,
-    )
+    let s : NetEndState = the_view c.self.inside in
+    let t : NetEndState = record s { last = c.take.new.self } in
+    subst (λ (x : NetEndState). TakesFrame c.take.result (fetched x (reach_over c.args.channel.now c.args.table.now c.args.peer.now) c.args.slot) x c.args.peer.now t c.take.new.peer)
+    c.self.view_is
+    (takes_frame c.take.result (fetched s (reach_over c.args.channel.now c.args.table.now c.args.peer.now) c.args.slot) s t c.args.peer.now c.take.new.peer c.take.new.self
+    (c.take.ensures.takes s (c.peer_ring-ring.ensures ∙ ap peer_ring (sym c.self.view_is))) refl)

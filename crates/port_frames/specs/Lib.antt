@@ -1,0 +1,3 @@
+pub mod FrameQueue
+pub mod Memories
+pub mod Fetches

@@ -1,7 +1,0 @@
-use Rattle.std.proofs.Common.{◌≡◌, ◌+◌, ◌-◌}
-use Rattle.port_model.specs.NetEndTaking.{first_undone}
-use Rattle.vnet_port.proofs.acknowledging.first_undone.Given as goal
-
-abbrev pub invariant-loop-turn : goal.invariant-loop-turn
-invariant-loop-turn l =
-    first_undone l.slots l.memory l.number l.count ≡ first_undone l.slots l.memory (l.number + l.turn) (l.count - l.turn)
