@@ -29,3 +29,15 @@ pub mod RuleRest
 pub mod RuleIdle
 mod AtRest
 pub mod RuleTwoIdle
+mod PeerOpens
+mod SessionsHeard
+mod RingMoves
+mod RingFetches
+mod RingSteps
+mod PortTalks
+mod RingEvents
+mod LogsStand
+mod RingActs
+pub mod RingRuns
+pub mod RuleUnforged
+pub mod RemainingFrames

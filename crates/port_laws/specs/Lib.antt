@@ -5,3 +5,5 @@ pub mod LetsGo
 pub mod Counted
 pub mod Remaining
 pub mod RemainingSteps
+pub mod RingHolds
+pub mod RingStands
