@@ -1,6 +1,6 @@
 -- What always holds of the log of an end of a port by itself: the sessions that it opened begin with the open one, and each frame that it was
 -- given is one. And the tables of a port stay.
-use Rattle.std.proofs.Common.{◌≡◌, ℕ, zero, suc, ◌+◌, ◌<◌, ◌≤◌, Bool, true, false, Option, Some, None, List, [], ◌∷◌, ◌++◌, length, drop, inl, inr, refl, sym, ap, ◌∙◌, subst, arith, length-append}
+use Rattle.std.proofs.Common.{◌≡◌, ℕ, zero, suc, ◌+◌, Bool, true, false, Option, Some, None, List, [], ◌∷◌, ◌++◌, length, drop, inl, inr, refl, sym, ap, ◌∙◌, subst, arith, length-append}
 use Rattle.std.specs.Prelude.{nat_le, slice_get, ⊤}
 use Rattle.std.proofs.lemmas.Bool.{and_parts, cases_lt, leb-true}
 use Rattle.std.proofs.lemmas.Option.{slice_get_within}
@@ -10,7 +10,6 @@ use Rattle.vnet_msg.specs.Frames.{IsFrame, is_frame_length}
 use Rattle.channel_model.specs.Messages.{ended_by}
 use Rattle.channel_model.specs.Sayings.{half_heard, half_said}
 use Rattle.channel_model.specs.TranscriptLog.{transcript_of}
-use Rattle.port_model.proofs.Refuting.{none_some}
 use Rattle.port_model.specs.EndLog.{EndLog, OpenedLog, SessionLog, change, ends_log, gives_log, heard_in, heard_kind, more_published, more_taken, opens_log, published_in, said_in, said_kind}
 use Rattle.port_model.specs.NetEndStep.{BadLength, Blocked, Frame, Full, Given, Idle, Joined, NetAnswer, NetGives, Published, Queued, Reset, Sent, Took}
 use Rattle.port_model.specs.NetEndState.{NetEndState}
@@ -18,7 +17,7 @@ use Rattle.port_model.specs.NetEvent.{Asked, CalmTick, Declines, Gives, Injects,
 use Rattle.port_model.specs.NetLaneState.{NetLaneState, NetShape, fresh_table}
 use Rattle.port_model.specs.NetLaneStep.{NetLaneStep}
 use Rattle.port_model.specs.PortLog.{PortLog, after, after_answer, after_given}
-use Rattle.port_model.specs.PortState.{OnLane, PortEvent, Receives}
+use Rattle.port_model.specs.PortState.{OnLane, Receives}
 use Rattle.port_model.specs.Spoken.{GroupsAck, GroupsInfo, Other, RangeAck, RangeInfo, Spoken, spoken}
 use Rattle.port_laws.proofs.RingMoves.{get_front}
 use Rattle.port_laws.proofs.SessionsHeard.{get_last, get_more}

@@ -1,6 +1,6 @@
 -- Two ends with rings both ways, which nobody forged: how many messages an end has said and heard by whether its session is open, and that
 -- its peer's is open where it heard more than the handshake.
-use Rattle.std.proofs.Common.{◌≡◌, ◌≢◌, ℕ, ◌+◌, ◌≤◌, ◌⊎◌, inl, inr, Bool, true, false, List, [], ◌∷◌, ◌++◌, length, refl, sym, ap, ◌∙◌, subst, arith, length-append}
+use Rattle.std.proofs.Common.{◌≡◌, ◌≢◌, ℕ, ◌+◌, ◌≤◌, inl, inr, Bool, true, false, List, [], ◌++◌, length, refl, sym, ap, ◌∙◌, subst, arith, length-append}
 use Rattle.ldc_link.specs.declared.phase.Role.{Role}
 use Rattle.ldc_link.specs.declared.phase.Role.TheVariants.{Initiator, Responder}
 use Rattle.ldc_link.specs.LinkState.{is_up}
@@ -16,10 +16,9 @@ use Rattle.channel_laws.proofs.EndStanding.{open_up}
 use Rattle.channel_laws.proofs.HandshakePlaces.{AtPlace, deal, open_place, place_open}
 use Rattle.channel_laws.proofs.HandshakesPlaced.{Meets}
 use Rattle.channel_laws.proofs.Script.{last_or, said_at}
-use Rattle.channel_laws.specs.EndCore.{EndCore}
 use Rattle.channel_laws.specs.Sides.{Sides, other}
 use Rattle.channel_laws.specs.Standing.{EndStands}
-use Rattle.port_model.proofs.Refuting.{false_true, true_false}
+use Rattle.port_model.proofs.Refuting.{true_false}
 
 -- WHAT AN END SAYS in its handshake: six messages, and before all is said at most so many
 most : Role → ℕ

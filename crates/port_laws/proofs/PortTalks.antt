@@ -1,5 +1,5 @@
 -- What is known of the two ends of a port that nobody forged: where their handshakes stand, and that open sessions are one.
-use Rattle.std.proofs.Common.{◌≡◌, ℕ, ◌≤◌, Bool, true, false, List, length, refl, sym, ap, ◌∙◌, subst, arith}
+use Rattle.std.proofs.Common.{◌≡◌, ◌≤◌, true, false, length, refl, sym, ap, ◌∙◌, subst, arith}
 use Rattle.runs.specs.Lawful.{log_of}
 use Rattle.ldc_link.specs.declared.phase.Role.TheVariants.{Initiator, Responder}
 use Rattle.ldc_queue.specs.declared.end.End.{End}

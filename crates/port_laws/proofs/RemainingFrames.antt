@@ -1,5 +1,5 @@
 -- What remains on a port that nobody forged falls by each frame that an end takes.
-use Rattle.std.proofs.Common.{◌≡◌, ◌≢◌, ℕ, zero, suc, ◌+◌, ◌-◌, ◌*◌, ◌%◌, ◌<◌, ◌≤◌, ◌⊎◌, inl, inr, Bool, true, false, Option, Some, None, List, length, refl, sym, subst, ap, ◌∙◌, arith}
+use Rattle.std.proofs.Common.{◌≡◌, ◌≢◌, ℕ, zero, suc, ◌+◌, ◌-◌, ◌*◌, ◌%◌, ◌<◌, ◌≤◌, ◌⊎◌, inl, inr, Bool, true, false, Option, Some, List, length, refl, sym, subst, ap, ◌∙◌, arith}
 use Rattle.std.specs.Prelude.{◌==◌, is_none, is_some, slice_index}
 use Rattle.std.proofs.lemmas.Bool.{cases_order}
 use Rattle.std.proofs.lemmas.Nat.{mod_below}
@@ -31,11 +31,10 @@ use Rattle.port_model.specs.PortLog.{PortLog, after, no_events}
 use Rattle.port_model.specs.PortState.{OnLane, PortEvent, PortState, PortStep, before, fresh_port}
 use Rattle.port_laws.specs.NetCore.{more_in, more_of, net_core, one_if}
 use Rattle.port_laws.specs.Remaining.{answers_left, end_left, frames_left, groups_left, put_weight, ready_slots, ready_weight, remaining, remaining_of, second_life, session_left, took_some}
-use Rattle.port_laws.proofs.RemainingEnds.{groups_same, up_left}
+use Rattle.port_laws.proofs.RemainingEnds.{groups_same}
 use Rattle.port_laws.proofs.RemainingReady.{below_same}
 use Rattle.port_laws.proofs.RemainingSteps.{steps_before}
 use Rattle.port_laws.proofs.RingActs.{Finds}
-use Rattle.port_laws.proofs.RingFetches.{Fetches as FetchesFrame}
 use Rattle.port_laws.proofs.RingMoves.{Fits}
 use Rattle.port_laws.proofs.RingRuns.{finds_before, port_kept}
 use Rattle.port_laws.proofs.RuleUnforged.{TakesPublished, takes_published}

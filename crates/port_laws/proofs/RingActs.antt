@@ -1,6 +1,6 @@
 -- What a step of an end leaves of both rings, and of what both logs say, where nobody forged: one proof for either end.
-use Rattle.std.proofs.Common.{◌≡◌, ◌≢◌, ℕ, zero, suc, ◌+◌, ◌≤◌, Bool, true, false, Option, Some, None, List, [], ◌∷◌, ◌++◌, length, drop, take, refl, sym, ap, ◌∙◌, subst, arith}
-use Rattle.std.specs.Prelude.{◌*◌, ◌/◌, ◌%◌, is_some, nat_le, if◌then◌else◌, slice_get, slice_index_or, ⊤}
+use Rattle.std.proofs.Common.{◌≡◌, ◌≢◌, ℕ, zero, suc, ◌+◌, ◌≤◌, Bool, true, false, Option, Some, None, List, [], ◌∷◌, length, take, refl, sym, ap, ◌∙◌, subst, arith}
+use Rattle.std.specs.Prelude.{◌/◌, ◌%◌, is_some, nat_le, if◌then◌else◌, slice_get, slice_index_or}
 use Rattle.std.proofs.lemmas.List.FromFn.{get_or-map-range_with_len, length-map-range_with_len}
 use Rattle.std.proofs.lemmas.List.{get_or_past}
 use Rattle.cookie_copy.specs.Faults.{is_up}
@@ -18,17 +18,16 @@ use Rattle.map_table.specs.declared.cookie.Cookie.{Cookie}
 use Rattle.map_table.specs.declared.table.Entry.{Entry}
 use Rattle.vio_handshake.specs.declared.handshake.Handshake.{Handshake}
 use Rattle.vio_handshake.specs.declared.session.Offer.{Offer}
-use Rattle.vio_handshake.specs.declared.session.Session.{Session}
 use Rattle.vio_handshake.specs.Pairing.{KnowsBoth, KnowsRing}
 use Rattle.vnet_msg.specs.Frames.{IsFrame, memory_pages}
 use Rattle.channel_model.specs.OwnMemory.{own_table}
 use Rattle.channel_model.specs.Seeing.{Seen}
-use Rattle.channel_model.specs.TranscriptLog.{TranscriptLog, transcript_of}
+use Rattle.channel_model.specs.TranscriptLog.{transcript_of}
 use Rattle.channel_model.specs.WireAt.{IsUp}
 use Rattle.channel_model.specs.WireLog.{WireLog}
 use Rattle.channel_laws.proofs.EndResting.{held_handshake}
-use Rattle.channel_laws.specs.LaneCore.{LaneCore, end_of}
-use Rattle.channel_laws.specs.Standing.{EndStands, is_open_in}
+use Rattle.channel_laws.specs.LaneCore.{end_of}
+use Rattle.channel_laws.specs.Standing.{is_open_in}
 use Rattle.port_model.proofs.Refuting.{false_true, none_some, true_false}
 use Rattle.port_model.proofs.Ruling.{says_of}
 use Rattle.port_model.specs.EndLog.{EndLog, SessionLog, said_in, said_kind}
@@ -38,25 +37,25 @@ use Rattle.port_model.specs.NetEndPutting.{net_kind}
 use Rattle.port_model.specs.NetEndRule.{Fetches, port_rule}
 use Rattle.port_model.specs.NetEndState.{NetEndState, NetSession}
 use Rattle.port_model.specs.NetEndStep.{Blocked, Frame, Idle, Joined, NetAnswer, NetEndStep, NetLeft, Published, Reset, Sent, Took}
-use Rattle.port_model.specs.NetEvent.{Steps, on_wire}
-use Rattle.port_model.specs.NetLaneState.{IsNetShape, NetLaneState, NetShape, memory_of, net_end, reach_of, role_at, seen_at}
+use Rattle.port_model.specs.NetEvent.{Steps}
+use Rattle.port_model.specs.NetLaneState.{NetLaneState, NetShape, memory_of, net_end, reach_of, role_at, seen_at}
 use Rattle.port_model.specs.NetLaneStep.{EndSteps, net_wire}
 use Rattle.port_model.specs.Offers.{port_offer, ring_cookie}
-use Rattle.port_model.specs.PortLog.{PortLog, after, after_answer, log_of_end, spoken_on}
+use Rattle.port_model.specs.PortLog.{PortLog, after, after_answer, log_of_end}
 use Rattle.port_model.specs.PortState.{OnLane, PortState}
 use Rattle.port_model.specs.Spoken.{GroupsAck, GroupsInfo, Other, RangeAck, RangeInfo, Spoken, spoken}
 use Rattle.port_laws.specs.Counted.{EndCounts, unsaid}
 use Rattle.port_laws.specs.NetCore.{lane_core, net_core}
 use Rattle.port_laws.specs.RingStands.{RingIn, RingStands, taken_by, taken_in, taken_of}
-use Rattle.port_laws.proofs.EndCounting.{OpenCounts, open_counts, shut_counts}
+use Rattle.port_laws.proofs.EndCounting.{open_counts, shut_counts}
 use Rattle.port_laws.proofs.EndMoves.{HeldCore, held_core}
 use Rattle.port_laws.proofs.LogsStand.{LogsStand, TablesStand, held_given}
 use Rattle.port_laws.proofs.MemoryRoom.{HasRoom}
 use Rattle.port_laws.proofs.PeerOpens.{row}
 use Rattle.port_laws.proofs.PortCounts.{PortCounts, Ready, queue_of}
-use Rattle.port_laws.proofs.PortTalks.{PeerOpen, PortTalks, many_open, open_turns, shut_turns}
+use Rattle.port_laws.proofs.PortTalks.{PortTalks, many_open, open_turns, shut_turns}
 use Rattle.port_laws.proofs.RemainingEnds.{kind_shut, shut_none}
-use Rattle.port_laws.proofs.RingEvents.{Active, Frames, Goes, Turned, TurnsNow, WireNow, acts_up, mine_now, own_stands, peer_stands, spoke_after, theirs_now, turns_at, turns_now, wire_now}
+use Rattle.port_laws.proofs.RingEvents.{Active, Frames, Goes, Turned, acts_up, mine_now, own_stands, peer_stands, spoke_after, theirs_now, turns_at, turns_now, wire_now}
 use Rattle.port_laws.proofs.RingFetches.{Reaches}
 use Rattle.port_laws.proofs.RingMoves.{Fits}
 use Rattle.port_laws.proofs.RingSteps.{Owns, TakesOf, opens_by}

@@ -1,6 +1,6 @@
 -- What each step of an end leaves of the rings and of what its log says, in plain fields: the end that acts, and its peer.
-use Rattle.std.proofs.Common.{◌≡◌, ◌≢◌, ℕ, zero, suc, ◌+◌, ◌≤◌, Bool, true, false, Option, Some, None, List, [], ◌∷◌, length, refl, sym, ap, ◌∙◌, subst, arith}
-use Rattle.std.specs.Prelude.{◌%◌, is_some, ⊤}
+use Rattle.std.proofs.Common.{◌≡◌, ◌≢◌, ℕ, ◌+◌, ◌≤◌, Bool, true, false, Option, Some, None, List, [], ◌∷◌, length, refl, sym, ap, ◌∙◌, subst}
+use Rattle.std.specs.Prelude.{⊤}
 use Rattle.cookie_copy.specs.Faults.{is_up}
 use Rattle.cookie_copy.specs.Reach.{Reach}
 use Rattle.ldc_link.specs.declared.phase.Role.{Role}
@@ -14,10 +14,10 @@ use Rattle.channel_model.specs.Messages.{ended_by, opening_sid}
 use Rattle.channel_model.specs.Sayings.{half_heard, half_said, heard}
 use Rattle.channel_model.specs.Seeing.{Seen}
 use Rattle.channel_model.specs.TranscriptLog.{TranscriptLog, transcript_of}
-use Rattle.port_model.proofs.Refuting.{false_true, none_some, true_false}
+use Rattle.port_model.proofs.Refuting.{false_true}
 use Rattle.port_model.proofs.Ruling.{says_of}
 use Rattle.port_model.specs.EndLog.{EndLog, SessionLog, change, heard_in, heard_kind, hears_log, more_published, more_taken as one_taken, opens_log, said_in, said_kind, says_log}
-use Rattle.port_model.specs.NetEndRule.{Fetches, Idles, Joins, Publishes, Takes, port_rule}
+use Rattle.port_model.specs.NetEndRule.{Fetches, Idles, Publishes, Takes, port_rule}
 use Rattle.port_model.specs.NetEndState.{NetEndState, NetSession}
 use Rattle.port_model.specs.NetEndStep.{Blocked, Frame, Idle, Joined, NetAnswer, NetEndStep, NetLeft, Published, Reset, Sent, Took}
 use Rattle.port_model.specs.NetEvent.{Steps, on_wire}
@@ -28,7 +28,7 @@ use Rattle.port_model.specs.Spoken.{GroupsAck, GroupsInfo, Other, RangeAck, Rang
 use Rattle.port_laws.specs.RingStands.{RingIn, taken_by, taken_in}
 use Rattle.port_laws.proofs.PeerOpens.{row}
 use Rattle.port_laws.proofs.RingSteps.{Owns, TakesOf, more_taken, opens_by, own_ring, peer_ring}
-use Rattle.port_laws.proofs.SessionsHeard.{Spoke, SpokeIn, frame_spoke, published_spoke, sent_opens, sent_spoke, spoke_some, took_opens, took_spoke}
+use Rattle.port_laws.proofs.SessionsHeard.{Spoke, SpokeIn, frame_spoke, published_spoke, sent_opens, sent_spoke, took_opens, took_spoke}
 use Rattle.port_laws.proofs.StepCounts.{holds_up}
 
 -- BOTH CHANNEL ENDS and what was said, after an answer

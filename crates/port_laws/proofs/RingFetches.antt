@@ -1,6 +1,6 @@
 -- What an end fetches through the cookies of its peer's ring, where nobody meddles: the next frame that the peer published, if there is one.
 -- The slot becomes DONE.
-use Rattle.std.proofs.Common.{◌≡◌, ◌≢◌, ℕ, ◌+◌, ◌-◌, ◌*◌, ◌%◌, ◌<◌, ◌≤◌, ◌⊎◌, inl, inr, Bool, true, false, Option, Some, None, List, [], ◌∷◌, length, drop, take, refl, sym, ap, ◌∙◌, subst, arith}
+use Rattle.std.proofs.Common.{◌≡◌, ◌≢◌, ℕ, ◌+◌, ◌-◌, ◌*◌, ◌%◌, ◌<◌, ◌≤◌, ◌⊎◌, inl, inr, Bool, true, false, Option, Some, None, List, [], ◌∷◌, length, refl, sym, ap, ◌∙◌, subst, arith}
 use Rattle.std.specs.Prelude.{◌==◌, if◌then◌else◌, slice_get, slice_index}
 use Rattle.std.proofs.lemmas.Bool.{cases_lt, cases_order, eqb-true}
 use Rattle.std.proofs.lemmas.Nat.{mod_below}
@@ -24,14 +24,14 @@ use Rattle.vnet_msg.proofs.FrameSlots.{has_widths, reads}
 use Rattle.vnet_msg.proofs.Spelling.{canonical_reads_back}
 use Rattle.vnet_msg.specs.declared.desc.NetDesc.{NetDesc}
 use Rattle.vnet_msg.specs.Descriptor.{canonical, net_desc_of}
-use Rattle.vnet_msg.specs.Frames.{IsFrame, buffer_place, frame_buffer, frame_desc, frame_in, header, holds_frame, moved_size}
+use Rattle.vnet_msg.specs.Frames.{buffer_place, frame_desc, frame_in, header, holds_frame, moved_size}
 use Rattle.vio_tag.specs.declared.cause.Cause.TheVariants as the_cause
-use Rattle.port_model.specs.Fetching.{Fetched, IsFrame as IsFetched, NotReady, Refuses, copied, data_cookies, described, fetched, frame_fault, mark_fault, marked, read, slot_read, slots_cookies}
+use Rattle.port_model.specs.Fetching.{IsFrame as IsFetched, NotReady, Refuses, copied, data_cookies, described, fetched, frame_fault, mark_fault, marked, slot_read, slots_cookies}
 use Rattle.port_model.specs.NetEndState.{NetEndState}
 use Rattle.port_model.specs.NetEndTaking.{slot_state}
 use Rattle.port_model.specs.Offers.{ring_cookie}
 use Rattle.port_laws.specs.RingHolds.{RingHolds, SlotHolds, SlotOf, desc_in}
-use Rattle.port_laws.proofs.RingMoves.{Fits, Stays, buffers_stay, held_state, other_slot, holds_stays, slot_within, slot_written, some_frame, state_stays}
+use Rattle.port_laws.proofs.RingMoves.{Fits, buffers_stay, held_state, other_slot, holds_stays, slot_within, slot_written, some_frame, state_stays}
 
 -- AN END that reaches a ring of so many slots: the table grants each page of the memory at its own index, and it knows the ring's cookie
 pub record Reaches (s : NetEndState) (reach : Reach) (slots pages : ℕ) : Type 0 where
@@ -129,7 +129,7 @@ buffer_fetched reach slots pages slot size identity fits below small fault =
     let place : buffer_place slot + 0 ≡ buffer_place slot = omega arith in
     own_moved_in reach.both Read reach.table reach.memory pages (data_cookies (frame_desc slot size)) 0 (moved_size size) identity fault
     ∙ copied_in_range reach.memory (data_cookies (frame_desc slot size)) (buffer_place slot) (moved_size size) 0 (moved_size size) (one_spots (buffer_place slot) (moved_size size)) (omega arith)
-        (omega (arith, below, small, room))
+    (omega (arith, below, small, room))
     ∙ ap (λ (p : ℕ). range_at p (moved_size size) reach.memory) place
 
 -- A READY SLOT of a frame gives it, and is DONE then

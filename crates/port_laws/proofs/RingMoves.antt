@@ -1,12 +1,12 @@
 -- What an end does to its own ring keeps it: it clears it, is given a frame, publishes one, and lets those go that an ACK names.
-use Rattle.std.proofs.Common.{◌≡◌, ◌≢◌, ℕ, zero, suc, ◌+◌, ◌-◌, ◌*◌, ◌%◌, ◌<◌, ◌≤◌, ◌⊎◌, inl, inr, Bool, true, false, Option, Some, None, List, [], ◌∷◌, ◌++◌, length, drop, take, refl, sym, ap, ◌∙◌, subst, arith, length-drop, length-append}
+use Rattle.std.proofs.Common.{◌≡◌, ◌≢◌, ℕ, zero, suc, ◌+◌, ◌-◌, ◌*◌, ◌%◌, ◌<◌, ◌≤◌, ◌⊎◌, inl, inr, Bool, true, false, Option, Some, None, List, [], ◌∷◌, ◌++◌, length, drop, refl, sym, ap, ◌∙◌, subst, arith, length-drop, length-append}
 use Rattle.std.specs.Prelude.{◌==◌, if◌then◌else◌, slice_get, slice_index}
 use Rattle.std.proofs.lemmas.Bool.{cases_lt, cases_order, eqb-true}
 use Rattle.std.proofs.lemmas.List.{drop-drop}
 use Rattle.std.proofs.lemmas.Nat.{mod_below}
-use Rattle.std.proofs.lemmas.Option.{slice_get-get_or, slice_get_within}
+use Rattle.std.proofs.lemmas.Option.{slice_get_within}
 use Rattle.std.proofs.Math.Nat.{add-mod_right}
-use Rattle.dring.proofs.Turning.{one_slot_front, one_turn, slot_cleared, slot_fits, slot_front, slot_reads_back}
+use Rattle.dring.proofs.Turning.{one_slot_front, one_turn, slot_cleared, slot_front, slot_reads_back}
 use Rattle.dring.specs.Slots.{free_state, slot_bytes}
 use Rattle.map_table.proofs.Putting.{length-cookies_bytes}
 use Rattle.vio_bytes.proofs.Putting.{length-put_at}
@@ -14,7 +14,7 @@ use Rattle.vio_bytes.proofs.Ranges.{range_at-put_at_outside, range_at-put_at_sam
 use Rattle.vio_bytes.specs.Place.{put_at}
 use Rattle.vio_bytes.specs.Range.{range_at}
 use Rattle.vio_tag.specs.declared.cause.Cause.{Cause}
-use Rattle.vnet_msg.proofs.FrameSlots.{long, moved_holds}
+use Rattle.vnet_msg.proofs.FrameSlots.{long}
 use Rattle.vnet_msg.specs.Descriptor.{canonical, head_bytes}
 use Rattle.vnet_msg.specs.Frames.{IsFrame, buffer_place, frame_buffer, frame_cookies, frame_desc, moved_size}
 use Rattle.map_table.specs.Cookies.{cookies_bytes}

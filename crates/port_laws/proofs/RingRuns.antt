@@ -1,9 +1,9 @@
 -- Along every run of a port that nobody forged the ring of each end holds its frames.
-use Rattle.std.proofs.Common.{◌≡◌, ◌≢◌, ℕ, ◌≤◌, Bool, true, false, Option, Some, None, List, [], ◌∷◌, ◌++◌, length, refl, sym, ap, ◌∙◌, subst, arith}
+use Rattle.std.proofs.Common.{◌≡◌, ℕ, Bool, true, false, Option, Some, None, List, [], ◌∷◌, ◌++◌, refl, sym, ap, ◌∙◌, subst}
 use Rattle.std.specs.Prelude.{⊤}
-use Rattle.ldc_link.specs.declared.phase.Role.TheVariants.{Initiator, Responder}
+use Rattle.ldc_link.specs.declared.phase.Role.TheVariants.{Initiator}
 use Rattle.ldc_queue.specs.declared.end.ChannelState.{ChannelState}
-use Rattle.ldc_queue.specs.declared.end.ChannelState.TheVariants.{Down, Resetting, Up}
+use Rattle.ldc_queue.specs.declared.end.ChannelState.TheVariants.{Up}
 use Rattle.ldc_queue.specs.declared.end.End.{End}
 use Rattle.ldc_queue.specs.declared.end.End.TheVariants.{A, B}
 use Rattle.ldc_queue.specs.Wire.{peer_behind}
@@ -13,7 +13,7 @@ use Rattle.channel_model.specs.WireLog.{WireLog}
 use Rattle.channel_laws.specs.LaneCore.{LaneCore}
 use Rattle.port_model.proofs.Refuting.{true_false}
 use Rattle.port_model.specs.EndLog.{SessionLog}
-use Rattle.port_model.specs.NetEndState.{NetEndState, NetSession, with_frame}
+use Rattle.port_model.specs.NetEndState.{NetEndState, NetSession}
 use Rattle.port_model.specs.NetEndStep.{Already, BadLength, Blocked, Frame, Full, Given, GroupsFull, Idle, Joined, Joining, Member, NetGives, NetJoins, Published, Queued, Reset, Sent, Took, untold}
 use Rattle.port_model.specs.NetEvent.{Asked, CalmTick, Declines, Gives, Injects, Joins, Loses, NetEvent, Pokes, Steps, Ticked, on_wire}
 use Rattle.port_model.specs.NetLaneState.{IsNetShape, NetLaneState, NetShape}
@@ -24,7 +24,7 @@ use Rattle.port_laws.specs.NetCore.{lane_core}
 use Rattle.port_laws.specs.RingStands.{RingIn, RingStands, taken_by}
 use Rattle.port_laws.proofs.LogsStand.{LogsStand, TablesStand, logs_event, logs_received, tables_event}
 use Rattle.port_laws.proofs.MemoryRoom.{before_room, room_behind}
-use Rattle.port_laws.proofs.PortCounts.{PortCounts, before_queue, counts_step, port_counts, ready_before, wire_event}
+use Rattle.port_laws.proofs.PortCounts.{PortCounts, before_queue, counts_step, port_counts, ready_before}
 use Rattle.port_laws.proofs.PortRuns.{before_core}
 use Rattle.port_laws.proofs.PortTalks.{PortTalks, port_talks}
 use Rattle.port_laws.proofs.RingActs.{Finds, Rings, steps_rings}

@@ -1,6 +1,6 @@
 -- What each step of an end does to its own ring, and to that of its peer, where nobody meddles.
-use Rattle.std.proofs.Common.{◌≡◌, ℕ, ◌+◌, ◌-◌, ◌%◌, ◌<◌, ◌≤◌, Bool, true, false, Option, Some, None, List, [], ◌∷◌, length, drop, refl, sym, ap, ◌∙◌, subst, arith}
-use Rattle.std.specs.Prelude.{Result, Ok, Err, is_some, slice_get, ⊤}
+use Rattle.std.proofs.Common.{◌≡◌, ℕ, ◌+◌, ◌%◌, ◌≤◌, Bool, true, false, Option, Some, None, List, refl, sym, ap, ◌∙◌, subst, arith}
+use Rattle.std.specs.Prelude.{Result, Ok, Err, slice_get, ⊤}
 use Rattle.std.proofs.lemmas.Option.{slice_get_within}
 use Rattle.ldc_link.specs.declared.phase.Role.{Role}
 use Rattle.ldc_link.specs.declared.phase.Role.TheVariants.{Initiator, Responder}
@@ -27,16 +27,15 @@ use Rattle.port_model.specs.FramesStand.{CountsStand, FramesStand}
 use Rattle.port_model.specs.Groups.{membership}
 use Rattle.port_model.specs.NetEndPutting.{announcement, answer, answers, cleared_by_put, cleared_ring, groups_answer, holding, holding_own, net_holds, net_kind, net_opens, net_put, opened_by_put}
 use Rattle.port_model.specs.NetEndRule.{Announces, Fetches, Idles, Joins, NetRule, Publishes, Puts, Replies, Says, Takes, Tells, port_rule}
-use Rattle.port_model.specs.NetEndState.{Activity, NetEndState, NetSession, opened_net_end, unseen_in, with_session}
+use Rattle.port_model.specs.NetEndState.{Activity, NetEndState, NetSession, unseen_in}
 use Rattle.port_model.specs.NetEndStep.{Blocked, Frame, Idle, Joined, NetAnswer, NetEndStep, NetLeft, NetSends, Published, Reset, Sent, Took, published, published_memory, taken}
-use Rattle.port_model.specs.NetEndTaking.{GoesOn, HearsLink, HearsWhole, NetTake, NetTakes, Resets, acknowledged, active, by_handshake, freed, hears_message, opens_by_take, reads, replying, risen}
-use Rattle.port_model.specs.RuleFacts.{IfOpen}
+use Rattle.port_model.specs.NetEndTaking.{GoesOn, HearsLink, HearsWhole, NetTake, NetTakes, Resets, by_handshake, freed, hears_message, opens_by_take, reads, risen}
 use Rattle.port_laws.specs.NetCore.{net_core}
 use Rattle.port_laws.specs.RingHolds.{RingHolds}
 use Rattle.port_laws.specs.RingStands.{RingIn}
 use Rattle.port_laws.proofs.MessageDoes.{Acks, Asks, Declines, MessageDoes, Names, TakeDoes, Told, message_does}
 use Rattle.port_laws.proofs.RemainingEnds.{counts_stand, held_plain}
-use Rattle.port_laws.proofs.RingFetches.{Fetches as FetchesFrame, Reaches, ring_fetched}
+use Rattle.port_laws.proofs.RingFetches.{Reaches, ring_fetched}
 use Rattle.port_laws.proofs.RingMoves.{Fits, ring_acked, ring_cleared, ring_published}
 use Rattle.port_laws.proofs.TookCounts.{risen_up, session_open, session_up}
 

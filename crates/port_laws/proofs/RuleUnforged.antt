@@ -1,5 +1,5 @@
 -- Where nobody forged, a frame that an end takes is one that the other end published in the last session of the same sid.
-use Rattle.std.proofs.Common.{◌≡◌, ℕ, ◌+◌, ◌-◌, ◌<◌, ◌≤◌, Bool, true, false, Option, Some, None, List, [], ◌∷◌, ◌++◌, length, refl, sym, ap, ◌∙◌, subst, arith}
+use Rattle.std.proofs.Common.{◌≡◌, ℕ, ◌+◌, ◌-◌, ◌<◌, ◌≤◌, Bool, true, false, Option, Some, None, List, [], ◌∷◌, refl, sym, ap, ◌∙◌, subst, arith}
 use Rattle.std.specs.Prelude.{◌==◌, ◌%◌, if◌then◌else◌, is_some, slice_get}
 use Rattle.std.proofs.lemmas.Bool.{eq-eqb}
 use Rattle.ldc_link.specs.declared.phase.Role.{Role}
@@ -13,7 +13,7 @@ use Rattle.runs.specs.Run.{Run}
 use Rattle.channel_model.specs.TranscriptLog.{transcript_of}
 use Rattle.channel_model.specs.WireAt.{IsUp}
 use Rattle.vnet_msg.specs.Frames.{memory_pages}
-use Rattle.port_model.proofs.Refuting.{none_some, true_false}
+use Rattle.port_model.proofs.Refuting.{true_false}
 use Rattle.port_model.proofs.Ruling.{says_of}
 use Rattle.port_model.specs.EndLog.{EndLog, OpenedLog, SessionLog}
 use Rattle.port_model.specs.Fetching.{IsFrame, fetched}
