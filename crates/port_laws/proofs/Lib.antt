@@ -30,3 +30,15 @@ pub mod RuleIdle
 pub mod RuleTwoIdle
 pub mod PortCauses
 pub mod PortResets
+mod PeerOpens
+mod SessionsHeard
+mod RingMoves
+mod RingFetches
+mod RingSteps
+mod PortTalks
+mod RingEvents
+mod LogsStand
+mod RingActs
+pub mod RingRuns
+pub mod RuleUnforged
+pub mod RemainingFrames

@@ -361,7 +361,7 @@ hub_event shape u l (Pokes B at bytes) t of_queue ready step = subst (HubIs shap
 hub_event shape u l (Declines d) t of_queue ready step = subst (HubIs shape u.queue l.hub) (sym step.1) ready.hub
 
 -- what an event may be by the queue stays so behind the frame that moved
-before_queue : (event : NetEvent) (s : PortState) → OfQueue s event → OfQueue (before event s) event
+pub before_queue : (event : NetEvent) (s : PortState) → OfQueue s event → OfQueue (before event s) event
 before_queue (Steps e answer) s is = tt
 before_queue (Asked e lost) s is = is
 before_queue (Ticked queued lost) s is = is
@@ -374,7 +374,7 @@ before_queue (Injects e packet) s is = is
 before_queue (Pokes e at bytes) s is = is
 before_queue (Declines d) s is = is
 
-counts_step : (shape : NetShape) → IsNetShape shape → (s : PortState) (l : PortLog) (event : PortEvent) (t : PortState) → PortCounts shape s l → PortStep s event t → PortCounts shape t (after l event)
+pub counts_step : (shape : NetShape) → IsNetShape shape → (s : PortState) (l : PortLog) (event : PortEvent) (t : PortState) → PortCounts shape s l → PortStep s event t → PortCounts shape t (after l event)
 counts_step shape is s l (OnLane event) t counts step =
     let ready : Ready shape (before event s) l = ready_before shape s l event is counts in
     record {

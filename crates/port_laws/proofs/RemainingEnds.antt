@@ -193,13 +193,13 @@ last_shut Initiator PeerReadyTaken opens = refl
 last_shut Initiator _ opens = false_true opens
 last_shut Responder _ opens = false_true opens
 
-kind_shut : (kind : PutKind) (h : Handshake) → put_opens kind h ≡ true → is_open_in h.phase ≡ false
+pub kind_shut : (kind : PutKind) (h : Handshake) → put_opens kind h ≡ true → is_open_in h.phase ≡ false
 kind_shut EndsHandshake h opens = last_shut h.role h.phase opens
 kind_shut Goes h opens = false_true opens
 kind_shut ComesUp h opens = false_true opens
 kind_shut EndsOwn h opens = false_true opens
 
-shut_none : (session : Option NetSession) → is_some session ≡ false → session ≡ None
+pub shut_none : (session : Option NetSession) → is_some session ≡ false → session ≡ None
 shut_none None is = refl
 shut_none (Some p) is = true_false is
 

@@ -35,7 +35,7 @@ one_most : (b : Bool) → one_if b ≤ 1
 one_most true = omega arith
 one_most false = omega arith
 
-below_same : (slots k n : ℕ) (memory new : List ℕ) → OneSlot 64 slots k memory new → n ≤ k → k < slots → ready_slots n new ≡ ready_slots n memory
+pub below_same : (slots k n : ℕ) (memory new : List ℕ) → OneSlot 64 slots k memory new → n ≤ k → k < slots → ready_slots n new ≡ ready_slots n memory
 below_same slots k zero memory new one within below = refl
 below_same slots k (suc n) memory new one within below =
     let other : n ≢ k = λ same. absurd (omega (arith, same, within)) in

@@ -6,3 +6,5 @@ pub mod Counted
 pub mod Remaining
 pub mod RemainingSteps
 pub mod PortCauses
+pub mod RingHolds
+pub mod RingStands

@@ -8,6 +8,7 @@ mod group_laws;
 mod remaining_laws;
 mod reset_laws;
 mod rest_laws;
+mod ring_laws;
 mod rule_laws;
 mod wire_laws;
 
@@ -26,6 +27,9 @@ pub use rest_laws::{
     a_tick_is_calm_where_the_port_is_finished, an_end_resets_itself_without_a_packet_for_a_slot,
     an_idle_end_of_a_port_has_nothing_to_do, only_an_end_that_is_up_moves_frames,
     two_idle_ends_of_a_port_are_in_session,
+};
+pub use ring_laws::{
+    a_frame_that_is_taken_is_the_next_that_was_published, the_ring_of_each_end_holds_its_frames,
 };
 pub use rule_laws::{
     a_frame_is_queued_or_refused_rightly, a_frame_is_taken_while_an_announcement_waits,

@@ -1,0 +1,206 @@
+-- Two ends with rings both ways, which nobody forged: how many messages an end has said and heard by whether its session is open, and that
+-- its peer's is open where it heard more than the handshake.
+use Rattle.std.proofs.Common.{◌≡◌, ◌≢◌, ℕ, ◌+◌, ◌≤◌, inl, inr, Bool, true, false, List, [], ◌++◌, length, refl, sym, ap, ◌∙◌, subst, arith, length-append}
+use Rattle.ldc_link.specs.declared.phase.Role.{Role}
+use Rattle.ldc_link.specs.declared.phase.Role.TheVariants.{Initiator, Responder}
+use Rattle.ldc_link.specs.LinkState.{is_up}
+use Rattle.ldc_queue.specs.declared.end.ChannelState.{ChannelState}
+use Rattle.ldc_queue.specs.declared.end.ChannelState.TheVariants.{Down, Resetting, Up}
+use Rattle.ldc_queue.specs.Transcript.{Turn}
+use Rattle.vio_handshake.specs.declared.handshake.Handshake.{Handshake}
+use Rattle.vio_handshake.specs.declared.session.Offer.{Offer}
+use Rattle.vio_handshake.proofs.Places.{AllSaid, AttributesAnswered, AttributesSaid, Deal, PeerReadyAnswered, PeerReadySaid, PeerRingAnswered, PeerRingSaid, Place, ReadyAnswered, ReadySaid, RingAnswered, RingSaid, VersionAnswered, VersionSaid}
+use Rattle.channel_model.specs.Sayings.{heard, said}
+use Rattle.channel_laws.proofs.ConversingRuns.{HeardFrom, hears_now}
+use Rattle.channel_laws.proofs.EndStanding.{open_up}
+use Rattle.channel_laws.proofs.HandshakePlaces.{AtPlace, deal, open_place, place_open}
+use Rattle.channel_laws.proofs.HandshakesPlaced.{Meets}
+use Rattle.channel_laws.proofs.Script.{last_or, said_at}
+use Rattle.channel_laws.specs.Sides.{Sides, other}
+use Rattle.channel_laws.specs.Standing.{EndStands}
+use Rattle.port_model.proofs.Refuting.{true_false}
+
+-- WHAT AN END SAYS in its handshake: six messages, and before all is said at most so many
+most : Role → ℕ
+most Initiator = 5
+most Responder = 6
+
+few_said : (d : Deal) (r : Role) (n : Place) → n ≢ AllSaid → length (said_at true d r n) ≤ most r
+unfolding most
+few_said d Initiator VersionSaid far = omega arith
+few_said d Initiator VersionAnswered far = omega arith
+few_said d Initiator AttributesSaid far = omega arith
+few_said d Initiator AttributesAnswered far = omega arith
+few_said d Initiator RingSaid far = omega arith
+few_said d Initiator RingAnswered far = omega arith
+few_said d Initiator PeerRingSaid far = omega arith
+few_said d Initiator PeerRingAnswered far = omega arith
+few_said d Initiator ReadySaid far = omega arith
+few_said d Initiator ReadyAnswered far = omega arith
+few_said d Initiator PeerReadySaid far = omega arith
+few_said d Initiator PeerReadyAnswered far = omega arith
+few_said d Responder VersionSaid far = omega arith
+few_said d Responder VersionAnswered far = omega arith
+few_said d Responder AttributesSaid far = omega arith
+few_said d Responder AttributesAnswered far = omega arith
+few_said d Responder RingSaid far = omega arith
+few_said d Responder RingAnswered far = omega arith
+few_said d Responder PeerRingSaid far = omega arith
+few_said d Responder PeerRingAnswered far = omega arith
+few_said d Responder ReadySaid far = omega arith
+few_said d Responder ReadyAnswered far = omega arith
+few_said d Responder PeerReadySaid far = omega arith
+few_said d Responder PeerReadyAnswered far = omega arith
+few_said d r AllSaid far = absurd (far refl)
+
+six_said : (d : Deal) (r : Role) (n : Place) → n ≡ AllSaid → length (said_at true d r n) ≡ 6
+six_said d r n last = ap (λ (m : Place). length (said_at true d r m)) last ∙ six r
+  where
+    six : (x : Role) → length (said_at true d x AllSaid) ≡ 6
+    six Initiator = refl
+    six Responder = refl
+
+-- so many heard show that the peer said all
+pub least : Role → ℕ
+least Initiator = 7
+least Responder = 6
+
+pub least_six : (r : Role) → 6 ≤ least r
+unfolding least
+least_six Initiator = omega arith
+least_six Responder = omega arith
+
+pub least_seven : (r : Role) → least r ≤ 7
+unfolding least
+least_seven Initiator = omega arith
+least_seven Responder = omega arith
+
+more_than : (r : Role) → most (other r) + 1 ≤ least r
+unfolding least most
+more_than Initiator = omega arith
+more_than Responder = omega arith
+
+-- TWO ENDS, from the side of one
+pub record Talks (asks answers : Offer) (role : Role) (s : Sides) : Type 0 where
+  pub both : asks.both_rings ≡ true
+  pub mine : EndStands role s.mine.core s.mine.turns
+  pub theirs : EndStands (other role) s.theirs.core s.theirs.turns
+  pub meets : Meets asks answers role s
+
+longer : (xs more all : List (List ℕ)) → all ≡ xs ++ more → length xs ≤ length all
+longer xs more all is = omega (arith, ap length is, length-append xs more)
+
+whole : (xs more all : List (List ℕ)) → all ≡ xs ++ more → more ≡ [] → length all ≡ length xs
+whole xs more all is none = omega (arith, ap length is, length-append xs more, ap length none)
+
+none_long : (xs : List (List ℕ)) → xs ≡ [] → length xs ≡ 0
+none_long xs is = ap length is
+
+-- where its handshake stands
+mine_at : (asks answers : Offer) (role : Role) (s : Sides) → (talks : Talks asks answers role s) → s.mine.state ≡ Up → is_up s.mine.core.link ≡ true
+    → AtPlace true (deal asks answers talks.meets.handshakes.sid) role s.mine.core.handshake s.mine.turns
+mine_at asks answers role s talks up link =
+    subst (λ (b : Bool). AtPlace b (deal asks answers talks.meets.handshakes.sid) role s.mine.core.handshake s.mine.turns) talks.both (talks.meets.handshakes.mine up link)
+
+theirs_at : (asks answers : Offer) (role : Role) (s : Sides) → (talks : Talks asks answers role s) → s.theirs.state ≡ Up → is_up s.theirs.core.link ≡ true
+    → AtPlace true (deal asks answers talks.meets.handshakes.sid) (other role) s.theirs.core.handshake s.theirs.turns
+theirs_at asks answers role s talks up link =
+    subst (λ (b : Bool). AtPlace b (deal asks answers talks.meets.handshakes.sid) (other role) s.theirs.core.handshake s.theirs.turns) talks.both (talks.meets.handshakes.theirs up link)
+
+-- THE ROW of what the initiator says, as an end of this role has it
+abbrev pub row : Role → List Turn → List (List ℕ)
+row Initiator turns = said turns
+row Responder turns = heard turns
+
+record RowAt (d : Deal) (n : Place) (messages : List (List ℕ)) : Type 0 where
+  more : List (List ℕ)
+  is : messages ≡ said_at true d Initiator n ++ more
+  only : n ≢ AllSaid → more ≡ []
+
+row_at : (d : Deal) (r : Role) (h : Handshake) (turns : List Turn) (at : AtPlace true d r h turns) → RowAt d at.place (row r turns)
+row_at d Initiator h turns at = record { more = at.mine; is = at.said_is; only = λ far. (at.only far).0 }
+row_at d Responder h turns at = record { more = at.theirs; is = at.heard_is; only = λ far. (at.only far).1 }
+
+row_none : (r : Role) (turns : List Turn) → said turns ≡ [] → heard turns ≡ [] → length (row r turns) ≡ 0
+row_none Initiator turns said_none heard_none = none_long (said turns) said_none
+row_none Responder turns said_none heard_none = none_long (heard turns) heard_none
+
+-- in session it has all six of the row, and heard all six of its peer
+pub record InAll (r : Role) (turns : List Turn) : Type 0 where
+  pub row_long : 6 ≤ length (row r turns)
+  pub heard_long : 6 ≤ length (heard turns)
+
+pub open_long : (asks answers : Offer) (role : Role) (s : Sides) → Talks asks answers role s → s.mine.state ≡ Up → s.mine.core.is_open ≡ true → InAll role s.mine.turns
+open_long asks answers role s talks up opened =
+    let d = deal asks answers talks.meets.handshakes.sid in
+    let at = mine_at asks answers role s talks up (open_up role s.mine.core s.mine.turns talks.mine opened) in
+    let last : at.place ≡ AllSaid = open_place true d role s.mine.core s.mine.turns talks.mine at opened in
+    let there = row_at d role s.mine.core.handshake s.mine.turns at in
+    record {
+      row_long = omega (arith, longer (said_at true d Initiator at.place) there.more (row role s.mine.turns) there.is, six_said d Initiator at.place last);
+      heard_long = omega (arith, longer (said_at true d (other role) at.place) at.theirs (heard s.mine.turns) at.heard_is, six_said d (other role) at.place last);
+    }
+
+-- before, at most five of the row
+pub closed_short : (asks answers : Offer) (role : Role) (s : Sides) → Talks asks answers role s → s.mine.state ≡ Up → s.mine.core.is_open ≡ false → length (row role s.mine.turns) ≤ 5
+unfolding most
+closed_short asks answers role s talks up shut = by_link (is_up s.mine.core.link) refl
+  where
+    by_link : (b : Bool) → is_up s.mine.core.link ≡ b → length (row role s.mine.turns) ≤ 5
+    by_link false down =
+        let below = talks.mine.below down in omega (arith, row_none role s.mine.turns below.said_none below.heard_none)
+    by_link true link =
+        let d = deal asks answers talks.meets.handshakes.sid in
+        let at = mine_at asks answers role s talks up link in
+        let there = row_at d role s.mine.core.handshake s.mine.turns at in
+        elim (last_or at.place) [
+          | inl last ↦ true_false (sym (place_open true d role s.mine.core s.mine.turns talks.mine at last) ∙ shut)
+          | inr far ↦ (
+              let few : length (said_at true d Initiator at.place) ≤ 5 = few_said d Initiator at.place far in
+              omega (arith, whole (said_at true d Initiator at.place) there.more (row role s.mine.turns) there.is (there.only far), few))
+        ]
+
+-- THE PEER'S SESSION is open where an end in session heard so many
+pub record PeerIn (s : Sides) : Type 0 where
+  pub up : s.theirs.state ≡ Up
+  pub opened : s.theirs.core.is_open ≡ true
+
+pub peer_open : (asks answers : Offer) (role : Role) (s : Sides) → Talks asks answers role s → s.mine.state ≡ Up → least role ≤ length (heard s.mine.turns) → PeerIn s
+peer_open asks answers role s talks up many = by_state s.theirs.state refl
+  where
+    hears : HeardFrom s s.mine.turns
+    hears = hears_now role s talks.meets.converse up
+
+    some : 6 ≤ length (said s.theirs.turns)
+    some = omega (arith, many, least_six role, longer (heard s.mine.turns) hears.front.0 (said s.theirs.turns) hears.front.1)
+
+    all : s.theirs.state ≡ Up → is_up s.theirs.core.link ≡ true → PeerIn s
+    all peer_up link =
+        let d = deal asks answers talks.meets.handshakes.sid in
+        let at = theirs_at asks answers role s talks peer_up link in
+        elim (last_or at.place) [
+          | inl last ↦ record { up = peer_up; opened = place_open true d (other role) s.theirs.core s.theirs.turns talks.theirs at last }
+          | inr far ↦ (
+              let none = (at.only far).0 in
+              absurd (omega (
+                arith,
+                many,
+                more_than role,
+                longer (heard s.mine.turns) hears.front.0 (said s.theirs.turns) hears.front.1,
+                whole (said_at true d (other role) at.place) at.mine (said s.theirs.turns) at.said_is none,
+                few_said d (other role) at.place far,
+              )))
+        ]
+
+    by_link : s.theirs.state ≡ Up → (b : Bool) → is_up s.theirs.core.link ≡ b → PeerIn s
+    by_link peer_up true link = all peer_up link
+    by_link peer_up false down =
+        let below = talks.theirs.below down in absurd (omega (arith, some, none_long (said s.theirs.turns) below.said_none))
+
+    never : (s.theirs.state ≡ Up → ⊥) → PeerIn s
+    never not = absurd (omega (arith, many, least_six role, none_long (heard s.mine.turns) (hears.none not)))
+
+    by_state : (x : ChannelState) → s.theirs.state ≡ x → PeerIn s
+    by_state Up is = by_link is (is_up s.theirs.core.link) refl
+    by_state Down is = never (λ now. let wrong : Down ≡ Up = sym is ∙ now in cc wrong)
+    by_state Resetting is = never (λ now. let wrong : Resetting ≡ Up = sym is ∙ now in cc wrong)

@@ -1,0 +1,93 @@
+-- What is known of the two ends of a port that nobody forged: where their handshakes stand, and that open sessions are one.
+use Rattle.std.proofs.Common.{◌≡◌, ◌≤◌, true, false, length, refl, sym, ap, ◌∙◌, subst, arith}
+use Rattle.runs.specs.Lawful.{log_of}
+use Rattle.ldc_link.specs.declared.phase.Role.TheVariants.{Initiator, Responder}
+use Rattle.ldc_queue.specs.declared.end.End.{End}
+use Rattle.ldc_queue.specs.declared.end.End.TheVariants.{A, B}
+use Rattle.ldc_queue.specs.OneStream.{IsFront}
+use Rattle.ldc_queue.specs.Wire.{peer_of}
+use Rattle.vio_handshake.specs.declared.session.Offer.{Offer}
+use Rattle.channel_model.specs.Sayings.{heard, said}
+use Rattle.channel_model.specs.TranscriptLog.{TranscriptLog, transcript_of}
+use Rattle.channel_model.specs.WireAt.{IsUp}
+use Rattle.channel_laws.proofs.ConversingRuns.{messages_of}
+use Rattle.channel_laws.proofs.HandshakesPlaced.{Meets, meets_keep}
+use Rattle.channel_laws.proofs.Sessions.{meets_knows, one_session}
+use Rattle.channel_laws.specs.CoreLog as core
+use Rattle.channel_laws.specs.LaneCore.{LaneCore, end_of}
+use Rattle.channel_laws.specs.OneSession.{AreOneSession}
+use Rattle.channel_laws.specs.Sides.{Sides, sides_of, swapped}
+use Rattle.port_model.specs.NetLaneState.{IsNetShape, NetShape, role_at}
+use Rattle.port_model.specs.Offers.{port_offer}
+use Rattle.port_model.specs.PortLog.{PortLog}
+use Rattle.port_model.specs.PortState.{PortState}
+use Rattle.port_laws.specs.PortCore.{port_core, port_events}
+use Rattle.port_laws.proofs.CoreLaws.{offers_match, sizes_fit}
+use Rattle.port_laws.proofs.PeerOpens.{InAll, PeerIn, Talks, closed_short, least_seven, open_long, peer_open, row}
+use Rattle.port_laws.proofs.PortCounts.{PortCounts}
+use Rattle.port_laws.proofs.PortRuns.{fresh_port_core, logs_same}
+
+abbrev pub asks_of : NetShape → Offer
+asks_of shape = port_offer Initiator shape.address shape.slots
+
+abbrev pub answers_of : NetShape → Offer
+answers_of shape = port_offer Responder shape.address shape.slots
+
+-- the lane from the side of an end
+abbrev pub sides_from : End → LaneCore → TranscriptLog → Sides
+sides_from A c transcript = sides_of c transcript
+sides_from B c transcript = swapped (sides_of c transcript)
+
+pub record PortTalks (shape : NetShape) (c : LaneCore) (l : PortLog) : Type 0 where
+  pub talks : (e : End) → Talks (asks_of shape) (answers_of shape) (role_at e) (sides_from e c l.transcript)
+  pub one : c.a.is_open ≡ true → c.b.is_open ≡ true → AreOneSession c.a.handshake c.b.handshake
+  pub front : IsUp B c.wire.wire → IsFront (heard l.transcript.server) (said l.transcript.client)
+
+pub port_talks : (shape : NetShape) (s : PortState) (l : PortLog) → IsNetShape shape → PortCounts shape s l → s.lane.wire.forged ≡ false → PortTalks shape (port_core s) l
+port_talks shape s l is counts clean =
+    let asks = asks_of shape in
+    let answers = answers_of shape in
+    let fits = sizes_fit shape is in
+    let now : core.CoreLog = log_of core.after (core.nothing_yet shape.entries) (port_events counts.events) in
+    let knows = meets_knows shape.entries asks answers (port_events counts.events) (port_core s) fits (offers_match shape is) (fresh_port_core shape counts.events s counts.run) in
+    let same : now.transcript ≡ l.transcript = (logs_same shape counts.events).transcript ∙ sym (ap (λ (x : PortLog). x.transcript) counts.log) in
+    let meets : Meets asks answers Initiator (sides_of (port_core s) now.transcript) = knows.holds.holds clean in
+    let keeps = meets_keep asks answers (record { asks_fit = fits.asks_fit; answers_fit = fits.answers_fit; matched = offers_match shape is }) in
+    record {
+      talks = λ e. by_end e now.transcript same
+          (record { both = refl; mine = knows.holds.ends.a; theirs = knows.holds.ends.b; meets = meets })
+          (record { both = refl; mine = knows.holds.ends.b; theirs = knows.holds.ends.a; meets = keeps.swaps Initiator (sides_of (port_core s) now.transcript) meets });
+      one = λ guest hub. one_session asks answers (port_core s) now knows clean guest hub;
+      front = λ up. subst (λ (x : TranscriptLog). IsFront (heard x.server) (said x.client)) same (messages_of (port_core s) now.transcript B meets.converse up);
+    }
+  where
+    by_end : (e : End) (transcript : TranscriptLog) → transcript ≡ l.transcript → Talks (asks_of shape) (answers_of shape) Initiator (sides_of (port_core s) transcript)
+        → Talks (asks_of shape) (answers_of shape) Responder (swapped (sides_of (port_core s) transcript))
+        → Talks (asks_of shape) (answers_of shape) (role_at e) (sides_from e (port_core s) l.transcript)
+    by_end A transcript same one other = subst (λ (x : TranscriptLog). Talks (asks_of shape) (answers_of shape) Initiator (sides_of (port_core s) x)) same one
+    by_end B transcript same one other = subst (λ (x : TranscriptLog). Talks (asks_of shape) (answers_of shape) Responder (swapped (sides_of (port_core s) x))) same other
+
+-- THE SAME of an end of the port
+pub open_turns : (shape : NetShape) (c : LaneCore) (l : PortLog) (e : End) → PortTalks shape c l → IsUp e c.wire.wire → (end_of e c).is_open ≡ true → InAll (role_at e) (transcript_of e l.transcript)
+open_turns shape c l A talks up opened = open_long (asks_of shape) (answers_of shape) Initiator (sides_of c l.transcript) (talks.talks A) up opened
+open_turns shape c l B talks up opened = open_long (asks_of shape) (answers_of shape) Responder (swapped (sides_of c l.transcript)) (talks.talks B) up opened
+
+pub shut_turns : (shape : NetShape) (c : LaneCore) (l : PortLog) (e : End) → PortTalks shape c l → IsUp e c.wire.wire → (end_of e c).is_open ≡ false
+    → length (row (role_at e) (transcript_of e l.transcript)) ≤ 5
+shut_turns shape c l A talks up shut = closed_short (asks_of shape) (answers_of shape) Initiator (sides_of c l.transcript) (talks.talks A) up shut
+shut_turns shape c l B talks up shut = closed_short (asks_of shape) (answers_of shape) Responder (swapped (sides_of c l.transcript)) (talks.talks B) up shut
+
+-- the peer of an end that heard a message of its session
+pub record PeerOpen (e : End) (c : LaneCore) : Type 0 where
+  pub up : IsUp (peer_of e) c.wire.wire
+  pub opened : (end_of (peer_of e) c).is_open ≡ true
+
+pub many_open : (shape : NetShape) (c : LaneCore) (l : PortLog) (e : End) → PortTalks shape c l → IsUp e c.wire.wire → 7 ≤ length (heard (transcript_of e l.transcript)) → PeerOpen e c
+many_open shape c l A talks up many =
+    let there : PeerIn (sides_of c l.transcript) =
+    peer_open (asks_of shape) (answers_of shape) Initiator (sides_of c l.transcript) (talks.talks A) up (omega (arith, many, least_seven Initiator)) in
+    record { up = there.up; opened = there.opened }
+many_open shape c l B talks up many =
+    let there : PeerIn (swapped (sides_of c l.transcript)) =
+    peer_open (asks_of shape) (answers_of shape) Responder (swapped (sides_of c l.transcript)) (talks.talks B) up (omega (arith, many, least_seven Responder)) in
+    record { up = there.up; opened = there.opened }

@@ -1,0 +1,191 @@
+-- What remains on a port that nobody forged falls by each frame that an end takes.
+use Rattle.std.proofs.Common.{◌≡◌, ◌≢◌, ℕ, zero, suc, ◌+◌, ◌-◌, ◌*◌, ◌%◌, ◌<◌, ◌≤◌, ◌⊎◌, inl, inr, Bool, true, false, Option, Some, List, length, refl, sym, subst, ap, ◌∙◌, arith}
+use Rattle.std.specs.Prelude.{◌==◌, is_none, is_some, slice_index}
+use Rattle.std.proofs.lemmas.Bool.{cases_order}
+use Rattle.std.proofs.lemmas.Nat.{mod_below}
+use Rattle.dring.proofs.Turning.{one_slot_front, slot_front}
+use Rattle.dring.specs.Slots.{OneSlot, ready_state, slot_bytes}
+use Rattle.ldc_link.specs.declared.phase.Role.{Role}
+use Rattle.ldc_link.specs.declared.phase.Role.TheVariants.{Initiator, Responder}
+use Rattle.ldc_queue.specs.declared.end.ChannelState.{ChannelState}
+use Rattle.ldc_queue.specs.declared.end.ChannelState.TheVariants.{Up}
+use Rattle.ldc_queue.specs.declared.end.End.{End}
+use Rattle.ldc_queue.specs.declared.end.End.TheVariants.{A, B}
+use Rattle.runs.specs.Lawful.{log_of}
+use Rattle.runs.specs.Run.{Run}
+use Rattle.vio_bytes.specs.Place.{put_at}
+use Rattle.vnet_msg.specs.Frames.{header}
+use Rattle.channel_model.specs.WireLog.{WireLog}
+use Rattle.channel_laws.specs.EndCore.{EndCore}
+use Rattle.channel_laws.specs.PacketsLeft.{packets_left}
+use Rattle.port_model.proofs.Ruling.{says_of}
+use Rattle.port_model.specs.NetEndRule.{Fetches}
+use Rattle.port_model.specs.NetEndState.{Activity, NetEndState, NetSession}
+use Rattle.port_model.specs.NetEndStep.{Frame, NetLeft, taken}
+use Rattle.port_model.specs.NetEndTaking.{slot_state}
+use Rattle.port_model.specs.NetEvent.{NetEvent, Steps}
+use Rattle.port_model.specs.NetLaneState.{IsNetShape, NetLaneState, NetShape, seen_at}
+use Rattle.port_model.specs.NetLaneStep.{EndSteps}
+use Rattle.port_model.specs.Offers.{port_offer}
+use Rattle.port_model.specs.PortLog.{PortLog, after, no_events}
+use Rattle.port_model.specs.PortState.{OnLane, PortEvent, PortState, PortStep, before, fresh_port}
+use Rattle.port_laws.specs.NetCore.{more_in, more_of, net_core, one_if}
+use Rattle.port_laws.specs.Remaining.{answers_left, end_left, frames_left, groups_left, put_weight, ready_slots, ready_weight, remaining, remaining_of, second_life, session_left, took_some}
+use Rattle.port_laws.proofs.RemainingEnds.{groups_same}
+use Rattle.port_laws.proofs.RemainingReady.{below_same}
+use Rattle.port_laws.proofs.RemainingSteps.{steps_before}
+use Rattle.port_laws.proofs.RingActs.{Finds}
+use Rattle.port_laws.proofs.RingMoves.{Fits}
+use Rattle.port_laws.proofs.RingRuns.{finds_before, port_kept}
+use Rattle.port_laws.proofs.RuleUnforged.{TakesPublished, takes_published}
+
+-- A SLOT THAT WAS READY isn't any more
+one_taken : (slots k n : ℕ) (memory new : List ℕ) → OneSlot 64 slots k memory new → slot_state k memory ≡ 2 → slot_state k new ≡ 4 → n ≤ slots → k < n
+    → ready_slots n new + 1 ≡ ready_slots n memory
+one_taken slots k zero memory new one ready done within below = absurd (omega (arith, below))
+one_taken slots k (suc n) memory new one ready done within below =
+    elim (cases_order n k) [
+      | inl same ↦ (
+          let was : slot_state n memory ≡ 2 = ap (λ (i : ℕ). slot_state i memory) same ∙ ready in
+          let is : slot_state n new ≡ 4 = ap (λ (i : ℕ). slot_state i new) same ∙ done in
+          omega (
+            arith,
+            below_same slots k n memory new one (omega (arith, same)) (omega (arith, within, same)),
+            ap (λ (x : ℕ). one_if (x == ready_state)) was,
+            ap (λ (x : ℕ). one_if (x == ready_state)) is,
+          ))
+      | inr apart ↦ goes_on apart (λ past. one_taken slots k n memory new one ready done (omega (arith, within)) past)
+    ]
+  where
+    goes_on : (n < k) ⊎ (k < n) → (k < n → ready_slots n new + 1 ≡ ready_slots n memory) → ready_slots (suc n) new + 1 ≡ ready_slots (suc n) memory
+    goes_on (inl less) before = absurd (omega (arith, less, below))
+    goes_on (inr past) before =
+        let other : n ≢ k = λ same. absurd (omega (arith, same, past)) in
+        let state : slot_state n new ≡ slot_state n memory = ap (λ (bytes : List ℕ). slice_index bytes 0) (one.others n (omega (arith, within)) other) in
+        omega (arith, before past, ap (λ (x : ℕ). one_if (x == ready_state)) state)
+
+done_byte : (bytes : List ℕ) → slice_index (put_at 0 (header 4 0) bytes) 0 ≡ 4
+done_byte bytes = refl
+
+ready_falls : (slots k : ℕ) (memory new : List ℕ) → Fits slots memory → k < slots → slot_state k memory ≡ 2 → new ≡ put_at (64 * k) (header 4 0) memory
+    → ready_slots slots new + 1 ≡ ready_slots slots memory
+ready_falls slots k memory new fits below ready is =
+    let few = fits.few in
+    let room = fits.room in
+    let eight : length (header 4 0) ≤ 64 = omega arith in
+    let done : slot_state k (put_at (64 * k) (header 4 0) memory) ≡ 4 =
+    ap (λ (bytes : List ℕ). slice_index bytes 0) (slot_front 64 slots k (header 4 0) memory below eight (omega (arith, few, room))) ∙ done_byte (slot_bytes 64 k memory) in
+    subst (λ (m : List ℕ). ready_slots slots m + 1 ≡ ready_slots slots memory) (sym is)
+    (one_taken slots k slots memory (put_at (64 * k) (header 4 0) memory) (one_slot_front 64 slots k (header 4 0) memory below eight (omega (arith, few, room))) ready done (omega arith) below)
+
+-- THE END WHOSE RING IT IS: the frame that was taken counted three, or five
+left_falls : (role : Role) (fresh asks ready more rest : ℕ) → ready + 1 ≡ more
+    → 8 * fresh + put_weight role * asks + ready_weight role * ready + rest + ready_weight role ≡ 8 * fresh + put_weight role * asks + ready_weight role * more + rest
+left_falls Initiator fresh asks ready more rest is = omega (arith, is)
+left_falls Responder fresh asks ready more rest is = omega (arith, is)
+
+peer_falls : (x : ChannelState) (role : Role) (more : ℕ) (memory new : List ℕ) (s : NetEndState) (p : NetSession) → x ≡ Up → s.session ≡ Some p
+    → ready_slots s.slots new + 1 ≡ ready_slots s.slots memory → end_left x role more new s + ready_weight role ≡ end_left x role more memory s
+peer_falls x role more memory new s p up is ready =
+    let held : ℕ = length s.frames + more in
+    let asks : ℕ = p.published - p.seen - one_if p.asking in
+    let falls : session_left role s.slots held new (Some p) + ready_weight role ≡ session_left role s.slots held memory (Some p) =
+    omega (arith, left_falls role (held - (p.published - p.seen)) asks (ready_slots s.slots new) (ready_slots s.slots memory) (answers_left role (Some p) + groups_left role (Some p)) ready) in
+    let here : session_left role s.slots held new s.session + ready_weight role ≡ session_left role s.slots held memory s.session =
+    subst (λ (o : Option NetSession). session_left role s.slots held new o + ready_weight role ≡ session_left role s.slots held memory o) (sym is) falls in
+    subst (λ (y : ChannelState). end_left y role more new s + ready_weight role ≡ end_left y role more memory s) (sym up) (omega (arith, here))
+
+-- THE END THAT TAKES IT owes an answer, if it didn't
+abbrev with_opened : NetEndState → Role → Bool → ℕ → EndCore
+with_opened s role open_ more = record { link = s.link; handshake = s.handshake; offer = port_offer role s.address s.slots; is_open = open_; own = is_none s.handshake.owed; more = more }
+
+frame_packets : (role : Role) (s : NetEndState) (p : NetSession) (activity : Activity) (frame : List ℕ) → s.session ≡ Some p → p.active ≡ Some activity
+    → packets_left (net_core role (record s { session = Some (taken s p activity); last = frame })) ≡ packets_left (net_core role s)
+frame_packets role s p activity frame is active =
+    let one : one_if (is_some p.active) ≡ 1 = ap (λ (o : Option Activity). one_if (is_some o)) active in
+    let same : more_in (taken s p activity) ≡ more_in p = omega (arith, one) in
+    ap (λ (n : ℕ). packets_left (with_opened s role true n)) same ∙ sym (ap (λ (o : Option NetSession). packets_left (with_opened s role (is_some o) (more_of o))) is)
+
+one_most : (b : Bool) → one_if b ≤ 1
+one_most true = omega arith
+one_most false = omega arith
+
+answers_more : (role : Role) (frames few many groups : ℕ) → few ≤ many + 1 → frames + put_weight role * few + groups ≤ frames + put_weight role * many + groups + put_weight role
+answers_more Initiator frames few many groups less = omega (arith, less)
+answers_more Responder frames few many groups less = omega (arith, less)
+
+own_more : (x : ChannelState) (role : Role) (more : ℕ) (memory : List ℕ) (s : NetEndState) (p : NetSession) (activity : Activity) (frame : List ℕ) → x ≡ Up → s.session ≡ Some p → p.active ≡ Some activity
+    → end_left x role more memory (record s { session = Some (taken s p activity); last = frame }) ≤ end_left x role more memory s + put_weight role
+own_more x role more memory s p activity frame up is active =
+    let held : ℕ = length s.frames + more in
+    let q : NetSession = taken s p activity in
+    let answers = answers_more role (frames_left role s.slots held memory (Some p)) (1 + one_if (is_some p.reply)) (one_if (took_some p.active) + one_if (is_some p.reply)) (groups_left role (Some p))
+    (omega arith) in
+    let rises : session_left role s.slots held memory (Some q) ≤ session_left role s.slots held memory (Some p) + put_weight role = omega (arith, answers, groups_same role p q refl) in
+    let here : session_left role s.slots held memory (Some q) ≤ session_left role s.slots held memory s.session + put_weight role =
+    subst (λ (o : Option NetSession). session_left role s.slots held memory (Some q) ≤ session_left role s.slots held memory o + put_weight role) (sym is) rises in
+    subst (λ (y : ChannelState). end_left y role more memory (record s { session = Some q; last = frame }) ≤ end_left y role more memory s + put_weight role) (sym up)
+    (omega (arith, here, ap (λ (n : ℕ). put_weight role * n) (frame_packets role s p activity frame is active)))
+
+-- A STEP
+guest_frame : (shape : NetShape) (u : PortState) (l : PortLog) (frame : List ℕ) (t : NetLaneState) → Finds shape u l → EndSteps A u.lane (Frame frame) t
+    → remaining_of t (length u.queue) + 1 ≤ remaining_of u.lane (length u.queue)
+guest_frame shape u l frame t finds step =
+    let takes : TakesPublished shape A u l frame step.step.new = takes_published shape A u l frame t finds step in
+    let says = says_of Initiator u.lane.guest (seen_at A u.lane) (Fetches step.step.session step.step.activity) step.step.rule in
+    let slots_is : u.lane.hub.slots ≡ shape.slots = finds.ready.hub.slots_is in
+    let some = finds.ready.sound.some_slots in
+    let ready = ready_falls shape.slots (takes.v.taken % shape.slots) u.lane.hub_memory step.step.new (record { few = finds.ready.sound.most_slots; room = finds.room.hub })
+    (mod_below takes.v.taken shape.slots (omega (arith, some))) takes.found.ready takes.found.new_is in
+    let peer = peer_falls u.lane.wire.wire.end_b Responder (length u.queue) u.lane.hub_memory step.step.new u.lane.hub takes.p takes.peer_up takes.theirs
+    (subst (λ (n : ℕ). ready_slots n step.step.new + 1 ≡ ready_slots n u.lane.hub_memory) (sym slots_is) ready) in
+    let own = own_more u.lane.wire.wire.end_a Initiator 0 u.lane.guest_memory u.lane.guest step.step.session step.step.activity frame takes.up says.0.session says.1 in
+    let left_is = step.step.is in
+    subst (λ (x : NetLaneState). remaining_of x (length u.queue) + 1 ≤ remaining_of u.lane (length u.queue)) (sym step.is)
+    (omega (
+      arith,
+      own,
+      peer,
+      ap (λ (x : NetLeft). end_left u.lane.wire.wire.end_a Initiator 0 x.own x.end) left_is,
+      ap (λ (x : NetLeft). end_left u.lane.wire.wire.end_b Responder (length u.queue) x.peer u.lane.hub) left_is,
+      ap (λ (x : NetLeft). second_life u.lane.wire.lossy (length x.end.frames + length u.lane.hub.frames + length u.queue)) left_is,
+    ))
+
+hub_frame : (shape : NetShape) (u : PortState) (l : PortLog) (frame : List ℕ) (t : NetLaneState) → Finds shape u l → EndSteps B u.lane (Frame frame) t
+    → remaining_of t (length u.queue) + 1 ≤ remaining_of u.lane (length u.queue)
+hub_frame shape u l frame t finds step =
+    let takes : TakesPublished shape B u l frame step.step.new = takes_published shape B u l frame t finds step in
+    let says = says_of Responder u.lane.hub (seen_at B u.lane) (Fetches step.step.session step.step.activity) step.step.rule in
+    let slots_is : u.lane.guest.slots ≡ shape.slots = finds.ready.guest.slots_is in
+    let some = finds.ready.sound.some_slots in
+    let ready = ready_falls shape.slots (takes.v.taken % shape.slots) u.lane.guest_memory step.step.new (record { few = finds.ready.sound.most_slots; room = finds.room.guest })
+    (mod_below takes.v.taken shape.slots (omega (arith, some))) takes.found.ready takes.found.new_is in
+    let peer = peer_falls u.lane.wire.wire.end_a Initiator 0 u.lane.guest_memory step.step.new u.lane.guest takes.p takes.peer_up takes.theirs
+    (subst (λ (n : ℕ). ready_slots n step.step.new + 1 ≡ ready_slots n u.lane.guest_memory) (sym slots_is) ready) in
+    let own = own_more u.lane.wire.wire.end_b Responder (length u.queue) u.lane.hub_memory u.lane.hub step.step.session step.step.activity frame takes.up says.0.session says.1 in
+    let left_is = step.step.is in
+    subst (λ (x : NetLaneState). remaining_of x (length u.queue) + 1 ≤ remaining_of u.lane (length u.queue)) (sym step.is)
+    (omega (
+      arith,
+      own,
+      peer,
+      ap (λ (x : NetLeft). end_left u.lane.wire.wire.end_b Responder (length u.queue) x.own x.end) left_is,
+      ap (λ (x : NetLeft). end_left u.lane.wire.wire.end_a Initiator 0 x.peer u.lane.guest) left_is,
+      ap (λ (x : NetLeft). second_life u.lane.wire.lossy (length u.lane.guest.frames + length x.end.frames + length u.queue)) left_is,
+    ))
+
+lane_frame : (shape : NetShape) (u : PortState) (l : PortLog) (e : End) (frame : List ℕ) (t : NetLaneState) → Finds shape u l → EndSteps e u.lane (Frame frame) t
+    → remaining_of t (length u.queue) + 1 ≤ remaining_of u.lane (length u.queue)
+lane_frame shape u l A frame t finds step = guest_frame shape u l frame t finds step
+lane_frame shape u l B frame t finds step = hub_frame shape u l frame t finds step
+
+-- ALONG EVERY RUN
+pub port_frame : (shape : NetShape) (events : List PortEvent) (s : PortState) (e : End) (frame : List ℕ) (t : PortState) → IsNetShape shape → Run PortStep (fresh_port shape) events s
+    → s.lane.wire.forged ≡ false → PortStep s (OnLane (Steps e (Frame frame))) t → remaining t < remaining s
+port_frame shape events s e frame t is run clean step =
+    let event : NetEvent = Steps e (Frame frame) in
+    let l : PortLog = log_of after (no_events shape) events in
+    let kept = port_kept shape events s is run in
+    let unforged : l.wire.forged ≡ false = sym (ap (λ (w : WireLog). w.forged) kept.counts.wire) ∙ clean in
+    let less = lane_frame shape (before event s) l e frame t.lane (finds_before shape s l event is kept unforged) step.1 in
+    omega (arith, less, steps_before e (Frame frame) s, ap (λ (x : List (List ℕ)). remaining_of t.lane (length x)) step.2)

@@ -1,0 +1,527 @@
+-- What a step of an end leaves of both rings, and of what both logs say, where nobody forged: one proof for either end.
+use Rattle.std.proofs.Common.{◌≡◌, ◌≢◌, ℕ, zero, suc, ◌+◌, ◌≤◌, Bool, true, false, Option, Some, None, List, [], ◌∷◌, length, take, refl, sym, ap, ◌∙◌, subst, arith}
+use Rattle.std.specs.Prelude.{◌/◌, ◌%◌, is_some, nat_le, if◌then◌else◌, slice_get, slice_index_or}
+use Rattle.std.proofs.lemmas.List.FromFn.{get_or-map-range_with_len, length-map-range_with_len}
+use Rattle.std.proofs.lemmas.List.{get_or_past}
+use Rattle.cookie_copy.specs.Faults.{is_up}
+use Rattle.cookie_copy.specs.Identity.{IsIdentity, own_entry}
+use Rattle.cookie_copy.specs.Reach.{Reach}
+use Rattle.ldc_link.specs.declared.phase.Role.{Role}
+use Rattle.ldc_link.specs.declared.phase.Role.TheVariants.{Initiator, Responder}
+use Rattle.ldc_queue.specs.declared.end.ChannelState.{ChannelState}
+use Rattle.ldc_queue.specs.declared.end.ChannelState.TheVariants.{Down, Resetting, Up}
+use Rattle.ldc_queue.specs.declared.end.End.{End}
+use Rattle.ldc_queue.specs.declared.end.End.TheVariants.{A, B}
+use Rattle.ldc_queue.specs.Transcript.{Turn}
+use Rattle.ldc_queue.specs.Wire.{peer_of, state_of}
+use Rattle.map_table.specs.declared.cookie.Cookie.{Cookie}
+use Rattle.map_table.specs.declared.table.Entry.{Entry}
+use Rattle.vio_handshake.specs.declared.handshake.Handshake.{Handshake}
+use Rattle.vio_handshake.specs.declared.session.Offer.{Offer}
+use Rattle.vio_handshake.specs.Pairing.{KnowsBoth, KnowsRing}
+use Rattle.vnet_msg.specs.Frames.{IsFrame, memory_pages}
+use Rattle.channel_model.specs.OwnMemory.{own_table}
+use Rattle.channel_model.specs.Seeing.{Seen}
+use Rattle.channel_model.specs.TranscriptLog.{transcript_of}
+use Rattle.channel_model.specs.WireAt.{IsUp}
+use Rattle.channel_model.specs.WireLog.{WireLog}
+use Rattle.channel_laws.proofs.EndResting.{held_handshake}
+use Rattle.channel_laws.specs.LaneCore.{end_of}
+use Rattle.channel_laws.specs.Standing.{is_open_in}
+use Rattle.port_model.proofs.Refuting.{false_true, none_some, true_false}
+use Rattle.port_model.proofs.Ruling.{says_of}
+use Rattle.port_model.specs.EndLog.{EndLog, SessionLog, said_in, said_kind}
+use Rattle.port_model.specs.Fetching.{slots_cookies}
+use Rattle.port_model.specs.FrameLaws.{InSession, IsActive}
+use Rattle.port_model.specs.NetEndPutting.{net_kind}
+use Rattle.port_model.specs.NetEndRule.{Fetches, port_rule}
+use Rattle.port_model.specs.NetEndState.{NetEndState, NetSession}
+use Rattle.port_model.specs.NetEndStep.{Blocked, Frame, Idle, Joined, NetAnswer, NetEndStep, NetLeft, Published, Reset, Sent, Took}
+use Rattle.port_model.specs.NetEvent.{Steps}
+use Rattle.port_model.specs.NetLaneState.{NetLaneState, NetShape, memory_of, net_end, reach_of, role_at, seen_at}
+use Rattle.port_model.specs.NetLaneStep.{EndSteps, net_wire}
+use Rattle.port_model.specs.Offers.{port_offer, ring_cookie}
+use Rattle.port_model.specs.PortLog.{PortLog, after, after_answer, log_of_end}
+use Rattle.port_model.specs.PortState.{OnLane, PortState}
+use Rattle.port_model.specs.Spoken.{GroupsAck, GroupsInfo, Other, RangeAck, RangeInfo, Spoken, spoken}
+use Rattle.port_laws.specs.Counted.{EndCounts, unsaid}
+use Rattle.port_laws.specs.NetCore.{lane_core, net_core}
+use Rattle.port_laws.specs.RingStands.{RingIn, RingStands, taken_by, taken_in, taken_of}
+use Rattle.port_laws.proofs.EndCounting.{open_counts, shut_counts}
+use Rattle.port_laws.proofs.EndMoves.{HeldCore, held_core}
+use Rattle.port_laws.proofs.LogsStand.{LogsStand, TablesStand, held_given}
+use Rattle.port_laws.proofs.MemoryRoom.{HasRoom}
+use Rattle.port_laws.proofs.PeerOpens.{row}
+use Rattle.port_laws.proofs.PortCounts.{PortCounts, Ready, queue_of}
+use Rattle.port_laws.proofs.PortTalks.{PortTalks, many_open, open_turns, shut_turns}
+use Rattle.port_laws.proofs.RemainingEnds.{kind_shut, shut_none}
+use Rattle.port_laws.proofs.RingEvents.{Active, Frames, Goes, Turned, acts_up, mine_now, own_stands, peer_stands, spoke_after, theirs_now, turns_at, turns_now, wire_now}
+use Rattle.port_laws.proofs.RingFetches.{Reaches}
+use Rattle.port_laws.proofs.RingMoves.{Fits}
+use Rattle.port_laws.proofs.RingSteps.{Owns, TakesOf, opens_by}
+use Rattle.port_laws.proofs.RuleFrames.{active_here, end_acts, end_counted}
+use Rattle.port_laws.proofs.SessionsHeard.{Spoke, SpokeIn, spoke_some}
+use Rattle.port_laws.proofs.StepCounts.{Acting, took_here}
+use Rattle.port_laws.proofs.TookCounts.{free_empty}
+
+-- THE RINGS, and what the logs say
+pub record Rings (s : NetLaneState) (l : PortLog) : Type 0 where
+  pub guest_spoke : SpokeIn Initiator l.transcript.client l.guest.session
+  pub hub_spoke : SpokeIn Responder l.transcript.server l.hub.session
+  pub guest_ring : RingStands A s l
+  pub hub_ring : RingStands B s l
+
+pub spoke_of : (e : End) (s : NetLaneState) (l : PortLog) → Rings s l → SpokeIn (role_at e) (transcript_of e l.transcript) (log_of_end e l).session
+spoke_of A s l rings = rings.guest_spoke
+spoke_of B s l rings = rings.hub_spoke
+
+pub ring_of_end : (e : End) (s : NetLaneState) (l : PortLog) → Rings s l → RingStands e s l
+ring_of_end A s l rings = rings.guest_ring
+ring_of_end B s l rings = rings.hub_ring
+
+-- the ring of an end's peer, of which that end takes frames
+abbrev pub PeerRing : End → NetLaneState → PortLog → Type 0
+PeerRing e s l =
+    IsUp (peer_of e) s.wire.wire
+    → RingIn l.shape.slots (taken_of e s l) (net_end (peer_of e) s).session (net_end (peer_of e) s).frames (memory_of (peer_of e) s)
+
+pub peer_ring_of : (e : End) (s : NetLaneState) (l : PortLog) → Rings s l → PeerRing e s l
+peer_ring_of A s l rings = rings.hub_ring
+peer_ring_of B s l rings = rings.guest_ring
+
+together : (e : End) (s : NetLaneState) (l : PortLog) → SpokeIn (role_at e) (transcript_of e l.transcript) (log_of_end e l).session
+    → SpokeIn (role_at (peer_of e)) (transcript_of (peer_of e) l.transcript) (log_of_end (peer_of e) l).session → RingStands e s l → PeerRing e s l → Rings s l
+together A s l spoke peer_spoke ring peer_ring = record { guest_spoke = spoke; hub_spoke = peer_spoke; guest_ring = ring; hub_ring = peer_ring }
+together B s l spoke peer_spoke ring peer_ring = record { guest_spoke = peer_spoke; hub_spoke = spoke; guest_ring = peer_ring; hub_ring = ring }
+
+-- WHAT A STEP LEAVES, field by field
+record StepNow (e : End) (u t : NetLaneState) (answer : NetAnswer) (left : NetLeft) : Type 0 where
+  end : net_end e t ≡ left.end
+  own : memory_of e t ≡ left.own
+  peer_end : net_end (peer_of e) t ≡ net_end (peer_of e) u
+  peer_memory : memory_of (peer_of e) t ≡ left.peer
+  wire : t.wire ≡ net_wire (Steps e answer) u
+  reaches : (reach_of e u).memory ≡ memory_of (peer_of e) u
+
+step_now : (e : End) (u t : NetLaneState) (answer : NetAnswer) → (step : EndSteps e u answer t) → StepNow e u t answer step.left
+step_now A u t answer step = record {
+  end = ap (λ (x : NetLaneState). x.guest) step.is;
+  own = ap (λ (x : NetLaneState). x.guest_memory) step.is;
+  peer_end = ap (λ (x : NetLaneState). x.hub) step.is;
+  peer_memory = ap (λ (x : NetLaneState). x.hub_memory) step.is;
+  wire = ap (λ (x : NetLaneState). x.wire) step.is;
+  reaches = refl;
+}
+step_now B u t answer step = record {
+  end = ap (λ (x : NetLaneState). x.hub) step.is;
+  own = ap (λ (x : NetLaneState). x.hub_memory) step.is;
+  peer_end = ap (λ (x : NetLaneState). x.guest) step.is;
+  peer_memory = ap (λ (x : NetLaneState). x.guest_memory) step.is;
+  wire = ap (λ (x : NetLaneState). x.wire) step.is;
+  reaches = refl;
+}
+
+record LogNow (e : End) (l : PortLog) (answer : NetAnswer) : Type 0 where
+  mine : log_of_end e (after l (OnLane (Steps e answer))) ≡ after_answer l.shape.slots (transcript_of e l.transcript) answer (log_of_end e l)
+  theirs : log_of_end (peer_of e) (after l (OnLane (Steps e answer))) ≡ log_of_end (peer_of e) l
+
+log_now : (e : End) (l : PortLog) (answer : NetAnswer) → LogNow e l answer
+log_now A l answer = record { mine = refl; theirs = refl }
+log_now B l answer = record { mine = refl; theirs = refl }
+
+-- AN OPEN SESSION of the end is one of its log
+pub record OpenBoth (s : NetEndState) (l : EndLog) : Type 0 where
+  pub shut : l.session ≡ None → is_some s.session ≡ false
+  pub opened : l.session ≢ None → is_some s.session ≡ true
+  pub none : s.session ≡ None → l.session ≡ None
+
+some_not : {X : Type 0} (x : X) → Some x ≢ None
+some_not {X} x is = cc is
+
+pub open_both : (role : Role) (slots : ℕ) (queue : List (List ℕ)) (s : NetEndState) (l : EndLog) → EndCounts role slots queue s l → OpenBoth s l
+open_both role slots queue s l counts = by_session s.session refl
+  where
+    by_session : (session : Option NetSession) → s.session ≡ session → OpenBoth s l
+    by_session None is =
+        let gone = shut_counts role slots queue s l counts is in
+        record { shut = λ none. ap is_some is; opened = λ some. absurd (some gone.is); none = λ none. gone.is }
+    by_session (Some p) is =
+        let here = open_counts role slots queue s l p counts is in
+        record {
+          shut = λ none. none_some here.of_log (sym none ∙ here.is);
+          opened = λ some. ap is_some is;
+          none = λ none. none_some p (sym none ∙ is);
+        }
+
+some_session : (session : Option NetSession) → session ≡ None → is_some session ≡ false
+some_session session is = ap is_some is
+
+-- NO SESSION OPENS where one is open
+step_shut : (role : Role) (slots : ℕ) (queue : List (List ℕ)) (s : NetEndState) (l : EndLog) (turns : List Turn) (at : Seen) (memory : List ℕ) (reach : Reach) (answer : NetAnswer) (left : NetLeft)
+    → Acting role slots queue s l turns → NetEndStep role s at memory reach answer left → opens_by answer ≡ true → s.session ≡ None
+step_shut role slots queue s l turns at memory reach (Took packet opens) left acting step opened = by_session s.session refl
+  where
+    by_session : (session : Option NetSession) → s.session ≡ session → s.session ≡ None
+    by_session None is = is
+    by_session (Some p) is =
+        true_false (sym opened ∙ (took_here role slots queue s l turns at memory reach packet opens left 0 acting step).shut p is)
+step_shut role slots queue s l turns at memory reach (Sent packet opens) left acting step opened =
+    let held : NetEndState = step.held in
+    let core : HeldCore role s held = held_core role s at reach (port_rule role s at) held acting.fits refl step.holds in
+    let shut : is_open_in held.handshake.phase ≡ false = kind_shut (net_kind held) held.handshake (sym step.opens_is ∙ opened) in
+    shut_none s.session
+    (acting.ends.opened ∙ sym (ap (λ (h : Handshake). is_open_in h.phase) (held_handshake (net_core role s) (net_core role held) core.what core.holds)) ∙ shut)
+step_shut role slots queue s l turns at memory reach (Joined lost) left acting step opened = false_true opened
+step_shut role slots queue s l turns at memory reach Blocked left acting step opened = false_true opened
+step_shut role slots queue s l turns at memory reach Idle left acting step opened = false_true opened
+step_shut role slots queue s l turns at memory reach (Published id) left acting step opened = false_true opened
+step_shut role slots queue s l turns at memory reach (Frame frame) left acting step opened = false_true opened
+step_shut role slots queue s l turns at memory reach (Reset cause packet lost) left acting step opened = false_true opened
+
+-- A FRAME IS TAKEN in an open session, in which a message of it was heard
+record Busy (answer : NetAnswer) (log : Option SessionLog) : Type 0 where
+  busy : Frames answer log
+  active : Active answer log
+
+frame_busy : (frame : List ℕ) (log : Option SessionLog) → InSession log IsActive → Busy (Frame frame) log
+frame_busy frame None is = absurd is
+frame_busy frame (Some v) is = record { busy = some_not v; active = is }
+
+step_busy : (role : Role) (slots : ℕ) (queue : List (List ℕ)) (s : NetEndState) (l : EndLog) (turns : List Turn) (at : Seen) (memory : List ℕ) (reach : Reach) (answer : NetAnswer) (left : NetLeft)
+    → (is_up at.state ≡ true → Acting role slots queue s l turns) → NetEndStep role s at memory reach answer left → Busy answer l.session
+step_busy role slots queue s l turns at memory reach (Frame frame) left acts step =
+    let says = says_of role s at (Fetches step.session step.activity) step.rule in
+    let acting = acts says.0.free.up in
+    frame_busy frame l.session
+    (active_here role slots queue s l step.session step.activity acting.counts says.0.session says.1 (free_empty role s turns acting.ends says.0.free.quiet))
+step_busy role slots queue s l turns at memory reach (Joined lost) left acts step = record { busy = tt; active = tt }
+step_busy role slots queue s l turns at memory reach (Took packet opens) left acts step = record { busy = tt; active = tt }
+step_busy role slots queue s l turns at memory reach (Sent packet opens) left acts step = record { busy = tt; active = tt }
+step_busy role slots queue s l turns at memory reach Blocked left acts step = record { busy = tt; active = tt }
+step_busy role slots queue s l turns at memory reach Idle left acts step = record { busy = tt; active = tt }
+step_busy role slots queue s l turns at memory reach (Published id) left acts step = record { busy = tt; active = tt }
+step_busy role slots queue s l turns at memory reach (Reset cause packet lost) left acts step = record { busy = tt; active = tt }
+
+-- AN END THAT ISN'T IN SESSION has a peer that took nothing
+none_asked : (role : Role) (turns : List Turn) (v : SessionLog) (n : ℕ) → v.taken ≡ n → Spoke role turns v → (1 ≤ v.asked → ⊥) → n ≡ 0
+none_asked role turns v n is spoke never = by_asked v.asked refl
+  where
+    by_asked : (asked : ℕ) → v.asked ≡ asked → n ≡ 0
+    by_asked zero none = sym is ∙ spoke.quiet none
+    by_asked (suc more) some = absurd (never (omega (arith, some)))
+
+none_taken : (role : Role) (turns : List Turn) (x : ChannelState) (log : Option SessionLog) → SpokeIn role turns log → (x ≡ Up → (v : SessionLog) → log ≡ Some v → 1 ≤ v.asked → ⊥) → taken_by x log ≡ 0
+none_taken role turns Down log spoke never = refl
+none_taken role turns Resetting log spoke never = refl
+none_taken role turns Up None spoke never = refl
+none_taken role turns Up (Some v) spoke never = none_asked role turns v v.taken refl spoke (never refl v refl)
+
+pub shut_peer : (shape : NetShape) (e : End) (u : NetLaneState) (l : PortLog) → PortTalks shape (lane_core u) l → Rings u l → (net_end e u).session ≡ None
+    → taken_by (state_of (peer_of e) u.wire.wire) (log_of_end (peer_of e) l).session ≡ 0
+shut_peer shape A u l talks rings none =
+    none_taken Responder l.transcript.server u.wire.wire.end_b l.hub.session rings.hub_spoke
+    (λ up v is asked.
+    let there = many_open shape (lane_core u) l B talks up ((spoke_some Responder l.transcript.server l.hub.session v is rings.hub_spoke).many asked) in
+    true_false (sym there.opened ∙ some_session u.guest.session none))
+shut_peer shape B u l talks rings none =
+    none_taken Initiator l.transcript.client u.wire.wire.end_a l.guest.session rings.guest_spoke
+    (λ up v is asked.
+    let there = many_open shape (lane_core u) l A talks up ((spoke_some Initiator l.transcript.client l.guest.session v is rings.guest_spoke).many asked) in
+    true_false (sym there.opened ∙ some_session u.hub.session none))
+
+-- AN END REACHES ITS PEER'S RING where both are in session
+table_within : (pages index : ℕ) → index + 1 ≤ pages → slice_index_or (own_table pages) index None ≡ Some (own_entry index)
+table_within pages index below =
+    let f : ℕ → Option Entry = λ (page : ℕ). Some (own_entry page) in
+    let same : 0 + index ≡ index = omega arith in
+    get_or-map-range_with_len f 0 pages index index None (omega (arith, below)) same
+
+table_past : (pages index : ℕ) → pages ≤ index → slice_index_or (own_table pages) index None ≡ None
+table_past pages index past =
+    let f : ℕ → Option Entry = λ (page : ℕ). Some (own_entry page) in
+    get_or_past (own_table pages) index None (omega (arith, length-map-range_with_len f 0 pages, past))
+
+few_buffers : (b : Bool) (slots : ℕ) → slots ≤ 64 → 1 + (if b then slots / 4 else 1) ≤ 1028
+few_buffers true slots few = omega (arith, few)
+few_buffers false slots few = omega arith
+
+pub own_identity : (slots : ℕ) → slots ≤ 64 → IsIdentity (own_table (memory_pages slots)) (memory_pages slots)
+own_identity slots few = record {
+  few = few_buffers (nat_le 4 slots) slots few;
+  each = λ index below. table_within (memory_pages slots) index (omega (arith, below));
+  others = table_past (memory_pages slots);
+}
+
+known_cookies : (f : NetEndState) (offer : Offer) (role : Role) (address : List ℕ) (slots : ℕ) → f.handshake.draft.peer_count ≡ offer.count → f.handshake.draft.peer_cookies ≡ offer.cookies
+    → offer ≡ port_offer role address slots → slots_cookies f ≡ ring_cookie slots ∷ []
+known_cookies f offer role address slots count cookies is =
+    ap (λ (n : ℕ). take n f.handshake.draft.peer_cookies) (count ∙ ap (λ (o : Offer). o.count) is)
+    ∙ ap (λ (cs : List Cookie). take 1 cs) (cookies ∙ ap (λ (o : Offer). o.cookies) is)
+
+-- both ends in session
+pub record InOne (shape : NetShape) (u : NetLaneState) : Type 0 where
+  pub guest_cookies : slots_cookies u.guest ≡ ring_cookie shape.slots ∷ []
+  pub hub_cookies : slots_cookies u.hub ≡ ring_cookie shape.slots ∷ []
+
+in_one : (shape : NetShape) (u : NetLaneState) (l : PortLog) (queue : List (List ℕ)) → PortTalks shape (lane_core u) l → EndCounts Initiator shape.slots [] u.guest l.guest
+    → EndCounts Responder shape.slots queue u.hub l.hub → is_some u.guest.session ≡ true → is_some u.hub.session ≡ true → InOne shape u
+in_one shape u l queue talks guest hub guest_open hub_open =
+    let one = talks.one guest_open hub_open in
+    let guest_talks = talks.talks A in
+    let guest_offer = guest_talks.mine.handshake.offer_is in
+    let hub_offer = guest_talks.theirs.handshake.offer_is in
+    let both : u.guest.handshake.offer.both_rings ≡ true = ap (λ (o : Offer). o.both_rings) guest_offer in
+    let ring : KnowsRing u.hub.handshake.draft u.guest.handshake.draft u.guest.handshake.offer = one.ring in
+    let peer_ring : KnowsRing u.guest.handshake.draft u.hub.handshake.draft u.hub.handshake.offer =
+    subst (λ (b : Bool). KnowsBoth b u.guest.handshake.draft u.hub.handshake.draft u.hub.handshake.offer) both one.peer_ring in
+    record {
+      guest_cookies = known_cookies u.guest u.hub.handshake.offer Responder u.hub.address shape.slots peer_ring.count peer_ring.cookies
+          (hub_offer ∙ ap (port_offer Responder u.hub.address) hub.slots_is);
+      hub_cookies = known_cookies u.hub u.guest.handshake.offer Initiator u.guest.address shape.slots ring.count ring.cookies
+          (guest_offer ∙ ap (port_offer Initiator u.guest.address) guest.slots_is);
+    }
+
+-- what an end that acts finds
+pub record Finds (shape : NetShape) (u : PortState) (l : PortLog) : Type 0 where
+  pub ready : Ready shape u l
+  pub room : HasRoom shape.slots u.lane
+  pub logs : LogsStand l
+  pub tables : TablesStand shape u.lane
+  pub talks : PortTalks shape (lane_core u.lane) l
+  pub rings : Rings u.lane l
+
+kind_taken : (k : Spoken) (message : List ℕ) (v : SessionLog) → (said_kind k message v).taken ≡ v.taken
+kind_taken RangeInfo message v = refl
+kind_taken RangeAck message v = refl
+kind_taken GroupsInfo message v = refl
+kind_taken GroupsAck message v = refl
+kind_taken Other message v = refl
+
+left_taken : (left : Option (List ℕ)) (v : SessionLog) → (said_in left v).taken ≡ v.taken
+left_taken None v = refl
+left_taken (Some message) v = kind_taken (spoken message) message v
+
+pub place_is : (role : Role) (slots : ℕ) (queue : List (List ℕ)) (s : NetEndState) (l : EndLog) (q : NetSession) → EndCounts role slots queue s l → s.session ≡ Some q
+    → q.place ≡ taken_in l.session % slots
+place_is role slots queue s l q counts is =
+    let here = open_counts role slots queue s l q counts is in
+    here.counts.peer.place ∙ ap (λ (n : ℕ). n % slots) (left_taken (unsaid s) here.of_log ∙ sym (ap taken_in here.is))
+
+pub end_room : (shape : NetShape) (e : End) (u : PortState) (l : PortLog) → Finds shape u l → Fits shape.slots (memory_of e u.lane)
+end_room shape A u l finds = record { few = finds.ready.sound.most_slots; room = finds.room.guest }
+end_room shape B u l finds = record { few = finds.ready.sound.most_slots; room = finds.room.hub }
+
+pub end_reaches : (shape : NetShape) (e : End) (u : PortState) (l : PortLog) → Finds shape u l → is_some (net_end e u.lane).session ≡ true → is_some (net_end (peer_of e) u.lane).session ≡ true
+    → Reaches (net_end e u.lane) (reach_of e u.lane) shape.slots (memory_pages shape.slots)
+end_reaches shape A u l finds mine theirs =
+    let is = finds.ready.sound in
+    record {
+      identity = subst (λ (table : List (Option Entry)). IsIdentity table (memory_pages shape.slots)) (sym finds.tables.hub) (own_identity shape.slots is.most_slots);
+      cookies = (in_one shape u.lane l u.queue finds.talks finds.ready.guest finds.ready.hub mine theirs).guest_cookies;
+      fits = end_room shape B u l finds;
+    }
+end_reaches shape B u l finds mine theirs =
+    let is = finds.ready.sound in
+    record {
+      identity = subst (λ (table : List (Option Entry)). IsIdentity table (memory_pages shape.slots)) (sym finds.tables.guest) (own_identity shape.slots is.most_slots);
+      cookies = (in_one shape u.lane l u.queue finds.talks finds.ready.guest finds.ready.hub theirs mine).hub_cookies;
+      fits = end_room shape A u l finds;
+    }
+
+takes_of : (shape : NetShape) (e : End) (u : PortState) (l : PortLog) (answer : NetAnswer) (left : NetLeft) (session : Option NetSession) → Finds shape u l → (net_end (peer_of e) u.lane).session ≡ session
+    → NetEndStep (role_at e) (net_end e u.lane) (seen_at e u.lane) (memory_of e u.lane) (reach_of e u.lane) answer left
+    → TakesOf answer (net_end e u.lane) (reach_of e u.lane) shape.slots (memory_pages shape.slots) (taken_in (log_of_end e l).session) session
+takes_of shape e u l (Frame frame) left None finds is step = tt
+takes_of shape e u l (Frame frame) left (Some p) finds is step =
+    let says = says_of (role_at e) (net_end e u.lane) (seen_at e u.lane) (Fetches step.session step.activity) step.rule in (
+      end_reaches shape e u l finds (ap is_some says.0.session) (ap is_some is),
+      λ q of_end. place_is (role_at e) shape.slots (queue_of e u) (net_end e u.lane) (log_of_end e l) q (end_counted shape e u l finds.ready) of_end,
+    )
+takes_of shape e u l (Joined lost) left session finds is step = tt
+takes_of shape e u l (Took packet opens) left session finds is step = tt
+takes_of shape e u l (Sent packet opens) left session finds is step = tt
+takes_of shape e u l Blocked left session finds is step = tt
+takes_of shape e u l Idle left session finds is step = tt
+takes_of shape e u l (Published id) left session finds is step = tt
+takes_of shape e u l (Reset cause packet lost) left session finds is step = tt
+
+end_frames : (shape : NetShape) (e : End) (u : PortState) (l : PortLog) → Finds shape u l → (n : ℕ) (frame : List ℕ) → slice_get (net_end e u.lane).frames n ≡ Some frame → IsFrame frame
+end_frames shape A u l finds n frame get =
+    finds.logs.guest.given (l.guest.gone + n) frame (held_given u.lane.guest.frames [] l.guest.given l.guest.gone n frame finds.ready.guest.frames get)
+end_frames shape B u l finds n frame get =
+    finds.logs.hub.given (l.hub.gone + n) frame (held_given u.lane.hub.frames u.queue l.hub.given l.hub.gone n frame finds.ready.hub.frames get)
+
+-- the end's own state, and that of what its channel sees
+core_open : (e : End) (u : NetLaneState) (b : Bool) → is_some (net_end e u).session ≡ b → (end_of e (lane_core u)).is_open ≡ b
+core_open A u b is = is
+core_open B u b is = is
+
+seen_state : (e : End) (u : NetLaneState) → (seen_at e u).state ≡ state_of e u.wire.wire
+seen_state A u = refl
+seen_state B u = refl
+
+-- A STEP of an end
+record Acts (shape : NetShape) (e : End) (u t : PortState) (l : PortLog) (answer : NetAnswer) (left : NetLeft) : Type 0 where
+  finds : Finds shape u l
+  step : NetEndStep (role_at e) (net_end e u.lane) (seen_at e u.lane) (memory_of e u.lane) (reach_of e u.lane) answer left
+  now : StepNow e u.lane t.lane answer left
+  counts : PortCounts shape t (after l (OnLane (Steps e answer)))
+  talks : PortTalks shape (lane_core t.lane) (after l (OnLane (Steps e answer)))
+
+counted_now : (shape : NetShape) (e : End) (s : PortState) (l : PortLog) → PortCounts shape s l → EndCounts (role_at e) shape.slots (queue_of e s) (net_end e s.lane) (log_of_end e l)
+counted_now shape A s l counts = counts.guest
+counted_now shape B s l counts = counts.hub
+
+acting_at : (shape : NetShape) (e : End) (u : PortState) (l : PortLog) → Finds shape u l → state_of e u.lane.wire.wire ≡ Up
+    → Acting (role_at e) shape.slots (queue_of e u) (net_end e u.lane) (log_of_end e l) (transcript_of e l.transcript)
+acting_at shape e u l finds up = end_acts shape e u l finds.ready (ap is_up (seen_state e u.lane ∙ up))
+
+owns_at : (shape : NetShape) (e : End) (u : PortState) (l : PortLog) → Finds shape u l → state_of e u.lane.wire.wire ≡ Up
+    → Owns (role_at e) (net_end e u.lane) (transcript_of e l.transcript) (memory_of e u.lane)
+owns_at shape e u l finds up =
+    let acting = acting_at shape e u l finds up in
+    let slots = acting.counts.slots_is in
+    record {
+      ends = acting.ends;
+      stands = acting.stands;
+      fits = subst (λ (n : ℕ). Fits n (memory_of e u.lane)) (sym slots) (end_room shape e u l finds);
+      frames = end_frames shape e u l finds;
+    }
+
+-- no session of it opens where one is open
+acts_shut : (shape : NetShape) (e : End) (u t : PortState) (l : PortLog) (answer : NetAnswer) (left : NetLeft) → Acts shape e u t l answer left → opens_by answer ≡ true
+    → (net_end e u.lane).session ≡ None
+acts_shut shape e u t l answer left acts opened =
+    step_shut (role_at e) shape.slots (queue_of e u) (net_end e u.lane) (log_of_end e l) (transcript_of e l.transcript) (seen_at e u.lane) (memory_of e u.lane) (reach_of e u.lane) answer left
+    (acting_at shape e u l acts.finds
+    (acts_up (role_at e) (net_end e u.lane) (seen_at e u.lane) (memory_of e u.lane) (reach_of e u.lane) answer left acts.step (state_of e u.lane.wire.wire) (seen_state e u.lane)
+    (opening_same answer (state_of e u.lane.wire.wire) opened)))
+    acts.step opened
+  where
+    opening_same : (answer : NetAnswer) (x : ChannelState) → opens_by answer ≡ true → mine_now answer x ≡ x
+    opening_same (Took packet opens) x opened = refl
+    opening_same (Sent packet opens) x opened = refl
+    opening_same Blocked x opened = refl
+    opening_same Idle x opened = refl
+    opening_same (Published id) x opened = refl
+    opening_same (Frame frame) x opened = refl
+    opening_same (Joined lost) x opened = false_true opened
+    opening_same (Reset cause packet lost) x opened = false_true opened
+
+goes_same : (answer : NetAnswer) (x : ChannelState) → Goes answer → mine_now answer x ≡ x
+goes_same (Took packet opens) x goes = refl
+goes_same (Sent packet opens) x goes = refl
+goes_same Blocked x goes = refl
+goes_same Idle x goes = refl
+goes_same (Published id) x goes = refl
+goes_same (Frame frame) x goes = refl
+goes_same (Joined lost) x goes = absurd goes
+goes_same (Reset cause packet lost) x goes = absurd goes
+
+acts_up_at : (shape : NetShape) (e : End) (u t : PortState) (l : PortLog) (answer : NetAnswer) (left : NetLeft) → Acts shape e u t l answer left → Goes answer → state_of e u.lane.wire.wire ≡ Up
+acts_up_at shape e u t l answer left acts goes =
+    acts_up (role_at e) (net_end e u.lane) (seen_at e u.lane) (memory_of e u.lane) (reach_of e u.lane) answer left acts.step (state_of e u.lane.wire.wire) (seen_state e u.lane)
+    (goes_same answer (state_of e u.lane.wire.wire) goes)
+
+-- WHAT ITS LOG SAYS
+turned_at : (shape : NetShape) (e : End) (u t : PortState) (l : PortLog) (answer : NetAnswer) (left : NetLeft) → Acts shape e u t l answer left → Goes answer
+    → Turned (role_at e) (transcript_of e l.transcript) (turns_now answer (transcript_of e l.transcript)) (log_of_end e l).session
+    (after_answer l.shape.slots (transcript_of e l.transcript) answer (log_of_end e l)).session
+turned_at shape e u t l answer left acts goes =
+    let up : state_of e u.lane.wire.wire ≡ Up = acts_up_at shape e u t l answer left acts goes in
+    let before = open_both (role_at e) shape.slots (queue_of e u) (net_end e u.lane) (log_of_end e l) (end_counted shape e u l acts.finds.ready) in
+    let then_ = after l (OnLane (Steps e answer)) in
+    let behind = open_both (role_at e) shape.slots (queue_of e t) (net_end e t.lane) (log_of_end e then_) (counted_now shape e t then_ acts.counts) in
+    let up_now : state_of e t.lane.wire.wire ≡ Up =
+    ap (λ (w : WireLog). state_of e w.wire) acts.now.wire ∙ (wire_now e u.lane answer).mine ∙ goes_same answer (state_of e u.lane.wire.wire) goes ∙ up in
+    let turns : transcript_of e then_.transcript ≡ turns_now answer (transcript_of e l.transcript) = (turns_at e l.transcript answer).mine in
+    record {
+      few = λ none. shut_turns shape (lane_core u.lane) l e acts.finds.talks (core_up e u.lane up) (core_open e u.lane false (before.shut none));
+      six = λ some. (open_turns shape (lane_core u.lane) l e acts.finds.talks (core_up e u.lane up) (core_open e u.lane true (before.opened some))).heard_long;
+      many = λ some. subst (λ (x : List Turn). 6 ≤ length (row (role_at e) x)) turns
+          (open_turns shape (lane_core t.lane) then_ e acts.talks (core_up e t.lane up_now)
+          (core_open e t.lane true (behind.opened (λ none. some (ap (λ (x : EndLog). x.session) (sym (log_now e l answer).mine) ∙ none))))).row_long;
+    }
+  where
+    core_up : (e : End) (s : NetLaneState) → state_of e s.wire.wire ≡ Up → IsUp e (lane_core s).wire.wire
+    core_up A s up = up
+    core_up B s up = up
+
+acts_spoke : (shape : NetShape) (e : End) (u t : PortState) (l : PortLog) (answer : NetAnswer) (left : NetLeft) → Acts shape e u t l answer left
+    → SpokeIn (role_at e) (transcript_of e (after l (OnLane (Steps e answer))).transcript) (log_of_end e (after l (OnLane (Steps e answer)))).session
+acts_spoke shape e u t l answer left acts =
+    let before = open_both (role_at e) shape.slots (queue_of e u) (net_end e u.lane) (log_of_end e l) (end_counted shape e u l acts.finds.ready) in
+    let busy = step_busy (role_at e) shape.slots (queue_of e u) (net_end e u.lane) (log_of_end e l) (transcript_of e l.transcript) (seen_at e u.lane) (memory_of e u.lane) (reach_of e u.lane) answer left
+    (λ up. end_acts shape e u l acts.finds.ready up) acts.step in
+    subst (λ (turns : List Turn). SpokeIn (role_at e) turns (log_of_end e (after l (OnLane (Steps e answer)))).session) (sym (turns_at e l.transcript answer).mine)
+    (subst (λ (x : EndLog). SpokeIn (role_at e) (turns_now answer (transcript_of e l.transcript)) x.session) (sym (log_now e l answer).mine)
+    (spoke_after (role_at e) l.shape.slots (transcript_of e l.transcript) answer (log_of_end e l) (λ opened. before.none (acts_shut shape e u t l answer left acts opened)) busy.active
+    (turned_at shape e u t l answer left acts) (spoke_of e u.lane l acts.finds.rings)))
+
+peer_spoke : (shape : NetShape) (e : End) (u t : PortState) (l : PortLog) (answer : NetAnswer) (left : NetLeft) → Acts shape e u t l answer left
+    → SpokeIn (role_at (peer_of e)) (transcript_of (peer_of e) (after l (OnLane (Steps e answer))).transcript) (log_of_end (peer_of e) (after l (OnLane (Steps e answer)))).session
+peer_spoke shape e u t l answer left acts =
+    subst (λ (turns : List Turn). SpokeIn (role_at (peer_of e)) turns (log_of_end (peer_of e) (after l (OnLane (Steps e answer)))).session) (sym (turns_at e l.transcript answer).theirs)
+    (subst (λ (x : EndLog). SpokeIn (role_at (peer_of e)) (transcript_of (peer_of e) l.transcript) x.session) (sym (log_now e l answer).theirs) (spoke_of (peer_of e) u.lane l acts.finds.rings))
+
+-- ITS RING, and its peer's
+acts_ring : (shape : NetShape) (e : End) (u t : PortState) (l : PortLog) (answer : NetAnswer) (left : NetLeft) → Acts shape e u t l answer left
+    → RingStands e t.lane (after l (OnLane (Steps e answer)))
+acts_ring shape e u t l answer left acts up =
+    let x : ChannelState = state_of e u.lane.wire.wire in
+    let y : ChannelState = state_of (peer_of e) u.lane.wire.wire in
+    let log : Option SessionLog = (log_of_end (peer_of e) l).session in
+    let wire = wire_now e u.lane answer in
+    let mine : mine_now answer x ≡ Up = sym (ap (λ (w : WireLog). state_of e w.wire) acts.now.wire ∙ wire.mine) ∙ up in
+    let theirs : state_of (peer_of e) t.lane.wire.wire ≡ theirs_now answer x y = ap (λ (w : WireLog). state_of (peer_of e) w.wire) acts.now.wire ∙ wire.theirs in
+    let slots : (net_end e u.lane).slots ≡ l.shape.slots = (end_counted shape e u l acts.finds.ready).slots_is ∙ sym (ap (λ (z : NetShape). z.slots) acts.finds.ready.shape_is) in
+    let there : RingIn l.shape.slots (taken_by (theirs_now answer x y) log) left.end.session left.end.frames left.own =
+    own_stands (role_at e) l.shape.slots x y log (net_end e u.lane) (transcript_of e l.transcript) (seen_at e u.lane) (memory_of e u.lane) (reach_of e u.lane) answer left
+    (owns_at shape e u l acts.finds) slots
+    (λ opened here. shut_peer shape e u.lane l acts.finds.talks acts.finds.rings (acts_shut shape e u t l answer left acts opened)) acts.step
+    (ring_of_end e u.lane l acts.finds.rings) mine in
+    subst (λ (n : ChannelState). RingIn l.shape.slots (taken_by n (log_of_end (peer_of e) (after l (OnLane (Steps e answer)))).session) (net_end e t.lane).session (net_end e t.lane).frames
+    (memory_of e t.lane)) (sym theirs)
+    (subst (λ (z : EndLog). RingIn l.shape.slots (taken_by (theirs_now answer x y) z.session) (net_end e t.lane).session (net_end e t.lane).frames (memory_of e t.lane)) (sym (log_now e l answer).theirs)
+    (subst (λ (z : NetEndState). RingIn l.shape.slots (taken_by (theirs_now answer x y) log) z.session z.frames (memory_of e t.lane)) (sym acts.now.end)
+    (subst (RingIn l.shape.slots (taken_by (theirs_now answer x y) log) left.end.session left.end.frames) (sym acts.now.own) there)))
+
+acts_peer_ring : (shape : NetShape) (e : End) (u t : PortState) (l : PortLog) (answer : NetAnswer) (left : NetLeft) → Acts shape e u t l answer left
+    → PeerRing e t.lane (after l (OnLane (Steps e answer)))
+acts_peer_ring shape e u t l answer left acts up =
+    let x : ChannelState = state_of e u.lane.wire.wire in
+    let y : ChannelState = state_of (peer_of e) u.lane.wire.wire in
+    let log : EndLog = log_of_end e l in
+    let turns : List Turn = transcript_of e l.transcript in
+    let wire = wire_now e u.lane answer in
+    let mine : state_of e t.lane.wire.wire ≡ mine_now answer x = ap (λ (w : WireLog). state_of e w.wire) acts.now.wire ∙ wire.mine in
+    let theirs : theirs_now answer x y ≡ Up = sym (ap (λ (w : WireLog). state_of (peer_of e) w.wire) acts.now.wire ∙ wire.theirs) ∙ up in
+    let before = open_both (role_at e) shape.slots (queue_of e u) (net_end e u.lane) log (end_counted shape e u l acts.finds.ready) in
+    let busy = step_busy (role_at e) shape.slots (queue_of e u) (net_end e u.lane) log turns (seen_at e u.lane) (memory_of e u.lane) (reach_of e u.lane) answer left
+    (λ is. end_acts shape e u l acts.finds.ready is) acts.step in
+    let shape_slots : shape.slots ≡ l.shape.slots = sym (ap (λ (z : NetShape). z.slots) acts.finds.ready.shape_is) in
+    let some_slots = acts.finds.ready.sound.some_slots in
+    let session : Option NetSession = (net_end (peer_of e) u.lane).session in
+    let frames : List (List ℕ) = (net_end (peer_of e) u.lane).frames in
+    let held : y ≡ Up → RingIn l.shape.slots (taken_by x log.session) session frames (reach_of e u.lane).memory =
+    λ here. subst (RingIn l.shape.slots (taken_by x log.session) session frames) (sym acts.now.reaches) (peer_ring_of e u.lane l acts.finds.rings here) in
+    let there : RingIn l.shape.slots (taken_by (mine_now answer x) (after_answer l.shape.slots turns answer log).session) session frames left.peer =
+    peer_stands (role_at e) l.shape.slots (memory_pages shape.slots) x y log.session turns log session frames (net_end e u.lane) (seen_at e u.lane) (memory_of e u.lane) (reach_of e u.lane) answer left
+    (seen_state e u.lane) refl (omega (arith, some_slots, shape_slots)) (λ opened. before.none (acts_shut shape e u t l answer left acts opened)) busy.busy
+    (λ here other. subst (λ (n : ℕ). TakesOf answer (net_end e u.lane) (reach_of e u.lane) n (memory_pages shape.slots) (taken_in log.session) session) shape_slots
+    (takes_of shape e u l answer left session acts.finds refl acts.step))
+    acts.step held theirs in
+    subst (λ (n : ChannelState). RingIn l.shape.slots (taken_by n (log_of_end e (after l (OnLane (Steps e answer)))).session) (net_end (peer_of e) t.lane).session (net_end (peer_of e) t.lane).frames
+    (memory_of (peer_of e) t.lane)) (sym mine)
+    (subst (λ (z : EndLog). RingIn l.shape.slots (taken_by (mine_now answer x) z.session) (net_end (peer_of e) t.lane).session (net_end (peer_of e) t.lane).frames (memory_of (peer_of e) t.lane))
+    (sym (log_now e l answer).mine)
+    (subst (λ (z : NetEndState). RingIn l.shape.slots (taken_by (mine_now answer x) (after_answer l.shape.slots turns answer log).session) z.session z.frames (memory_of (peer_of e) t.lane))
+    (sym acts.now.peer_end)
+    (subst (RingIn l.shape.slots (taken_by (mine_now answer x) (after_answer l.shape.slots turns answer log).session) session frames) (sym acts.now.peer_memory) there)))
+
+pub steps_rings : (shape : NetShape) (e : End) (u t : PortState) (l : PortLog) (answer : NetAnswer) → Finds shape u l → EndSteps e u.lane answer t.lane
+    → PortCounts shape t (after l (OnLane (Steps e answer))) → PortTalks shape (lane_core t.lane) (after l (OnLane (Steps e answer))) → Rings t.lane (after l (OnLane (Steps e answer)))
+steps_rings shape e u t l answer finds step counts talks =
+    let acts : Acts shape e u t l answer step.left = record { finds = finds; step = step.step; now = step_now e u.lane t.lane answer step; counts = counts; talks = talks } in
+    together e t.lane (after l (OnLane (Steps e answer))) (acts_spoke shape e u t l answer step.left acts) (peer_spoke shape e u t l answer step.left acts)
+    (acts_ring shape e u t l answer step.left acts) (acts_peer_ring shape e u t l answer step.left acts)

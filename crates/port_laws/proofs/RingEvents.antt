@@ -1,0 +1,301 @@
+-- What each step of an end leaves of the rings and of what its log says, in plain fields: the end that acts, and its peer.
+use Rattle.std.proofs.Common.{◌≡◌, ◌≢◌, ℕ, ◌+◌, ◌≤◌, Bool, true, false, Option, Some, None, List, [], ◌∷◌, length, refl, sym, ap, ◌∙◌, subst}
+use Rattle.std.specs.Prelude.{⊤}
+use Rattle.cookie_copy.specs.Faults.{is_up}
+use Rattle.cookie_copy.specs.Reach.{Reach}
+use Rattle.ldc_link.specs.declared.phase.Role.{Role}
+use Rattle.ldc_queue.specs.declared.end.ChannelState.{ChannelState}
+use Rattle.ldc_queue.specs.declared.end.ChannelState.TheVariants.{Down, Resetting, Up}
+use Rattle.ldc_queue.specs.declared.end.End.{End}
+use Rattle.ldc_queue.specs.declared.end.End.TheVariants.{A, B}
+use Rattle.ldc_queue.specs.Transcript.{Heard, Said, Turn}
+use Rattle.ldc_queue.specs.Wire.{peer_behind, peer_of, state_of}
+use Rattle.channel_model.specs.Messages.{ended_by, opening_sid}
+use Rattle.channel_model.specs.Sayings.{half_heard, half_said, heard}
+use Rattle.channel_model.specs.Seeing.{Seen}
+use Rattle.channel_model.specs.TranscriptLog.{TranscriptLog, transcript_of}
+use Rattle.port_model.proofs.Refuting.{false_true}
+use Rattle.port_model.proofs.Ruling.{says_of}
+use Rattle.port_model.specs.EndLog.{EndLog, SessionLog, change, heard_in, heard_kind, hears_log, more_published, more_taken as one_taken, opens_log, said_in, said_kind, says_log}
+use Rattle.port_model.specs.NetEndRule.{Fetches, Idles, Publishes, Takes, port_rule}
+use Rattle.port_model.specs.NetEndState.{NetEndState, NetSession}
+use Rattle.port_model.specs.NetEndStep.{Blocked, Frame, Idle, Joined, NetAnswer, NetEndStep, NetLeft, Published, Reset, Sent, Took}
+use Rattle.port_model.specs.NetEvent.{Steps, on_wire}
+use Rattle.port_model.specs.NetLaneState.{NetLaneState}
+use Rattle.port_model.specs.NetLaneStep.{net_wire}
+use Rattle.port_model.specs.PortLog.{after_answer, spoken_on}
+use Rattle.port_model.specs.Spoken.{GroupsAck, GroupsInfo, Other, RangeAck, RangeInfo, Spoken, spoken}
+use Rattle.port_laws.specs.RingStands.{RingIn, taken_by, taken_in}
+use Rattle.port_laws.proofs.PeerOpens.{row}
+use Rattle.port_laws.proofs.RingSteps.{Owns, TakesOf, more_taken, opens_by, own_ring, peer_ring}
+use Rattle.port_laws.proofs.SessionsHeard.{Spoke, SpokeIn, frame_spoke, published_spoke, sent_opens, sent_spoke, took_opens, took_spoke}
+use Rattle.port_laws.proofs.StepCounts.{holds_up}
+
+-- BOTH CHANNEL ENDS and what was said, after an answer
+abbrev pub mine_now : NetAnswer → ChannelState → ChannelState
+mine_now (Joined lost) x = Up
+mine_now (Reset cause packet lost) x = Up
+mine_now _ x = x
+
+abbrev pub theirs_now : NetAnswer → ChannelState → ChannelState → ChannelState
+theirs_now (Joined lost) x y = peer_behind x y
+theirs_now (Reset cause packet lost) x y = peer_behind x y
+theirs_now _ x y = y
+
+pub record WireNow (e : End) (u : NetLaneState) (answer : NetAnswer) : Type 0 where
+  pub mine : state_of e (net_wire (Steps e answer) u).wire ≡ mine_now answer (state_of e u.wire.wire)
+  pub theirs : state_of (peer_of e) (net_wire (Steps e answer) u).wire ≡ theirs_now answer (state_of e u.wire.wire) (state_of (peer_of e) u.wire.wire)
+
+pub wire_now : (e : End) (u : NetLaneState) (answer : NetAnswer) → WireNow e u answer
+wire_now A u (Joined lost) = record { mine = refl; theirs = refl }
+wire_now A u (Took packet opens) = record { mine = refl; theirs = refl }
+wire_now A u (Sent packet opens) = record { mine = refl; theirs = refl }
+wire_now A u Blocked = record { mine = refl; theirs = refl }
+wire_now A u Idle = record { mine = refl; theirs = refl }
+wire_now A u (Published id) = record { mine = refl; theirs = refl }
+wire_now A u (Frame frame) = record { mine = refl; theirs = refl }
+wire_now A u (Reset cause packet lost) = record { mine = refl; theirs = refl }
+wire_now B u (Joined lost) = record { mine = refl; theirs = refl }
+wire_now B u (Took packet opens) = record { mine = refl; theirs = refl }
+wire_now B u (Sent packet opens) = record { mine = refl; theirs = refl }
+wire_now B u Blocked = record { mine = refl; theirs = refl }
+wire_now B u Idle = record { mine = refl; theirs = refl }
+wire_now B u (Published id) = record { mine = refl; theirs = refl }
+wire_now B u (Frame frame) = record { mine = refl; theirs = refl }
+wire_now B u (Reset cause packet lost) = record { mine = refl; theirs = refl }
+
+abbrev pub turns_now : NetAnswer → List Turn → List Turn
+turns_now (Joined lost) turns = []
+turns_now (Reset cause packet lost) turns = []
+turns_now (Took packet opens) turns = Heard packet ∷ turns
+turns_now (Sent packet opens) turns = Said packet ∷ turns
+turns_now _ turns = turns
+
+pub record TurnsNow (e : End) (l : TranscriptLog) (answer : NetAnswer) : Type 0 where
+  pub mine : transcript_of e (spoken_on l (on_wire (Steps e answer))) ≡ turns_now answer (transcript_of e l)
+  pub theirs : transcript_of (peer_of e) (spoken_on l (on_wire (Steps e answer))) ≡ transcript_of (peer_of e) l
+
+pub turns_at : (e : End) (l : TranscriptLog) (answer : NetAnswer) → TurnsNow e l answer
+turns_at A l (Joined lost) = record { mine = refl; theirs = refl }
+turns_at A l (Took packet opens) = record { mine = refl; theirs = refl }
+turns_at A l (Sent packet opens) = record { mine = refl; theirs = refl }
+turns_at A l Blocked = record { mine = refl; theirs = refl }
+turns_at A l Idle = record { mine = refl; theirs = refl }
+turns_at A l (Published id) = record { mine = refl; theirs = refl }
+turns_at A l (Frame frame) = record { mine = refl; theirs = refl }
+turns_at A l (Reset cause packet lost) = record { mine = refl; theirs = refl }
+turns_at B l (Joined lost) = record { mine = refl; theirs = refl }
+turns_at B l (Took packet opens) = record { mine = refl; theirs = refl }
+turns_at B l (Sent packet opens) = record { mine = refl; theirs = refl }
+turns_at B l Blocked = record { mine = refl; theirs = refl }
+turns_at B l Idle = record { mine = refl; theirs = refl }
+turns_at B l (Published id) = record { mine = refl; theirs = refl }
+turns_at B l (Frame frame) = record { mine = refl; theirs = refl }
+turns_at B l (Reset cause packet lost) = record { mine = refl; theirs = refl }
+
+pub up_is : (x : ChannelState) → is_up x ≡ true → x ≡ Up
+up_is Up is = refl
+up_is Down is = false_true is
+up_is Resetting is = false_true is
+
+-- AN END THAT ACTS is up, but where it joins
+pub acts_up : (role : Role) (s : NetEndState) (at : Seen) (memory : List ℕ) (reach : Reach) (answer : NetAnswer) (left : NetLeft) → NetEndStep role s at memory reach answer left
+    → (x : ChannelState) → at.state ≡ x → mine_now answer x ≡ x → x ≡ Up
+acts_up role s at memory reach (Joined lost) left step x is now = sym now
+acts_up role s at memory reach (Reset cause packet lost) left step x is now = sym now
+acts_up role s at memory reach (Took packet opens) left step x is now = up_is x (sym (ap is_up is) ∙ (says_of role s at (Takes packet) step.0).0.up)
+acts_up role s at memory reach (Sent packet opens) left step x is now = up_is x (sym (ap is_up is) ∙ holds_up role s at reach (port_rule role s at) step.held refl step.holds)
+acts_up role s at memory reach Blocked left step x is now = up_is x (sym (ap is_up is) ∙ holds_up role s at reach (port_rule role s at) left.end refl step.0)
+acts_up role s at memory reach Idle left step x is now = up_is x (sym (ap is_up is) ∙ (says_of role s at Idles step.0).0.up)
+acts_up role s at memory reach (Published id) left step x is now =
+    up_is x (sym (ap is_up is) ∙ (says_of role s at (Publishes step.session step.frame) step.rule).0.in_session.free.up)
+acts_up role s at memory reach (Frame frame) left step x is now =
+    up_is x (sym (ap is_up is) ∙ (says_of role s at (Fetches step.session step.activity) step.rule).0.free.up)
+
+-- it doesn't begin anew
+abbrev pub Goes : NetAnswer → Type 0
+Goes (Joined lost) = ⊥
+Goes (Reset cause packet lost) = ⊥
+Goes _ = ⊤
+
+-- THE FRAMES THAT IT TOOK in its session, after an answer
+kind_taken : (k : Spoken) (slots : ℕ) (message : List ℕ) (v : SessionLog) → (heard_kind slots k message v).taken ≡ v.taken
+kind_taken RangeInfo slots message v = refl
+kind_taken RangeAck slots message v = refl
+kind_taken GroupsInfo slots message v = refl
+kind_taken GroupsAck slots message v = refl
+kind_taken Other slots message v = refl
+
+heard_taken : (slots : ℕ) (ended : Option (List ℕ)) (log : Option SessionLog) → taken_in (change (heard_in slots ended) log) ≡ taken_in log
+heard_taken slots ended None = refl
+heard_taken slots None (Some v) = refl
+heard_taken slots (Some message) (Some v) = kind_taken (spoken message) slots message v
+
+saying_taken : (k : Spoken) (message : List ℕ) (v : SessionLog) → (said_kind k message v).taken ≡ v.taken
+saying_taken RangeInfo message v = refl
+saying_taken RangeAck message v = refl
+saying_taken GroupsInfo message v = refl
+saying_taken GroupsAck message v = refl
+saying_taken Other message v = refl
+
+said_taken : (ended : Option (List ℕ)) (log : Option SessionLog) → taken_in (change (said_in ended) log) ≡ taken_in log
+said_taken ended None = refl
+said_taken None (Some v) = refl
+said_taken (Some message) (Some v) = saying_taken (spoken message) message v
+
+opened_taken : (opens : Bool) (sid : ℕ) (log : Option SessionLog) (l : EndLog) → (opens ≡ true → log ≡ None) → taken_in l.session ≡ taken_in log → taken_in (opens_log opens sid l).session ≡ taken_in log
+opened_taken true sid log l shut same = sym (ap taken_in (shut refl))
+opened_taken false sid log l shut same = same
+
+abbrev pub Frames : NetAnswer → Option SessionLog → Type 0
+Frames (Frame frame) log = log ≢ None
+Frames _ log = ⊤
+
+frame_taken : (log : Option SessionLog) → log ≢ None → taken_in (change one_taken log) ≡ taken_in log + 1
+frame_taken (Some v) some = refl
+frame_taken None some = absurd (some refl)
+
+published_taken : (log : Option SessionLog) → taken_in (change more_published log) ≡ taken_in log
+published_taken (Some v) = refl
+published_taken None = refl
+
+pub answer_taken : (slots : ℕ) (turns : List Turn) (answer : NetAnswer) (l : EndLog) → (x : ChannelState) → mine_now answer x ≡ x → x ≡ Up → (opens_by answer ≡ true → l.session ≡ None)
+    → Frames answer l.session → Goes answer → taken_in (after_answer slots turns answer l).session ≡ more_taken answer (taken_in l.session)
+answer_taken slots turns (Took packet opens) l x now up shut some goes =
+    opened_taken opens (opening_sid (half_heard turns) packet) l.session (hears_log slots (ended_by (half_heard turns) packet) l) shut (heard_taken slots (ended_by (half_heard turns) packet) l.session)
+answer_taken slots turns (Sent packet opens) l x now up shut some goes =
+    opened_taken opens (opening_sid (half_said turns) packet) l.session (says_log (ended_by (half_said turns) packet) l) shut (said_taken (ended_by (half_said turns) packet) l.session)
+answer_taken slots turns Blocked l x now up shut some goes = refl
+answer_taken slots turns Idle l x now up shut some goes = refl
+answer_taken slots turns (Published id) l x now up shut some goes = published_taken l.session
+answer_taken slots turns (Frame frame) l x now up shut some goes = frame_taken l.session some
+answer_taken slots turns (Joined lost) l x now up shut some goes = absurd goes
+answer_taken slots turns (Reset cause packet lost) l x now up shut some goes = absurd goes
+
+-- THE RING OF THE END THAT ACTS
+pub own_stands : (role : Role) (slots : ℕ) (x y : ChannelState) (log : Option SessionLog) (s : NetEndState) (turns : List Turn) (at : Seen) (memory : List ℕ) (reach : Reach) (answer : NetAnswer)
+    (left : NetLeft) → (x ≡ Up → Owns role s turns memory) → s.slots ≡ slots → (opens_by answer ≡ true → x ≡ Up → taken_by y log ≡ 0) → NetEndStep role s at memory reach answer left
+    → (x ≡ Up → RingIn slots (taken_by y log) s.session s.frames memory) → mine_now answer x ≡ Up
+    → RingIn slots (taken_by (theirs_now answer x y) log) left.end.session left.end.frames left.own
+own_stands role slots x y log s turns at memory reach answer left owns same none step ring = by_answer answer none step
+  where
+    goes : (given : NetAnswer) → (opens_by given ≡ true → x ≡ Up → taken_by y log ≡ 0) → NetEndStep role s at memory reach given left → x ≡ Up
+        → RingIn slots (taken_by y log) left.end.session left.end.frames left.own
+    goes given nothing moves up =
+        subst (λ (n : ℕ). RingIn n (taken_by y log) left.end.session left.end.frames left.own) same
+        (own_ring role (taken_by y log) s turns at memory reach given left (owns up) (λ is. nothing is up) moves
+        (subst (λ (n : ℕ). RingIn n (taken_by y log) s.session s.frames memory) (sym same) (ring up)))
+
+    by_answer : (given : NetAnswer) → (opens_by given ≡ true → x ≡ Up → taken_by y log ≡ 0) → NetEndStep role s at memory reach given left → mine_now given x ≡ Up
+        → RingIn slots (taken_by (theirs_now given x y) log) left.end.session left.end.frames left.own
+    by_answer (Joined lost) nothing moves up = subst (λ (z : NetLeft). RingIn slots (taken_by (peer_behind x y) log) z.end.session z.end.frames z.own) (sym moves.2) tt
+    by_answer (Reset cause packet lost) nothing moves up = subst (λ (z : NetLeft). RingIn slots (taken_by (peer_behind x y) log) z.end.session z.end.frames z.own) (sym moves.2) tt
+    by_answer (Took packet opens) nothing moves up = goes (Took packet opens) nothing moves up
+    by_answer (Sent packet opens) nothing moves up = goes (Sent packet opens) nothing moves up
+    by_answer Blocked nothing moves up = goes Blocked nothing moves up
+    by_answer Idle nothing moves up = goes Idle nothing moves up
+    by_answer (Published id) nothing moves up = goes (Published id) nothing moves up
+    by_answer (Frame frame) nothing moves up = goes (Frame frame) nothing moves up
+
+-- THE RING OF ITS PEER
+pub peer_up : (x y : ChannelState) → peer_behind x y ≡ Up → (x ≢ Up) × (y ≡ Up)
+peer_up Up Up is = absurd (cc is)
+peer_up Up Down is = absurd (cc is)
+peer_up Up Resetting is = absurd (cc is)
+peer_up Down y is = ((λ up. cc up), is)
+peer_up Resetting y is = ((λ up. cc up), is)
+
+pub none_down : (x : ChannelState) (log : Option SessionLog) → x ≢ Up → taken_by x log ≡ 0
+none_down Up log not = absurd (not refl)
+none_down Down log not = refl
+none_down Resetting log not = refl
+
+pub peer_stands : (role : Role) (slots pages : ℕ) (x y : ChannelState) (log : Option SessionLog) (turns : List Turn) (l : EndLog) (session : Option NetSession) (frames : List (List ℕ)) (f : NetEndState)
+    (at : Seen) (memory : List ℕ) (reach : Reach) (answer : NetAnswer) (left : NetLeft) → at.state ≡ x → l.session ≡ log → 1 ≤ slots → (opens_by answer ≡ true → log ≡ None) → Frames answer log
+    → (x ≡ Up → y ≡ Up → TakesOf answer f reach slots pages (taken_in log) session) → NetEndStep role f at memory reach answer left
+    → (y ≡ Up → RingIn slots (taken_by x log) session frames reach.memory) → theirs_now answer x y ≡ Up
+    → RingIn slots (taken_by (mine_now answer x) (after_answer slots turns answer l).session) session frames left.peer
+peer_stands role slots pages x y log turns l session frames f at memory reach answer left state of_log some shut busy takes step ring = by_answer answer shut busy takes step
+  where
+    goes : (given : NetAnswer) → Goes given → mine_now given x ≡ x → (opens_by given ≡ true → log ≡ None) → Frames given log
+        → (x ≡ Up → y ≡ Up → TakesOf given f reach slots pages (taken_in log) session) → NetEndStep role f at memory reach given left → y ≡ Up
+        → RingIn slots (taken_by x (after_answer slots turns given l).session) session frames left.peer
+    goes given on same shut_now busy_now takes_now moves up =
+        let here : x ≡ Up = acts_up role f at memory reach given left moves x state same in
+        let before : RingIn slots (taken_in log) session frames reach.memory =
+        subst (λ (z : ChannelState). RingIn slots (taken_by z log) session frames reach.memory) here (ring up) in
+        let count : taken_in (after_answer slots turns given l).session ≡ more_taken given (taken_in log) =
+        answer_taken slots turns given l x same here (λ is. of_log ∙ shut_now is) (subst (Frames given) (sym of_log) busy_now) on ∙ ap (λ (o : Option SessionLog). more_taken given (taken_in o)) of_log in
+        subst (λ (z : ChannelState). RingIn slots (taken_by z (after_answer slots turns given l).session) session frames left.peer) (sym here)
+        (subst (λ (n : ℕ). RingIn slots n session frames left.peer) (sym count)
+        (peer_ring role slots pages (taken_in log) session frames f at memory reach given left some (takes_now here up) moves before))
+
+    by_answer : (given : NetAnswer) → (opens_by given ≡ true → log ≡ None) → Frames given log → (x ≡ Up → y ≡ Up → TakesOf given f reach slots pages (taken_in log) session)
+        → NetEndStep role f at memory reach given left → theirs_now given x y ≡ Up
+        → RingIn slots (taken_by (mine_now given x) (after_answer slots turns given l).session) session frames left.peer
+    by_answer (Joined lost) shut_now busy_now takes_now moves up =
+        let both = peer_up x y up in
+        subst (λ (z : NetLeft). RingIn slots 0 session frames z.peer) (sym moves.2)
+        (subst (λ (n : ℕ). RingIn slots n session frames reach.memory) (none_down x log both.0) (ring both.1))
+    by_answer (Reset cause packet lost) shut_now busy_now takes_now moves up =
+        let both = peer_up x y up in
+        subst (λ (z : NetLeft). RingIn slots 0 session frames z.peer) (sym moves.2)
+        (subst (λ (n : ℕ). RingIn slots n session frames reach.memory) (none_down x log both.0) (ring both.1))
+    by_answer (Took packet opens) shut_now busy_now takes_now moves up = goes (Took packet opens) tt refl shut_now busy_now takes_now moves up
+    by_answer (Sent packet opens) shut_now busy_now takes_now moves up = goes (Sent packet opens) tt refl shut_now busy_now takes_now moves up
+    by_answer Blocked shut_now busy_now takes_now moves up = goes Blocked tt refl shut_now busy_now takes_now moves up
+    by_answer Idle shut_now busy_now takes_now moves up = goes Idle tt refl shut_now busy_now takes_now moves up
+    by_answer (Published id) shut_now busy_now takes_now moves up = goes (Published id) tt refl shut_now busy_now takes_now moves up
+    by_answer (Frame frame) shut_now busy_now takes_now moves up = goes (Frame frame) tt refl shut_now busy_now takes_now moves up
+
+-- WHAT THE LOG SAYS of the end that acts
+pub record Turned (role : Role) (turns now : List Turn) (log behind : Option SessionLog) : Type 0 where
+  pub few : log ≡ None → length (row role turns) ≤ 5
+  pub six : log ≢ None → 6 ≤ length (heard turns)
+  pub many : behind ≢ None → 6 ≤ length (row role now)
+
+abbrev pub Active : NetAnswer → Option SessionLog → Type 0
+Active (Frame frame) (Some v) = v.asked ≡ v.acks + 1
+Active _ log = ⊤
+
+some_not : {X : Type 0} (x : X) → Some x ≢ None
+some_not {X} x is = cc is
+
+took_case : (role : Role) (slots : ℕ) (turns : List Turn) (packet : List ℕ) (opens : Bool) (log : Option SessionLog) (l : EndLog) → l.session ≡ log → (opens ≡ true → log ≡ None)
+    → Turned role turns (Heard packet ∷ turns) log (after_answer slots turns (Took packet opens) l).session → SpokeIn role turns log
+    → SpokeIn role (Heard packet ∷ turns) (after_answer slots turns (Took packet opens) l).session
+took_case role slots turns packet true log l is shut turned spoke =
+    took_opens role turns packet (turned.few (shut refl)) (turned.many (some_not _))
+took_case role slots turns packet false None l is shut turned spoke =
+    subst (λ (o : Option SessionLog). SpokeIn role (Heard packet ∷ turns) (change (heard_in slots (ended_by (half_heard turns) packet)) o)) (sym is) tt
+took_case role slots turns packet false (Some v) l is shut turned spoke =
+    subst (λ (o : Option SessionLog). SpokeIn role (Heard packet ∷ turns) (change (heard_in slots (ended_by (half_heard turns) packet)) o)) (sym is)
+    (took_spoke role slots turns packet v spoke (turned.six (some_not v)))
+
+sent_case : (role : Role) (slots : ℕ) (turns : List Turn) (packet : List ℕ) (opens : Bool) (log : Option SessionLog) (l : EndLog) → l.session ≡ log → (opens ≡ true → log ≡ None)
+    → Turned role turns (Said packet ∷ turns) log (after_answer slots turns (Sent packet opens) l).session → SpokeIn role turns log
+    → SpokeIn role (Said packet ∷ turns) (after_answer slots turns (Sent packet opens) l).session
+sent_case role slots turns packet true log l is shut turned spoke =
+    sent_opens role turns packet (turned.few (shut refl)) (turned.many (some_not _))
+sent_case role slots turns packet false None l is shut turned spoke =
+    subst (λ (o : Option SessionLog). SpokeIn role (Said packet ∷ turns) (change (said_in (ended_by (half_said turns) packet)) o)) (sym is) tt
+sent_case role slots turns packet false (Some v) l is shut turned spoke =
+    subst (λ (o : Option SessionLog). SpokeIn role (Said packet ∷ turns) (change (said_in (ended_by (half_said turns) packet)) o)) (sym is) (sent_spoke role turns packet v spoke)
+
+work_case : (role : Role) (turns : List Turn) (f : SessionLog → SessionLog) (log : Option SessionLog) → ((v : SessionLog) → log ≡ Some v → Spoke role turns v → Spoke role turns (f v)) → SpokeIn role turns log
+    → SpokeIn role turns (change f log)
+work_case role turns f None means spoke = tt
+work_case role turns f (Some v) means spoke = means v refl spoke
+
+pub spoke_after : (role : Role) (slots : ℕ) (turns : List Turn) (answer : NetAnswer) (l : EndLog) → (opens_by answer ≡ true → l.session ≡ None) → Active answer l.session
+    → (Goes answer → Turned role turns (turns_now answer turns) l.session (after_answer slots turns answer l).session) → SpokeIn role turns l.session
+    → SpokeIn role (turns_now answer turns) (after_answer slots turns answer l).session
+spoke_after role slots turns (Joined lost) l shut active turned spoke = tt
+spoke_after role slots turns (Reset cause packet lost) l shut active turned spoke = tt
+spoke_after role slots turns (Took packet opens) l shut active turned spoke = took_case role slots turns packet opens l.session l refl shut (turned tt) spoke
+spoke_after role slots turns (Sent packet opens) l shut active turned spoke = sent_case role slots turns packet opens l.session l refl shut (turned tt) spoke
+spoke_after role slots turns Blocked l shut active turned spoke = spoke
+spoke_after role slots turns Idle l shut active turned spoke = spoke
+spoke_after role slots turns (Published id) l shut active turned spoke = work_case role turns more_published l.session (λ v is had. published_spoke role turns v had) spoke
+spoke_after role slots turns (Frame frame) l shut active turned spoke =
+    work_case role turns one_taken l.session (λ v is had. frame_spoke role turns v (subst (Active (Frame frame)) is active) had) spoke

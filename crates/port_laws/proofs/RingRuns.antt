@@ -1,0 +1,263 @@
+-- Along every run of a port that nobody forged the ring of each end holds its frames.
+use Rattle.std.proofs.Common.{◌≡◌, ℕ, Bool, true, false, Option, Some, None, List, [], ◌∷◌, ◌++◌, refl, sym, ap, ◌∙◌, subst}
+use Rattle.std.specs.Prelude.{⊤}
+use Rattle.ldc_link.specs.declared.phase.Role.TheVariants.{Initiator}
+use Rattle.ldc_queue.specs.declared.end.ChannelState.{ChannelState}
+use Rattle.ldc_queue.specs.declared.end.ChannelState.TheVariants.{Up}
+use Rattle.ldc_queue.specs.declared.end.End.{End}
+use Rattle.ldc_queue.specs.declared.end.End.TheVariants.{A, B}
+use Rattle.ldc_queue.specs.Wire.{peer_behind}
+use Rattle.runs.specs.Lawful.{log_of, run_lawful}
+use Rattle.runs.specs.Run.{Run}
+use Rattle.channel_model.specs.WireLog.{WireLog}
+use Rattle.channel_laws.specs.LaneCore.{LaneCore}
+use Rattle.port_model.proofs.Refuting.{true_false}
+use Rattle.port_model.specs.EndLog.{SessionLog}
+use Rattle.port_model.specs.NetEndState.{NetEndState, NetSession}
+use Rattle.port_model.specs.NetEndStep.{Already, BadLength, Blocked, Frame, Full, Given, GroupsFull, Idle, Joined, Joining, Member, NetGives, NetJoins, Published, Queued, Reset, Sent, Took, untold}
+use Rattle.port_model.specs.NetEvent.{Asked, CalmTick, Declines, Gives, Injects, Joins, Loses, NetEvent, Pokes, Steps, Ticked, on_wire}
+use Rattle.port_model.specs.NetLaneState.{IsNetShape, NetLaneState, NetShape}
+use Rattle.port_model.specs.NetLaneStep.{NetLaneStep, Resets, moved_on}
+use Rattle.port_model.specs.PortLog.{PortLog, after, after_given, no_events}
+use Rattle.port_model.specs.PortState.{OfQueue, OnLane, PortEvent, PortState, PortStep, Receives, before, fresh_port, moves_first, takes_more}
+use Rattle.port_laws.specs.NetCore.{lane_core}
+use Rattle.port_laws.specs.RingStands.{RingIn, RingStands, taken_by}
+use Rattle.port_laws.proofs.LogsStand.{LogsStand, TablesStand, logs_event, logs_received, tables_event}
+use Rattle.port_laws.proofs.MemoryRoom.{before_room, room_behind}
+use Rattle.port_laws.proofs.PortCounts.{PortCounts, before_queue, counts_step, port_counts, ready_before}
+use Rattle.port_laws.proofs.PortRuns.{before_core}
+use Rattle.port_laws.proofs.PortTalks.{PortTalks, port_talks}
+use Rattle.port_laws.proofs.RingActs.{Finds, Rings, steps_rings}
+use Rattle.port_laws.proofs.RingEvents.{none_down, peer_up}
+use Rattle.port_laws.proofs.RingMoves.{ring_given}
+use Rattle.port_laws.proofs.SessionsHeard.{SpokeIn}
+
+-- A FRAME THAT MOVES from the queue is held last
+more_frames : (slots taken : ℕ) (session : Option NetSession) (frames more : List (List ℕ)) (memory : List ℕ) → RingIn slots taken session frames memory → RingIn slots taken session (frames ++ more) memory
+more_frames slots taken None frames more memory ring = tt
+more_frames slots taken (Some p) frames more memory ring = ring_given slots p.seen taken p.published frames more memory ring
+
+moves_rings : (b : Bool) (queue : List (List ℕ)) (s : PortState) (l : PortLog) → Rings s.lane l → Rings (moves_first b queue s).lane l
+moves_rings true [] s l rings = rings
+moves_rings true (frame ∷ frames) s l rings = record {
+  guest_spoke = rings.guest_spoke;
+  hub_spoke = rings.hub_spoke;
+  guest_ring = rings.guest_ring;
+  hub_ring = λ up. more_frames l.shape.slots (taken_by s.lane.wire.wire.end_a l.guest.session) s.lane.hub.session s.lane.hub.frames (frame ∷ []) s.lane.hub_memory (rings.hub_ring up);
+}
+moves_rings false queue s l rings = rings
+
+before_rings : (event : NetEvent) (s : PortState) (l : PortLog) → Rings s.lane l → Rings (before event s).lane l
+before_rings (Steps B answer) s l rings = moves_rings (takes_more s.lane.hub) s.queue s l rings
+before_rings (Steps A answer) s l rings = rings
+before_rings (Asked e lost) s l rings = rings
+before_rings (Ticked queued lost) s l rings = rings
+before_rings (CalmTick queued) s l rings = rings
+before_rings (Gives e given) s l rings = rings
+before_rings (Joins joining) s l rings = rings
+before_rings (Loses e packet) s l rings = rings
+before_rings (Injects e packet) s l rings = rings
+before_rings (Pokes e at bytes) s l rings = rings
+before_rings (Declines d) s l rings = rings
+
+moves_tables : (b : Bool) (queue : List (List ℕ)) (shape : NetShape) (s : PortState) → TablesStand shape s.lane → TablesStand shape (moves_first b queue s).lane
+moves_tables true [] shape s tables = tables
+moves_tables true (frame ∷ frames) shape s tables = record { guest = tables.guest; hub = tables.hub }
+moves_tables false queue shape s tables = tables
+
+before_tables : (event : NetEvent) (shape : NetShape) (s : PortState) → TablesStand shape s.lane → TablesStand shape (before event s).lane
+before_tables (Steps B answer) shape s tables = moves_tables (takes_more s.lane.hub) s.queue shape s tables
+before_tables (Steps A answer) shape s tables = tables
+before_tables (Asked e lost) shape s tables = tables
+before_tables (Ticked queued lost) shape s tables = tables
+before_tables (CalmTick queued) shape s tables = tables
+before_tables (Gives e given) shape s tables = tables
+before_tables (Joins joining) shape s tables = tables
+before_tables (Loses e packet) shape s tables = tables
+before_tables (Injects e packet) shape s tables = tables
+before_tables (Pokes e at bytes) shape s tables = tables
+before_tables (Declines d) shape s tables = tables
+
+-- WHAT ISN'T A STEP
+begun_ring : (slots : ℕ) (x y : ChannelState) (log : Option SessionLog) (session : Option NetSession) (frames : List (List ℕ)) (memory : List ℕ)
+    → (y ≡ Up → RingIn slots (taken_by x log) session frames memory) → peer_behind x y ≡ Up → RingIn slots 0 session frames memory
+begun_ring slots x y log session frames memory ring up =
+    let both = peer_up x y up in subst (λ (n : ℕ). RingIn slots n session frames memory) (none_down x log both.0) (ring both.1)
+
+asked_rings : (e : End) (u : NetLaneState) (l : PortLog) (lost : ℕ) (t : NetLaneState) → Resets e (Asked e lost) u lost t → Rings u l → Rings t (after l (OnLane (Asked e lost)))
+asked_rings A u l lost t resets rings =
+    subst (λ (x : NetLaneState). Rings x (after l (OnLane (Asked A lost)))) (sym resets.1)
+    (record {
+      guest_spoke = tt;
+      hub_spoke = rings.hub_spoke;
+      guest_ring = λ up. tt;
+      hub_ring = λ up. begun_ring l.shape.slots u.wire.wire.end_a u.wire.wire.end_b l.guest.session u.hub.session u.hub.frames u.hub_memory rings.hub_ring up;
+    })
+asked_rings B u l lost t resets rings =
+    subst (λ (x : NetLaneState). Rings x (after l (OnLane (Asked B lost)))) (sym resets.1)
+    (record {
+      guest_spoke = rings.guest_spoke;
+      hub_spoke = tt;
+      guest_ring = λ up. begun_ring l.shape.slots u.wire.wire.end_b u.wire.wire.end_a l.hub.session u.guest.session u.guest.frames u.guest_memory rings.guest_ring up;
+      hub_ring = λ up. tt;
+    })
+
+ticked_rings : (u : NetLaneState) (l : PortLog) (queued lost : ℕ) (t : NetLaneState) → Resets A (Ticked queued lost) u lost t → Rings u l → Rings t (after l (OnLane (Ticked queued lost)))
+ticked_rings u l queued lost t resets rings =
+    subst (λ (x : NetLaneState). Rings x (after l (OnLane (Ticked queued lost)))) (sym resets.1)
+    (record {
+      guest_spoke = tt;
+      hub_spoke = rings.hub_spoke;
+      guest_ring = λ up. tt;
+      hub_ring = λ up. begun_ring l.shape.slots u.wire.wire.end_a u.wire.wire.end_b l.guest.session u.hub.session u.hub.frames u.hub_memory rings.hub_ring up;
+    })
+
+given_ring : (slots taken : ℕ) (memory : List ℕ) (s : NetEndState) (given : Given) (t : NetEndState) → NetGives s given t → RingIn slots taken s.session s.frames memory
+    → RingIn slots taken t.session t.frames memory
+given_ring slots taken memory s (BadLength frame) t gives ring = subst (λ (x : NetEndState). RingIn slots taken x.session x.frames memory) (sym gives.1) ring
+given_ring slots taken memory s (Full frame) t gives ring = subst (λ (x : NetEndState). RingIn slots taken x.session x.frames memory) (sym gives.2) ring
+given_ring slots taken memory s (Queued id frame) t gives ring =
+    subst (λ (x : NetEndState). RingIn slots taken x.session x.frames memory) (sym gives.4) (more_frames slots taken s.session s.frames (frame ∷ []) memory ring)
+
+untold_ring : (slots taken : ℕ) (session : Option NetSession) (frames : List (List ℕ)) (memory : List ℕ) → RingIn slots taken session frames memory → RingIn slots taken (untold session) frames memory
+untold_ring slots taken None frames memory ring = tt
+untold_ring slots taken (Some p) frames memory ring = ring
+
+joined_ring : (slots taken : ℕ) (memory : List ℕ) (s : NetEndState) (joining : Joining) (t : NetEndState) → NetJoins s joining t → RingIn slots taken s.session s.frames memory
+    → RingIn slots taken t.session t.frames memory
+joined_ring slots taken memory s (Already address) t joins ring = subst (λ (x : NetEndState). RingIn slots taken x.session x.frames memory) (sym joins.1) ring
+joined_ring slots taken memory s (GroupsFull address) t joins ring = subst (λ (x : NetEndState). RingIn slots taken x.session x.frames memory) (sym joins.2) ring
+joined_ring slots taken memory s (Member address) t joins ring =
+    subst (λ (x : NetEndState). RingIn slots taken x.session x.frames memory) (sym joins.3) (untold_ring slots taken s.session s.frames memory ring)
+
+-- AN EVENT, where nobody forged
+lane_rings : (shape : NetShape) (u t : PortState) (l : PortLog) (event : NetEvent) → OfQueue u event → Finds shape u l → NetLaneStep u.lane event t.lane → (moved_on l.wire (on_wire event)).forged ≡ false
+    → PortCounts shape t (after l (OnLane event)) → PortTalks shape (lane_core t.lane) (after l (OnLane event)) → Rings t.lane (after l (OnLane event))
+lane_rings shape u t l (Steps e answer) of_queue finds step clean counts talks = steps_rings shape e u t l answer finds step counts talks
+lane_rings shape u t l (Asked e lost) of_queue finds step clean counts talks = asked_rings e u.lane l lost t.lane step finds.rings
+lane_rings shape u t l (Ticked queued lost) of_queue finds step clean counts talks = ticked_rings u.lane l queued lost t.lane step.1 finds.rings
+lane_rings shape u t l (CalmTick queued) of_queue finds step clean counts talks =
+    subst (λ (x : NetLaneState). Rings x (after l (OnLane (CalmTick queued)))) (sym step.1)
+    (record { guest_spoke = finds.rings.guest_spoke; hub_spoke = finds.rings.hub_spoke; guest_ring = finds.rings.guest_ring; hub_ring = finds.rings.hub_ring })
+lane_rings shape u t l (Gives A given) of_queue finds step clean counts talks =
+    subst (λ (x : NetLaneState). Rings x (after l (OnLane (Gives A given)))) (sym step.1)
+    (record {
+      guest_spoke = given_spoke given;
+      hub_spoke = finds.rings.hub_spoke;
+      guest_ring = λ up. given_ring l.shape.slots (taken_by u.lane.wire.wire.end_b l.hub.session) u.lane.guest_memory u.lane.guest given t.lane.guest step.0 (finds.rings.guest_ring up);
+      hub_ring = λ up. given_other given up;
+    })
+  where
+    given_spoke : (given : Given) → SpokeIn Initiator l.transcript.client (after_given given l.guest).session
+    given_spoke (Queued id frame) = finds.rings.guest_spoke
+    given_spoke (Full frame) = finds.rings.guest_spoke
+    given_spoke (BadLength frame) = finds.rings.guest_spoke
+
+    given_other : (given : Given) → u.lane.wire.wire.end_b ≡ Up
+        → RingIn l.shape.slots (taken_by u.lane.wire.wire.end_a (after_given given l.guest).session) u.lane.hub.session u.lane.hub.frames u.lane.hub_memory
+    given_other (Queued id frame) up = finds.rings.hub_ring up
+    given_other (Full frame) up = finds.rings.hub_ring up
+    given_other (BadLength frame) up = finds.rings.hub_ring up
+lane_rings shape u t l (Gives B given) of_queue finds step clean counts talks = absurd of_queue
+lane_rings shape u t l (Joins joining) of_queue finds step clean counts talks =
+    subst (λ (x : NetLaneState). Rings x (after l (OnLane (Joins joining)))) (sym step.1)
+    (record {
+      guest_spoke = finds.rings.guest_spoke;
+      hub_spoke = finds.rings.hub_spoke;
+      guest_ring = λ up. joined_ring l.shape.slots (taken_by u.lane.wire.wire.end_b l.hub.session) u.lane.guest_memory u.lane.guest joining t.lane.guest step.0 (finds.rings.guest_ring up);
+      hub_ring = finds.rings.hub_ring;
+    })
+lane_rings shape u t l (Loses A packet) of_queue finds step clean counts talks =
+    subst (λ (x : NetLaneState). Rings x (after l (OnLane (Loses A packet)))) (sym step.1)
+    (record { guest_spoke = finds.rings.guest_spoke; hub_spoke = finds.rings.hub_spoke; guest_ring = finds.rings.guest_ring; hub_ring = finds.rings.hub_ring })
+lane_rings shape u t l (Loses B packet) of_queue finds step clean counts talks =
+    subst (λ (x : NetLaneState). Rings x (after l (OnLane (Loses B packet)))) (sym step.1)
+    (record { guest_spoke = finds.rings.guest_spoke; hub_spoke = finds.rings.hub_spoke; guest_ring = finds.rings.guest_ring; hub_ring = finds.rings.hub_ring })
+lane_rings shape u t l (Injects e packet) of_queue finds step clean counts talks = true_false clean
+lane_rings shape u t l (Pokes e at bytes) of_queue finds step clean counts talks = true_false clean
+lane_rings shape u t l (Declines d) of_queue finds step clean counts talks =
+    subst (λ (x : NetLaneState). Rings x (after l (OnLane (Declines d)))) (sym step.1)
+    (record { guest_spoke = finds.rings.guest_spoke; hub_spoke = finds.rings.hub_spoke; guest_ring = finds.rings.guest_ring; hub_ring = finds.rings.hub_ring })
+
+-- nobody had forged before
+was_clean : (w : WireLog) (event : NetEvent) → (moved_on w (on_wire event)).forged ≡ false → w.forged ≡ false
+was_clean w (Steps e (Joined lost)) clean = clean
+was_clean w (Steps e (Took packet opens)) clean = clean
+was_clean w (Steps e (Sent packet opens)) clean = clean
+was_clean w (Steps e Blocked) clean = clean
+was_clean w (Steps e Idle) clean = clean
+was_clean w (Steps e (Published id)) clean = clean
+was_clean w (Steps e (Frame frame)) clean = clean
+was_clean w (Steps e (Reset cause packet lost)) clean = clean
+was_clean w (Asked e lost) clean = clean
+was_clean w (Ticked queued lost) clean = clean
+was_clean w (CalmTick queued) clean = clean
+was_clean w (Gives e given) clean = clean
+was_clean w (Joins joining) clean = clean
+was_clean w (Loses e packet) clean = clean
+was_clean w (Injects e packet) clean = true_false clean
+was_clean w (Pokes e at bytes) clean = true_false clean
+was_clean w (Declines d) clean = clean
+
+-- ALONG EVERY RUN
+pub record Kept (shape : NetShape) (s : PortState) (l : PortLog) : Type 0 where
+  pub counts : PortCounts shape s l
+  pub logs : LogsStand l
+  pub tables : TablesStand shape s.lane
+  pub rings : l.wire.forged ≡ false → Rings s.lane l
+
+-- what an event finds
+pub finds_before : (shape : NetShape) (s : PortState) (l : PortLog) (event : NetEvent) → IsNetShape shape → Kept shape s l → l.wire.forged ≡ false → Finds shape (before event s) l
+finds_before shape s l event is kept clean =
+    let wire : s.lane.wire.forged ≡ false = ap (λ (w : WireLog). w.forged) kept.counts.wire ∙ clean in
+    record {
+      ready = ready_before shape s l event is kept.counts;
+      room = before_room shape.slots event s (room_behind shape kept.counts.events s is kept.counts.run);
+      logs = kept.logs;
+      tables = before_tables event shape s kept.tables;
+      talks = subst (λ (c : LaneCore). PortTalks shape c l) (sym (before_core event s)) (port_talks shape s l is kept.counts wire);
+      rings = before_rings event s l (kept.rings clean);
+    }
+
+kept_step : (shape : NetShape) → IsNetShape shape → (s : PortState) (l : PortLog) (event : PortEvent) (t : PortState) → Kept shape s l → PortStep s event t → Kept shape t (after l event)
+kept_step shape is s l (OnLane event) t kept step =
+    let counts : PortCounts shape t (after l (OnLane event)) = counts_step shape is s l (OnLane event) t kept.counts step in
+    record {
+      counts = counts;
+      logs = logs_event (before event s).lane l event t.lane step.1 kept.logs;
+      tables = tables_event shape (before event s).lane event t.lane step.1 (before_tables event shape s kept.tables);
+      rings = λ clean.
+          let wire : t.lane.wire.forged ≡ false = ap (λ (w : WireLog). w.forged) counts.wire ∙ clean in
+          lane_rings shape (before event s) t l event (before_queue event s step.0) (finds_before shape s l event is kept (was_clean l.wire event clean)) step.1 clean counts
+          (port_talks shape t (after l (OnLane event)) is counts wire);
+    }
+kept_step shape is s l (Receives frame) t kept step =
+    let lane : t.lane ≡ s.lane = ap (λ (x : PortState). x.lane) step.2 in
+    record {
+      counts = counts_step shape is s l (Receives frame) t kept.counts step;
+      logs = logs_received l frame step.0 kept.logs;
+      tables = subst (TablesStand shape) (sym lane) kept.tables;
+      rings = λ clean.
+          let rings = kept.rings clean in
+          subst (λ (x : NetLaneState). Rings x (after l (Receives frame))) (sym lane)
+          (record { guest_spoke = rings.guest_spoke; hub_spoke = rings.hub_spoke; guest_ring = rings.guest_ring; hub_ring = rings.hub_ring });
+    }
+
+fresh_kept : (shape : NetShape) → IsNetShape shape → Kept shape (fresh_port shape) (no_events shape)
+fresh_kept shape is = record {
+  counts = port_counts shape [] (fresh_port shape) is refl;
+  logs = record { guest = record { head = tt; given = λ n frame get. absurd (cc get) }; hub = record { head = tt; given = λ n frame get. absurd (cc get) } };
+  tables = record { guest = refl; hub = refl };
+  rings = λ clean. record { guest_spoke = tt; hub_spoke = tt; guest_ring = λ up. tt; hub_ring = λ up. tt };
+}
+
+pub port_kept : (shape : NetShape) (events : List PortEvent) (s : PortState) → IsNetShape shape → Run PortStep (fresh_port shape) events s → Kept shape s (log_of after (no_events shape) events)
+port_kept shape events s is run =
+    (run_lawful PortStep (λ (l : PortLog) (e : PortEvent). ⊤) after (Kept shape) (λ (x : PortState) (l : PortLog) (e : PortEvent) (y : PortState) kept step. (tt, kept_step shape is x l e y kept step))
+    (fresh_port shape) s (no_events shape) events (fresh_kept shape is) run).1
+
+-- the ring of each end
+pub rings_stand : (shape : NetShape) (events : List PortEvent) (s : PortState) (e : End) → IsNetShape shape → Run PortStep (fresh_port shape) events s
+    → (log_of after (no_events shape) events).wire.forged ≡ false → RingStands e s.lane (log_of after (no_events shape) events)
+rings_stand shape events s A is run clean = ((port_kept shape events s is run).rings clean).guest_ring
+rings_stand shape events s B is run clean = ((port_kept shape events s is run).rings clean).hub_ring

@@ -1,0 +1,256 @@
+-- What each step of an end does to its own ring, and to that of its peer, where nobody meddles.
+use Rattle.std.proofs.Common.{◌≡◌, ℕ, ◌+◌, ◌%◌, ◌≤◌, Bool, true, false, Option, Some, None, List, refl, sym, ap, ◌∙◌, subst, arith}
+use Rattle.std.specs.Prelude.{Result, Ok, Err, slice_get, ⊤}
+use Rattle.std.proofs.lemmas.Option.{slice_get_within}
+use Rattle.ldc_link.specs.declared.phase.Role.{Role}
+use Rattle.ldc_link.specs.declared.phase.Role.TheVariants.{Initiator, Responder}
+use Rattle.ldc_link.specs.LinkState.{LinkState, cleared}
+use Rattle.ldc_link.specs.Putting.{behind_put}
+use Rattle.ldc_link.specs.Taking.{Heard, LinkTake, Unheard}
+use Rattle.ldc_packet.specs.declared.packet.Subtype.{Subtype}
+use Rattle.ldc_queue.specs.Transcript.{Turn}
+use Rattle.vio_handshake.specs.declared.handshake.Handshake.{Handshake}
+use Rattle.vio_handshake.specs.Rules.{Faults, Goes, GoesOpen, HandshakeTake, handshake_take}
+use Rattle.vio_tag.specs.declared.message.Message.{Message}
+use Rattle.vio_tag.specs.declared.message.MsgBody.{MsgBody}
+use Rattle.vio_tag.specs.declared.message.TagFault.{TagFault}
+use Rattle.vnet_msg.specs.Frames.{IsFrame}
+use Rattle.channel_model.specs.EndPuts.{handshake_behind}
+use Rattle.channel_model.specs.Ranges.{range_length}
+use Rattle.channel_model.specs.Seeing.{Seen}
+use Rattle.cookie_copy.specs.Reach.{Reach}
+use Rattle.channel_laws.specs.Standing.{EndStands, is_open_in}
+use Rattle.port_model.proofs.Refuting.{none_some}
+use Rattle.port_model.proofs.Ruling.{says_of}
+use Rattle.port_model.specs.Fetching.{Fetched, IsFrame as IsFetched, NotReady, Refuses, fetched}
+use Rattle.port_model.specs.FramesStand.{CountsStand, FramesStand}
+use Rattle.port_model.specs.Groups.{membership}
+use Rattle.port_model.specs.NetEndPutting.{announcement, answer, answers, cleared_by_put, cleared_ring, groups_answer, holding, holding_own, net_holds, net_kind, net_opens, net_put, opened_by_put}
+use Rattle.port_model.specs.NetEndRule.{Announces, Fetches, Idles, Joins, NetRule, Publishes, Puts, Replies, Says, Takes, Tells, port_rule}
+use Rattle.port_model.specs.NetEndState.{Activity, NetEndState, NetSession, unseen_in}
+use Rattle.port_model.specs.NetEndStep.{Blocked, Frame, Idle, Joined, NetAnswer, NetEndStep, NetLeft, NetSends, Published, Reset, Sent, Took, published, published_memory, taken}
+use Rattle.port_model.specs.NetEndTaking.{GoesOn, HearsLink, HearsWhole, NetTake, NetTakes, Resets, by_handshake, freed, hears_message, opens_by_take, reads, risen}
+use Rattle.port_laws.specs.NetCore.{net_core}
+use Rattle.port_laws.specs.RingHolds.{RingHolds}
+use Rattle.port_laws.specs.RingStands.{RingIn}
+use Rattle.port_laws.proofs.MessageDoes.{Acks, Asks, Declines, MessageDoes, Names, TakeDoes, Told, message_does}
+use Rattle.port_laws.proofs.RemainingEnds.{counts_stand, held_plain}
+use Rattle.port_laws.proofs.RingFetches.{Reaches, ring_fetched}
+use Rattle.port_laws.proofs.RingMoves.{Fits, ring_acked, ring_cleared, ring_published}
+use Rattle.port_laws.proofs.TookCounts.{risen_up, session_open, session_up}
+
+of_some : {X : Type 0} (P : X → Type 0) (x y : X) → Some x ≡ Some y → P x → P y
+of_some {X} P x y same holds = let is : x ≡ y = cc in subst P is holds
+
+-- the ring of an open session
+ring_of : (slots taken : ℕ) (session : Option NetSession) (p : NetSession) (frames : List (List ℕ)) (memory : List ℕ) → session ≡ Some p → RingIn slots taken session frames memory
+    → RingHolds slots p.seen taken p.published frames memory
+ring_of slots taken session p frames memory is ring = subst (λ (x : Option NetSession). RingIn slots taken x frames memory) is ring
+
+-- IT HOLDS A MESSAGE: nothing is published or acknowledged by that
+abbrev Same : ℕ → ℕ → List ℕ → NetEndState → NetEndState → Type 0
+Same slots taken memory s held = RingIn slots taken s.session s.frames memory → RingIn slots taken held.session held.frames memory
+
+held_own : (slots taken : ℕ) (memory : List ℕ) (s held : NetEndState) (message : Message) (p q : NetSession) → s.session ≡ Some p → q.seen ≡ p.seen → q.published ≡ p.published
+    → Some (holding_own message q s) ≡ Some held → Same slots taken memory s held
+held_own slots taken memory s held message p q is seen published same =
+    of_some (Same slots taken memory s) (holding_own message q s) held same
+    (λ ring. let here = ring_of slots taken s.session p s.frames memory is ring in
+    subst (λ (n : ℕ). RingHolds slots n taken q.published s.frames memory) (sym seen) (subst (λ (n : ℕ). RingHolds slots p.seen taken n s.frames memory) (sym published) here))
+
+slot_held : (slots taken : ℕ) (memory : List ℕ) (s held : NetEndState) (p : NetSession) (activity : Activity) (last : Option ℕ) (found : Fetched) → s.session ≡ Some p
+    → answers s p activity last found ≡ Some held → Same slots taken memory s held
+slot_held slots taken memory s held p activity (Some last) (NotReady state) is same =
+    held_own slots taken memory s held (answer s activity last) p (record p { active = None }) is refl refl same
+slot_held slots taken memory s held p activity (Some last) (IsFetched frame new) is same = none_some held same
+slot_held slots taken memory s held p activity (Some last) (Refuses why) is same = none_some held same
+slot_held slots taken memory s held p activity None found is same = none_some held same
+
+pub held_ring : (role : Role) (slots taken : ℕ) (memory : List ℕ) (s : NetEndState) (at : Seen) (reach : Reach) (rule : NetRule) (held : NetEndState) → port_rule role s at ≡ rule
+    → net_holds rule s reach ≡ Some held → Same slots taken memory s held
+held_ring role slots taken memory s at reach Puts held is same = of_some (Same slots taken memory s) s held same (λ ring. ring)
+held_ring role slots taken memory s at reach (Says message) held is same = of_some (Same slots taken memory s) (holding message s) held same (λ ring. ring)
+held_ring role slots taken memory s at reach (Replies p reply) held is same =
+    held_own slots taken memory s held (groups_answer s reply) p (record p { reply = None }) (says_of role s at (Replies p reply) is).0.session refl refl same
+held_ring role slots taken memory s at reach (Fetches p activity) held is same =
+    slot_held slots taken memory s held p activity activity.last (fetched s reach p.place) (says_of role s at (Fetches p activity) is).0.session same
+held_ring role slots taken memory s at reach (Tells p) held is same =
+    held_own slots taken memory s held (membership s.handshake.draft.sid s.groups) p (record p { untold = false; telling = true }) (says_of role s at (Tells p) is).0.in_session.session refl refl same
+held_ring role slots taken memory s at reach (Announces p) held is same =
+    held_own slots taken memory s held (announcement s p) p (record p { infos = p.infos + 1; asking = true }) (says_of role s at (Announces p) is).0.in_session.session refl refl same
+held_ring role slots taken memory s at reach Joins held is same = none_some held same
+held_ring role slots taken memory s at reach (Takes packet) held is same = none_some held same
+held_ring role slots taken memory s at reach (Publishes p frame) held is same = none_some held same
+held_ring role slots taken memory s at reach Idles held is same = none_some held same
+
+-- A SESSION OPENS with a ring that is cleared
+opened_ring : (slots taken : ℕ) (frames : List (List ℕ)) (memory : List ℕ) → taken ≡ 0 → RingHolds slots 0 taken 0 frames (cleared_ring slots memory)
+opened_ring slots taken frames memory none = subst (λ (n : ℕ). RingHolds slots 0 n 0 frames (cleared_ring slots memory)) (sym none) (ring_cleared slots frames memory)
+
+put_ring : (role : Role) (opens : Bool) (taken : ℕ) (memory : List ℕ) (s : NetEndState) → (opens ≡ true → taken ≡ 0) → RingIn s.slots taken s.session s.frames memory
+    → RingIn s.slots taken (opened_by_put role opens s).session (opened_by_put role opens s).frames (cleared_by_put role opens s.slots memory)
+put_ring Initiator true taken memory s none ring = opened_ring s.slots taken s.frames memory (none refl)
+put_ring Initiator false taken memory s none ring = ring
+put_ring Responder opens taken memory s none ring = ring
+
+-- IT TAKES A PACKET
+abbrev RingTake : ℕ → List ℕ → NetEndState → NetTake → Type 0
+RingTake taken memory s (GoesOn t opens new) = (opens ≡ true → taken ≡ 0) → RingIn s.slots taken s.session s.frames memory → RingIn s.slots taken t.session t.frames new
+RingTake taken memory s (Resets cause) = ⊤
+
+does_ring : (role : Role) (taken : ℕ) (memory : List ℕ) (s : NetEndState) (p : NetSession) (subtype : Subtype) (b : MsgBody) (t : NetEndState) (new : List ℕ) → s.session ≡ Some p → Fits s.slots memory
+    → MessageDoes role s p memory subtype b t new → RingIn s.slots taken s.session s.frames memory → RingIn s.slots taken t.session t.frames new
+does_ring role taken memory s p subtype b t new session fits (Asks seq ident start end state kind body place stays is) ring =
+    subst (RingIn s.slots taken t.session t.frames) (sym stays)
+    (subst (λ (x : NetEndState). RingIn s.slots taken x.session x.frames memory) (sym is) (ring_of s.slots taken s.session p s.frames memory session ring))
+does_ring role taken memory s p subtype b t new session fits (Acks seq ident start end state kind body begins inside within done freed_is is) ring =
+    let count = range_length s.slots start end in
+    subst (RingIn s.slots taken t.session t.frames) (sym freed_is)
+    (subst (λ (x : NetEndState). RingIn s.slots taken x.session x.frames (freed s.slots p.seen count memory)) (sym is)
+    (ring_acked s.slots p.seen taken p.published count s.frames memory fits (ring_of s.slots taken s.session p s.frames memory session ring) within done))
+does_ring role taken memory s p subtype b t new session fits (Names set count addresses groups reply answer hub kind body stays is) ring =
+    subst (RingIn s.slots taken t.session t.frames) (sym stays)
+    (subst (λ (x : NetEndState). RingIn s.slots taken x.session x.frames memory) (sym is) (ring_of s.slots taken s.session p s.frames memory session ring))
+does_ring role taken memory s p subtype b t new session fits (Told set count addresses guest kind body telling stays is) ring =
+    subst (RingIn s.slots taken t.session t.frames) (sym stays)
+    (subst (λ (x : NetEndState). RingIn s.slots taken x.session x.frames memory) (sym is) (ring_of s.slots taken s.session p s.frames memory session ring))
+does_ring role taken memory s p subtype b t new session fits (Declines h declined stays is) ring =
+    subst (RingIn s.slots taken t.session t.frames) (sym stays) (subst (λ (x : NetEndState). RingIn s.slots taken x.session x.frames memory) (sym is) ring)
+
+take_ring : (role : Role) (taken : ℕ) (memory : List ℕ) (s : NetEndState) (p : NetSession) (subtype : Subtype) (b : MsgBody) (take : NetTake) → s.session ≡ Some p → Fits s.slots memory
+    → TakeDoes role s p memory subtype b take → RingTake taken memory s take
+take_ring role taken memory s p subtype b (GoesOn t opens new) session fits does = λ none ring. does_ring role taken memory s p subtype b t new session fits does.does ring
+take_ring role taken memory s p subtype b (Resets cause) session fits does = tt
+
+opens_ring : (role : Role) (taken : ℕ) (memory : List ℕ) (s : NetEndState) → RingTake taken memory s (opens_by_take role s memory)
+opens_ring Initiator taken memory s = λ none ring. ring
+opens_ring Responder taken memory s = λ none ring. opened_ring s.slots taken s.frames memory (none refl)
+
+handshake_ring : (role : Role) (taken : ℕ) (memory : List ℕ) (s : NetEndState) (take : HandshakeTake) → RingTake taken memory s (by_handshake role s memory take)
+handshake_ring role taken memory s (Goes h) = λ none ring. ring
+handshake_ring role taken memory s (GoesOpen h) = opens_with role (opens_ring role taken memory (record s { handshake = h }))
+  where
+    opens_with : (r : Role) → RingTake taken memory (record s { handshake = h }) (opens_by_take r (record s { handshake = h }) memory)
+        → RingTake taken memory s (opens_by_take r (record s { handshake = h }) memory)
+    opens_with Initiator ring = ring
+    opens_with Responder ring = ring
+handshake_ring role taken memory s (Faults cause) = tt
+
+took_ring : (role : Role) (taken : ℕ) (memory packet : List ℕ) (s t : NetEndState) (turns : List Turn) (opens : Bool) (new : List ℕ) → EndStands role (net_core role s) turns → Fits s.slots memory
+    → NetTakes role s memory packet (GoesOn t opens new) → (opens ≡ true → taken ≡ 0) → RingIn s.slots taken s.session s.frames memory → RingIn s.slots taken t.session t.frames new
+took_ring role taken memory packet s t turns opens new ends fits takes = by_link takes.link takes.hears
+  where
+    seen : LinkState → NetEndState
+    seen k = record s { link = cleared k; handshake = risen role s.link k s.handshake }
+
+    seen_as : (k : LinkState) (take : NetTake) → RingTake taken memory (seen k) take → RingTake taken memory s take
+    seen_as k (GoesOn u opened now) ring = ring
+    seen_as k (Resets cause) ring = tt
+
+    by_session : (k : LinkState) (m : Message) (session : Option NetSession) → s.session ≡ session → RingTake taken memory (seen k) (hears_message role (seen k) memory session m)
+    by_session k m None closed = handshake_ring role taken memory (seen k) (handshake_take (seen k).handshake m)
+    by_session k m (Some p) session =
+        let stays : risen role s.link k s.handshake ≡ s.handshake = risen_up role s.link k s.handshake (session_up role s turns p ends session) in
+        let opened : is_open_in (seen k).handshake.phase ≡ true = ap (λ (h : Handshake). is_open_in h.phase) stays ∙ session_open role s turns p ends session in
+        take_ring role taken memory (seen k) p m.subtype m.body (hears_message role (seen k) memory (Some p) m) session fits (message_does role (seen k) p memory m opened)
+
+    by_decoded : (k : LinkState) (d : Result Message TagFault) → RingTake taken memory s (reads role (seen k) memory d)
+    by_decoded k (Ok m) = seen_as k (hears_message role (seen k) memory s.session m) (by_session k m s.session refl)
+    by_decoded k (Err fault) = tt
+
+    by_whole : (k : LinkState) (whole : Option (List ℕ)) → HearsWhole role (record s { link = k; handshake = risen role s.link k s.handshake }) memory whole (GoesOn t opens new)
+        → RingTake taken memory s (GoesOn t opens new)
+    by_whole k None is = subst (RingTake taken memory s) (sym is) (λ none ring. ring)
+    by_whole k (Some bytes) hears = subst (RingTake taken memory s) (sym hears.2) (by_decoded k hears.0)
+
+    by_link : (link : LinkTake) → HearsLink role s memory link (GoesOn t opens new) → RingTake taken memory s (GoesOn t opens new)
+    by_link (Heard k) hears = by_whole k k.whole hears
+    by_link (Unheard cause) hears = absurd (cc hears)
+
+-- ITS OWN STEP
+abbrev pub opens_by : NetAnswer → Bool
+opens_by (Took packet opens) = opens
+opens_by (Sent packet opens) = opens
+opens_by _ = false
+
+pub record Owns (role : Role) (s : NetEndState) (turns : List Turn) (memory : List ℕ) : Type 0 where
+  pub ends : EndStands role (net_core role s) turns
+  pub stands : FramesStand s
+  pub fits : Fits s.slots memory
+  pub frames : (n : ℕ) (frame : List ℕ) → slice_get s.frames n ≡ Some frame → IsFrame frame
+
+sent_ring : (role : Role) (taken : ℕ) (s : NetEndState) (at : Seen) (memory : List ℕ) (reach : Reach) (packet : List ℕ) (opens : Bool) (left : NetLeft) → (opens ≡ true → taken ≡ 0)
+    → NetSends role s at memory reach packet opens left → RingIn s.slots taken s.session s.frames memory → RingIn s.slots taken left.end.session left.end.frames left.own
+sent_ring role taken s at memory reach packet opens left none step ring =
+    let held : NetEndState = step.held in
+    let slots : held.slots ≡ s.slots = (held_plain s reach (port_rule role s at) held step.holds).0 in
+    let here : RingIn held.slots taken held.session held.frames memory =
+    subst (λ (n : ℕ). RingIn n taken held.session held.frames memory) (sym slots) (held_ring role s.slots taken memory s at reach (port_rule role s at) held refl step.holds ring) in
+    let there = put_ring role (net_opens held) taken memory (record held { link = behind_put held.link; handshake = handshake_behind (net_kind held) held.handshake })
+    (λ is. none (step.opens_is ∙ is)) here in
+    subst (λ (x : NetLeft). RingIn s.slots taken x.end.session x.end.frames x.own) (sym step.is)
+    (subst (λ (n : ℕ). RingIn n taken (net_put role held).session (net_put role held).frames (cleared_by_put role (net_opens held) n memory)) slots there)
+
+published_ring : (role : Role) (taken : ℕ) (s : NetEndState) (turns : List Turn) (at : Seen) (memory : List ℕ) (p : NetSession) (frame : List ℕ) → Owns role s turns memory
+    → port_rule role s at ≡ Publishes p frame → RingIn s.slots taken s.session s.frames memory
+    → RingHolds s.slots p.seen taken (p.published + 1) s.frames (published_memory (p.published % s.slots) frame memory)
+published_ring role taken s turns at memory p frame owns rule ring =
+    let says = says_of role s at (Publishes p frame) rule in
+    let is : s.session ≡ Some p = says.0.in_session.session in
+    let counts : CountsStand s p = counts_stand s p owns.stands is in
+    let within = slice_get_within s.frames (unseen_in p) frame says.1 in
+    let seen = counts.seen in
+    let room = owns.stands.room in
+    ring_published s.slots p.seen taken p.published s.frames frame memory owns.fits (ring_of s.slots taken s.session p s.frames memory is ring) says.1 (owns.frames (unseen_in p) frame says.1)
+    (omega (arith, within, seen, room))
+
+pub own_ring : (role : Role) (taken : ℕ) (s : NetEndState) (turns : List Turn) (at : Seen) (memory : List ℕ) (reach : Reach) (answer : NetAnswer) (left : NetLeft) → Owns role s turns memory
+    → (opens_by answer ≡ true → taken ≡ 0) → NetEndStep role s at memory reach answer left → RingIn s.slots taken s.session s.frames memory
+    → RingIn s.slots taken left.end.session left.end.frames left.own
+own_ring role taken s turns at memory reach (Joined lost) left owns none step ring = subst (λ (x : NetLeft). RingIn s.slots taken x.end.session x.end.frames x.own) (sym step.2) tt
+own_ring role taken s turns at memory reach (Took packet opens) left owns none step ring =
+    took_ring role taken memory packet s left.end turns opens left.own owns.ends owns.fits step.1 none ring
+own_ring role taken s turns at memory reach (Sent packet opens) left owns none step ring = sent_ring role taken s at memory reach packet opens left none step ring
+own_ring role taken s turns at memory reach Blocked left owns none step ring =
+    subst (λ (x : NetLeft). RingIn s.slots taken x.end.session x.end.frames x.own) (sym step.2) (held_ring role s.slots taken memory s at reach (port_rule role s at) left.end refl step.0 ring)
+own_ring role taken s turns at memory reach Idle left owns none step ring = subst (λ (x : NetLeft). RingIn s.slots taken x.end.session x.end.frames x.own) (sym step.1) ring
+own_ring role taken s turns at memory reach (Published id) left owns none step ring =
+    subst (λ (x : NetLeft). RingIn s.slots taken x.end.session x.end.frames x.own) (sym step.is) (published_ring role taken s turns at memory step.session step.frame owns step.rule ring)
+own_ring role taken s turns at memory reach (Frame frame) left owns none step ring =
+    let says = says_of role s at (Fetches step.session step.activity) step.rule in
+    subst (λ (x : NetLeft). RingIn s.slots taken x.end.session x.end.frames x.own) (sym step.is) (ring_of s.slots taken s.session step.session s.frames memory says.0.session ring)
+own_ring role taken s turns at memory reach (Reset cause packet lost) left owns none step ring = subst (λ (x : NetLeft). RingIn s.slots taken x.end.session x.end.frames x.own) (sym step.2) tt
+
+-- A STEP OF THE PEER, which may take a frame of the ring
+abbrev pub more_taken : NetAnswer → ℕ → ℕ
+more_taken (Frame frame) n = n + 1
+more_taken _ n = n
+
+abbrev pub TakesOf : NetAnswer → NetEndState → Reach → (slots pages taken : ℕ) → Option NetSession → Type 0
+TakesOf (Frame frame) f reach slots pages taken None = ⊤
+TakesOf (Frame frame) f reach slots pages taken (Some p) = Reaches f reach slots pages × ((q : NetSession) → f.session ≡ Some q → q.place ≡ taken % slots)
+TakesOf _ f reach slots pages taken session = ⊤
+
+fetched_ring : (role : Role) (slots pages taken : ℕ) (session : Option NetSession) (frames : List (List ℕ)) (f : NetEndState) (at : Seen) (memory : List ℕ) (reach : Reach) (frame : List ℕ)
+    (left : NetLeft) → 1 ≤ slots → TakesOf (Frame frame) f reach slots pages taken session → NetEndStep role f at memory reach (Frame frame) left → RingIn slots taken session frames reach.memory
+    → RingIn slots (taken + 1) session frames left.peer
+fetched_ring role slots pages taken None frames f at memory reach frame left some takes step ring = tt
+fetched_ring role slots pages taken (Some p) frames f at memory reach frame left some takes step ring =
+    let says = says_of role f at (Fetches step.session step.activity) step.rule in
+    let found : fetched f reach (taken % slots) ≡ IsFetched frame step.new = ap (fetched f reach) (sym (takes.1 step.session says.0.session)) ∙ step.found in
+    subst (λ (x : NetLeft). RingHolds slots p.seen (taken + 1) p.published frames x.peer) (sym step.is)
+    (ring_fetched f reach slots pages p.seen taken p.published frames frame step.new takes.0 some ring found).ring
+
+pub peer_ring : (role : Role) (slots pages taken : ℕ) (session : Option NetSession) (frames : List (List ℕ)) (f : NetEndState) (at : Seen) (memory : List ℕ) (reach : Reach) (answer : NetAnswer)
+    (left : NetLeft) → 1 ≤ slots → TakesOf answer f reach slots pages taken session → NetEndStep role f at memory reach answer left → RingIn slots taken session frames reach.memory
+    → RingIn slots (more_taken answer taken) session frames left.peer
+peer_ring role slots pages taken session frames f at memory reach (Frame frame) left some takes step ring =
+    fetched_ring role slots pages taken session frames f at memory reach frame left some takes step ring
+peer_ring role slots pages taken session frames f at memory reach (Joined lost) left some takes step ring = subst (λ (x : NetLeft). RingIn slots taken session frames x.peer) (sym step.2) ring
+peer_ring role slots pages taken session frames f at memory reach (Took packet opens) left some takes step ring = subst (RingIn slots taken session frames) (sym step.2) ring
+peer_ring role slots pages taken session frames f at memory reach (Sent packet opens) left some takes step ring = subst (λ (x : NetLeft). RingIn slots taken session frames x.peer) (sym step.is) ring
+peer_ring role slots pages taken session frames f at memory reach Blocked left some takes step ring = subst (λ (x : NetLeft). RingIn slots taken session frames x.peer) (sym step.2) ring
+peer_ring role slots pages taken session frames f at memory reach Idle left some takes step ring = subst (λ (x : NetLeft). RingIn slots taken session frames x.peer) (sym step.1) ring
+peer_ring role slots pages taken session frames f at memory reach (Published id) left some takes step ring = subst (λ (x : NetLeft). RingIn slots taken session frames x.peer) (sym step.is) ring
+peer_ring role slots pages taken session frames f at memory reach (Reset cause packet lost) left some takes step ring =
+    subst (λ (x : NetLeft). RingIn slots taken session frames x.peer) (sym step.2) ring
