@@ -6,7 +6,7 @@ use Rattle.disk_law.specs.ListStep.{ListEvent, Accepted, Full, Refused, Done}
 use Rattle.disk_law.specs.Requests.{Defect, BadCount, BadRange}
 use Rattle.domain_script.specs.declared.event.Event.{Event}
 use Rattle.domain_script.specs.declared.event.Event.TheVariants as line
-use Rattle.domain_script.specs.declared.event.Lane.TheVariants.{Disk}
+use Rattle.domain_script.specs.LaneKinds.{disk_of}
 use Rattle.ldom_entries.specs.declared.entry.Entry.{Entry}
 use Rattle.ldom_entries.specs.declared.entry.Entry.TheVariants as entry
 use Rattle.ldom_entries.specs.declared.entry.Who.{Who}
@@ -36,8 +36,12 @@ pub data Said : Type 0 where
   NotTaken : (disk : ℕ) (refusal : Refusal) → Said
   Nothing : Said
 
+abbrev pub not_taken_on : Option ℕ → Refusal → Said
+not_taken_on None refusal = Nothing
+not_taken_on (Some disk) refusal = NotTaken disk refusal
+
 abbrev pub not_taken : Who → Refusal → Said
-not_taken (Lane (Disk disk)) refusal = NotTaken disk refusal
+not_taken (Lane lane) refusal = not_taken_on (disk_of lane) refusal
 not_taken (End e) refusal = Nothing
 
 abbrev pub said : Entry → Said

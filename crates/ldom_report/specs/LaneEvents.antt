@@ -8,8 +8,6 @@ use Rattle.channel_model.specs.WireEvent as wire
 use Rattle.disk_model.specs.DiskEvent.{DiskEvent, Asks, Switches, Works}
 use Rattle.disk_model.specs.DiskEvent as disk
 use Rattle.domain_script.specs.declared.event.EndName.{EndName}
-use Rattle.domain_script.specs.declared.event.Lane.{Lane}
-use Rattle.domain_script.specs.declared.event.Lane.TheVariants.{Disk}
 use Rattle.domain_script.specs.declared.event.Side.{Side}
 use Rattle.domain_script.specs.declared.event.Side.TheVariants.{Client, Server}
 use Rattle.ldom_entries.specs.declared.entry.Entry.{Entry}
@@ -21,10 +19,6 @@ use Rattle.ldom_entries.specs.declared.entry.Why.{Why}
 abbrev pub end_of : Side → End
 end_of Client = A
 end_of Server = B
-
--- the number of a lane
-abbrev pub lane_number : Lane → ℕ
-lane_number (Disk k) = k
 
 -- WHAT AN ENTRY MEANS, whatever line it came in: an event on the channel of an end, or of the work of a client or of a
 -- server; an event of a lane; a request that found no room, or was refused; what changes nothing; what a settle leaves

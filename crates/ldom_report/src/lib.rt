@@ -12,7 +12,7 @@ mod stop;
 mod whole_lines;
 
 pub use cookie_copy::CopyFault;
-pub use domain_script::{EndName, Lane, LineFault, Names, Request, Side};
+pub use domain_script::{EndName, Lane, LaneKind, LineFault, Names, Request, Side};
 pub use end_line::{push_cause, write_end};
 pub use ldom_entries::{Bytes, Entries, Entry, EntryRef, KeptRequest, Who, Why};
 pub use ldom_journal::Journal;

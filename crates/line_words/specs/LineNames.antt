@@ -3,7 +3,8 @@ use Rattle.std.specs.Prelude.{ℕ, List, [], ◌++◌, take, slice_get, Option, 
 use Rattle.domain_script.specs.declared.event.DiskDecl.{DiskDecl}
 use Rattle.domain_script.specs.declared.event.EndName.{EndName}
 use Rattle.domain_script.specs.declared.event.Lane.{Lane}
-use Rattle.domain_script.specs.declared.event.Lane.TheVariants.{Disk}
+use Rattle.domain_script.specs.LaneKinds.{disk_of}
+use Rattle.domain_script.specs.Printed.{option_text}
 use Rattle.ldom_entries.specs.declared.entry.Who.{Who}
 use Rattle.ldom_entries.specs.declared.entry.Who.TheVariants.{Lane as OfLane, End as OfEnd}
 use Rattle.line_words.specs.LineWords.{side_text}
@@ -19,7 +20,7 @@ disk_name disks k = declared_name (slice_get disks k)
 
 -- the name of a lane, and that of an end
 abbrev pub lane_name : List DiskDecl → Lane → List ℕ
-lane_name disks (Disk k) = disk_name disks k
+lane_name disks lane = option_text (disk_name disks) (disk_of lane)
 
 abbrev pub end_name : List DiskDecl → EndName → List ℕ
 end_name disks e = lane_name disks e.lane ++ side_text e.side

@@ -24,8 +24,7 @@ fn push_lane(text: &mut Text, lane: Lane, names: &LineNames<'_>)
     ensures text { text.new ≡ text.old ++ lane_name names.now.disks lane }
     ensures len { length text.new ≤ length text.old + 16 }
 {
-    let Lane::Disk(disk) = lane;
-    push_disk(text, disk, names);
+    text.push_short(names.of_lane(lane).lane());
 }
 
 fn push_end_name(text: &mut Text, end: EndName, names: &LineNames<'_>)
@@ -34,8 +33,7 @@ fn push_end_name(text: &mut Text, end: EndName, names: &LineNames<'_>)
     ensures text { text.new ≡ text.old ++ end_name names.now.disks end }
     ensures len { length text.new ≤ length text.old + 16 }
 {
-    let Lane::Disk(disk) = end.lane;
-    text.push_short(names.of_disk(disk).end(end.side));
+    text.push_short(names.of_lane(end.lane).end(end.side));
 }
 
 /// The name of whom an entry is about.

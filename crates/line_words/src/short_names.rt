@@ -1,10 +1,11 @@
 // The names of lanes and ends as lines put them.
 ghost use Rattle.std.specs.Prelude.{◌≡◌, ◌<◌, ◌≤◌, length, take};
 ghost use Rattle.line_words.specs.LaneNames.{lane_names};
-ghost use Rattle.line_words.specs.LineNames.{disk_name};
+ghost use Rattle.line_words.specs.IsDeclared.{IsLane};
+ghost use Rattle.line_words.specs.LineNames.{disk_name, lane_name};
 
 use crate::LaneNames;
-use domain_script::{Name, Names};
+use domain_script::{Lane, LaneKind, Name, Names};
 use std::marker::Model;
 
 fn name_bytes(name: &Name) -> &[u8]
@@ -79,5 +80,15 @@ impl<'a> LineNames<'a> {
         ensures { result.now ≡ disk_name self.now.disks disk }
     {
         &self.lanes[disk as usize]
+    }
+
+    /// The names of a lane.
+    pub fn of_lane(&self, lane: Lane) -> &'a LaneNames
+        requires { IsLane self.now.disks lane }
+        ensures { result.now ≡ lane_name self.now.disks lane }
+    {
+        match lane.kind {
+            LaneKind::Disk => self.of_disk(lane.number),
+        }
     }
 }
