@@ -6,4 +6,5 @@
 
 mod memory;
 
-pub use memory::{Memory, PAGE};
+pub use memory::Memory;
+pub use vio_bytes::PAGE;

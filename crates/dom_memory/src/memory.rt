@@ -5,11 +5,8 @@ ghost use Rattle.dom_memory.specs.Pages.{HasPages};
 
 use std::alloc::Global;
 use std::marker::Model;
-use vio_bytes::NoMemory;
+use vio_bytes::{NoMemory, PAGE};
 use zero_pages::ZeroPages;
-
-/// The bytes of a page, 8 KiB: the base page of sun4v (`PAGE_SIZE` of Linux's page_64.h).
-pub const PAGE: usize = 8192;
 
 /// The memory of a domain, 1 to 1,028 pages of 8,192 bytes, of which what was never written isn't touched.
 #[derive(Drop)]

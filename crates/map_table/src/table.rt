@@ -5,10 +5,9 @@ ghost use Rattle.map_table.specs.Table.{KeepsTaken, TakenBelow, entry_bytes, ent
 ghost use Rattle.map_table.specs.Table.{look_at, right_bit};
 
 use crate::rights::Rights;
-use dom_memory::PAGE;
 use std::alloc::Global;
 use std::marker::Model;
-use vio_bytes::{NoMemory, put_u64};
+use vio_bytes::{NoMemory, PAGE, put_u64};
 
 /// A page that is granted, by its number in the memory of the table's domain.
 #[derive(Clone, Copy, Debug, PartialEq, Eq)]
