@@ -6,24 +6,18 @@ ghost use Rattle.map_table.specs.Table.{first_free};
 ghost use Rattle.vdisk_msg.specs.Requested.{ring_pages};
 ghost use Rattle.channel_model.specs.OwnMemory.{own_table};
 
+use dom_memory::PAGE;
 use map_table::{MapTable, Rights};
 use std::alloc::Global;
+use vdisk_msg::{BUFFER_PAGES, SLOT};
 use vio_bytes::NoMemory;
-
-/// The bytes of a slot of the ring, and of a page.
-const SLOT: u32 = 128;
-
-const PAGE: u32 = 8192;
-
-/// The pages of each slot's buffer.
-const BUFFER_PAGES: u32 = 4;
 
 /// How many pages a ring of so many slots has, with the buffers of the slots.
 pub fn pages_for(slots: u32) -> u32
     requires { slots ≤ 256 }
     ensures { result ≡ ring_pages slots + 4 * slots }
 {
-    (SLOT * slots).div_ceil(PAGE) + BUFFER_PAGES * slots
+    (SLOT as u32 * slots).div_ceil(PAGE as u32) + BUFFER_PAGES * slots
 }
 
 /// Grants a page with both rights, at its own index.

@@ -25,7 +25,7 @@ pub use digits::decode_lower;
 pub use event::{DiskDecl, EndName, Event, Lane, LineFault, Name, Side};
 pub use fields::LaneKind;
 pub use laws::{faulty_lines_spell_nothing, parsed_lines_are_printed, spells_at_most_one};
-pub use names::Names;
+pub use names::{MOST_DISKS, Names};
 pub use numbers::number;
 pub use parser::{parse, parse_into};
 pub use printing::print;

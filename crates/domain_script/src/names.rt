@@ -4,8 +4,8 @@ use crate::fields::LaneKind;
 use crate::{DiskDecl, Event, Name};
 use std::marker::Model;
 
-/// The most disks.
-const MOST_DISKS: u32 = 8;
+/// So many disks a script may declare.
+pub const MOST_DISKS: usize = 8;
 
 /// What stands in the place of a disk that isn't declared.
 const NO_DISK: DiskDecl = DiskDecl {
@@ -21,7 +21,7 @@ const NO_DISK: DiskDecl = DiskDecl {
 /// The names that a script has declared so far: up to eight disks, each with a name of its own.
 #[derive(Drop)]
 pub struct Names {
-    disks: [DiskDecl; 8],
+    disks: [DiskDecl; MOST_DISKS],
     count: u32,
     ended: bool,
 }
@@ -46,7 +46,7 @@ impl Names {
         ensures { result ≡ record { disks = []; ended = false } }
     {
         Names {
-            disks: [NO_DISK; 8],
+            disks: [NO_DISK; MOST_DISKS],
             count: 0,
             ended: false,
         }
@@ -83,7 +83,7 @@ impl Names {
         ensures { IsTrue result ↔ (count_of kind self.now < most_of_a_kind) }
     {
         match kind {
-            LaneKind::Disk => self.count < MOST_DISKS,
+            LaneKind::Disk => self.count < MOST_DISKS as u32,
         }
     }
 
