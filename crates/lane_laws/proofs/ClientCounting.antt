@@ -1,5 +1,5 @@
 -- Each step of a client leaves its session counting what it said and heard.
-use Rattle.std.proofs.Common.{◌≡◌, ℕ, ◌+◌, ◌≤◌, inl, inr, Bool, true, false, Option, Some, None, List, [], ◌∷◌, ◌++◌, length, refl, sym, ap, ◌∙◌, subst, arith}
+use Rattle.std.proofs.Common.{◌≡◌, ℕ, ◌+◌, ◌≤◌, inl, inr, Option, Some, None, List, [], ◌∷◌, ◌++◌, length, refl, sym, ap, ◌∙◌, subst, arith}
 use Rattle.std.specs.Prelude.{is_some, ⊤}
 use Rattle.ldc_link.specs.declared.phase.Role.TheVariants.{Initiator}
 use Rattle.ldc_packet.specs.Spelling.{subtype_code}
@@ -8,7 +8,6 @@ use Rattle.vio_tag.specs.declared.message.Message.{Message}
 use Rattle.vio_tag.specs.Spelling.{canonical}
 use Rattle.vio_handshake.specs.declared.handshake.Handshake.{Handshake}
 use Rattle.vio_handshake.specs.declared.session.Session.{Session}
-use Rattle.vio_handshake.specs.Rules.{HandshakeTake, handshake_take}
 use Rattle.channel_model.specs.Sayings.{half_heard, half_said, heard}
 use Rattle.lane_laws.specs.Agreement.{ClientAgrees}
 use Rattle.channel_model.specs.Messages.{range_ended, range_in}

@@ -15,7 +15,7 @@ use Rattle.vio_tag.specs.declared.message.Message.{Message}
 use Rattle.vio_tag.specs.Spelling.{canonical}
 use Rattle.lane_laws.specs.Agreement.{ClientEndAgrees, RangeAgrees, ServerEndAgrees}
 use Rattle.lane_laws.specs.BlockLog.{Blockage, Clear, is_stuck}
-use Rattle.disk_model.specs.ClientPutting.{announcement, announcing, client_kind, is_announcing}
+use Rattle.disk_model.specs.ClientPutting.{announcement, client_kind, is_announcing}
 use Rattle.disk_model.specs.ClientRule as client_rules
 use Rattle.disk_model.specs.ClientState.{ClientSession, ClientState, joined_client}
 use Rattle.disk_model.specs.ClientStep.{ClientSends}

@@ -1,5 +1,5 @@
 -- What a client has still to put, against the INFO that it began: each packet that it puts lowers the one or is the other.
-use Rattle.std.proofs.Common.{◌≡◌, ℕ, ◌+◌, ◌≤◌, Option, sym, subst, arith}
+use Rattle.std.proofs.Common.{◌≡◌, ℕ, ◌+◌, ◌≤◌, sym, subst, arith}
 use Rattle.disk_model.specs.ClientState.{ClientState}
 use Rattle.disk_model.specs.ClientStep.{ClientAdmits}
 use Rattle.disk_model.specs.DiskEvent.{Accepted, Admitted, Full, Refused}

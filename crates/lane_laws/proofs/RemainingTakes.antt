@@ -1,6 +1,6 @@
 -- A packet that is taken lowers what remains, where the end that takes it has no more to put than before, and a server is asked for what
 -- its client announced.
-use Rattle.std.proofs.Common.{◌≡◌, ℕ, ◌+◌, ◌-◌, ◌*◌, ◌≤◌, Bool, Some, List, [], ◌∷◌, length, drop, sym, ap, subst, arith, inl, inr, length-drop}
+use Rattle.std.proofs.Common.{◌≡◌, ℕ, ◌+◌, ◌-◌, ◌*◌, ◌≤◌, Bool, Some, List, [], ◌∷◌, length, drop, ap, subst, arith, inl, inr, length-drop}
 use Rattle.std.specs.Prelude.{slice_get}
 use Rattle.ldc_queue.specs.declared.end.ChannelState.{ChannelState}
 use Rattle.ldc_queue.specs.declared.end.ChannelState.TheVariants.{Down, Up, Resetting}

@@ -10,7 +10,6 @@ use Rattle.vio_handshake.specs.declared.handshake.Handshake.{Handshake}
 use Rattle.vio_handshake.specs.declared.handshake.Phase.{Phase}
 use Rattle.vio_handshake.specs.declared.handshake.Phase.TheVariants.{Open}
 use Rattle.vio_handshake.specs.declared.session.Offer.{Offer}
-use Rattle.vio_handshake.specs.Rules.{HandshakeTake, handshake_take}
 use Rattle.vio_handshake.specs.State.{handshake_up}
 use Rattle.channel_model.specs.Sayings.{half_heard, half_said, heard, said}
 use Rattle.lane_laws.specs.Agreement.{ServerAgrees, ServerCountsAgree, WorkAgrees}
