@@ -108,15 +108,6 @@ link_hears k m turns bytes none follows takes = by_how (link_heard k m bytes tak
       up = λ up. ap is_up is ∙ up;
     }
 
--- an initiator's never comes up by what it hears
-pub asking_down : (k m : LinkState) (bytes : List ℕ) → IsPhaseOf Initiator k.phase → is_up k ≡ false → TakesBytes k bytes (Heard m) → is_up m ≡ false
-asking_down k m bytes of down takes = by_how (link_heard k m bytes takes)
-  where
-    by_how : LinkHeard k bytes m → is_up m ≡ false
-    by_how (ControlHeard next taken is) = ap is_up is ∙ (taken_down k.phase bytes next taken).1
-    by_how (ReadyHeard at packet number is) = absurd (subst (IsPhaseOf Initiator) at of)
-    by_how (PartHeard at part may number is) = let never : true ≡ false = sym (ap is_established at) ∙ down in absurd (cc never)
-
 -- a handshake begins only as a responder's link comes up
 risen_not : (role : Role) (b a : Bool) (h g : Handshake) → (b ≡ false) ⊎ (a ≡ true) → (if b && not a then g else h) ≡ h
 risen_not role true true h g is = refl

@@ -7,6 +7,7 @@ pub mod EndCases
 pub mod EndStanding
 pub mod EndResting
 pub mod Budgets
+pub mod MessagesHeld
 pub mod PacketsLeft
 pub mod FewLost
 pub mod Conversations

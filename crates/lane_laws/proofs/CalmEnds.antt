@@ -81,7 +81,7 @@ both_wait shape events s c v at up_a up_b holds full_b holds_v full_a =
     let phase_b : s.server.link.phase ≡ phase.Established =
     sym (ap (λ (x : ChannelState). live_phase x phase.AwaitsVersInfo s.server.link.phase) up_b) ∙ links.theirs ∙ ap (phase_at Responder) both in
     let first = first_of s.wire.wire.to_a many_a in
-    let owed = client_owes l.shape s.client l.transcript.client l.work.done l.work.client grounded.knows.counted.client phase_a (holds_urgent s.client (at_client s) first.0 c first.1 holds) in
+    let owed = client_owes s.client l.transcript.client grounded.knows.rests.client.stands phase_a (holds_urgent s.client (at_client s) first.0 c first.1 holds) in
     let owing = server_owes l.shape s.server (at_server s) l.transcript.server l.work.server v grounded.knows.counted.server phase_b holds_v in
     let on = lane_meets shape events s at.sound at.run at.clean in
     let d = deal (asks_of shape) (answers_of shape) on.meets.handshakes.sid in

@@ -1,10 +1,9 @@
 -- Each step of a client leaves its session counting what it said and heard.
-use Rattle.std.proofs.Common.{◌≡◌, ℕ, ◌+◌, ◌≤◌, inl, inr, Option, Some, None, List, [], ◌∷◌, ◌++◌, length, refl, sym, ap, ◌∙◌, subst, arith}
+use Rattle.std.proofs.Common.{◌≡◌, ℕ, ◌+◌, inl, inr, Option, Some, None, List, [], ◌∷◌, ◌++◌, refl, sym, ap, ◌∙◌, subst, arith}
 use Rattle.std.specs.Prelude.{is_some, ⊤}
 use Rattle.ldc_link.specs.declared.phase.Role.TheVariants.{Initiator}
 use Rattle.ldc_packet.specs.Spelling.{subtype_code}
 use Rattle.ldc_queue.specs.Transcript.{Heard as Heard_, Turn}
-use Rattle.vio_tag.specs.declared.message.Message.{Message}
 use Rattle.vio_tag.specs.Spelling.{canonical}
 use Rattle.vio_handshake.specs.declared.handshake.Handshake.{Handshake}
 use Rattle.vio_handshake.specs.declared.session.Session.{Session}
@@ -12,7 +11,7 @@ use Rattle.channel_model.specs.Sayings.{half_heard, half_said, heard}
 use Rattle.lane_laws.specs.Agreement.{ClientAgrees}
 use Rattle.channel_model.specs.Messages.{range_ended, range_in}
 use Rattle.lane_laws.specs.WorkLog.{ClientCounts, change_client, length_in}
-use Rattle.disk_model.specs.ClientPutting.{announcement, is_announcing}
+use Rattle.disk_model.specs.ClientPutting.{announcement}
 use Rattle.disk_model.specs.ClientState.{ClientSession, ClientState, joined_client}
 use Rattle.disk_model.specs.ClientTaking.{acknowledged}
 use Rattle.disk_model.specs.LaneState.{Shape}
@@ -23,7 +22,7 @@ use Rattle.channel_laws.proofs.EndStanding.{open_declines}
 use Rattle.channel_laws.proofs.HandshakeFitting.{joined_fits, row_fits}
 use Rattle.lane_laws.proofs.RangeSums.{sum_heard, sum_more}
 use Rattle.lane_laws.proofs.RangesSaid.{IsNoData, heard_no_range, heard_range, no_data}
-use Rattle.lane_laws.specs.Counted.{ClientCounted, HoldsOwed, acked_of, announced_of, infos_of, range_sum}
+use Rattle.lane_laws.specs.Counted.{ClientCounted, acked_of, announced_of, infos_of, range_sum}
 use Rattle.lane_laws.specs.LaneRests.{ClientRests}
 
 -- IT BEGINS
@@ -32,7 +31,7 @@ pub client_begins_counting : (shape : Shape) (c : ClientState) (turns : List Tur
 client_begins_counting shape c turns done k counted = record {
   slots = counted.slots;
   handshake = joined_fits Initiator (client_offer shape.blocks shape.slots) c.handshake counted.handshake;
-  holds = record { owed = λ quiet some. absurd (omega (arith, some)); own = λ session is on. absurd (cc) };
+  holds = λ session is on. absurd (cc);
   announced = refl;
   infos = refl;
   acked = refl;
@@ -87,10 +86,6 @@ Behind shape turns packet done k t =
     ClientCounted shape t (Heard_ packet ∷ turns) done (change_client (λ (x : ClientCounts). record x { acked = x.acked + length_in shape.slots (range_ended 2 (half_heard turns) packet) }) k)
 
 -- IT TAKES a packet: a part of a message
-same_left : (c : ClientState) (turns : List Turn) (left : List ℕ) → left ≡ c.link.to_send → 1 ≤ length left → HoldsOwed c.handshake.owed (half_said turns ++ c.link.to_send)
-    → HoldsOwed c.handshake.owed (half_said turns ++ left)
-same_left c turns left is some holds = subst (λ (xs : List ℕ). HoldsOwed c.handshake.owed (half_said turns ++ xs)) (sym is) holds
-
 takes_part : (shape : Shape) (c t : ClientState) (turns : List Turn) (packet : List ℕ) (done : ℕ) (k : Option ClientCounts) → ClientCounted shape c turns done k
     → ClientHearsPart c turns packet t → Behind shape turns packet done k t
 takes_part shape c t turns packet done k counted part =
@@ -98,10 +93,7 @@ takes_part shape c t turns packet done k counted part =
     subst (Behind shape turns packet done k) (sym part.is) (record {
       slots = counted.slots;
       handshake = counted.handshake;
-      holds = record {
-        owed = λ quiet some. same_left c turns part.link.to_send part.left some (counted.holds.owed quiet (omega (arith, some, ap length part.left)));
-        own = λ session is on. ap (λ (xs : List ℕ). half_said turns ++ xs) part.left ∙ counted.holds.own session is on;
-      };
+      holds = λ session is on. ap (λ (xs : List ℕ). half_said turns ++ xs) part.left ∙ counted.holds session is on;
       announced = counted.announced;
       infos = counted.infos;
       acked = acked;
@@ -110,9 +102,6 @@ takes_part shape c t turns packet done k counted part =
     })
 
 -- a message of the handshake
-none_held : (c : ClientState) (bytes : List ℕ) (owed : Option Message) → c.handshake.owed ≡ None → HoldsOwed c.handshake.owed bytes → HoldsOwed owed bytes
-none_held c bytes owed none holds = let never : None ≡ Some holds.message = sym none ∙ holds.owed_is in absurd (cc)
-
 takes_handshake : (shape : Shape) (c t : ClientState) (turns : List Turn) (packet : List ℕ) (done : ℕ) (k : Option ClientCounts) → ClientRests c turns → c.handshake.owed ≡ None
     → ClientCounted shape c turns done k → ClientHandshakes c turns packet t → Behind shape turns packet done k t
 takes_handshake shape c t turns packet done k rests none counted handshakes =
@@ -130,15 +119,11 @@ takes_handshake shape c t turns packet done k rests none counted handshakes =
       slots = counted.slots;
       handshake = row_fits Initiator (client_offer shape.blocks shape.slots) c.handshake handshakes.handshake handshakes.message handshakes.opens none counted.handshake
           handshakes.took.row;
-      holds = record {
-        owed = λ quiet some. none_held c (half_said turns ++ handshakes.link.to_send) handshakes.handshake.owed none
-            (same_left c turns handshakes.link.to_send handshakes.left some (counted.holds.owed quiet (omega (arith, some, ap length handshakes.left))));
-        own = λ session is on.
-            let draft : handshakes.handshake.draft ≡ c.handshake.draft = ap (λ (h : Handshake). h.draft)
-            (open_declines c.handshake handshakes.handshake handshakes.message handshakes.opens (rests.opened (ap is_some is)) handshakes.took.row).0 in
-            ap (λ (xs : List ℕ). half_said turns ++ xs) handshakes.left ∙ counted.holds.own session is on
-            ∙ ap (λ (d : Session). canonical (announcement (record c { handshake = record c.handshake { draft = d } }) session)) (sym draft);
-      };
+      holds = λ session is on.
+          let draft : handshakes.handshake.draft ≡ c.handshake.draft = ap (λ (h : Handshake). h.draft)
+          (open_declines c.handshake handshakes.handshake handshakes.message handshakes.opens (rests.opened (ap is_some is)) handshakes.took.row).0 in
+          ap (λ (xs : List ℕ). half_said turns ++ xs) handshakes.left ∙ counted.holds session is on
+          ∙ ap (λ (d : Session). canonical (announcement (record c { handshake = record c.handshake { draft = d } }) session)) (sym draft);
       announced = counted.announced;
       infos = counted.infos;
       acked = acked;
@@ -165,15 +150,11 @@ takes_ack shape c t turns packet done k counted acks =
     subst (Behind shape turns packet done k) (sym acks.is) (record {
       slots = counted.slots;
       handshake = counted.handshake;
-      holds = record {
-        owed = λ quiet some. same_left c turns acks.link.to_send acks.left some
-            (counted.holds.owed (ap is_announcing acks.session_is ∙ quiet) (omega (arith, some, ap length acks.left)));
-        own = λ other is on.
-            let same : record session { acked = session.acked + n } ≡ other = cc is in
-            ap (λ (xs : List ℕ). half_said turns ++ xs) acks.left
-            ∙ counted.holds.own session acks.session_is (ap (λ (x : ClientSession). x.announcing) same ∙ on)
-            ∙ ap (λ (x : ClientSession). canonical (announcement c x)) same;
-      };
+      holds = λ other is on.
+          let same : record session { acked = session.acked + n } ≡ other = cc is in
+          ap (λ (xs : List ℕ). half_said turns ++ xs) acks.left
+          ∙ counted.holds session acks.session_is (ap (λ (x : ClientSession). x.announcing) same ∙ on)
+          ∙ ap (λ (x : ClientSession). canonical (announcement c x)) same;
       announced = ap announced_of (sym acks.session_is) ∙ counted.announced;
       infos = ap infos_of (sym acks.session_is) ∙ counted.infos;
       acked = acked;

@@ -14,6 +14,7 @@ use Rattle.vio_tag.specs.declared.message.Message.{Message}
 use Rattle.vio_tag.specs.Spelling.{canonical}
 use Rattle.vio_handshake.specs.declared.handshake.Handshake.{Handshake}
 use Rattle.vio_handshake.specs.State.{handshake_up}
+use Rattle.lane_laws.proofs.Speaking.{holds_owed}
 use Rattle.lane_laws.specs.BlockLog.{Blockage, Clear, Stuck, StuckBefore, hearing, is_stuck, stuck}
 use Rattle.disk_model.specs.ClientPutting.{announcement, announced, announcing, client_holds, client_kind, holding, is_announcing, opened_if, session_behind}
 use Rattle.disk_model.specs.ClientRule.{Announces, ClientRule, Completes, Idles, Joins, Publishes, Puts, Says, Takes, client_rule}
@@ -241,13 +242,13 @@ stuck_again o h Stuck is first = is
 stuck_again o h StuckBefore is first = is
 
 -- what the link has to put is of the handshake, where the client doesn't announce
-first_stuck : (c : ClientState) (turns : List Turn) (o : Option ClientSession) (owed : Option Message) → c.session ≡ o → c.handshake.owed ≡ owed → ClientRests c turns → ClientHolds c turns
+first_stuck : (c : ClientState) (turns : List Turn) (o : Option ClientSession) (owed : Option Message) → c.session ≡ o → c.handshake.owed ≡ owed → ClientRests c turns
     → owes c.link ≡ true → is_announcing c.session ≡ false → (is_some o && is_none owed) ≡ false
-first_stuck c turns None owed is owes_is rests holds owing quiet = refl
-first_stuck c turns (Some session) (Some message) is owes_is rests holds owing quiet = refl
-first_stuck c turns (Some session) None is owes_is rests holds owing quiet =
+first_stuck c turns None owed is owes_is rests owing quiet = refl
+first_stuck c turns (Some session) (Some message) is owes_is rests owing quiet = refl
+first_stuck c turns (Some session) None is owes_is rests owing quiet =
     let up : is_up c.link ≡ true = open_up Initiator (client_core c) turns rests.stands (ap is_some is) in
-    let some : HoldsOwed c.handshake.owed (half_said turns ++ c.link.to_send) = holds.owed quiet (sends_some c.link up owing) in
+    let some : HoldsOwed c.handshake.owed (half_said turns ++ c.link.to_send) = holds_owed Initiator (client_core c) turns rests.stands quiet (sends_some c.link up owing) in
     let never : Some some.message ≡ None = sym some.owed_is ∙ owes_is in absurd (cc)
 
 says_owes : (k : LinkState) (message : Message) → is_up k ≡ true → owes (offered (canonical message) k) ≡ true
@@ -274,7 +275,7 @@ client_blocks_so s at Puts t turns b rule may holds known is =
     let owing : owes s.link ≡ true = puts_owe s at rule in
     held_is s t (stuck b) holds (record {
       link = link_stuck s.link b owing;
-      announcing = stuck_again s.session s.handshake b is.announcing (λ clear quiet. first_stuck s turns s.session s.handshake.owed refl refl known.rests known.holds owing quiet);
+      announcing = stuck_again s.session s.handshake b is.announcing (λ clear quiet. first_stuck s turns s.session s.handshake.owed refl refl known.rests owing quiet);
     })
 client_blocks_so s at (Says message) t turns b rule may holds known is =
     let clear : b ≡ Clear = not_stuck s.link b is.link may.1 in

@@ -26,7 +26,7 @@ use Rattle.lane_laws.proofs.RangeSums.{count_more, count_said, sum_more, sum_sai
 use Rattle.lane_laws.proofs.RangeTurns.{range_turns}
 use Rattle.lane_laws.proofs.RangesSaid.{said_one, said_range}
 use Rattle.lane_laws.proofs.Sharing.{in_order}
-use Rattle.lane_laws.specs.Counted.{ClientCounted, ClientHolds, HoldsOwed, acked_of, announced_of, infos_of, range_count, range_sum, ready_count}
+use Rattle.lane_laws.specs.Counted.{ClientCounted, ClientHolds, acked_of, announced_of, infos_of, range_count, range_sum, ready_count}
 use Rattle.lane_laws.specs.LaneRests.{ClientRests, ClientUtters}
 use Rattle.lane_laws.specs.Sound.{ClientSound, InOrder}
 use Rattle.lane_laws.specs.ChannelEnds.{client_core}
@@ -84,10 +84,7 @@ says_agrees shape c p turns packet sid done k counted says =
 
 -- A PACKET THAT GOES ON
 on_holds : (c : ClientState) (turns : List Turn) (packet : List ℕ) → SaysOn c.link turns packet → ClientHolds c turns → ClientHolds (record c { link = behind_put c.link }) (Said packet ∷ turns)
-on_holds c turns packet on holds = record {
-  owed = λ quiet some. subst (λ (xs : List ℕ). HoldsOwed c.handshake.owed xs) (sym on.whole) (holds.owed quiet (on.some some));
-  own = λ session is now. on.whole ∙ holds.own session is now;
-}
+on_holds c turns packet on holds = λ session is now. on.whole ∙ holds session is now
 
 pub goes_counting : (shape : Shape) (c : ClientState) (turns : List Turn) (packet : List ℕ) (sid done : ℕ) (k : Option ClientCounts) → SaysOn c.link turns packet → ClientCounted shape c turns done k
     → ClientCounted shape (put_as Goes c) (Said packet ∷ turns) done (counts_as shape false turns packet sid done k)
@@ -115,12 +112,9 @@ comes_counting shape c turns packet sid done k rests utters down on counted =
     record {
       slots = counted.slots;
       handshake = up_fits Initiator (client_offer shape.blocks shape.slots) c.handshake counted.handshake;
-      holds = record {
-        owed = λ quiet some. absurd (omega (arith, on.some some, ap length (utters.idle down)));
-        own = λ session is now.
-            let up : is_up c.link ≡ true = open_up Initiator (client_core c) turns rests.stands (ap is_some is) in
-            let never : false ≡ true = sym down ∙ up in absurd (cc);
-      };
+      holds = λ session is now.
+          let up : is_up c.link ≡ true = open_up Initiator (client_core c) turns rests.stands (ap is_some is) in
+          let never : false ≡ true = sym down ∙ up in absurd (cc);
       announced = announced;
       infos = infos;
       acked = counted.acked;
@@ -137,15 +131,12 @@ pub record OwnInfo (c : ClientState) (bytes : List ℕ) : Type 0 where
 
 pub own_info : (c : ClientState) (turns : List Turn) (o : Option ClientSession) → c.session ≡ o → is_announcing o ≡ true → ClientHolds c turns → OwnInfo c (half_said turns ++ c.link.to_send)
 own_info c turns None is own holds = absurd (cc)
-own_info c turns (Some session) is own holds = record { session = session; is = is; announcing = own; bytes_are = holds.own session is own }
+own_info c turns (Some session) is own holds = record { session = session; is = is; announcing = own; bytes_are = holds session is own }
 
 pub none_left : (c : ClientState) (turns : List Turn) (packet : List ℕ) (handshake : Handshake) (session : Option ClientSession) → SaysWhole c.link turns packet
     → ((s : ClientSession) → session ≡ Some s → s.announcing ≡ true → ⊥)
     → ClientHolds (record c { link = behind_put c.link; handshake = handshake; session = session }) (Said packet ∷ turns)
-none_left c turns packet handshake session last never = record {
-  owed = λ quiet some. absurd (omega (arith, some, ap length last.none));
-  own = λ s is now. absurd (never s is now);
-}
+none_left c turns packet handshake session last never = λ s is now. absurd (never s is now)
 
 pub own_counting : (shape : Shape) (c : ClientState) (turns : List Turn) (packet : List ℕ) (sid done : ℕ) (k : Option ClientCounts) → ClientSound c → is_announcing c.session ≡ true
     → SaysWhole c.link turns packet → ClientCounted shape c turns done k

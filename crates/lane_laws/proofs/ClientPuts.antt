@@ -20,6 +20,7 @@ use Rattle.lane_laws.specs.Sound.{ClientSound}
 
 pub record Putting (s : LaneState) (l : DiskLog) (packet : List ℕ) (held : ClientState) : Type 0 where
   pub sound : ClientSound held
+  pub rests : ClientRests held l.transcript.client
   pub counted : ClientCounted l.shape held l.transcript.client l.work.done l.work.client
   pub says : PutSays (client_kind held) (is_announcing held.session) held.link l.transcript.client packet
 
@@ -31,6 +32,7 @@ putting s l packet opens t new knows sends =
     let rests : ClientRests sends.held l.transcript.client = client_blocked_rests s.client at sends.held l.transcript.client knows.all.sound sends.holds knows.rests.client in
     record {
       sound = client_held s.client at rule sends.held (client_may s.client at) sends.holds knows.all.sound;
+      rests = rests;
       counted = client_holds_counting l.shape s.client at rule sends.held l.transcript.client l.work.done l.work.client knows.all.sound knows.rests.client knows.utters.client
           (client_may s.client at) sends.holds knows.counted.client;
       says = put_says (is_announcing sends.held.session) sends.held.link t.link l.transcript.client packet rests.stands.link.follows sends.packet;

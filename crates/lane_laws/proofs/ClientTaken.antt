@@ -18,10 +18,9 @@ use Rattle.channel_model.specs.Ranges.{range_length}
 use Rattle.channel_model.specs.Sayings.{heard}
 use Rattle.lane_laws.proofs.ClientAnswers.{Answers, GoesBy, HandshakesTo, comes_to, goes_by}
 use Rattle.channel_laws.proofs.EndStanding.{heard_leaves}
-use Rattle.channel_laws.proofs.EndCases.{HearsUp, asking_down, link_hears}
+use Rattle.channel_laws.proofs.EndCases.{HearsUp, link_hears}
 use Rattle.channel_laws.proofs.HandshakeCases.{HandshakeTook, goes_took, opens_took}
 use Rattle.channel_laws.proofs.TurnCases.{with_whole}
-use Rattle.lane_laws.specs.LinkMoves.{IsAsking}
 
 -- a message is whole by the packet
 pub record HearsMessage (turns : List Turn) (packet : List ℕ) (message : Message) : Type 0 where
@@ -34,7 +33,6 @@ pub record ClientHearsPart (s : ClientState) (turns : List Turn) (packet : List 
   pub link : LinkState
   pub left : link.to_send ≡ s.link.to_send
   pub up : is_up s.link ≡ true → is_up link ≡ true
-  pub still : IsAsking s.link.phase → is_up s.link ≡ false → is_up link ≡ false
   pub messages : heard (Heard_ packet ∷ turns) ≡ heard turns
   pub is : t ≡ record s { link = link }
 
@@ -133,7 +131,6 @@ client_took_what s turns packet t follows none takes =
         link = by.link;
         left = left;
         up = on.up;
-        still = λ asking down. asking_down s.link by.link packet asking down by.takes;
         messages = on.on.messages ∙ ap (λ (w : Option (List ℕ)). with_whole w (heard turns)) nothing;
         is = refl;
       });

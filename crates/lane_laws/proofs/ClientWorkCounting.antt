@@ -13,6 +13,7 @@ use Rattle.vio_handshake.specs.declared.handshake.Phase.{Phase}
 use Rattle.vio_handshake.specs.declared.handshake.Phase.TheVariants.{Open, PeerReadyTaken}
 use Rattle.vio_handshake.specs.Rules.{opens_by_put, handshake_sent}
 use Rattle.channel_model.specs.Sayings.{half_said, said}
+use Rattle.lane_laws.proofs.Speaking.{holds_owed}
 use Rattle.lane_laws.specs.Agreement.{ClientAgrees, ClientCountsAgree}
 use Rattle.channel_model.specs.Messages.{range_in}
 use Rattle.lane_laws.specs.WorkLog.{ClientCounts, change_client, length_in, one_in}
@@ -57,10 +58,10 @@ record PutsOwed (c : ClientState) (bytes : List ℕ) : Type 0 where
   may : MayOwe c.handshake.phase message.subtype message.body
   none : range_in 1 (Some bytes) ≡ None
 
-puts_owed : (shape : Shape) (c : ClientState) (turns : List Turn) (packet : List ℕ) (done : ℕ) (k : Option ClientCounts) → is_announcing c.session ≡ false → SaysWhole c.link turns packet
+puts_owed : (shape : Shape) (c : ClientState) (turns : List Turn) (packet : List ℕ) (done : ℕ) (k : Option ClientCounts) → ClientRests c turns → is_announcing c.session ≡ false → SaysWhole c.link turns packet
     → ClientCounted shape c turns done k → PutsOwed c (half_said turns ++ c.link.to_send)
-puts_owed shape c turns packet done k own last counted =
-    let holds = counted.holds.owed own last.some in
+puts_owed shape c turns packet done k rests own last counted =
+    let holds = holds_owed Initiator (client_core c) turns rests.stands own last.some in
     let may : MayOwe c.handshake.phase holds.message.subtype holds.message.body = subst (OwedFits c.handshake.phase) holds.owed_is counted.handshake.owed in
     record {
       message = holds.message;
@@ -90,7 +91,7 @@ handshake_as : (opens : Bool) (shape : Shape) (c : ClientState) (turns : List Tu
     → ClientCounted shape (record c { link = behind_put c.link; handshake = handshake_sent c.handshake; session = opened_if opens c }) (Said packet ∷ turns) done (counts_as shape opens turns packet sid done k)
 handshake_as true shape c turns packet sid done k is rests first own last counted =
     let none : c.session ≡ None = closed c.session c.handshake.phase rests.opened (opens_phase c.handshake.role c.handshake.phase is) in
-    let same = sums_same shape c turns packet last (puts_owed shape c turns packet done k own last counted) in
+    let same = sums_same shape c turns packet last (puts_owed shape c turns packet done k rests own last counted) in
     record {
       slots = counted.slots;
       handshake = sent_fits Initiator (client_offer shape.blocks shape.slots) c.handshake counted.handshake;
@@ -104,7 +105,7 @@ handshake_as true shape c turns packet sid done k is rests first own last counte
       agrees = record { base = first; published = refl; announced = refl; infos = refl; acked = refl; completed = omega arith };
     }
 handshake_as false shape c turns packet sid done k is rests first own last counted =
-    let owed = puts_owed shape c turns packet done k own last counted in
+    let owed = puts_owed shape c turns packet done k rests own last counted in
     let same = sums_same shape c turns packet last owed in
     let announced : announced_of c.session ≡ range_sum shape.slots 1 (said (Said packet ∷ turns)) = counted.announced ∙ sym same.ranges in
     let infos : infos_of c.session ≡ range_count 1 (said (Said packet ∷ turns)) = counted.infos ∙ sym same.infos in
@@ -148,14 +149,10 @@ says_counting : (shape : Shape) (c : ClientState) (turns : List Turn) (message :
     → ClientCounted shape c turns done k → ClientCounted shape (holding message c) turns done k
 says_counting shape c turns message done k known free owed counted =
     let empty : c.link.to_send ≡ [] = up_empty c.link (owing_up Initiator (client_core c) turns message known.rests.stands owed) free in
-    let half = free_half c turns known.utters empty in
     record {
       slots = counted.slots;
       handshake = counted.handshake;
-      holds = record {
-        owed = λ quiet some. record { message = message; owed_is = owed; bytes_are = ap (λ (xs : List ℕ). xs ++ canonical message) half };
-        own = λ session is announces. absurd (no_own c session known.sound empty is announces);
-      };
+      holds = λ session is announces. absurd (no_own c session known.sound empty is announces);
       announced = counted.announced;
       infos = counted.infos;
       acked = counted.acked;
@@ -180,12 +177,9 @@ announces_counting shape c turns session done k known free is counted =
     record {
       slots = counted.slots;
       handshake = counted.handshake;
-      holds = record {
-        owed = λ quiet some. absurd (cc);
-        own = λ other now announces.
-            let same : record session { announcing = true } ≡ other = cc is in
-            ap (λ (xs : List ℕ). xs ++ canonical (announcement c session)) half ∙ ap (λ (x : ClientSession). canonical (announcement c x)) same;
-      };
+      holds = λ other now announces.
+          let same : record session { announcing = true } ≡ other = cc is in
+          ap (λ (xs : List ℕ). xs ++ canonical (announcement c session)) half ∙ ap (λ (x : ClientSession). canonical (announcement c x)) same;
       announced = ap announced_of (sym is) ∙ counted.announced;
       infos = ap infos_of (sym is) ∙ counted.infos;
       acked = ap acked_of (sym is) ∙ counted.acked;
@@ -232,12 +226,9 @@ client_publishes_counting shape c at memory id t new turns done k sound rests st
     subst (λ (x : ClientState). ClientCounted shape x turns done (change_client (λ (y : ClientCounts). record y { published = y.published + 1 }) k)) (sym step.is) (record {
       slots = counted.slots;
       handshake = counted.handshake;
-      holds = record {
-        owed = λ quiet some. absurd (omega (arith, some, ap length empty));
-        own = λ other now announces.
-            let same : record step.session { published = step.session.published + 1 } ≡ other = cc in
-            absurd (no_own c step.session sound empty may.1 (ap (λ (x : ClientSession). x.announcing) same ∙ announces));
-      };
+      holds = λ other now announces.
+          let same : record step.session { published = step.session.published + 1 } ≡ other = cc in
+          absurd (no_own c step.session sound empty may.1 (ap (λ (x : ClientSession). x.announcing) same ∙ announces));
       announced = ap announced_of (sym may.1) ∙ counted.announced;
       infos = ap infos_of (sym may.1) ∙ counted.infos;
       acked = ap acked_of (sym may.1) ∙ counted.acked;
@@ -269,12 +260,9 @@ client_completes_counting shape c at memory id operation status bytes t new turn
     subst (λ (x : ClientState). ClientCounted shape x turns (done + 1) k) (sym step.is) (record {
       slots = counted.slots;
       handshake = counted.handshake;
-      holds = record {
-        owed = λ quiet some. counted.holds.owed (ap is_announcing may.1 ∙ quiet) some;
-        own = λ other now announces.
-            let same : record step.session { completed = step.session.completed + 1 } ≡ other = cc in
-            counted.holds.own step.session may.1 (ap (λ (x : ClientSession). x.announcing) same ∙ announces) ∙ ap (λ (x : ClientSession). canonical (announcement c x)) same;
-      };
+      holds = λ other now announces.
+          let same : record step.session { completed = step.session.completed + 1 } ≡ other = cc in
+          counted.holds step.session may.1 (ap (λ (x : ClientSession). x.announcing) same ∙ announces) ∙ ap (λ (x : ClientSession). canonical (announcement c x)) same;
       announced = ap announced_of (sym may.1) ∙ counted.announced;
       infos = ap infos_of (sym may.1) ∙ counted.infos;
       acked = ap acked_of (sym may.1) ∙ counted.acked;
@@ -290,7 +278,7 @@ client_admits_counting shape c (Full request) t turns done k admits counted = su
 client_admits_counting shape c (Accepted id request) t turns done k admits counted = subst (λ (x : ClientState). ClientCounted shape x turns done k) (sym admits.5) (record {
   slots = counted.slots;
   handshake = counted.handshake;
-  holds = record { owed = counted.holds.owed; own = counted.holds.own };
+  holds = counted.holds;
   announced = counted.announced;
   infos = counted.infos;
   acked = counted.acked;

@@ -1,5 +1,5 @@
 -- Along every run both ends are as the lane's log counts them.
-use Rattle.std.proofs.Common.{◌≡◌, ℕ, ◌+◌, ◌≤◌, Bool, true, false, Option, Some, None, List, [], ◌∷◌, ◌++◌, drop, length, refl, sym, ap, ◌∙◌, subst, inl, inr, arith}
+use Rattle.std.proofs.Common.{◌≡◌, ℕ, ◌+◌, ◌≤◌, Bool, true, false, Option, Some, None, List, [], ◌∷◌, ◌++◌, drop, length, refl, sym, ap, ◌∙◌, subst, arith}
 use Rattle.std.specs.Prelude.{◌%◌, is_none, is_some, not, ◌&&◌, ◌||◌, ⊤}
 use Rattle.runs.specs.Lawful.{log_of, run_lawful}
 use Rattle.runs.specs.Run.{Run}
@@ -36,7 +36,7 @@ use Rattle.disk_model.specs.ServerStep.{ServerSends}
 use Rattle.channel_model.specs.WireEvent.{Blocked, ByRestart, ByScript, ByStep, ByTick, Declines, Giver, Idle, Injected, Joined, Lost, Poked, Reset, Sent, Took, WireEvent, giver}
 use Rattle.lane_laws.specs.WorkLog.{ServerCounts}
 use Rattle.lane_laws.proofs.ClientFolds.{ClientIs, client_admits_so, client_begins, client_blocks_so, client_completes_so, client_publishes_so, client_puts_so, client_takes_so, sends_some}
-use Rattle.lane_laws.proofs.Speaking.{client_blocked_rests}
+use Rattle.lane_laws.proofs.Speaking.{client_blocked_rests, holds_owed}
 use Rattle.lane_laws.proofs.ClientTaken.{client_took_what}
 use Rattle.lane_laws.proofs.Speaking.{client_blocked_utters}
 use Rattle.channel_laws.proofs.PutSayings.{put_says}
@@ -52,8 +52,8 @@ use Rattle.lane_laws.proofs.Ruling.{client_may}
 use Rattle.lane_laws.proofs.ServerFolds.{ServerIs, ranged, server_begins, server_blocks_so, server_fetches_so, server_finishes_so, server_moves_so, server_puts_so, server_restarts, server_stores_so, server_takes_so}
 use Rattle.lane_laws.proofs.ServerPutCounting.{server_holds_counting}
 use Rattle.lane_laws.proofs.ServerTaken.{server_took_what}
-use Rattle.lane_laws.proofs.Speaking.{server_blocked_rests, server_blocked_utters}
-use Rattle.lane_laws.specs.Counted.{HoldsAnswer, HoldsEither, HoldsOwed, ServerOrder, range_count}
+use Rattle.lane_laws.proofs.Speaking.{server_blocked_rests, server_blocked_utters, server_holds_owed}
+use Rattle.lane_laws.specs.Counted.{HoldsAnswer, HoldsOwed, ServerOrder, range_count}
 use Rattle.lane_laws.specs.ChannelEnds.{client_core, server_core}
 use Rattle.channel_laws.proofs.EndFolding.{FoldsSo}
 use Rattle.channel_laws.specs.EndFold.{handshake_of}
@@ -176,14 +176,15 @@ server_puts_packet s l packet opens t both step =
     let sends : ServerSends s.server at packet opens t.server = step.1.step.1.0 in
     let held = sends.held in
     let counted = server_holds_counting l.shape s.server rule held l.transcript.server l.work.server knows.rests.server knows.utters.server (server_free s.server at) sends.holds knows.counted.server in
-    let follows = (server_blocked_rests s.server at held l.transcript.server sends.holds knows.rests.server).stands.link.follows in
+    let rests = server_blocked_rests s.server at held l.transcript.server sends.holds knows.rests.server in
     subst (λ (x : ServerState). ServerIs x (Said packet ∷ l.transcript.server) Clear) (sym sends.is)
     (server_puts_so l.transcript.server packet (server_kind held) held (record {
       range = ap ranged (held_session s.server rule held sends.holds) ∙ both.server.range;
       owed = counted.handshake.owed;
+      rests = rests;
       utters = server_blocked_utters s.server at held l.transcript.server sends.holds knows.rests.server;
       holds = counted.holds;
-    }) (put_says (is_none held.handshake.owed) held.link t.server.link l.transcript.server packet follows sends.packet))
+    }) (put_says (is_none held.handshake.owed) held.link t.server.link l.transcript.server packet rests.stands.link.follows sends.packet))
 
 server_wire : (s : LaneState) (event : WireEvent) (t : LaneState) (l : DiskLog) → BothAre s l → EndOnWire B s event t
     → ClientStands t (after l (OnWire event)) × ServerStands t (after l (OnWire event))
@@ -390,7 +391,7 @@ client_owed : (s : LaneState) (l : DiskLog) → BothAre s l → Cuts s.client.li
     → s.client.link.to_send ≡ owed_left (half_said l.transcript.client) l.blocked.client s.client.handshake.owed
 client_owed s l both cuts quiet =
     owed_is_left s.client.link (half_said l.transcript.client) l.blocked.client s.client.handshake.owed s.client.link.to_send (of_client s l both cuts) refl
-    (both.knows.counted.client.holds.owed quiet) both.knows.utters.client.free
+    (holds_owed Initiator (client_core s.client) l.transcript.client both.knows.rests.client.stands quiet) both.knows.utters.client.free
 
 client_left_is : (s : LaneState) (l : DiskLog) (o : Option ClientSession) → BothAre s l → Cuts s.client.link l.transcript.client → s.client.session ≡ o
     → s.client.link.to_send ≡ client_left s.client o (half_said l.transcript.client) l.blocked.client
@@ -403,7 +404,7 @@ client_left_is s l (Some session) both cuts is = by session.announcing refl
         ∙ sym (ap (λ (b : Bool). announced_or_owed b s.client session (half_said l.transcript.client) l.blocked.client) own)
     by true own =
         held_left s.client.link (half_said l.transcript.client) (canonical (announcement s.client session)) l.blocked.client (of_client s l both cuts)
-        (both.knows.counted.client.holds.own session is own) (both.knows.all.sound.own (ap is_announcing is ∙ own))
+        (both.knows.counted.client.holds session is own) (both.knows.all.sound.own (ap is_announcing is ∙ own))
         ∙ sym (ap (λ (b : Bool). announced_or_owed b s.client session (half_said l.transcript.client) l.blocked.client) own)
 
 -- the handshake of each end is what its transcript folds to
@@ -451,15 +452,6 @@ range_agrees slots (Some session) (Some d) turns order is = (order.seq ∙ ap (�
 of_server : (s : LaneState) (l : DiskLog) → BothAre s l → Cuts s.server.link l.transcript.server → Left s.server.link (half_said l.transcript.server) l.blocked.server
 of_server s l both cuts = record { begun = cuts.begun; free = cuts.free; owes_is = both.server.link.owes; left = both.server.link.left }
 
--- what it holds where its handshake owes nothing is the answer to its range
-owed_either : (v : ServerState) (owed : Message) (bytes : List ℕ) → v.handshake.owed ≡ Some owed → HoldsEither v bytes → HoldsOwed (Some owed) bytes
-owed_either v owed bytes is (inl holds) = subst (λ (o : Option Message). HoldsOwed o bytes) is holds
-owed_either v owed bytes is (inr a) = let never : None ≡ Some owed = sym a.nothing_owed ∙ is in absurd (cc)
-
-answer_either : (v : ServerState) (bytes : List ℕ) → v.handshake.owed ≡ None → HoldsEither v bytes → HoldsAnswer v bytes
-answer_either v bytes is (inl holds) = let never : None ≡ Some holds.message = sym is ∙ holds.owed_is in absurd (cc)
-answer_either v bytes is (inr a) = a
-
 module _ (s : LaneState) (l : DiskLog) (both : BothAre s l) (cuts : Cuts s.server.link l.transcript.server) where
   answered_left : (o : Option ServerSession) (range : Option SlotRange) (left : List ℕ) → s.server.handshake.owed ≡ None → s.server.session ≡ o → ranged o ≡ range → s.server.link.to_send ≡ left
       → s.server.link.to_send ≡ range_left s.server range (half_said l.transcript.server) l.blocked.server
@@ -473,7 +465,7 @@ module _ (s : LaneState) (l : DiskLog) (both : BothAre s l) (cuts : Cuts s.serve
           open_up Responder (server_core s.server) l.transcript.server both.knows.rests.server.stands (ap is_some open_one)
   answered_left o range (byte ∷ left) none is at left_is =
       let some : 1 ≤ length s.server.link.to_send = omega (arith, ap length left_is) in
-      let a : HoldsAnswer s.server (half_said l.transcript.server ++ s.server.link.to_send) = answer_either s.server _ none (both.knows.counted.server.holds some) in
+      let a : HoldsAnswer s.server (half_said l.transcript.server ++ s.server.link.to_send) = both.knows.counted.server.holds none some in
       let there : range ≡ Some a.range = sym at ∙ ap ranged (sym is ∙ a.session_is) ∙ a.range_is in
       held_left s.server.link (half_said l.transcript.server) (canonical (answer s.server a.range)) l.blocked.server (of_server s l both cuts) a.bytes_are some
       ∙ sym (ap (λ (r : Option SlotRange). range_left s.server r (half_said l.transcript.server) l.blocked.server) there)
@@ -486,7 +478,8 @@ module _ (s : LaneState) (l : DiskLog) (both : BothAre s l) (cuts : Cuts s.serve
   server_left_is None is = answer_is s.server.session is refl
   server_left_is (Some message) is =
       owed_is_left s.server.link (half_said l.transcript.server) l.blocked.server (Some message) s.server.link.to_send (of_server s l both cuts) refl
-      (λ some. owed_either s.server message _ is (both.knows.counted.server.holds some)) (λ down. sym is ∙ both.knows.utters.server.free down)
+      (λ some. subst (λ (o : Option Message). HoldsOwed o (half_said l.transcript.server ++ s.server.link.to_send)) is
+      (server_holds_owed s.server l.transcript.server both.knows.rests.server.stands (ap is_none is) some)) (λ down. sym is ∙ both.knows.utters.server.free down)
 
 pub server_end : (s : LaneState) (l : DiskLog) → BothAre s l → FoldsSo Responder (server_core s.server) l.transcript.server → s.server.handshake.last_sid ≡ 0
     → s.server.first ≡ l.shape.first → ServerEndAgrees s.server l.shape l.transcript l.blocked.server

@@ -321,7 +321,7 @@ fresh_counted shape = record {
   client = record {
     slots = refl;
     handshake = record { role_is = refl; offer_is = refl; owed = tt; ring = λ takes named. absurd (cc named) };
-    holds = record { owed = λ quiet some. absurd (omega (arith, some)); own = λ session is on. absurd (cc) };
+    holds = λ session is on. absurd (cc);
     announced = refl;
     infos = refl;
     acked = refl;
@@ -332,7 +332,7 @@ fresh_counted shape = record {
     slots = refl;
     blocks = refl;
     handshake = record { role_is = refl; offer_is = refl; owed = tt; ring = λ takes named. absurd (cc named) };
-    holds = λ some. absurd (omega (arith, some));
+    holds = λ owing some. absurd (omega (arith, some));
     order = record { asked = refl; answered = refl; infos = refl };
     unit = tt;
     ready = λ now. absurd (cc);

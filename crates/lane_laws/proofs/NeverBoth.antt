@@ -11,7 +11,7 @@ use Rattle.ldc_link.specs.Putting.{owed_in, owes, owes_control, owes_in, part_ow
 use Rattle.ldc_packet.specs.declared.packet.Packet.{Packet}
 use Rattle.ldc_queue.specs.Transcript.{Turn}
 use Rattle.vio_tag.specs.declared.message.Message.{Message}
-use Rattle.lane_laws.specs.WorkLog.{ClientCounts, ServerCounts}
+use Rattle.lane_laws.specs.WorkLog.{ServerCounts}
 use Rattle.disk_model.specs.ClientPutting.{client_holds, is_announcing}
 use Rattle.disk_model.specs.ClientRule as client
 use Rattle.disk_model.specs.ClientState.{ClientSession, ClientState}
@@ -21,7 +21,10 @@ use Rattle.disk_model.specs.ServerPutting.{server_holds}
 use Rattle.disk_model.specs.ServerRule as server
 use Rattle.disk_model.specs.ServerState.{ServerSession, ServerState, SlotRange, Work}
 use Rattle.lane_laws.proofs.RulesFree.{ServerFree, server_free}
-use Rattle.lane_laws.specs.Counted.{ClientCounted, ServerCounted}
+use Rattle.channel_laws.specs.Standing.{EndStands}
+use Rattle.lane_laws.proofs.Speaking.{holds_owed}
+use Rattle.lane_laws.specs.ChannelEnds.{client_core}
+use Rattle.lane_laws.specs.Counted.{ServerCounted}
 use Rattle.channel_laws.specs.LinkPlaces.{AnswerTaken, AtMost, BothUp, LinkPlace, ModeAgreed, ModeAnswered, ModePut, ModeTaken, NothingPut, ReadyPut, VersionAnswered, VersionPut, VersionTaken, Waits}
 
 -- THE LINKS ARE UP where many packets wait for both ends
@@ -97,12 +100,11 @@ not_announcing : (o : Option ClientSession) → is_none o ≡ true → is_announ
 not_announcing None none = refl
 not_announcing (Some session) none = absurd (cc none)
 
-pub client_owes : (shape : Shape) (s : ClientState) (turns : List Turn) (done : ℕ) (k : Option ClientCounts) → ClientCounted shape s turns done k → s.link.phase ≡ phase.Established
-    → client.is_urgent s ≡ true → Owes s.handshake.owed
-client_owes shape s turns done k counted at urgent =
+pub client_owes : (s : ClientState) (turns : List Turn) → EndStands Initiator (client_core s) turns → s.link.phase ≡ phase.Established → client.is_urgent s ≡ true → Owes s.handshake.owed
+client_owes s turns stands at urgent =
     elim (by_parts (owes_control s.link) (is_some s.handshake.owed) (is_none s.session) (owes s.link) urgent (no_control s.link at)) [
       | inl owed ↦ owed
-      | inr both ↦ ap is_some (counted.holds.owed (not_announcing s.session both.0) (holds_some s.link at both.1)).owed_is
+      | inr both ↦ ap is_some (holds_owed Initiator (client_core s) turns stands (not_announcing s.session both.0) (holds_some s.link at both.1)).owed_is
     ]
 
 -- A SERVER that holds a message owes one of its handshake, or its session is open
@@ -142,10 +144,11 @@ up_owed s at false = tt
 by_rule : (shape : Shape) (s : ServerState) (turns : List Turn) (d : Option ServerCounts) (rule : server.ServerRule) (t : ServerState) → ServerCounted shape s turns d
     → s.link.phase ≡ phase.Established → PutsOwed s rule → ServerFree s rule → server_holds rule s ≡ Some t → Owes s.handshake.owed ⊎ (is_some s.session ≡ true)
 by_rule shape s turns d server.Puts t counted at owed free holds =
-    elim (counted.holds (holds_some s.link at owed)) [
-      | inl handshake ↦ inl (ap is_some handshake.owed_is)
-      | inr answer ↦ inr (ap is_some answer.session_is)
-    ]
+    by_owed s.handshake.owed refl
+  where
+    by_owed : (o : Option Message) → s.handshake.owed ≡ o → Owes s.handshake.owed ⊎ (is_some s.session ≡ true)
+    by_owed (Some message) is = inl (ap is_some is)
+    by_owed None is = inr (ap is_some (counted.holds is (holds_some s.link at owed)).session_is)
 by_rule shape s turns d (server.Says message) t counted at owed free holds =
     elim free.1 [
       | inl is ↦ inl (ap is_some is)

@@ -49,14 +49,16 @@ use Rattle.lane_laws.proofs.RangesSaid.{end_is, heard_no_range, no_data, owed_no
 use Rattle.lane_laws.proofs.RulesFree.{ServerFree, TakesFree, server_free}
 use Rattle.lane_laws.proofs.ServerCounting.{own_slots}
 use Rattle.lane_laws.proofs.ServerFolds.{ranged}
-use Rattle.lane_laws.proofs.ServerPutCounting.{all_finished, server_holds_counting, some_owed, the_answer}
+use Rattle.lane_laws.proofs.ServerPutCounting.{all_finished, server_holds_counting, none_is}
 use Rattle.lane_laws.proofs.ServerTaken.{ServerAsked, ServerTook, server_took_what}
 use Rattle.lane_laws.proofs.Sharing.{in_order}
 use Rattle.lane_laws.proofs.WorkNumbers.{in_client, in_server}
+use Rattle.ldc_link.specs.declared.phase.Role.TheVariants.{Initiator}
+use Rattle.lane_laws.specs.ChannelEnds.{client_core}
 use Rattle.lane_laws.specs.Counted.{ClientCounted, HoldsAnswer, HoldsOwed, InServerOrder, RangeStands, ServerCounted, ServerOrder}
 use Rattle.channel_laws.specs.HandshakeFits.{MayOwe, OwedFits}
-use Rattle.lane_laws.proofs.Speaking.{server_blocked_rests}
-use Rattle.lane_laws.specs.LaneRests.{ServerRests}
+use Rattle.lane_laws.proofs.Speaking.{holds_owed, server_blocked_rests, server_holds_owed}
+use Rattle.lane_laws.specs.LaneRests.{ClientRests, ServerRests}
 use Rattle.lane_laws.specs.Sound.{ClientSound, InOrder}
 use Rattle.lane_laws.proofs.Counting.{OfClient, OfServer, of_client, of_server, slot_of_count}
 
@@ -136,18 +138,19 @@ announces l packet held info sound counted last =
       active = says.states;
     }))
 
-by_kind : (kind : PutKind) (l : DiskLog) (packet : List ℕ) (held : ClientState) → ClientSound held → ClientCounted l.shape held l.transcript.client l.work.done l.work.client
+by_kind : (kind : PutKind) (l : DiskLog) (packet : List ℕ) (held : ClientState) → ClientRests held l.transcript.client → ClientSound held → ClientCounted l.shape held l.transcript.client l.work.done l.work.client
     → PutSays kind (is_announcing held.session) held.link l.transcript.client packet → SaysInfo l packet
-by_kind Goes l packet held sound counted says = if_none _ _ (goes_none 1 l.transcript.client packet says.messages)
-by_kind ComesUp l packet held sound counted says = if_none _ _ (goes_none 1 l.transcript.client packet says.0.messages)
-by_kind EndsOwn l packet held sound counted says = announces l packet held (own_info held l.transcript.client held.session refl says.1 counted.holds) sound counted says.0
-by_kind EndsHandshake l packet held sound counted says =
-    if_none _ _ (owed_none 1 held.handshake.phase held.handshake.owed held.link l.transcript.client packet (inl refl) counted.handshake.owed (counted.holds.owed says.1 says.0.some) says.0)
+by_kind Goes l packet held rests sound counted says = if_none _ _ (goes_none 1 l.transcript.client packet says.messages)
+by_kind ComesUp l packet held rests sound counted says = if_none _ _ (goes_none 1 l.transcript.client packet says.0.messages)
+by_kind EndsOwn l packet held rests sound counted says = announces l packet held (own_info held l.transcript.client held.session refl says.1 counted.holds) sound counted says.0
+by_kind EndsHandshake l packet held rests sound counted says =
+    if_none _ _ (owed_none 1 held.handshake.phase held.handshake.owed held.link l.transcript.client packet (inl refl) counted.handshake.owed
+    (holds_owed Initiator (client_core held) l.transcript.client rests.stands says.1 says.0.some) says.0)
 
 said_info : (s : LaneState) (l : DiskLog) (packet : List ℕ) (opens : Bool) (t : ClientState) (new : List ℕ) → Knows s l
     → ClientSends s.client (seen A s.shape.entries s.wire.wire) s.memory packet opens t new → SaysInfo l packet
 said_info s l packet opens t new knows sends =
-    let put = putting s l packet opens t new knows sends in by_kind (client_kind sends.held) l packet sends.held put.sound put.counted put.says
+    let put = putting s l packet opens t new knows sends in by_kind (client_kind sends.held) l packet sends.held put.rests put.sound put.counted put.says
 
 -- A RANGE THAT IS HEARD names the end's ring
 names_ring : (h g : Handshake) (sid : ℕ) (bytes : List ℕ) (ident : ℕ) → sid ≡ sid_of bytes → h ≡ g → sid_fault h.sid sid ≡ None → ident_of bytes ≡ ident
@@ -266,15 +269,15 @@ answers l packet held sound in_work a counted last =
       finished = all_finished slots a.session held.work c turns range sound.most_slots a.finished stands order of.agree of.work_agrees;
     }))
 
-answers_by : (kind : PutKind) (l : DiskLog) (packet : List ℕ) (held : ServerState) → IsShape l.shape → ranged held.session ≡ range_in_work l.transcript.server
+answers_by : (kind : PutKind) (l : DiskLog) (packet : List ℕ) (held : ServerState) → ServerRests held l.transcript.server → IsShape l.shape → ranged held.session ≡ range_in_work l.transcript.server
     → ServerCounted l.shape held l.transcript.server l.work.server → PutSays kind (is_none held.handshake.owed) held.link l.transcript.server packet → SaysAck l packet
-answers_by Goes l packet held sound in_work counted says = if_none _ _ (goes_none 2 l.transcript.server packet says.messages)
-answers_by ComesUp l packet held sound in_work counted says = if_none _ _ (goes_none 2 l.transcript.server packet says.0.messages)
-answers_by EndsOwn l packet held sound in_work counted says =
-    answers l packet held sound in_work (the_answer held.handshake.owed held (half_said l.transcript.server ++ held.link.to_send) refl says.1 (counted.holds says.0.some)) counted says.0
-answers_by EndsHandshake l packet held sound in_work counted says =
+answers_by Goes l packet held rests sound in_work counted says = if_none _ _ (goes_none 2 l.transcript.server packet says.messages)
+answers_by ComesUp l packet held rests sound in_work counted says = if_none _ _ (goes_none 2 l.transcript.server packet says.0.messages)
+answers_by EndsOwn l packet held rests sound in_work counted says =
+    answers l packet held sound in_work (counted.holds (none_is held.handshake.owed says.1) says.0.some) counted says.0
+answers_by EndsHandshake l packet held rests sound in_work counted says =
     if_none _ _ (owed_none 2 held.handshake.phase held.handshake.owed held.link l.transcript.server packet (inr refl) counted.handshake.owed
-    (some_owed held.handshake.owed held (half_said l.transcript.server ++ held.link.to_send) refl says.1 (counted.holds says.0.some)) says.0)
+    (server_holds_owed held l.transcript.server rests.stands says.1 says.0.some) says.0)
 
 said_ack : (s : LaneState) (l : DiskLog) (packet : List ℕ) (opens : Bool) (t : ServerState) → IsShape l.shape → BothAre s l
     → ServerSends s.server (seen B s.shape.entries s.wire.wire) packet opens t → SaysAck l packet
@@ -282,10 +285,11 @@ said_ack s l packet opens t sound both sends =
     let at = seen B s.shape.entries s.wire.wire in
     let rule = server_rules.server_rule s.server at in
     let knows = both.knows in
-    answers_by (server_kind sends.held) l packet sends.held sound (ap ranged (held_session s.server rule sends.held sends.holds) ∙ both.server.range)
+    let rests = server_blocked_rests s.server at sends.held l.transcript.server sends.holds knows.rests.server in
+    answers_by (server_kind sends.held) l packet sends.held rests sound (ap ranged (held_session s.server rule sends.held sends.holds) ∙ both.server.range)
     (server_holds_counting l.shape s.server rule sends.held l.transcript.server l.work.server knows.rests.server knows.utters.server (server_free s.server at) sends.holds knows.counted.server)
     (put_says (is_none sends.held.handshake.owed) sends.held.link t.link l.transcript.server packet
-    (server_blocked_rests s.server at sends.held l.transcript.server sends.holds knows.rests.server).stands.link.follows sends.packet)
+    rests.stands.link.follows sends.packet)
 
 -- what both handshakes are by the log
 pub record AreTold (s : LaneState) (l : DiskLog) : Type 0 where

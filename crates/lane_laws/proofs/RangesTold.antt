@@ -58,9 +58,9 @@ use Rattle.lane_laws.proofs.ClientPuts.{Putting, putting}
 use Rattle.lane_laws.proofs.RangesSaid.{IsNoPlain, envelope_reads}
 use Rattle.lane_laws.proofs.RingRuns.{before}
 use Rattle.lane_laws.proofs.RulesFree.{server_free}
-use Rattle.lane_laws.proofs.Speaking.{server_blocked_rests}
+use Rattle.lane_laws.proofs.Speaking.{holds_owed, server_blocked_rests, server_holds_owed}
 use Rattle.lane_laws.proofs.ServerMoves.{server_waits}
-use Rattle.lane_laws.proofs.ServerPutCounting.{server_holds_counting, some_owed, the_answer}
+use Rattle.lane_laws.proofs.ServerPutCounting.{server_holds_counting, none_is}
 use Rattle.lane_laws.specs.ChannelEnds.{client_core, server_core}
 use Rattle.lane_laws.specs.Counted.{ClientCounted, HoldsAnswer, HoldsOwed, InServerOrder, RangeStands, ServerCounted, ServerOrder, announced_of, infos_of, range_count, range_sum}
 use Rattle.lane_laws.specs.DiskLog.{DiskLog, after, nothing_yet}
@@ -267,7 +267,7 @@ client_tells EndsHandshake l d held packet some small here counted says =
     inr (record {
       bytes = bytes;
       is = says.0.messages;
-      what = inr (owed_apart Initiator d (client_core held) l.transcript.client bytes here (counted.holds.owed says.1 says.0.some));
+      what = inr (owed_apart Initiator d (client_core held) l.transcript.client bytes here (holds_owed Initiator (client_core held) l.transcript.client here.stands says.1 says.0.some));
     })
 
 answered_data : (l : DiskLog) (d : Deal) (held : ServerState) (bytes : List ℕ) (q : Option ServerCounts) → IsShape l.shape → HeldAt Responder d (server_core held) l.transcript.server
@@ -287,14 +287,14 @@ server_tells EndsOwn l d held packet sound small here counted says =
     inr (record {
       bytes = bytes;
       is = says.0.messages;
-      what = inl (d.sid, small, answered_data l d held bytes l.work.server sound here counted (the_answer held.handshake.owed held bytes refl says.1 (counted.holds says.0.some)));
+      what = inl (d.sid, small, answered_data l d held bytes l.work.server sound here counted (counted.holds (none_is held.handshake.owed says.1) says.0.some));
     })
 server_tells EndsHandshake l d held packet sound small here counted says =
     let bytes = half_said l.transcript.server ++ held.link.to_send in
     inr (record {
       bytes = bytes;
       is = says.0.messages;
-      what = inr (owed_apart Responder d (server_core held) l.transcript.server bytes here (some_owed held.handshake.owed held bytes refl says.1 (counted.holds says.0.some)));
+      what = inr (owed_apart Responder d (server_core held) l.transcript.server bytes here (server_holds_owed held l.transcript.server here.stands says.1 says.0.some));
     })
 
 wire_tells : (shape : Shape) (events : List DiskEvent) (s : LaneState) (event : WireEvent) (t : LaneState) → IsShape shape → Run LaneStep (fresh shape) events s

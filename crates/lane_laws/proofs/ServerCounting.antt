@@ -30,7 +30,7 @@ use Rattle.lane_laws.proofs.RangesSaid.{IsNoData, heard_no_range, heard_one, hea
 use Rattle.lane_laws.proofs.RulesFree.{TakesFree}
 use Rattle.lane_laws.proofs.ServerTaken.{ServerAsked, ServerHearsPart, ServerHandshakes, ServerTook, still}
 use Rattle.lane_laws.specs.Budget.{one_range}
-use Rattle.lane_laws.specs.Counted.{HoldsEither, NothingAsked, RangeStands, ServerCounted, ServerHolds, ServerOrder, is_ready, one_where, range_count, range_sum, ready_count}
+use Rattle.lane_laws.specs.Counted.{NothingAsked, RangeStands, ServerCounted, ServerHolds, ServerOrder, is_ready, one_where, range_count, range_sum, ready_count}
 use Rattle.vio_tag.specs.declared.message.Message.{Message}
 use Rattle.lane_laws.specs.LaneRests.{ServerRests, ServerUtters}
 use Rattle.channel_laws.specs.HandshakeFits.{HandshakeFits}
@@ -41,7 +41,7 @@ server_begins_counting shape v turns d counted = record {
   slots = counted.slots;
   blocks = counted.blocks;
   handshake = joined_fits Responder (server_offer shape.blocks shape.slots) v.handshake counted.handshake;
-  holds = λ some. absurd (omega (arith, some));
+  holds = λ owing some. absurd (omega (arith, some));
   order = record { asked = refl; answered = refl; infos = refl };
   unit = tt;
   ready = λ now. absurd (cc);
@@ -58,7 +58,7 @@ server_restarts_counting shape v turns d counted = record {
     owed = tt;
     ring = λ takes named. absurd (cc named);
   };
-  holds = λ some. absurd (omega (arith, some));
+  holds = λ owing some. absurd (omega (arith, some));
   order = record { asked = refl; answered = refl; infos = refl };
   unit = tt;
   ready = λ now. absurd (cc);
@@ -118,22 +118,20 @@ fits_risen false c offer h fits = fits
 
 holds_risen : (b : Bool) (v : ServerState) (k : LinkState) (turns : List Turn) → is_up v.link ≡ b → k.to_send ≡ v.link.to_send → (is_up v.link ≡ false → v.link.to_send ≡ []) → ServerHolds v turns
     → ServerHolds (record v { link = k; handshake = handshake_risen v.link k v.handshake }) turns
-holds_risen false v k turns is left idle holds = λ some. absurd (omega (arith, some, ap length left, ap length (idle is)))
+holds_risen false v k turns is left idle holds = λ owing some. absurd (omega (arith, some, ap length left, ap length (idle is)))
 holds_risen true v k turns is left idle holds =
     let same : handshake_risen v.link k v.handshake ≡ v.handshake = still (is_up k) (is_up v.link) v.handshake is in
     subst (λ (h : Handshake). ServerHolds (record v { link = k; handshake = h }) turns) (sym same)
-    (λ some. elim (subst (λ (xs : List ℕ). HoldsEither v xs) (ap (λ (xs : List ℕ). half_said turns ++ xs) (sym left)) (holds (omega (arith, some, ap length left)))) [
-      | inl owed ↦ inl owed
-      | inr answer ↦ inr (record {
-        session = answer.session;
-        range = answer.range;
-        nothing_owed = answer.nothing_owed;
-        session_is = answer.session_is;
-        range_is = answer.range_is;
-        finished = answer.finished;
-        bytes_are = answer.bytes_are;
-      })
-    ])
+    (λ owing some.
+    let answer = holds owing (omega (arith, some, ap length left)) in
+    record {
+      session = answer.session;
+      range = answer.range;
+      session_is = answer.session_is;
+      range_is = answer.range_is;
+      finished = answer.finished;
+      bytes_are = ap (λ (xs : List ℕ). half_said turns ++ xs) left ∙ answer.bytes_are;
+    })
 
 takes_part : (shape : Shape) (v t : ServerState) (turns : List Turn) (packet : List ℕ) (sid : ℕ) (d : Option ServerCounts) (opens : Bool) → ServerUtters v turns → ServerCounted shape v turns d
     → ServerHearsPart v turns packet t opens → Behind shape turns packet sid d opens t
@@ -204,7 +202,7 @@ takes_handshake false shape v t turns packet sid d rests free counted handshakes
       slots = counted.slots;
       blocks = counted.blocks;
       handshake = row_fits Responder (server_offer shape.blocks shape.slots) v.handshake handshakes.handshake handshakes.message false free.owed counted.handshake handshakes.took.row;
-      holds = λ some. absurd (omega (arith, some, ap length handshakes.left, ap length empty));
+      holds = λ owing some. absurd (omega (arith, some, ap length handshakes.left, ap length empty));
       order = order_same shape v.session d turns packet same as_many counted.order;
       unit = counted.unit;
       ready = λ now. omega (arith, counted.ready now, ap ready_count handshakes.hears.messages, ready_more (heard turns) bytes);
@@ -222,7 +220,7 @@ takes_handshake true shape v t turns packet sid d rests free counted handshakes 
       slots = counted.slots;
       blocks = counted.blocks;
       handshake = row_fits Responder (server_offer shape.blocks shape.slots) v.handshake handshakes.handshake handshakes.message true free.owed counted.handshake handshakes.took.row;
-      holds = λ some. absurd (omega (arith, some, ap length handshakes.left, ap length empty));
+      holds = λ owing some. absurd (omega (arith, some, ap length handshakes.left, ap length empty));
       order = record {
         asked = omega (
           arith,
@@ -341,7 +339,7 @@ takes_ask shape v t turns packet sid d opens rests free counted asks =
       slots = counted.slots;
       blocks = counted.blocks;
       handshake = counted.handshake;
-      holds = λ some. absurd (omega (arith, some, ap length asks.left, ap length empty));
+      holds = λ owing some. absurd (omega (arith, some, ap length asks.left, ap length empty));
       order = asked_order shape.slots added n v.session d turns (Heard_ packet ∷ turns) session next asks.range asks.session_is refl asks_of (sum_heard shape.slots 1 packet turns) refl one_more refl v.work counted.agrees counted.order;
       unit = counted.unit;
       ready = λ now. omega (arith, counted.ready (ap is_some asks.session_is), ap ready_count asks.hears.messages, ready_more (heard turns) bytes);

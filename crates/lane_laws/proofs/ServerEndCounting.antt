@@ -153,12 +153,12 @@ server_finishes_counting shape v at reach slot status t new turns d rests step c
     })
 
 -- EACH PACKET that it puts; its session never opens by one
-put_counting : (kind : PutKind) (shape : Shape) (v : ServerState) (turns : List Turn) (packet : List ℕ) (d : Option ServerCounts) → shape.slots ≤ 256 → ServerUtters v turns
+put_counting : (kind : PutKind) (shape : Shape) (v : ServerState) (turns : List Turn) (packet : List ℕ) (d : Option ServerCounts) → shape.slots ≤ 256 → ServerRests v turns → ServerUtters v turns
     → PutSays kind (is_none v.handshake.owed) v.link turns packet → ServerCounted shape v turns d → ServerCounted shape (put_as kind v) (Said packet ∷ turns) (answers_more shape turns packet d)
-put_counting Goes shape v turns packet d few utters says counted = goes_counting shape v turns packet d says counted
-put_counting ComesUp shape v turns packet d few utters says counted = comes_counting shape v turns packet d utters says.1 says.0 counted
-put_counting EndsOwn shape v turns packet d few utters says counted = own_counting shape v turns packet d few says.1 says.0 counted
-put_counting EndsHandshake shape v turns packet d few utters says counted = handshake_counting shape v turns packet d says.1 says.0 counted
+put_counting Goes shape v turns packet d few rests utters says counted = goes_counting shape v turns packet d says counted
+put_counting ComesUp shape v turns packet d few rests utters says counted = comes_counting shape v turns packet d utters says.1 says.0 counted
+put_counting EndsOwn shape v turns packet d few rests utters says counted = own_counting shape v turns packet d few says.1 says.0 counted
+put_counting EndsHandshake shape v turns packet d few rests utters says counted = handshake_counting shape v turns packet d rests says.1 says.0 counted
 
 responder_never : (role : Role) (phase : Phase) → role ≡ Responder → opens_by_put role phase ≡ false
 responder_never Responder phase is = refl
@@ -176,9 +176,10 @@ pub server_puts_counting : (shape : Shape) (v : ServerState) (at : Seen) (packet
 server_puts_counting shape v at packet opens t turns d few sends rests utters counted =
     let held : ServerCounted shape sends.held turns d = server_holds_counting shape v (server_rule v at) sends.held turns d rests utters (server_free v at) sends.holds counted in
     let held_utters = server_blocked_utters v at sends.held turns sends.holds rests in
-    let follows = (server_blocked_rests v at sends.held turns sends.holds rests).stands.link.follows in
+    let held_rests = server_blocked_rests v at sends.held turns sends.holds rests in
+    let follows = held_rests.stands.link.follows in
     let says = put_says (is_none sends.held.handshake.owed) sends.held.link t.link turns packet follows sends.packet in (
       subst (λ (x : ServerState). ServerCounted shape x (Said packet ∷ turns) (answers_more shape turns packet d)) (sym sends.is)
-          (put_counting (server_kind sends.held) shape sends.held turns packet d few held_utters says held),
+          (put_counting (server_kind sends.held) shape sends.held turns packet d few held_rests held_utters says held),
       sends.opens_is ∙ never_opens (server_kind sends.held) sends.held.handshake held.handshake.role_is,
     )

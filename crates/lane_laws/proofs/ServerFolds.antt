@@ -12,6 +12,7 @@ use Rattle.vio_bytes.specs.Place.{number_at}
 use Rattle.vio_tag.specs.declared.message.Message.{Message}
 use Rattle.vio_tag.specs.declared.message.MsgBody.TheVariants.{DringData}
 use Rattle.vio_tag.specs.Spelling.{SpellsBody, canonical, envelope_code}
+use Rattle.lane_laws.proofs.Speaking.{server_holds_owed}
 use Rattle.lane_laws.specs.BlockLog.{Blockage, Clear, hearing, stuck}
 use Rattle.lane_laws.specs.EndLog.{answered_by, asked_by, range_in_work, range_of}
 use Rattle.channel_model.specs.EndPuts.{ComesUp, EndsOwn, EndsHandshake, Goes, PutKind}
@@ -31,7 +32,7 @@ use Rattle.channel_laws.proofs.EndStanding.{SameSending}
 use Rattle.lane_laws.proofs.RangesSaid.{heard_no_range, is_data, no_data, owed_no_range, range_is}
 use Rattle.lane_laws.proofs.RulesFree.{AnswersFree, ServerFree, TakesFree, server_free}
 use Rattle.lane_laws.proofs.ServerCounting.{opens_new}
-use Rattle.lane_laws.proofs.ServerPutCounting.{put_as, some_owed, the_answer}
+use Rattle.lane_laws.proofs.ServerPutCounting.{put_as, none_is}
 use Rattle.lane_laws.proofs.ServerAnswers.{opened_or}
 use Rattle.lane_laws.proofs.ServerTaken.{ServerTook}
 use Rattle.channel_laws.proofs.Short.{some_bytes}
@@ -130,6 +131,7 @@ answered_none (Some session) = refl
 pub record Holding (v : ServerState) (turns : List Turn) : Type 0 where
   pub range : ranged v.session ≡ range_in_work turns
   pub owed : OwedFits v.handshake.phase v.handshake.owed
+  pub rests : ServerRests v turns
   pub utters : ServerUtters v turns
   pub holds : ServerHolds v turns
 
@@ -143,13 +145,13 @@ server_puts_so turns packet Goes v held says = puts_by v v.session turns packet 
 server_puts_so turns packet ComesUp v held says = puts_by v v.session turns packet held (held.range ∙ said_same turns packet None (said_none turns packet says.0.messages) refl)
 server_puts_so turns packet EndsOwn v held says =
     let bytes = half_said turns ++ v.link.to_send in
-    let a : HoldsAnswer v bytes = the_answer v.handshake.owed v bytes refl says.1 (held.holds says.0.some) in
+    let a : HoldsAnswer v bytes = held.holds (none_is v.handshake.owed says.1) says.0.some in
     let range : is_range 2 bytes ≡ true =
     ap (is_range 2) a.bytes_are ∙ is_data 2 v.handshake.draft.sid Ack a.range.seq v.handshake.draft.ident_peer a.range.start a.range.end a.range.state refl in
     puts_by v (answered v.session) turns packet held (answered_none v.session ∙ said_range turns packet bytes (said_some turns packet bytes says.0.messages) range)
 server_puts_so turns packet EndsHandshake v held says =
     let bytes = half_said turns ++ v.link.to_send in
-    let owed : HoldsOwed v.handshake.owed bytes = some_owed v.handshake.owed v bytes refl says.1 (held.holds says.0.some) in
+    let owed : HoldsOwed v.handshake.owed bytes = server_holds_owed v turns held.rests.stands says.1 says.0.some in
     let may : MayOwe v.handshake.phase owed.message.subtype owed.message.body = subst (OwedFits v.handshake.phase) owed.owed_is held.owed in
     let none : range_in 2 (Some bytes) ≡ None = ap (λ (xs : List ℕ). range_in 2 (Some xs)) owed.bytes_are ∙ owed_no_range v.handshake.phase 2 owed.message (inr refl) may in
     puts_by v v.session turns packet held (held.range ∙ said_same turns packet (Some bytes) (said_some turns packet bytes says.0.messages) none)

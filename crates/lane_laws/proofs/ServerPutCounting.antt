@@ -10,6 +10,7 @@ use Rattle.ldc_queue.specs.Transcript.{Said, Turn}
 use Rattle.vio_tag.specs.declared.message.Message.{Message}
 use Rattle.vio_tag.specs.Spelling.{canonical}
 use Rattle.channel_model.specs.Sayings.{half_said, heard, said}
+use Rattle.lane_laws.proofs.Speaking.{server_holds_owed}
 use Rattle.lane_laws.specs.Agreement.{ServerAgrees, ServerCountsAgree, WorkAgrees}
 use Rattle.channel_model.specs.Messages.{range_ended, range_in}
 use Rattle.lane_laws.specs.WorkLog.{ServerCounts, change_server, length_in, one_in}
@@ -27,7 +28,7 @@ use Rattle.lane_laws.proofs.RangeSums.{count_said, sum_more, sum_said}
 use Rattle.lane_laws.proofs.RangesSaid.{owed_no_range, said_range}
 use Rattle.lane_laws.proofs.RulesFree.{AnswersFree, ServerFree}
 use Rattle.lane_laws.specs.Budget.{one_range}
-use Rattle.lane_laws.specs.Counted.{HoldsAnswer, HoldsEither, HoldsOwed, InServerOrder, RangeStands, ServerCounted, ServerOrder, range_count, range_sum}
+use Rattle.lane_laws.specs.Counted.{HoldsAnswer, InServerOrder, RangeStands, ServerCounted, ServerOrder, range_count, range_sum}
 use Rattle.lane_laws.specs.LaneRests.{ServerRests, ServerUtters}
 use Rattle.channel_laws.specs.HandshakeFits.{MayOwe, OwedFits}
 use Rattle.lane_laws.specs.ChannelEnds.{server_core}
@@ -37,30 +38,24 @@ answer_with : (v : ServerState) (k : LinkState) (bytes : List ℕ) → HoldsAnsw
 answer_with v k bytes a = record {
   session = a.session;
   range = a.range;
-  nothing_owed = a.nothing_owed;
   session_is = a.session_is;
   range_is = a.range_is;
   finished = a.finished;
   bytes_are = a.bytes_are;
 }
 
-either_with : (v : ServerState) (k : LinkState) (bytes : List ℕ) → HoldsEither v bytes → HoldsEither (record v { link = k }) bytes
-either_with v k bytes (inl owed) = inl owed
-either_with v k bytes (inr a) = inr (answer_with v k bytes a)
-
 -- IT HOLDS a message
-says_either : (v : ServerState) (turns : List Turn) (message : Message) → half_said turns ≡ [] → (v.handshake.owed ≡ Some message) ⊎ AnswersFree v message
-    → HoldsEither v (half_said turns ++ canonical message)
-says_either v turns message half (inl owed) = inl (record { message = message; owed_is = owed; bytes_are = ap (λ (xs : List ℕ). xs ++ canonical message) half })
-says_either v turns message half (inr a) = inr (record {
+says_answer : (v : ServerState) (turns : List Turn) (message : Message) → half_said turns ≡ [] → (v.handshake.owed ≡ Some message) ⊎ AnswersFree v message → v.handshake.owed ≡ None
+    → HoldsAnswer v (half_said turns ++ canonical message)
+says_answer v turns message half (inl owed) none = let never : None ≡ Some message = sym none ∙ owed in absurd (cc never)
+says_answer v turns message half (inr a) none = record {
   session = a.session;
   range = a.range;
-  nothing_owed = a.owed;
   session_is = a.session_is;
   range_is = a.range_is;
   finished = a.finished;
   bytes_are = ap (λ (xs : List ℕ). xs ++ canonical message) half ∙ ap canonical a.message_is;
-})
+}
 
 says_up : (v : ServerState) (turns : List Turn) (message : Message) → ServerRests v turns → (v.handshake.owed ≡ Some message) ⊎ AnswersFree v message → is_up v.link ≡ true
 says_up v turns message rests (inl owed) = owing_up Responder (server_core v) turns message rests.stands owed
@@ -79,7 +74,7 @@ server_holds_counting shape v (Says message) held turns d rests utters free is c
       slots = counted.slots;
       blocks = counted.blocks;
       handshake = counted.handshake;
-      holds = λ some. either_with v (offered (canonical message) v.link) (half_said turns ++ canonical message) (says_either v turns message half free.1);
+      holds = λ none some. answer_with v (offered (canonical message) v.link) (half_said turns ++ canonical message) (says_answer v turns message half free.1 none);
       order = counted.order;
       unit = counted.unit;
       ready = counted.ready;
@@ -152,8 +147,8 @@ goes_counting shape v turns packet d on counted =
       slots = counted.slots;
       blocks = counted.blocks;
       handshake = counted.handshake;
-      holds = λ some. either_with v (behind_put v.link) (half_said (Said packet ∷ turns) ++ (behind_put v.link).to_send)
-          (subst (HoldsEither v) (sym on.whole) (counted.holds (on.some some)));
+      holds = λ owing some. answer_with v (behind_put v.link) (half_said (Said packet ∷ turns) ++ (behind_put v.link).to_send)
+          (subst (HoldsAnswer v) (sym on.whole) (counted.holds owing (on.some some)));
       order = order_same shape v.session d turns packet same counted.order;
       unit = counted.unit;
       ready = counted.ready;
@@ -169,7 +164,7 @@ comes_counting shape v turns packet d utters down on counted =
       slots = counted.slots;
       blocks = counted.blocks;
       handshake = up_fits Responder (server_offer shape.blocks shape.slots) v.handshake counted.handshake;
-      holds = λ some. absurd (omega (arith, on.some some, ap length (utters.idle down)));
+      holds = λ owing some. absurd (omega (arith, on.some some, ap length (utters.idle down)));
       order = order_same shape v.session d turns packet same counted.order;
       unit = counted.unit;
       ready = counted.ready;
@@ -177,16 +172,11 @@ comes_counting shape v turns packet d utters down on counted =
     }
 
 -- A MESSAGE OF THE HANDSHAKE is put whole
-pub some_owed : (owed : Option Message) (v : ServerState) (bytes : List ℕ) → v.handshake.owed ≡ owed → is_none owed ≡ false → HoldsEither v bytes → HoldsOwed v.handshake.owed bytes
-some_owed owed v bytes is some (inl holds) = holds
-some_owed None v bytes is some (inr a) = absurd (cc)
-some_owed (Some message) v bytes is some (inr a) = let never : None ≡ Some message = sym a.nothing_owed ∙ is in absurd (cc)
-
-pub handshake_counting : (shape : Shape) (v : ServerState) (turns : List Turn) (packet : List ℕ) (d : Option ServerCounts) → is_none v.handshake.owed ≡ false → SaysWhole v.link turns packet
+pub handshake_counting : (shape : Shape) (v : ServerState) (turns : List Turn) (packet : List ℕ) (d : Option ServerCounts) → ServerRests v turns → is_none v.handshake.owed ≡ false → SaysWhole v.link turns packet
     → ServerCounted shape v turns d → ServerCounted shape (put_as EndsHandshake v) (Said packet ∷ turns) (answers_more shape turns packet d)
-handshake_counting shape v turns packet d some last counted =
+handshake_counting shape v turns packet d rests some last counted =
     let bytes = half_said turns ++ v.link.to_send in
-    let holds = some_owed v.handshake.owed v bytes refl some (counted.holds last.some) in
+    let holds = server_holds_owed v turns rests.stands some last.some in
     let may : MayOwe v.handshake.phase holds.message.subtype holds.message.body = subst (OwedFits v.handshake.phase) holds.owed_is counted.handshake.owed in
     let no_range : range_in 2 (Some bytes) ≡ None =
     ap (λ (xs : List ℕ). range_in 2 (Some xs)) holds.bytes_are ∙ owed_no_range v.handshake.phase 2 holds.message (inr refl) may in
@@ -197,7 +187,7 @@ handshake_counting shape v turns packet d some last counted =
       slots = counted.slots;
       blocks = counted.blocks;
       handshake = sent_fits Responder (server_offer shape.blocks shape.slots) v.handshake counted.handshake;
-      holds = λ left. absurd (omega (arith, left, ap length last.none));
+      holds = λ owing left. absurd (omega (arith, left, ap length last.none));
       order = order_same shape v.session d turns packet same counted.order;
       unit = counted.unit;
       ready = counted.ready;
@@ -205,10 +195,9 @@ handshake_counting shape v turns packet d some last counted =
     }
 
 -- THE ANSWER to a range is put whole
-pub the_answer : (owed : Option Message) (v : ServerState) (bytes : List ℕ) → v.handshake.owed ≡ owed → is_none owed ≡ true → HoldsEither v bytes → HoldsAnswer v bytes
-the_answer owed v bytes is none (inr a) = a
-the_answer None v bytes is none (inl holds) = let never : None ≡ Some holds.message = sym is ∙ holds.owed_is in absurd (cc)
-the_answer (Some message) v bytes is none (inl holds) = absurd (cc)
+pub none_is : (owed : Option Message) → is_none owed ≡ true → owed ≡ None
+none_is None is = refl
+none_is (Some message) is = absurd (cc is)
 
 record Answered (slots : ℕ) (session : ServerSession) (range : SlotRange) (n : ℕ) : Type 0 where
   range_is : session.range ≡ Some range
@@ -272,7 +261,7 @@ pub own_counting : (shape : Shape) (v : ServerState) (turns : List Turn) (packet
     → ServerCounted shape v turns d → ServerCounted shape (put_as EndsOwn v) (Said packet ∷ turns) (answers_more shape turns packet d)
 own_counting shape v turns packet d few none last counted =
     let bytes = half_said turns ++ v.link.to_send in
-    let a = the_answer v.handshake.owed v bytes refl none (counted.holds last.some) in
+    let a = counted.holds (none_is v.handshake.owed none) last.some in
     let n = length_in shape.slots (range_ended 2 (half_said turns) packet) in
     let message : a.range.start < shape.slots → a.range.end < shape.slots → length_in shape.slots (range_in 2 (Some bytes)) ≡ range_length shape.slots a.range.start a.range.end =
     λ start end. ap (λ (xs : List ℕ). length_in shape.slots (range_in 2 (Some xs))) a.bytes_are
@@ -287,7 +276,7 @@ own_counting shape v turns packet d few none last counted =
       slots = counted.slots;
       blocks = counted.blocks;
       handshake = counted.handshake;
-      holds = λ left. absurd (omega (arith, left, ap length last.none));
+      holds = λ owing left. absurd (omega (arith, left, ap length last.none));
       order = both.0;
       unit = counted.unit;
       ready = λ now. counted.ready (ap is_some a.session_is);

@@ -190,7 +190,7 @@ unit_of w work is fits = subst UnitFits is fits
 pub holds_none : (v t : ServerState) (turns : List Turn) → ServerRests v turns → is_some v.session ≡ true → owes v.link ≡ false → t.link ≡ v.link → ServerHolds t turns
 holds_none v t turns rests now free same =
     let empty : v.link.to_send ≡ [] = up_empty v.link (open_up Responder (server_core v) turns rests.stands now) free in
-    λ some. absurd (omega (arith, some, ap (λ (k : LinkState). length k.to_send) same, ap length empty))
+    λ owing some. absurd (omega (arith, some, ap (λ (k : LinkState). length k.to_send) same, ap length empty))
 
 piece_counting : (shape : Shape) (v : ServerState) (turns : List Turn) (d : Option ServerCounts) (session : ServerSession) (work : Work) (next : Progress) (f : List Piece → List Piece)
     → ServerRests v turns → ServesFree v session → v.work ≡ Some work → GoesOn (desc_of work) (f (owed_of (desc_of work) work.progress)) next → ServerCounted shape v turns d

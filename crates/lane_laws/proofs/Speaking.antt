@@ -1,11 +1,12 @@
 -- Each event of a lane leaves both ends resting on what they heard, and having said what their handshakes hold, as ends on a channel do.
-use Rattle.std.proofs.Common.{◌≡◌, true, Some, List, [], sym, subst, ◌∙◌}
-use Rattle.std.specs.Prelude.{is_some, ⊤}
+use Rattle.std.proofs.Common.{◌≡◌, ◌≤◌, Bool, true, false, refl, ap, ◌++◌, length, Some, List, [], sym, subst, ◌∙◌}
+use Rattle.std.specs.Prelude.{◌&&◌, is_none, is_some, not, ⊤}
 use Rattle.runs.specs.Lawful.{run_lawful}
 use Rattle.runs.specs.Run.{Run}
 use Rattle.ldc_link.specs.declared.phase.Role.{Role}
 use Rattle.ldc_link.specs.declared.phase.Role.TheVariants.{Initiator, Responder}
 use Rattle.ldc_queue.specs.declared.end.End.TheVariants.{A, B}
+use Rattle.ldc_queue.specs.Messages.{is_empty}
 use Rattle.ldc_queue.specs.Transcript.{Turn}
 use Rattle.disk_model.specs.ClientPutting.{client_holds}
 use Rattle.disk_model.specs.ClientRule.{client_rule}
@@ -14,7 +15,7 @@ use Rattle.disk_model.specs.DiskEvent.{DiskEvent}
 use Rattle.lane_laws.specs.DiskLog.{after_transcript}
 use Rattle.disk_model.specs.LaneState.{IsShape, LaneState, Shape, fresh}
 use Rattle.disk_model.specs.LaneStep.{LaneStep}
-use Rattle.channel_model.specs.Sayings.{heard, said}
+use Rattle.channel_model.specs.Sayings.{half_said, heard, said}
 use Rattle.channel_model.specs.Seeing.{Seen}
 use Rattle.disk_model.specs.ServerPutting.{server_holds}
 use Rattle.disk_model.specs.ServerRule.{server_rule}
@@ -24,11 +25,14 @@ use Rattle.channel_laws.proofs.EndResting.{open_rests}
 use Rattle.channel_laws.proofs.EndStanding.{opened_phase}
 use Rattle.channel_laws.proofs.EndUttering.{EndSpeaks, fresh_speaks, speaks_step}
 use Rattle.channel_laws.proofs.Lifting.{transcript_turns}
+use Rattle.channel_laws.proofs.MessagesHeld.{owed_held}
 use Rattle.channel_laws.specs.EndCore.{EndCore, EndMove, Waits}
 use Rattle.channel_laws.specs.EndStep.{EndStep}
 use Rattle.channel_laws.specs.Grounds.{OpenRests}
 use Rattle.channel_laws.specs.LaneCore.{move_of, transcript_after, turns_after}
+use Rattle.channel_laws.specs.Standing.{EndStands}
 use Rattle.channel_laws.specs.Utterances.{SaysEach}
+use Rattle.lane_laws.specs.Counted.{HoldsOwed}
 use Rattle.lane_laws.proofs.ClientMoves.{client_waits}
 use Rattle.lane_laws.proofs.EndMoves.{step_a, step_b, transcript_same}
 use Rattle.lane_laws.proofs.LaneStepping.{fresh_sound, sound_step}
@@ -63,6 +67,21 @@ utters_of role c turns rests = record {
   idle = λ below. (rests.stands.below below).left;
   free = λ below. (rests.stands.below below).owed;
 }
+
+-- WHAT IT HOLDS, where that isn't of its session, is what its handshake owes
+pub holds_owed : (role : Role) (c : EndCore) (turns : List Turn) → EndStands role c turns → c.own ≡ false → 1 ≤ length c.link.to_send → HoldsOwed c.handshake.owed (half_said turns ++ c.link.to_send)
+holds_owed role c turns stands own some =
+    let held = owed_held role c turns stands own some in
+    record { message = held.message; owed_is = held.owed; bytes_are = held.is }
+
+pub server_holds_owed : (v : ServerState) (turns : List Turn) → EndStands Responder (server_core v) turns → is_none v.handshake.owed ≡ false → 1 ≤ length v.link.to_send
+    → HoldsOwed v.handshake.owed (half_said turns ++ v.link.to_send)
+server_holds_owed v turns stands is some =
+    holds_owed Responder (server_core v) turns stands (ap (λ (b : Bool). not (is_empty v.link.to_send) && b) is ∙ never (not (is_empty v.link.to_send))) some
+  where
+    never : (b : Bool) → (b && false) ≡ false
+    never true = refl
+    never false = refl
 
 -- IT HOLDS a message
 pub client_blocked_rests : (s : ClientState) (at : Seen) (t : ClientState) (turns : List Turn) → ClientSound s → client_holds (client_rule s at) s ≡ Some t → ClientRests s turns → ClientRests t turns

@@ -1,6 +1,6 @@
 -- What an end's session counts, also where somebody forges packets and memory: the ranges of slots that the end said and heard, each message
 -- of the link being the one that is owed or the end's own.
-use Rattle.std.specs.Prelude.{◌≡◌, ℕ, ◌+◌, ◌%◌, ◌^◌, ◌<◌, ◌≤◌, ◌⊎◌, ◌&&◌, ◌==◌, Bool, true, false, is_some, List, [], ◌∷◌, ◌++◌, length, Option, Some, None, ⊤}
+use Rattle.std.specs.Prelude.{◌≡◌, ℕ, ◌+◌, ◌%◌, ◌^◌, ◌<◌, ◌≤◌, ◌&&◌, ◌==◌, Bool, true, false, is_some, List, [], ◌∷◌, ◌++◌, length, Option, Some, None, ⊤}
 use Rattle.ldc_link.specs.declared.phase.Role.TheVariants.{Initiator, Responder}
 use Rattle.ldc_queue.specs.Transcript.{Turn}
 use Rattle.vdisk_msg.specs.Pieces.{unit_count}
@@ -12,7 +12,7 @@ use Rattle.lane_laws.specs.Agreement.{ClientAgrees, ServerAgrees}
 use Rattle.lane_laws.specs.DiskLog.{DiskLog}
 use Rattle.channel_model.specs.Messages.{range_in, subtype_of}
 use Rattle.lane_laws.specs.WorkLog.{ClientCounts, ServerCounts, length_in, one_in}
-use Rattle.disk_model.specs.ClientPutting.{announcement, is_announcing}
+use Rattle.disk_model.specs.ClientPutting.{announcement}
 use Rattle.disk_model.specs.ClientState.{ClientSession, ClientState}
 use Rattle.disk_model.specs.LaneState.{LaneState, Shape}
 use Rattle.disk_model.specs.Offering.{client_offer, server_offer}
@@ -49,10 +49,10 @@ pub record HoldsOwed (owed : Option Message) (bytes : List ℕ) : Type 0 where
   pub owed_is : owed ≡ Some message
   pub bytes_are : bytes ≡ canonical message
 
--- THE CLIENT: what was put of a message and what is left of it are the message that is owed, or the INFO that announces
-pub record ClientHolds (c : ClientState) (turns : List Turn) : Type 0 where
-  pub owed : is_announcing c.session ≡ false → 1 ≤ length c.link.to_send → HoldsOwed c.handshake.owed (half_said turns ++ c.link.to_send)
-  pub own : (session : ClientSession) → c.session ≡ Some session → session.announcing ≡ true → half_said turns ++ c.link.to_send ≡ canonical (announcement c session)
+-- THE CLIENT: where it announces, what was put of a message and what is left of it are the INFO that does
+abbrev pub ClientHolds : ClientState → List Turn → Type 0
+ClientHolds c turns =
+    (session : ClientSession) → c.session ≡ Some session → session.announcing ≡ true → half_said turns ++ c.link.to_send ≡ canonical (announcement c session)
 
 abbrev pub announced_of : Option ClientSession → ℕ
 announced_of None = 0
@@ -77,21 +77,17 @@ pub record ClientCounted (shape : Shape) (c : ClientState) (turns : List Turn) (
   pub ready : c.session ≡ None → ready_count (said turns) ≡ 0
   pub agrees : ClientAgrees c.session done k
 
--- THE SERVER: the message is the one that is owed, or where none is the answer to its range, whose descriptors all are finished
+-- THE SERVER: where its handshake owes nothing, they are the answer to its range, whose descriptors all are finished
 pub record HoldsAnswer (v : ServerState) (bytes : List ℕ) : Type 0 where
   pub session : ServerSession
   pub range : SlotRange
-  pub nothing_owed : v.handshake.owed ≡ None
   pub session_is : v.session ≡ Some session
   pub range_is : session.range ≡ Some range
   pub finished : session.finished ≡ session.asked
   pub bytes_are : bytes ≡ canonical (answer v range)
 
-abbrev pub HoldsEither : ServerState → List ℕ → Type 0
-HoldsEither v bytes = HoldsOwed v.handshake.owed bytes ⊎ HoldsAnswer v bytes
-
 abbrev pub ServerHolds : ServerState → List Turn → Type 0
-ServerHolds v turns = 1 ≤ length v.link.to_send → HoldsEither v (half_said turns ++ v.link.to_send)
+ServerHolds v turns = v.handshake.owed ≡ None → 1 ≤ length v.link.to_send → HoldsAnswer v (half_said turns ++ v.link.to_send)
 
 -- without a range all that was asked for is answered; a range is what isn't, begins where so many slots went before, and has a number of 8
 -- bytes; each range that was heard before it has its answer

@@ -52,4 +52,3 @@ pub mod CountsInTurn
 pub use Rattle.vio_handshake.specs.Rules
 pub mod ChannelEnds
 pub mod SameEnds
-pub mod LinkMoves
