@@ -107,8 +107,8 @@ pub fn a_reset_of_an_end_says_why()
         → ResetsFor (end_of e s) (transcript_of e (transcript_behind events)) cause packet }
 {}
 
-/// Along every run of two ends on a channel the initiator's last sid is how often its link came up, modulo 2^32, also where
-/// it was reset, made new or closed since; a responder counts none.
+/// Along every run of two ends on a channel the initiator's last sid is how often its link came up, modulo 2^32. That
+/// is so also where it was reset, made new or closed since. A responder counts none.
 pub fn sids_count_how_often_a_link_came_up()
     ensures counts { (entries : ℕ) (asks answers : Offer) (events : List CoreEvent) (s : LaneCore)
         → CoreFits entries asks answers → Run CoreStep (fresh_core entries asks answers) events s

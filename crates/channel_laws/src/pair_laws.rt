@@ -55,9 +55,9 @@ pub fn what_an_end_heard_is_as_the_other_has_it()
         (heard (transcript_of e (transcript_behind events))) }
 {}
 
-/// On a channel that nobody forged both links stand at one place of their own handshake: it gives their phases, the packet
-/// without a number that may wait for one of them, and what was said and heard of packets with numbers. An end that
-/// isn't up counts as one that begins.
+/// On a channel that nobody forged both links stand at one place of their own handshake: it gives their phases, the
+/// packet without a number that may wait for one of them, and what was said and heard of packets with numbers. An end
+/// that isn't up counts as one that begins.
 pub fn links_stand_at_one_place()
     ensures { (entries : ℕ) (asks answers : Offer) (events : List CoreEvent) (s : LaneCore)
         → CoreFits entries asks answers → Run CoreStep (fresh_core entries asks answers) events s
@@ -89,11 +89,11 @@ pub fn an_end_resets_itself_behind_a_loss_or_for_its_session()
         → IsOwnReset s.wire cause ⊎ LiesInSession (end_of e s) packet }
 {}
 
-/// Along every run of two ends on a channel, also where somebody forges packets: each event stands where the states of the
-/// ends and what waits for them let it; an end is idle only where nothing waits for it, and what changes nothing is said
-/// exactly where it is so; a packet finds no room only where the queue holds all that it can. Each queue holds fewer packets
-/// than it has entries; the wire is as the events say; never do both ends wait to begin anew; and the session of an end that
-/// was never configured, or is closed, isn't open.
+/// Along every run of two ends on a channel, also where somebody forges packets, each event stands where the states of
+/// the ends and what waits for them let it. So an end is idle only where nothing waits for it. A packet finds no room
+/// only where the queue holds all that it can, and what changes nothing is said exactly where it is so. Each queue
+/// holds fewer packets than it has entries, and the wire is as the events say. Never do both ends wait to begin anew;
+/// and the session of an end that was never configured, or is closed, isn't open.
 pub fn events_stand_by_both_ends()
     ensures table { (entries : ℕ) (asks answers : Offer) (events : List CoreEvent) (s : LaneCore)
         → CoreFits entries asks answers → Run CoreStep (fresh_core entries asks answers) events s

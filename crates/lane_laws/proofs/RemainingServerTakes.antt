@@ -68,8 +68,7 @@ asked_for most s t session next is now finished work packets asks =
       arith,
       more_unfinished session.asked next.asked session.finished rises,
       ap (λ (n : ℕ). ((next.asked + 18446744073709551616) - n) % 18446744073709551616) finished,
-    ) in
-    (
+    ) in (
       (next.asked - session.asked),
       record {
         some = omega (arith, rises);
