@@ -129,13 +129,18 @@ mode_told turns packet rest sound says =
     says_if turns packet (names_mode packet && not (nat_eq (env_at packet) 1)) (the_cause.Mode (env_at packet)) rest
     (λ test.
     let tests = both_true (names_mode packet) (not (nat_eq (env_at packet) 1)) test in
-    let names = both_true (nat_eq (type_at packet) 1) (nat_eq (ctrl_at packet) 2 || nat_eq (ctrl_at packet) 3) tests.0 in
-    ((sound, record {
-      control = eqb-true (type_at packet) 1 names.0;
-      kind = kind_of (either_true (nat_eq (ctrl_at packet) 2) (nat_eq (ctrl_at packet) 3) names.1);
-      mode = refl;
-      other = other_number (env_at packet) 1 (not_true (nat_eq (env_at packet) 1) tests.1);
-    }), tt)) says
+    let names = both_true (nat_eq (type_at packet) 1) (nat_eq (ctrl_at packet) 2 || nat_eq (ctrl_at packet) 3) tests.0 in (
+      (
+        sound,
+        record {
+          control = eqb-true (type_at packet) 1 names.0;
+          kind = kind_of (either_true (nat_eq (ctrl_at packet) 2) (nat_eq (ctrl_at packet) 3) names.1);
+          mode = refl;
+          other = other_number (env_at packet) 1 (not_true (nat_eq (env_at packet) 1) tests.1);
+        },
+      ),
+      tt,
+    )) says
   where
     kind_of : (nat_eq (ctrl_at packet) 2 ≡ true) ⊎ (nat_eq (ctrl_at packet) 3 ≡ true) → (ctrl_at packet ≡ 2) ⊎ (ctrl_at packet ≡ 3)
     kind_of (inl is) = inl (eqb-true (ctrl_at packet) 2 is)
@@ -146,13 +151,15 @@ number_told : (turns : List Turn) (packet : List ℕ) (rest : Option Cause) → 
 number_told turns packet rest sound says =
     says_if turns packet (is_numbered packet && not (nat_eq (seqid_at packet) (counts_next (count_heard turns)))) (the_cause.Gap (counts_next (count_heard turns)) (seqid_at packet)) rest
     (λ test.
-    let tests = both_true (is_numbered packet) (not (nat_eq (seqid_at packet) (counts_next (count_heard turns)))) test in
-    (sound, record {
-      has_number = tests.0;
-      next = refl;
-      is = refl;
-      other = λ same. other_number (seqid_at packet) (counts_next (count_heard turns)) (not_true (nat_eq (seqid_at packet) (counts_next (count_heard turns))) tests.1) (sym same);
-    })) says
+    let tests = both_true (is_numbered packet) (not (nat_eq (seqid_at packet) (counts_next (count_heard turns)))) test in (
+      sound,
+      record {
+        has_number = tests.0;
+        next = refl;
+        is = refl;
+        other = λ same. other_number (seqid_at packet) (counts_next (count_heard turns)) (not_true (nat_eq (seqid_at packet) (counts_next (count_heard turns))) tests.1) (sym same);
+      },
+    )) says
 
 fault_told : (turns : List Turn) (packet : List ℕ) (fault : Option PacketFault) (rest : Option Cause) → first_fault packet ≡ fault → (first_fault packet ≡ None → Says turns packet rest)
     → Says turns packet (fault_cause fault rest)

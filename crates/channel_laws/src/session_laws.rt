@@ -19,8 +19,8 @@ ghost use Rattle.channel_laws.specs.KnownAttributes.{KnowAttributes};
 ghost use Rattle.channel_laws.specs.LaneCore.{end_of, fresh_core, role_of, transcript_behind, CoreEvent, CoreFits, CoreStep, LaneCore};
 ghost use Rattle.channel_laws.specs.PacketCauses.{packet_cause, Judges, JudgesRightly};
 
-/// On a channel that nobody forged, where no packet was lost since the queues were last emptied, two ends at rest are in
-/// session, of whatever kind their offers match; and each has heard all that the other said since it last began.
+/// On a channel that nobody forged, two ends at rest whose offers match are in session, where no packet was lost since
+/// the queues were last emptied. Each has heard all that the other said since it last began.
 pub fn two_ends_at_rest_are_in_session()
     ensures opened { (entries : ℕ) (asks answers : Offer) (events : List CoreEvent) (s : LaneCore)
         → CoreFits entries asks answers → Match asks answers → Run CoreStep (fresh_core entries asks answers) events s
@@ -32,8 +32,8 @@ pub fn two_ends_at_rest_are_in_session()
         → heard (transcript_of e (transcript_behind events)) ≡ said (transcript_of (peer_of e) (transcript_behind events)) }
 {}
 
-/// On a channel that nobody forged, where both sessions are open, the responder heard the attributes that the initiator's
-/// offer says, and the initiator the answer of the responder's to them: those of the smaller of both minors.
+/// On a channel that nobody forged, where both sessions are open, each end heard the other's attributes. They are those
+/// that the offers say at the smaller of both minors: the initiator's, and the responder's answer to them.
 pub fn open_sessions_know_each_others_attributes()
     ensures { (entries : ℕ) (asks answers : Offer) (events : List CoreEvent) (s : LaneCore)
         → CoreFits entries asks answers → Match asks answers → Run CoreStep (fresh_core entries asks answers) events s

@@ -3,16 +3,19 @@
 ghost use Rattle.std.specs.Prelude.{◌≡◌, ◌∷◌, ℕ, List, false, is_some, true};
 ghost use Rattle.runs.specs.Run.{Run};
 ghost use Rattle.ldc_queue.specs.Transcript.{Heard, Said};
+ghost use Rattle.ldc_queue.specs.declared.end.End.TheVariants.{A, B};
 ghost use Rattle.ldc_queue.specs.declared.end.End.{End};
 ghost use Rattle.channel_model.specs.HandshakeOrder.{HandshakeOrder};
 ghost use Rattle.channel_model.specs.TranscriptLog.{transcript_of};
 ghost use Rattle.channel_model.specs.WireEvent.{Sent, Took};
+ghost use Rattle.channel_laws.specs.EndsAtRest.{IsAtRest};
 ghost use Rattle.channel_laws.specs.LaneCore.{role_of, transcript_behind, CoreEvent, OnChannel};
 ghost use Rattle.channel_laws.specs.OneSession.{AreOneSession};
-ghost use Rattle.channel_laws.specs.ToyKind.{fresh_toys, ToyLane, ToyStep};
+ghost use Rattle.channel_laws.specs.ToyKind.{fresh_toys, toy_lane, ToyLane, ToyStep};
 
 /// The toy's sessions open in the order of the handshake with rings both ways. On a channel that nobody forged the
-/// open sessions of both its ends are one, and each end knows the other's ring.
+/// open sessions of both its ends are one, and each end knows the other's ring. Two toys at rest are in session there,
+/// where nothing was lost.
 pub fn toys_with_rings_both_ways_have_their_row_and_one_session()
     ensures saying { (events : List CoreEvent) (s : ToyLane) (e : End) (packet : List ℕ) (t : ToyLane)
         → Run ToyStep fresh_toys events s → ToyStep s (OnChannel (Sent e packet true)) t
@@ -23,4 +26,7 @@ pub fn toys_with_rings_both_ways_have_their_row_and_one_session()
     ensures one { (events : List CoreEvent) (s : ToyLane) → Run ToyStep fresh_toys events s
         → s.wire.forged ≡ false → is_some s.a.told ≡ true → is_some s.b.told ≡ true
         → AreOneSession s.a.handshake s.b.handshake }
+    ensures rest { (events : List CoreEvent) (s : ToyLane) → Run ToyStep fresh_toys events s
+        → s.wire.forged ≡ false → s.wire.lossy ≡ false → IsAtRest A (toy_lane s) → IsAtRest B (toy_lane s)
+        → (is_some s.a.told ≡ true) × (is_some s.b.told ≡ true) }
 {}

@@ -1,6 +1,6 @@
 -- The causes that a session of a port gives are as its messages say; so each reset of an end says why.
-use Rattle.std.proofs.Common.{◌≡◌, ℕ, zero, suc, Bool, true, false, Option, Some, None, List, refl, sym, subst, ap, ◌∙◌, inl, inr, ◌⊎◌}
-use Rattle.std.specs.Prelude.{◌+◌, ◌%◌, ◌&&◌, ◌==◌, is_some, nat_le, nat_lt, if◌then◌else◌, ⊤}
+use Rattle.std.proofs.Common.{◌≡◌, ℕ, zero, suc, Bool, true, false, Option, Some, None, List, refl, sym, subst, ap, ◌∙◌, inl, inr}
+use Rattle.std.specs.Prelude.{◌+◌, ◌%◌, ◌&&◌, ◌==◌, is_some, nat_le, nat_lt, if◌then◌else◌}
 use Rattle.cookie_copy.specs.Reach.{Reach}
 use Rattle.runs.specs.Lawful.{Lawful, log_of}
 use Rattle.runs.specs.Run.{Run}
@@ -19,7 +19,7 @@ use Rattle.vio_tag.specs.declared.message.MsgBody.TheVariants.{DringData, Mcast}
 use Rattle.vio_tag.specs.Fault.{first_fault}
 use Rattle.vio_tag.specs.Spelling.{SpellsBody, envelope_at, envelope_code}
 use Rattle.channel_model.specs.Ranges.{is_other, range_length}
-use Rattle.channel_model.specs.ResetSays.{IsOther, MayLackPacket, ResetSays, WireResetAt}
+use Rattle.channel_model.specs.ResetSays.{IsOther, ResetSays, WireResetAt}
 use Rattle.channel_model.specs.TranscriptLog.{TranscriptLog, transcript_of}
 use Rattle.channel_model.specs.WireAt.{GapOf, WireGapAt}
 use Rattle.channel_model.specs.WireEvent.{WireEvent}
@@ -43,8 +43,8 @@ use Rattle.port_model.specs.Offers.{port_offer}
 use Rattle.port_model.specs.PortLog.{PortLog, after, no_events}
 use Rattle.port_model.specs.PortMay.{IfOnWire, OfWire}
 use Rattle.port_model.specs.PortState.{OnLane, PortEvent, PortState, PortStep, Receives, before, fresh_port}
-use Rattle.port_laws.specs.NetCore.{core_event, fresh_net_core, lane_core}
-use Rattle.port_laws.specs.PortCore.{port_core, port_events}
+use Rattle.port_laws.specs.NetCore.{fresh_net_core, lane_core}
+use Rattle.port_laws.specs.PortCore.{port_events}
 use Rattle.port_laws.specs.PortCauses.{ack_cause, info_cause, own_cause, session_cause}
 use Rattle.port_laws.proofs.CoreLaws.{sizes_fit}
 use Rattle.port_laws.proofs.Fitting.{BothFit}

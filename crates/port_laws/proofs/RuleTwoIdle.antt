@@ -3,10 +3,8 @@ use Rattle.std.proofs.Common.{◌≡◌, ◌≢◌, true, false, Option, Some, N
 use Rattle.std.specs.Prelude.{is_some, ⊤}
 use Rattle.ldc_link.specs.declared.phase.Role.TheVariants.{Initiator, Responder}
 use Rattle.ldc_link.specs.Putting.{owes}
-use Rattle.ldc_queue.specs.declared.end.ChannelState.TheVariants.{Up}
 use Rattle.ldc_queue.specs.declared.end.End.{End}
 use Rattle.ldc_queue.specs.declared.end.End.TheVariants.{A, B}
-use Rattle.ldc_queue.specs.Wire.{state_of, waiting_for}
 use Rattle.runs.specs.Lawful.{Lawful, log_of, run_lawful}
 use Rattle.runs.specs.Run.{Run}
 use Rattle.channel_model.specs.WireLog.{WireLog}

@@ -21,9 +21,9 @@ ghost use Rattle.port_laws.specs.NetCore.{core_events};
 ghost use Rattle.port_laws.specs.PortCauses.{port_cause};
 
 /// In an open session an end of a port takes a packet only where the packet has no cause of a reset. It resets itself
-/// for a packet with the first cause that the packet has: its bytes, its number, its mode, its kind, its place in a
-/// message; the message's codec, sid and order; and what the end's session makes of ranges and groups. This holds where
-/// somebody forges too.
+/// for a packet with the first cause that the packet has. First come its bytes, its number, its mode, its kind, and its
+/// place in a message; then that message's codec, sid and order, and what the session makes of ranges and groups. This
+/// holds where somebody forges too.
 pub fn a_packet_resets_a_session_of_a_port_for_its_first_cause()
     ensures taken { (shape : NetShape) (events : List NetEvent) (s : NetLaneState) (e : End) (session : NetSession) (packet : List ℕ) (opens : Bool)
         (t : NetLaneState) → IsNetShape shape → Run NetLaneStep (fresh_net shape) events s → (net_end e s).session ≡ Some session
@@ -36,8 +36,8 @@ pub fn a_packet_resets_a_session_of_a_port_for_its_first_cause()
 {}
 
 /// Along every run of a port, forged or not, the packet that a reset carries says why, by its own bytes or by those of
-/// the message that it ends; a reset without one is for a slot, or wasn't a step's. A gap names the number that was to
-/// come and the one that came.
+/// the message that it ends. A reset without a packet is for a slot, or wasn't a step's. A gap names the number that
+/// was to come and the one that came.
 pub fn resets_of_a_port_say_why()
     ensures says { (shape : NetShape) (events : List PortEvent) (s : PortState) → IsNetShape shape → Run PortStep (fresh_port shape) events s
         → Lawful (λ (l : PortLog) (event : PortEvent). OfWire (WireResetAt l.transcript) event) after (no_events shape) events }
