@@ -95,8 +95,8 @@ impl LastFrame {
         Ok(LastFrame { last, spare })
     }
 
-    /// Takes the frame of a slot of the peer's ring, which is marked DONE, or tells why not. What is found is the same of
-    /// every end whose peer has this ring.
+    /// Takes the frame of a slot of the peer's ring, which is marked DONE, or tells why not. What is found is the same
+    /// of every end whose peer has this ring.
     pub fn take(
         &mut self,
         channel: &Channel,
