@@ -7,3 +7,6 @@ pub mod Remaining
 pub mod RemainingSteps
 pub mod RingHolds
 pub mod RingStands
+pub mod WaysStand
+pub mod NoneLeft
+pub mod NoSlotReset
