@@ -177,8 +177,11 @@ step_long role s turns at memory reach (Published id) left some fits owns step =
     (published_long s.slots (step.session.published % s.slots) step.frame memory fits (mod_below step.session.published s.slots (omega (arith, some))) is, refl)
 step_long role s turns at memory reach (Frame frame) left some fits owns step =
     let found = found_frame s reach step.session.place frame step.new step.found in
-    subst (SameLong memory reach.memory) (sym step.is) (refl, ap length found.new_is
-    ∙ moved_long reach (slots_cookies s) (64 * step.session.place) (header 4 (net_desc_of (moved_in reach.table reach.memory (slots_cookies s) (64 * step.session.place) 64)).ack))
+    subst (SameLong memory reach.memory) (sym step.is) (
+      refl,
+      ap length found.new_is
+          ∙ moved_long reach (slots_cookies s) (64 * step.session.place) (header 4 (net_desc_of (moved_in reach.table reach.memory (slots_cookies s) (64 * step.session.place) 64)).ack),
+    )
 step_long role s turns at memory reach (Reset cause packet lost) left some fits owns step = subst (SameLong memory reach.memory) (sym step.2) (refl, refl)
 
 -- A LANE

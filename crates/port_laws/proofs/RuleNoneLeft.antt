@@ -1,9 +1,8 @@
 -- Where an end of a port is idle directly after the other, where nobody forged and nothing was lost, no frame is left.
-use Rattle.std.proofs.Common.{◌≡◌, ◌≢◌, ℕ, ◌+◌, ◌-◌, ◌<◌, ◌≤◌, Bool, true, false, Option, Some, None, List, [], ◌∷◌, ◌++◌, length, inl, inr, refl, sym, subst, ap, ◌∙◌, arith}
-use Rattle.std.specs.Prelude.{is_some, ⊤}
+use Rattle.std.proofs.Common.{◌≡◌, ◌≢◌, ℕ, ◌-◌, ◌<◌, ◌≤◌, Bool, true, false, Option, Some, None, List, [], ◌∷◌, ◌++◌, length, inl, inr, refl, sym, subst, ap, ◌∙◌, arith}
+use Rattle.std.specs.Prelude.{slice_get, ⊤}
 use Rattle.std.proofs.lemmas.Bool.{cases_lt}
 use Rattle.std.proofs.lemmas.List.{append-nil, append_cancel_left}
-use Rattle.ldc_link.specs.declared.phase.Role.{Role}
 use Rattle.ldc_link.specs.declared.phase.Role.TheVariants.{Initiator, Responder}
 use Rattle.ldc_queue.specs.declared.end.ChannelState.{ChannelState}
 use Rattle.ldc_queue.specs.declared.end.ChannelState.TheVariants.{Up}
@@ -14,7 +13,6 @@ use Rattle.ldc_queue.specs.Messages.{whole_in}
 use Rattle.ldc_queue.specs.Numbered.{numbered}
 use Rattle.ldc_queue.specs.OneStream.{OneWay, live}
 use Rattle.ldc_queue.specs.Transcript.{numbered_heard, numbered_said}
-use Rattle.ldc_queue.specs.Wire.{peer_of, state_of, waiting_for}
 use Rattle.runs.specs.Lawful.{Lawful, log_of, run_lawful}
 use Rattle.runs.specs.Run.{Run}
 use Rattle.channel_model.proofs.SameSayings.{heard_is, said_is}
@@ -26,9 +24,9 @@ use Rattle.channel_laws.specs.Conversing.{Converse}
 use Rattle.channel_laws.specs.Sides.{Sides, sides_of}
 use Rattle.port_model.proofs.Refuting.{none_some, true_false}
 use Rattle.port_model.proofs.Ruling.{says_of}
-use Rattle.port_model.specs.EndLog.{EndLog, SessionLog, held}
+use Rattle.port_model.specs.EndLog.{SessionLog}
 use Rattle.port_model.specs.FrameLaws.{InSession}
-use Rattle.port_model.specs.NetEndRule.{Idles, NetRule, port_rule}
+use Rattle.port_model.specs.NetEndRule.{Idles, port_rule}
 use Rattle.port_model.specs.NetEndState.{NetEndState, NetSession}
 use Rattle.port_model.specs.NetEndStep.{Blocked, Frame, Idle, Joined, NetLeft, Published, Reset, Sent, Took}
 use Rattle.port_model.specs.NetEvent.{Asked, CalmTick, Declines, Gives, Injects, Joins, Loses, NetEvent, Pokes, Steps, Ticked}
@@ -40,13 +38,13 @@ use Rattle.port_model.specs.RestLaws.{TwoIdleAt}
 use Rattle.port_model.specs.RuleFacts.{IfOpen, MayListen}
 use Rattle.port_laws.specs.NetCore.{lane_core}
 use Rattle.port_laws.specs.NoneLeft.{AllSeen, NoneLeft, NoneLeftAt}
-use Rattle.port_laws.specs.WaysStand.{Comes, Goes, Rests, Way, Ways, WaysStand, Works, acks_in, infos_in, or_new}
+use Rattle.port_laws.specs.WaysStand.{Comes, Goes, Rests, Way, WaysStand, Works, acks_in, infos_in, or_new}
 use Rattle.port_laws.proofs.PortCounts.{before_guest, before_wire, queue_of, ready_before}
 use Rattle.port_laws.proofs.PortRuns.{lawful_along}
 use Rattle.port_laws.proofs.RingActs.{Finds}
 use Rattle.port_laws.proofs.RingRuns.{finds_before}
 use Rattle.port_laws.proofs.RuleFrames.{both_open, end_acts, end_counted, end_stood, held_frames, seen_within}
-use Rattle.port_laws.proofs.RuleIdle.{idle_counts, none_waits, rule_left}
+use Rattle.port_laws.proofs.RuleIdle.{idle_counts, rule_left}
 use Rattle.port_laws.proofs.RuleRest.{up_state}
 use Rattle.port_laws.proofs.RuleTwoIdle.{two_idle_event}
 use Rattle.port_laws.proofs.TookCounts.{free_empty}
@@ -56,6 +54,10 @@ use Rattle.port_laws.proofs.WayRuns.{KeptWays, port_ways, ways_before}
 no_packets : (packets : List (List ℕ)) → length packets ≤ 0 → packets ≡ []
 no_packets [] few = refl
 no_packets (packet ∷ packets) few = absurd (omega (arith, few))
+
+no_first : (packets : List (List ℕ)) → slice_get packets 0 ≡ None → packets ≡ []
+no_first [] is = refl
+no_first (packet ∷ packets) is = absurd (cc is)
 
 live_up : (state : ChannelState) (packets : List (List ℕ)) → state ≡ Up → live state packets ≡ packets
 live_up state packets is = ap (λ (x : ChannelState). live x packets) is
@@ -138,7 +140,7 @@ both_left shape u l finds ways guest_idles hub_idles lossless opened =
     let other : u.lane.wire.wire.end_b ≡ Up = up_state u.lane.wire.wire.end_b hub_says.0.up in
     let whole : u.lane.wire.lossy ≡ false = ap (λ (w : WireLog). w.lossy) finds.ready.wire ∙ lossless in
     let talks = finds.talks.talks A in
-    let all = heard_all (sides_of (lane_core u.lane) l.transcript) talks.meets.converse whole up other (none_waits u.lane.wire.wire.to_a guest_says.1) (none_waits u.lane.wire.wire.to_b hub_says.1) in
+    let all = heard_all (sides_of (lane_core u.lane) l.transcript) talks.meets.converse whole up other (no_first u.lane.wire.wire.to_a guest_says.1) (no_first u.lane.wire.wire.to_b hub_says.1) in
     let between = ways up other opened.0 in
     let going : between.going ≡ [] = nothing_goes (said l.transcript.client) (heard l.transcript.server) between.going between.goes all.mine in
     let coming : between.coming ≡ [] = nothing_goes (said l.transcript.server) (heard l.transcript.client) between.coming between.comes all.theirs in

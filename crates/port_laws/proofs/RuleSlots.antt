@@ -1,24 +1,20 @@
 -- No end of a port resets itself for a slot where nobody forged: what it works on is in the peer's ring.
-use Rattle.std.proofs.Common.{◌≡◌, ◌≢◌, ℕ, ◌+◌, ◌%◌, ◌<◌, ◌≤◌, Bool, true, false, Option, Some, None, List, [], length, refl, sym, ap, ◌∙◌, subst, arith}
-use Rattle.std.specs.Prelude.{◌&&◌, is_some, ⊤}
-use Rattle.ldc_link.specs.declared.phase.Role.{Role}
+use Rattle.std.proofs.Common.{◌≡◌, ℕ, ◌+◌, ◌%◌, ◌<◌, Bool, true, false, Option, Some, None, List, refl, sym, ap, ◌∙◌, subst, arith}
+use Rattle.std.specs.Prelude.{◌&&◌, is_some}
 use Rattle.ldc_queue.specs.declared.end.ChannelState.{ChannelState}
 use Rattle.ldc_queue.specs.declared.end.ChannelState.TheVariants.{Up}
 use Rattle.ldc_queue.specs.declared.end.End.{End}
 use Rattle.ldc_queue.specs.declared.end.End.TheVariants.{A, B}
-use Rattle.ldc_queue.specs.Transcript.{Turn}
 use Rattle.ldc_queue.specs.Wire.{peer_of, state_of}
 use Rattle.cookie_copy.specs.Faults.{is_up}
-use Rattle.cookie_copy.specs.Reach.{Reach}
 use Rattle.runs.specs.Lawful.{Lawful, log_of}
 use Rattle.runs.specs.Run.{Run}
-use Rattle.channel_model.specs.Seeing.{Seen}
 use Rattle.channel_model.specs.TranscriptLog.{transcript_of}
 use Rattle.vio_tag.specs.declared.cause.Cause.{Cause}
 use Rattle.vnet_msg.specs.Frames.{memory_pages}
 use Rattle.port_model.proofs.Refuting.{none_some, true_false}
 use Rattle.port_model.proofs.Ruling.{says_of}
-use Rattle.port_model.specs.EndLog.{EndLog, SessionLog, said_in, said_kind}
+use Rattle.port_model.specs.EndLog.{SessionLog, said_in, said_kind}
 use Rattle.port_model.specs.Fetching.{fetched}
 use Rattle.port_model.specs.FramesStand.{CountsStand}
 use Rattle.port_model.specs.NetEndRule.{Announces, Fetches, Idles, Joins, NetRule, Publishes, Puts, Replies, Says, Takes, Tells, port_rule}
@@ -151,9 +147,9 @@ slot_reset shape e u l cause lost left finds ways step = by_rule (port_rule (rol
         let place : p.place ≡ w.taken % shape.slots =
         place_is (role_at e) shape.slots (queue_of e u) s (log_of_end e l) p (end_counted shape e u l finds.ready) says.0.session ∙ ap (λ (o : Option SessionLog). taken_in o % shape.slots) here.is in
         let less : activity.last ≡ None → w.taken < q.published = λ none.
-            let rests : w.answered ≡ w.taken = subst (LastCounts shape.slots w) none busy.2 in
-            let answered = work.answered in
-            omega (arith, rests, answered, seen, some) in
+        let rests : w.answered ≡ w.taken = subst (LastCounts shape.slots w) none busy.2 in
+        let answered = work.answered in
+        omega (arith, rests, answered, seen, some) in
         no_fail w.taken q.published (fetched s (reach_of e u.lane) (w.taken % shape.slots)) activity p.place cause finding less
         (subst (λ (n : ℕ). FetchFails (fetched s (reach_of e u.lane) n) activity p.place cause) place fails)
 

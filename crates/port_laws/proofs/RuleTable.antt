@@ -1,5 +1,5 @@
 -- Each event of a port stands where the states of its ends and its queues let it, and what changes nothing is answered rightly.
-use Rattle.std.proofs.Common.{◌≡◌, ℕ, ◌+◌, ◌*◌, ◌<◌, ◌≤◌, Bool, true, false, Option, Some, None, List, length, refl, sym, ap, ◌∙◌, subst, arith}
+use Rattle.std.proofs.Common.{◌≡◌, ℕ, ◌+◌, ◌*◌, ◌≤◌, List, length, refl, sym, ap, ◌∙◌, subst, arith}
 use Rattle.ldc_link.specs.declared.phase.Role.TheVariants.{Initiator, Responder}
 use Rattle.ldc_queue.specs.declared.end.End.{End}
 use Rattle.ldc_queue.specs.declared.end.End.TheVariants.{A, B}
@@ -16,17 +16,17 @@ use Rattle.channel_laws.specs.LaneCore.{CoreStands}
 use Rattle.port_model.proofs.Ruling.{says_of}
 use Rattle.port_model.specs.NetEndRule.{Idles}
 use Rattle.port_model.specs.NetEndStep.{Blocked, Frame, Idle, Joined, NetAnswer, Published, Reset, Sent, Took}
-use Rattle.port_model.specs.NetEvent.{Asked, CalmTick, Declines, Gives, Injects, Joins, Loses, NetEvent, Pokes, Steps, Ticked, on_wire}
-use Rattle.port_model.specs.NetLaneState.{IsNetShape, NetLaneState, NetShape, memory_of, net_end, role_at, seen_at}
+use Rattle.port_model.specs.NetEvent.{Asked, CalmTick, Declines, Gives, Injects, Joins, Loses, NetEvent, Pokes, Steps, Ticked}
+use Rattle.port_model.specs.NetLaneState.{IsNetShape, NetLaneState, NetShape, net_end, role_at, seen_at}
 use Rattle.port_model.specs.NetLaneStep.{NetLaneStep, declined_at, sizes_of}
 use Rattle.port_model.specs.Offers.{port_offer}
 use Rattle.port_model.specs.PortLog.{PortLog, after, no_events}
 use Rattle.port_model.specs.PortMay.{OfWire, sizes_in}
 use Rattle.port_model.specs.PortState.{OnLane, PortEvent, PortState, PortStep, Receives, before, fresh_port}
-use Rattle.port_laws.specs.NetCore.{core_event, lane_core}
+use Rattle.port_laws.specs.NetCore.{core_event}
 use Rattle.port_laws.specs.PortCore.{port_core, port_events}
 use Rattle.port_laws.proofs.CoreLaws.{sizes_fit}
-use Rattle.port_laws.proofs.MemoryLong.{KeptLong, LongMemory, port_long}
+use Rattle.port_laws.proofs.MemoryLong.{KeptLong, port_long}
 use Rattle.port_laws.proofs.PortCounts.{before_wire}
 use Rattle.port_laws.proofs.PortRuns.{fresh_port_core, lawful_along, logs_same, port_fits_behind, port_step_core}
 use Rattle.port_laws.proofs.RuleRest.{up_state}

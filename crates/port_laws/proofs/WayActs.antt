@@ -1,5 +1,5 @@
 -- What a step of an end leaves of what is on the way, by its answer.
-use Rattle.std.proofs.Common.{◌≡◌, ◌≢◌, ℕ, ◌+◌, ◌≤◌, Bool, true, false, Option, Some, None, List, [], ◌∷◌, ◌++◌, length, refl, sym, ap, ◌∙◌, subst, arith}
+use Rattle.std.proofs.Common.{◌≡◌, ℕ, ◌+◌, ◌≤◌, true, false, Option, Some, None, List, ◌∷◌, refl, sym, subst}
 use Rattle.std.specs.Prelude.{⊤}
 use Rattle.ldc_queue.specs.OneStream.{IsFront}
 use Rattle.ldc_queue.specs.Transcript.{Heard, Said, Turn}
@@ -8,10 +8,10 @@ use Rattle.channel_model.specs.Sayings.{half_heard, half_said, heard, said}
 use Rattle.port_model.specs.EndLog.{EndLog, SessionLog, change, heard_in, more_published, more_taken, opened_log, said_in}
 use Rattle.port_model.specs.NetEndStep.{Blocked, Frame, Idle, Joined, NetAnswer, Published, Reset, Sent, Took}
 use Rattle.port_model.specs.PortLog.{after_answer}
-use Rattle.port_laws.specs.WaysStand.{Rests, Ways, acks_in, infos_in, or_new}
+use Rattle.port_laws.specs.WaysStand.{Rests, Ways, or_new}
 use Rattle.port_laws.proofs.RingEvents.{Goes, turns_now}
 use Rattle.port_laws.proofs.SessionsHeard.{heard_grown, said_grown}
-use Rattle.port_laws.proofs.WayMoves.{Plain, RightIn, SameAnswers, SameAsks, frame_ways, hears_plain, hears_ways, plain_rest, published_ways, same_answers, same_asks, says_plain, says_ways, ways_as}
+use Rattle.port_laws.proofs.WayMoves.{Plain, RightIn, frame_ways, hears_plain, hears_ways, plain_rest, published_ways, same_answers, same_asks, says_plain, says_ways, ways_as}
 
 -- IN SESSION
 abbrev pub AnswerFits : ℕ → List Turn → List Turn → SessionLog → SessionLog → NetAnswer → Type 0

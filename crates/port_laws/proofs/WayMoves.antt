@@ -1,11 +1,11 @@
 -- What is said and heard keeps what is on the way, whichever end says and hears it.
-use Rattle.std.proofs.Common.{◌≡◌, ℕ, zero, suc, ◌+◌, ◌-◌, ◌%◌, ◌<◌, ◌≤◌, ◌⊎◌, Bool, true, false, Option, Some, None, List, [], ◌∷◌, ◌++◌, length, inl, inr, refl, sym, ap, ◌∙◌, subst, arith, append_assoc}
+use Rattle.std.proofs.Common.{◌≡◌, ℕ, ◌+◌, ◌-◌, ◌%◌, ◌<◌, ◌≤◌, ◌⊎◌, true, false, Option, Some, None, List, [], ◌∷◌, ◌++◌, inl, inr, refl, sym, ap, ◌∙◌, subst, arith, append_assoc}
 use Rattle.std.specs.Prelude.{⊤}
 use Rattle.std.proofs.lemmas.Bool.{cases_lt}
 use Rattle.std.proofs.lemmas.List.{append-nil, append_cancel_left}
 use Rattle.std.proofs.lemmas.Nat.{mod_below}
 use Rattle.std.proofs.Math.Nat.{add-mod_right, mod-add-mod, mod-eq_of_lt, mod-mod}
-use Rattle.channel_model.specs.Messages.{end_of, seq_of, start_of}
+use Rattle.channel_model.specs.Messages.{end_of, start_of}
 use Rattle.channel_model.specs.Ranges.{range_length, wrapped}
 use Rattle.port_model.specs.EndLog.{SessionLog, heard_in, heard_kind, more_published, more_taken, range_of, said_in, said_kind}
 use Rattle.port_model.specs.FrameLaws.{Acknowledges, Announces}

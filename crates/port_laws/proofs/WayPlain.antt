@@ -1,41 +1,39 @@
 -- What is said and heard before a session opens has no INFO and no ACK of a ring.
-use Rattle.std.proofs.Common.{◌≡◌, ◌≢◌, ℕ, ◌+◌, ◌≤◌, Bool, true, false, List, [], ◌∷◌, ◌++◌, length, inl, inr, refl, sym, ap, ◌∙◌, subst, arith, length-append}
+use Rattle.std.proofs.Common.{◌≡◌, ℕ, ◌≤◌, Bool, true, false, List, [], ◌∷◌, ◌++◌, length, inl, inr, refl, sym, ap, ◌∙◌, subst, arith, length-append}
 use Rattle.std.proofs.lemmas.List.{append-nil}
 use Rattle.ldc_link.specs.declared.phase.Role.{Role}
 use Rattle.ldc_link.specs.LinkState.{is_up}
 use Rattle.ldc_queue.specs.declared.end.ChannelState.TheVariants.{Up}
 use Rattle.vio_handshake.specs.declared.session.Offer.{Offer}
-use Rattle.vio_handshake.proofs.Places.{AllSaid, AttributesAnswered, AttributesSaid, Deal, PeerReadyAnswered, PeerReadySaid, PeerRingAnswered, PeerRingSaid, Place, ReadyAnswered, ReadySaid, RingAnswered, RingSaid, VersionAnswered, VersionSaid, message_at, owner}
+use Rattle.vio_handshake.proofs.Places.{AllSaid, AttributesAnswered, AttributesSaid, Deal, PeerReadyAnswered, PeerReadySaid, PeerRingAnswered, PeerRingSaid, Place, ReadyAnswered, ReadySaid, RingAnswered, RingSaid, VersionAnswered, VersionSaid, owner}
+use Rattle.vio_tag.specs.Spelling.{canonical}
 use Rattle.channel_model.specs.Sayings.{heard, said}
 use Rattle.channel_laws.proofs.EndStanding.{open_up}
-use Rattle.channel_laws.proofs.HandshakePlaces.{AtPlace, deal, open_place, place_open}
+use Rattle.channel_laws.proofs.HandshakePlaces.{deal, open_place, place_open}
 use Rattle.channel_laws.proofs.Script.{before, bytes_at, is_role, last_or, one_if, said_at, said_by}
 use Rattle.channel_laws.specs.Sides.{Sides, other}
 use Rattle.port_model.proofs.Refuting.{true_false}
 use Rattle.port_model.specs.Spoken.{Other, Spoken, spoken}
 use Rattle.port_laws.specs.WaysStand.{ack_first, acks_in, info_first, infos_in}
-use Rattle.port_laws.proofs.HandshakeKeeps.{NoData, owed_other}
 use Rattle.port_laws.proofs.PeerOpens.{Talks, mine_at, six_said}
 use Rattle.port_laws.proofs.WayMoves.{Plain}
 
 -- THE HANDSHAKE'S MESSAGES
-no_data : (d : Deal) (n : Place) → NoData (message_at d n).body (message_at d n).subtype
-no_data d VersionSaid = tt
-no_data d VersionAnswered = tt
-no_data d AttributesSaid = tt
-no_data d AttributesAnswered = tt
-no_data d RingSaid = tt
-no_data d RingAnswered = tt
-no_data d PeerRingSaid = tt
-no_data d PeerRingAnswered = tt
-no_data d ReadySaid = tt
-no_data d ReadyAnswered = tt
-no_data d PeerReadySaid = tt
-no_data d PeerReadyAnswered = tt
-no_data d AllSaid = tt
-
 place_other : (d : Deal) (n : Place) → spoken (bytes_at d n) ≡ Other
-place_other d n = owed_other (message_at d n) (no_data d n)
+unfolding canonical
+place_other d VersionSaid = refl
+place_other d VersionAnswered = refl
+place_other d AttributesSaid = refl
+place_other d AttributesAnswered = refl
+place_other d RingSaid = refl
+place_other d RingAnswered = refl
+place_other d PeerRingSaid = refl
+place_other d PeerRingAnswered = refl
+place_other d ReadySaid = refl
+place_other d ReadyAnswered = refl
+place_other d PeerReadySaid = refl
+place_other d PeerReadyAnswered = refl
+place_other d AllSaid = refl
 
 plain_one : (b : Bool) (message : List ℕ) (messages : List (List ℕ)) → spoken message ≡ Other → Plain messages → Plain (one_if b message messages)
 plain_one true message messages is plain = record {
@@ -74,9 +72,9 @@ closed_plain asks answers role s talks up shut = by_link (is_up s.mine.core.link
         elim (last_or at.place) [
           | inl last ↦ true_false (sym (place_open true d role s.mine.core s.mine.turns talks.mine at last) ∙ shut)
           | inr far ↦ record {
-              said_plain = all_plain d role at.place at.mine (said s.mine.turns) at.said_is (at.only far).0;
-              heard_plain = all_plain d (other role) at.place at.theirs (heard s.mine.turns) at.heard_is (at.only far).1;
-            }
+            said_plain = all_plain d role at.place at.mine (said s.mine.turns) at.said_is (at.only far).0;
+            heard_plain = all_plain d (other role) at.place at.theirs (heard s.mine.turns) at.heard_is (at.only far).1;
+          }
         ]
 
 -- AS IT OPENS, with six messages

@@ -1,5 +1,5 @@
 -- Along every run of a port that nobody forged, what is on the way between its ends agrees with what both count.
-use Rattle.std.proofs.Common.{◌≡◌, ◌≢◌, ℕ, ◌+◌, ◌≤◌, Bool, true, false, Option, Some, None, List, [], ◌∷◌, ◌++◌, length, refl, sym, ap, ◌∙◌, subst, arith, length-append}
+use Rattle.std.proofs.Common.{◌≡◌, ◌≢◌, ℕ, ◌+◌, ◌≤◌, Bool, true, false, Option, Some, None, List, [], ◌∷◌, length, refl, sym, ap, ◌∙◌, subst, arith}
 use Rattle.std.specs.Prelude.{is_some, ⊤}
 use Rattle.ldc_link.specs.declared.phase.Role.TheVariants.{Initiator, Responder}
 use Rattle.ldc_queue.specs.declared.end.ChannelState.{ChannelState}
@@ -16,12 +16,11 @@ use Rattle.channel_model.specs.Sayings.{half_said, heard, said}
 use Rattle.channel_model.specs.TranscriptLog.{transcript_of}
 use Rattle.channel_model.specs.WireAt.{IsUp}
 use Rattle.channel_model.specs.WireLog.{WireLog}
-use Rattle.channel_laws.specs.LaneCore.{LaneCore}
 use Rattle.channel_laws.specs.Sides.{sides_of, swapped}
-use Rattle.port_model.proofs.Refuting.{false_true, none_some, true_false}
-use Rattle.port_model.specs.EndLog.{EndLog, SessionLog, change, more_published, more_taken, opened_log, said_in}
+use Rattle.port_model.proofs.Refuting.{none_some, true_false}
+use Rattle.port_model.specs.EndLog.{EndLog, SessionLog, change, opened_log}
 use Rattle.port_model.specs.NetEndState.{NetSession}
-use Rattle.port_model.specs.NetEndStep.{BadLength, Blocked, Frame, Full, Given, Idle, Joined, NetAnswer, NetEndStep, NetLeft, Published, Queued, Reset, Sent, Took}
+use Rattle.port_model.specs.NetEndStep.{BadLength, Blocked, Frame, Full, Given, Idle, Joined, NetAnswer, NetLeft, Published, Queued, Reset, Sent, Took}
 use Rattle.port_model.specs.NetEvent.{Asked, CalmTick, Declines, Gives, Injects, Joins, Loses, NetEvent, Pokes, Steps, Ticked, on_wire}
 use Rattle.port_model.specs.NetLaneState.{IsNetShape, NetLaneState, NetShape, memory_of, net_end, reach_of, role_at, seen_at}
 use Rattle.port_model.specs.NetLaneStep.{EndSteps, NetLaneStep, moved_on}
@@ -34,10 +33,10 @@ use Rattle.port_laws.specs.RingStands.{RingIn, taken_by, taken_in}
 use Rattle.port_laws.specs.WaysStand.{Ways, WaysStand, or_new}
 use Rattle.port_laws.proofs.EndCounting.{left_seen}
 use Rattle.port_laws.proofs.PortCounts.{PortCounts, before_queue, before_wire, queue_of}
-use Rattle.port_laws.proofs.PortTalks.{PeerOpen, PortTalks, answers_of, asks_of, open_turns, port_talks, six_open, up_open}
+use Rattle.port_laws.proofs.PortTalks.{PortTalks, answers_of, asks_of, port_talks, six_open, up_open}
 use Rattle.port_laws.proofs.PutCounts.{SaidRight}
-use Rattle.port_laws.proofs.RingActs.{Acts, Finds, OpenBoth, acting_at, acts_shut, acts_up_at, core_open, counted_now, open_both, ring_of_end, step_busy, step_now, turned_at}
-use Rattle.port_laws.proofs.RingEvents.{Active, Goes, WireNow, peer_up, theirs_now, turns_at, turns_now, wire_now}
+use Rattle.port_laws.proofs.RingActs.{Acts, Finds, OpenBoth, acting_at, acts_shut, acts_up_at, open_both, ring_of_end, step_busy, step_now, turned_at}
+use Rattle.port_laws.proofs.RingEvents.{Active, Goes, peer_up, theirs_now, turns_at, turns_now, wire_now}
 use Rattle.port_laws.proofs.RingRuns.{Kept, finds_before, kept_step, fresh_kept, was_clean}
 use Rattle.port_laws.proofs.RingSteps.{opens_by}
 use Rattle.port_laws.proofs.RuleFrames.{both_open, end_acts, end_counted}

@@ -1,5 +1,5 @@
 -- No end of a port resets itself for a slot where nobody forged.
-use Rattle.std.specs.Prelude.{◌≡◌, true, Option, None, ⊤}
+use Rattle.std.specs.Prelude.{◌≡◌, true, None, ⊤}
 use Rattle.port_model.specs.NetEndStep.{Reset}
 use Rattle.port_model.specs.NetEvent.{Steps}
 use Rattle.port_model.specs.PortLog.{PortLog}

@@ -1,6 +1,6 @@
 -- What is left where two ends of a port are idle, one directly after the other: no frame is published and not acknowledged, and the guest
 -- holds none.
-use Rattle.std.specs.Prelude.{◌≡◌, false, Option, Some, ⊤}
+use Rattle.std.specs.Prelude.{◌≡◌, false, Some, ⊤}
 use Rattle.ldc_queue.specs.Wire.{peer_of}
 use Rattle.port_model.specs.EndLog.{SessionLog, held}
 use Rattle.port_model.specs.FrameLaws.{InSession}

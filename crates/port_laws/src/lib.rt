@@ -27,8 +27,7 @@ pub use rest_laws::{
 pub use ring_laws::{
     a_frame_that_is_taken_is_the_next_that_was_published,
     at_most_one_announcement_of_an_end_is_on_the_way, no_end_of_a_port_resets_itself_for_a_slot,
-    no_frame_is_left_where_both_ends_are_idle,
-    the_ring_of_each_end_holds_its_frames,
+    no_frame_is_left_where_both_ends_are_idle, the_ring_of_each_end_holds_its_frames,
 };
 pub use rule_laws::{
     a_frame_is_queued_or_refused_rightly, a_frame_is_taken_while_an_announcement_waits,
